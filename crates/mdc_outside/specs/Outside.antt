@@ -1,0 +1,21 @@
+-- What calls to the outside do to what it tells, and how faults are counted (docs/ARCHITECTURE.md, "The outside").
+use Rattle.std.specs.Prelude.{◌≡◌, ◌⊎◌, ◌<◌, ℕ, List, ◌++◌, Option, Some, None}
+
+-- A count of faults rose. It is kept in 64 bits, and stands still at the last number.
+abbrev pub Rose : ℕ → ℕ → Type 0
+Rose before now = (before < now) ⊎ (before ≡ 18446744073709551615)
+
+-- where the bytes left are told, a piece came off their front
+abbrev pub Gives : Option (List ℕ) → List ℕ → Option (List ℕ) → Type 0
+Gives None piece new = Unit {0}
+Gives (Some bytes) piece new = (rest : List ℕ) × (bytes ≡ piece ++ rest) × (new ≡ Some rest)
+
+-- where the tape is told, it has a piece more at its end
+abbrev pub Takes : Option (List ℕ) → List ℕ → Option (List ℕ) → Type 0
+Takes None piece new = Unit {0}
+Takes (Some tape) piece new = new ≡ Some (tape ++ piece)
+
+-- where the tape is told, it has a first part of the piece more at its end
+abbrev pub TakesPart : Option (List ℕ) → List ℕ → Option (List ℕ) → Type 0
+TakesPart None piece new = Unit {0}
+TakesPart (Some tape) piece new = (part unsaid : List ℕ) × (piece ≡ part ++ unsaid) × (new ≡ Some (tape ++ part))

@@ -1,0 +1,16 @@
+//! The outside of the engine: where a script comes from, and where replies go.
+//!
+//! Each trait says what a call gives, and what it leaves after a fault. A fault is answered only where the count of
+//! faults rose. `MemSource` and `MemHost` are both in memory, tell all that they hold, and fail where a test says so.
+//! It stands on `mdc_values`.
+#![tactic(auto)]
+
+mod host;
+mod mem_host;
+mod mem_source;
+mod source;
+
+pub use host::Host;
+pub use mem_host::MemHost;
+pub use mem_source::MemSource;
+pub use source::{Failed, Source};

@@ -1,0 +1,53 @@
+// A script in memory, for tests.
+ghost use Rattle.std.specs.Prelude.{◌≡◌, ◌≤◌, ◌<◌, Some, drop, length};
+
+use crate::{Failed, Source};
+
+/// from 1, stand in `fails`.
+#[derive(Debug, Drop)]
+pub struct MemSource {
+    bytes: Vec<u8>,
+    at: usize,
+    step: usize,
+    fails: Vec<u64>,
+    calls: u64,
+    faults: u64,
+    ghost within: { at ≤ length bytes.items },
+    ghost moving: { 0 < step },
+}
+
+impl MemSource {
+    /// A source with all of the bytes left.
+    pub fn new(bytes: Vec<u8>, step: usize, fails: Vec<u64>) -> MemSource
+        requires { 0 < step }
+        ensures { ⟦<MemSource as Source>⟧.left result ≡ Some bytes.items }
+    {
+        MemSource {
+            bytes,
+            at: 0,
+            step,
+            fails,
+            calls: 0,
+            faults: 0,
+        }
+    }
+}
+
+impl Source for MemSource {
+    ghost left = { λ source. Some (drop source.at source.bytes.items) };
+
+    ghost read_faults = { λ source. source.faults };
+
+    fn read(&mut self, out: &mut [u8]) -> Result<usize, Failed> {
+        self.calls = self.calls.saturating_add(1);
+        if self.fails.contains(&self.calls) {
+            self.faults = self.faults.saturating_add(1);
+            return Err(Failed);
+        }
+        let rest = &self.bytes[self.at..];
+        let count = rest.len().min(out.len()).min(self.step);
+        out[..count].copy_from_slice(&rest[..count]);
+        self.at += count;
+        Ok(count)
+    }
+}

@@ -1,0 +1,26 @@
+-- How far a reader is, and what it may have given by then.
+use Rattle.std.specs.Prelude.{◌≡◌, ℕ, List, [], ◌++◌, Bool, true, false, Option, Some, None, take}
+use Rattle.mdc_ast.specs.Reading.{Item, Reads, Closes}
+
+-- The bytes that a reader took, how many of them belong to pieces that are done with, and whether the last piece,
+-- which the end of the script closes, is one of these.
+pub record Progress : Type 0 where
+  pub taken : List ℕ
+  pub past : ℕ
+  pub finished : Bool
+
+abbrev pub at_start : Progress
+at_start = record { taken = []; past = 0; finished = false }
+
+abbrev pub IsGivenAt : Bool → List ℕ → ℕ → List Item → Type 0
+IsGivenAt true taken past items = Reads taken items
+IsGivenAt false taken past items = Closes (take past taken) items
+
+-- these are the items given so far
+abbrev pub Given : Progress → List Item → Type 0
+Given progress items = IsGivenAt progress.finished progress.taken progress.past items
+
+-- where the bytes left are told, those that came off their front are taken
+abbrev pub Took : Option (List ℕ) → List ℕ → Option (List ℕ) → List ℕ → Type 0
+Took None old left new = Unit {0}
+Took (Some bytes) old left new = (piece rest : List ℕ) × (bytes ≡ piece ++ rest) × (left ≡ Some rest) × (new ≡ old ++ piece)
