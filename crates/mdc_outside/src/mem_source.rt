@@ -1,5 +1,5 @@
 // A script in memory, for tests.
-ghost use Rattle.std.specs.Prelude.{◌≡◌, ◌≤◌, ◌<◌, Some, drop, length};
+ghost use Rattle.std.specs.Prelude.{◌≡◌, ◌≤◌, ◌<◌, [], ℕ, List, Some, drop, take, length};
 
 use crate::{Failed, Source};
 
@@ -44,10 +44,21 @@ impl Source for MemSource {
             self.faults = self.faults.saturating_add(1);
             return Err(Failed);
         }
-        let rest = &self.bytes[self.at..];
-        let count = rest.len().min(out.len()).min(self.step);
-        out[..count].copy_from_slice(&rest[..count]);
+        let (_, rest) = self.bytes.as_slice().split_at(self.at);
+        let count = copy_front(rest, self.step, out);
         self.at += count;
         Ok(count)
     }
+}
+
+// Copies a front of the bytes, as much as `most` and the room allow, and answers how much.
+fn copy_front(bytes: &[u8], most: usize, out: &mut [u8]) -> usize
+    ensures copied { take result out.new ≡ take result bytes.now }
+    ensures within { result ≤ length bytes.now }
+    ensures room { result ≤ length out.new }
+    ensures some { result ≡ 0 → 0 < most → 0 < length out.old → bytes.now ≡ [] }
+{
+    let count = bytes.len().min(out.len()).min(most);
+    out[..count].copy_from_slice(&bytes[..count]);
+    count
 }
