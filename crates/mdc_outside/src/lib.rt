@@ -14,3 +14,6 @@ pub use host::Host;
 pub use mem_host::MemHost;
 pub use mem_source::MemSource;
 pub use source::{Failed, Source};
+
+#[cfg(test)]
+mod tests;

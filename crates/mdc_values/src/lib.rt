@@ -13,3 +13,6 @@ pub use chars::Chars;
 pub use list::List;
 pub use memory::Memory;
 pub use value::{ColType, Literal, Value, ValueFault, fit, print};
+
+#[cfg(test)]
+mod tests;
