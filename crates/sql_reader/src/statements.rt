@@ -1,5 +1,5 @@
 // The items of a script, as its bytes come in.
-ghost use Rattle.std.specs.Prelude.{◌≡◌, ◌<◌, ◌≤◌, [], ◌∷◌, ◌++◌, List, ℕ, take, length, true, IfOk, OnOk, OnNone, IfSome, IsErrOf};
+ghost use Rattle.std.specs.Prelude.{◌≡◌, ◌<◌, ◌≤◌, [], ◌∷◌, ◌++◌, List, ℕ, take, length, true, IfOk, OnOk, IfSome, IsErrOf};
 ghost use Rattle.mdc_ast.specs.Reading.{Item, Reads, Closes};
 ghost use Rattle.mdc_outside.specs.Outside.{Rose};
 ghost use Rattle.sql_reader.specs.Progress.{Progress, Given, Took, at_start};
@@ -53,8 +53,8 @@ impl Statements {
         // An item is the next one of the script, and `None` comes where there is no other.
         ensures item { IfOk result (λ found. IfSome found (λ read. (given : List Item) → Given self.old given
             → Given self.new (given ++ item_of read ∷ []))) }
-        ensures end { IfOk result (λ found. IfNone found ((given : List Item) → Given self.old given
-            → Reads self.new.taken given × Given self.new given)) }
+        ensures end { IfOk result (λ found. IfNone found ((self.new.finished ≡ true)
+            × ((given : List Item) → Given self.old given → Given self.new given))) }
         ensures at_end { self.new.finished ≡ true → (self.old.finished ≡ true) ⊎ IfSome (I.left source.new) (λ bytes. bytes ≡ []) }
         ensures finished { self.old.finished ≡ true → source.new ≡ source.old }
 
@@ -66,4 +66,6 @@ impl Statements {
         ensures within { (length self.new.taken ≤ 67108864) ⊎ IsErrOf result ReadStop.TooLong }
         ensures memory { IsErrOf result ReadStop.Memory → (given : List Item) → Given self.old given → Given self.new given }
         ensures count { I.read_faults source.old ≤ I.read_faults source.new }
+        ensures progress { IfOk result (λ found. IfSome found (λ _. self.old.past < self.new.past)) }
+        ensures past { self.new.past ≤ length self.new.taken }
 }
