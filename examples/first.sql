@@ -1,0 +1,13 @@
+-- Sales by month and region: rows of one month and one region lie together.
+CREATE TABLE SALES (MONTH INTEGER, REGION INTEGER, AMOUNT INTEGER)
+    ORGANIZE BY DIMENSIONS (MONTH, REGION);
+
+INSERT INTO SALES VALUES (200301, 1, 1250), (200302, 1, 980), (200301, 2, -40);
+INSERT INTO SALES VALUES (200301, 1, 75);
+
+SELECT * FROM SALES;
+
+-- What is refused changes nothing, and the script goes on.
+INSERT INTO SALES VALUES (200303, 1, 20), (200303, 2, 3000000000);
+INSERT INTO RETURNS VALUES (1);
+SELECT * FROM sales
