@@ -1,5 +1,5 @@
 -- How far a reader is, and what it may have given by then.
-use Rattle.std.specs.Prelude.{◌≡◌, ℕ, List, [], ◌++◌, Bool, true, false, Option, Some, None, take}
+use Rattle.std.specs.Prelude.{◌≡◌, ◌⊎◌, ◌<◌, ◌≤◌, length, ℕ, List, [], ◌++◌, Bool, true, false, Option, Some, None, take}
 use Rattle.mdc_ast.specs.Reading.{Item, Reads, Closes}
 
 -- The bytes that a reader took, how many of them belong to pieces that are done with, and whether the last piece,
@@ -24,3 +24,9 @@ Given progress items = IsGivenAt progress.finished progress.taken progress.past 
 abbrev pub Took : Option (List ℕ) → List ℕ → Option (List ℕ) → List ℕ → Type 0
 Took None old left new = Unit {0}
 Took (Some bytes) old left new = (piece rest : List ℕ) × (bytes ≡ piece ++ rest) × (left ≡ Some rest) × (new ≡ old ++ piece)
+
+-- more pieces are done with, or the last one is
+abbrev pub Advances : Progress → Progress → Type 0
+Advances old new =
+    ((old.past < new.past) × (new.past ≤ length new.taken))
+    ⊎ ((old.past ≤ new.past) × (old.finished ≡ false) × (new.finished ≡ true))

@@ -6,8 +6,7 @@ ghost use Rattle.mdc_ast.specs.Reading.{Item, Reads, Closes};
 pub fn one_reading()
     ensures some { (script : List ℕ) → (items : List Item) × Reads script items }
     ensures one { (script : List ℕ) (items others : List Item) → Reads script items → Reads script others → others ≡ items }
-{
-}
+{}
 
 /// So it has one list of items that semicolons close. Those of a front of the script are the first of them, and they
 /// are the first of all items.
@@ -18,5 +17,4 @@ pub fn one_closing()
         → (more : List Item) × (all ≡ items ++ more) }
     ensures first { (script : List ℕ) (items all : List Item) → Closes script items → Reads script all
         → (more : List Item) × (all ≡ items ++ more) }
-{
-}
+{}

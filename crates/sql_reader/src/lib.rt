@@ -5,8 +5,20 @@
 //! It stands on `mdc_ast` for statements and their spelling, and on `mdc_outside` for sources.
 #![tactic(auto)]
 
+mod cursor;
+mod item;
+mod laws;
 mod lexer;
+#[cfg(test)]
+mod lexer_tests;
 mod parser;
+#[cfg(test)]
+mod parser_tests;
+mod place;
+mod reserved;
 mod statements;
+mod token;
+mod trim;
 
-pub use statements::{Read, ReadStop, Statements};
+pub use laws::{one_closing, one_reading};
+pub use statements::{Read, ReadStop, SCRIPT_LIMIT, Statements};

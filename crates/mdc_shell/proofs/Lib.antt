@@ -1,0 +1,12 @@
+pub mod Before
+pub mod Causes
+pub mod Columns
+pub mod Ends
+pub mod LineTexts
+pub mod Onto
+pub mod Places
+pub mod Rows
+pub mod Sessions
+pub mod Told
+pub mod Values
+pub mod WordsLemmas

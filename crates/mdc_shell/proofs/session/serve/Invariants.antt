@@ -1,0 +1,30 @@
+use Rattle.std.proofs.Common.{◌≡◌, ◌≤◌, ℕ, List, [], length, Bool, true, IfSome}
+use Rattle.mdc_ast.specs.Database.{empty_database}
+use Rattle.mdc_ast.specs.Reading.{Item}
+use Rattle.mdc_outside.specs.Outside.{Takes}
+use Rattle.sql_reader.specs.Progress.{Given, Took}
+use Rattle.mdc_shell.proofs.Sessions.{left_to_do}
+use Rattle.mdc_shell.specs.Session.{after, outcomes, texts, has_refusal}
+use Rattle.mdc_shell.proofs.session.serve.Given as goal
+
+-- the items given so far are answered
+abbrev pub invariant-loop-session : goal.invariant-loop-session
+invariant-loop-session g l =
+    let left = g.I.Source.left in
+    let tape = g.H.Host.tape in
+    record {
+      given : (items : List Item)
+          × Given l.statements items
+          × (l.session.engine ≡ after empty_database items)
+          × (l.session.refused ≡ has_refusal (outcomes items))
+          × Takes (tape l.fn.host) (texts (outcomes items)) (tape l.host);
+      took : Took (left l.fn.input) [] (left l.input) l.statements.taken;
+      limit : length l.statements.taken ≤ 67108864;
+      at_end : l.statements.finished ≡ true → IfSome (left l.input) (λ bytes. bytes ≡ []);
+      reads : g.I.Source.read_faults l.fn.input ≤ g.I.Source.read_faults l.input;
+      says : g.H.Host.say_faults l.fn.host ≤ g.H.Host.say_faults l.host;
+    }
+
+-- with each item a piece more is done with, or the last one is
+abbrev pub decreases-loop-session : goal.decreases-loop-session
+decreases-loop-session g l = left_to_do l.statements

@@ -1,0 +1,7 @@
+pub mod Engine
+pub mod Place
+pub mod Reader
+pub mod Run
+pub mod Session
+pub mod Status
+pub mod Words

@@ -1,0 +1,48 @@
+// The statement in a piece of a script.
+ghost use Rattle.std.specs.Prelude.{◌≡◌, ◌↔◌, IsTrue};
+ghost use Rattle.mdc_ast.specs.Cutting as cutting;
+ghost use Rattle.mdc_ast.specs.Cutting.{Trims};
+ghost use Rattle.sql_reader.specs.Trim.{IsBehindLine, IsComment};
+
+/// The statement in a piece: its bytes from the first that isn't blank and isn't in a comment.
+pub(crate) fn trim(piece: &[u8]) -> &[u8]
+    ensures { Trims piece.now result.now }
+{
+    let mut rest = piece;
+    while let Some((first, behind)) = rest.split_first() {
+        if is_blank(*first) {
+            rest = behind;
+        } else if begins_comment(rest) {
+            rest = behind_line(&rest[2..]);
+        } else {
+            break;
+        }
+    }
+    rest
+}
+
+/// Whether the bytes begin with two dashes.
+fn begins_comment(bytes: &[u8]) -> bool
+    ensures { IsTrue result ↔ IsComment bytes.now }
+{
+    matches!(bytes, [b'-', b'-', ..])
+}
+
+/// Blanks stand between the words of a statement and say nothing.
+fn is_blank(byte: u8) -> bool
+    ensures { result ≡ cutting.is_blank byte }
+{
+    matches!(byte, b'\t' | b'\n' | b'\r' | b' ')
+}
+
+/// What stands behind the first line feed, or nothing where there is none.
+fn behind_line(bytes: &[u8]) -> &[u8]
+    ensures { IsBehindLine bytes.now result.now }
+{
+    for (i, byte) in bytes.iter().enumerate() {
+        if *byte == b'\n' {
+            return &bytes[i + 1..];
+        }
+    }
+    &[]
+}
