@@ -164,7 +164,7 @@ fn a_statement_has_65536_bytes_at_most(rt: HostRuntime) -> Result<(), Fail> {
     for (bytes, status) in [(65_536, 0), (65_537, 1)] {
         let mut script = T.as_bytes().to_vec(alloc)?;
         script.extend_from_slice(b" SELECT *")?;
-        for _ in 0..bytes - 15 {
+        for _ in 0..bytes - 14 {
             script.push(b' ')?;
         }
         script.extend_from_slice(b"FROM T; ")?;
