@@ -1,5 +1,5 @@
 -- How answers are written (docs/SQL.md, "Replies" and "Refusals").
-use Rattle.std.specs.Prelude.{ℕ, List, [], ◌∷◌, ◌++◌, ◌==◌, if◌then◌else◌, codes}
+use Rattle.std.specs.Prelude.{ℕ, List, ◌∷◌, ◌++◌, ◌==◌, if◌then◌else◌, codes}
 use Rattle.std.specs.Fmt.{decimal}
 use Rattle.mdc_ast.specs.declared.answer.Outcome.{Outcome}
 use Rattle.mdc_ast.specs.declared.answer.Outcome.TheVariants as outcome

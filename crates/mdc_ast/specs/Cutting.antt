@@ -1,5 +1,5 @@
 -- How a script is cut into statements (docs/SQL.md, "Statements").
-use Rattle.std.specs.Prelude.{◌≡◌, ◌≢◌, ℕ, List, [], ◌∷◌, ◌++◌, Bool, true, false, ◌==◌, ◌||◌, IsTrue}
+use Rattle.std.specs.Prelude.{◌≡◌, ◌≢◌, ℕ, List, [], ◌∷◌, ◌++◌, Bool, false, ◌==◌, ◌||◌, IsTrue}
 use Rattle.std.specs.List.{AllByRecursion, flat_map}
 
 -- no byte is x

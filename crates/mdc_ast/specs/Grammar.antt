@@ -10,7 +10,6 @@ use Rattle.mdc_ast.specs.declared.statement.TypeText.TheVariants.{Integer}
 use Rattle.mdc_ast.specs.declared.statement.ColumnText.{ColumnText}
 use Rattle.mdc_ast.specs.declared.statement.InsertItem.{InsertItem}
 use Rattle.mdc_ast.specs.declared.statement.InsertItem.TheVariants as item
-use Rattle.mdc_ast.specs.declared.statement.OutList.TheVariants.{Star}
 use Rattle.mdc_ast.specs.declared.statement.Stmt.{Stmt}
 use Rattle.mdc_ast.specs.declared.statement.Stmt.TheVariants.{CreateTable, Insert, Query}
 use Rattle.mdc_ast.specs.Tokens.{Token, Word, Number, Symbol}

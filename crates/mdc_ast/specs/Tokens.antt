@@ -1,5 +1,5 @@
 -- How the bytes of a statement are tokens (docs/SQL.md, "Tokens").
-use Rattle.std.specs.Prelude.{◌≡◌, ℕ, ◌+◌, ◌-◌, ◌*◌, min, map, List, [], ◌∷◌, ◌++◌, Bool, true, false, ◌==◌, ◌||◌, ◌&&◌, nat_le, if◌then◌else◌, IsTrue}
+use Rattle.std.specs.Prelude.{◌≡◌, ℕ, ◌+◌, ◌-◌, ◌*◌, min, map, List, [], ◌∷◌, ◌++◌, Bool, false, ◌==◌, ◌||◌, ◌&&◌, nat_le, if◌then◌else◌, IsTrue}
 use Rattle.mdc_ast.specs.Cutting.{Lacks, Passes, BeginsNoComment, is_blank}
 
 -- a token: a word folded to upper case, a number, which stands as 2^64 - 1 where it is greater, or the byte of a symbol

@@ -1,7 +1,7 @@
 -- What calls after one another do to what the outside tells.
-use Rattle.std.proofs.Common.{◌≡◌, ℕ, List, [], ◌∷◌, ◌++◌, Option, Some, None, refl, sym, ◌∙◌, ap, subst, append_assoc}
+use Rattle.std.proofs.Common.{ℕ, List, [], ◌++◌, Option, Some, None, refl, sym, ◌∙◌, ap, subst, append_assoc}
 use Rattle.std.proofs.lemmas.List.{append-nil}
-use Rattle.mdc_outside.specs.Outside.{Takes, TakesPart}
+use Rattle.mdc_outside.specs.Outside.{Takes}
 use Rattle.sql_reader.specs.Progress.{Took}
 
 -- one piece on the tape, and then another

@@ -1,11 +1,10 @@
 -- How the items given go on over the pieces of a script.
-use Rattle.std.proofs.Common.{◌≡◌, ◌≤◌, ◌<◌, ◌+◌, ◌-◌, ◌⊎◌, inl, inr, ℕ, Bool, true, false, List, [], ◌∷◌, ◌++◌, Option, Some, None, IfSome, IfNone, Result, Ok, Err, is_some, take, drop, length, slice_range, refl, sym, ap, ◌∙◌, subst, arith, append_assoc}
+use Rattle.std.proofs.Common.{◌≡◌, ◌≤◌, ◌<◌, ◌+◌, ◌-◌, ◌⊎◌, inl, inr, ℕ, true, false, List, ◌++◌, Option, Some, None, IfSome, IfNone, Result, Ok, Err, OnErr, is_some, take, drop, length, slice_range, sym, ap, ◌∙◌, subst, arith, append_assoc}
 use Rattle.std.proofs.lemmas.Bool.{cases_lt}
 use Rattle.std.specs.Result.{IsErrAnd}
 use Rattle.std.proofs.lemmas.Result.{err_from_is_err_and}
 use Rattle.std.proofs.lemmas.List.{append-nil, take-append-drop}
-use Rattle.mdc_ast.specs.Cutting.{Semicolon, ScriptEnd, Piece, Cut}
-use Rattle.mdc_ast.specs.Reading.{Item, ItemsOf, Reads, Closes}
+use Rattle.mdc_ast.specs.Reading.{Item, Reads, Closes}
 use Rattle.mdc_outside.specs.Outside.{Rose}
 use Rattle.sql_reader.specs.declared.statements.Read.{Read}
 use Rattle.sql_reader.specs.Item.{item_of}
@@ -154,3 +153,8 @@ passed_on result inner is stop and was e =
     let first : result ≡ Err p.0 = p.1 in
     let second : p.0 ≡ is = p.2 in
     cc
+
+-- what holds of each result holds of an error
+pub on_err : {A E : Type 0} (result : Result A E) (P : Type 0) → P → OnErr result P
+on_err (Ok value) P p = tt
+on_err (Err error) P p = p

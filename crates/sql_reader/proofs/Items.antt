@@ -1,16 +1,12 @@
 -- The items of pieces: they are one list, and it grows with the pieces.
-use Rattle.std.proofs.Common.{◌≡◌, ◌⊎◌, inl, inr, ℕ, List, [], ◌∷◌, ◌++◌, Option, Some, None, refl, sym, ap, ◌∙◌, subst, take, drop}
-use Rattle.std.proofs.lemmas.List.{append-nil, take-append-drop}
+use Rattle.std.proofs.Common.{◌≡◌, inl, inr, ℕ, List, [], ◌∷◌, ◌++◌, Option, Some, None, refl, sym, ap, ◌∙◌, subst}
 use Rattle.mdc_ast.specs.Cutting.{Semicolon, ScriptEnd, Piece, Cut, Trims}
-use Rattle.mdc_ast.specs.Reading.{Item, Statement, Refused, IsItemOf, ItemsOf, Reads, Closes, Says, not_built}
-use Rattle.mdc_ast.specs.Grammar.{Spells}
-use Rattle.mdc_ast.specs.Tokens.{Token, Tokens}
-use Rattle.mdc_ast.specs.declared.statement.Stmt.{Stmt}
+use Rattle.mdc_ast.specs.Reading.{Item, Statement, Refused, IsItemOf, ItemsOf, Reads, Closes, not_built}
 use Rattle.sql_reader.specs.declared.statements.Read.{Read}
 use Rattle.sql_reader.specs.Item.{item_of}
 use Rattle.sql_reader.specs.Gives.{HasItem, IsItemIn}
-use Rattle.sql_reader.proofs.Pieces.{SomeCut, one_cut, some_cut, cut_on, cut_closed, cut_last}
-use Rattle.sql_reader.proofs.Spelling.{one_lexing, one_saying, says_or_not}
+use Rattle.sql_reader.proofs.Pieces.{one_cut, some_cut, cut_on, cut_closed, cut_last}
+use Rattle.sql_reader.proofs.Spelling.{one_saying, says_or_not}
 use Rattle.sql_reader.proofs.Trimming.{one_trims, some_trims}
 
 -- a statement's bytes have one item
@@ -26,10 +22,6 @@ some_item statement = elim (says_or_not statement) [
   | inl said ↦ (Statement said.0, said.1)
   | inr unsaid ↦ (Refused not_built, (unsaid, refl))
 ]
-
--- bytes whose tokens spell nothing say nothing
-pub unsaid : (statement : List ℕ) (tokens : List Token) → Tokens statement tokens → ((stmt : Stmt) → Spells tokens stmt → ⊥) → (stmt : Stmt) → Says statement stmt → ⊥
-unsaid statement tokens lexed none stmt says = none stmt (subst (λ t. Spells t stmt) (one_lexing statement tokens says.tokens lexed says.split) says.spelled)
 
 -- a piece with some statement has its item
 pub has_item : (piece statement : List ℕ) (item : Item) → Trims piece statement → (statement ≡ [] → ⊥) → IsItemOf statement item → HasItem piece item

@@ -1,17 +1,14 @@
 -- How a scan goes on over the bytes held, and which pieces it finds.
-use Rattle.std.proofs.Common.{◌≡◌, ◌⊎◌, ◌<◌, ◌≤◌, ◌+◌, ◌-◌, ℕ, zero, suc, List, [], ◌∷◌, ◌++◌, Option, Some, None, take, drop, length, get_or, slice_range, true, false, refl, sym, ap, ◌∙◌, subst, arith, append_assoc, length-append, length-drop, length-take, min, max}
+use Rattle.std.proofs.Common.{◌≡◌, ◌<◌, ◌≤◌, ◌+◌, ◌-◌, ℕ, List, [], ◌∷◌, ◌++◌, Some, None, take, drop, length, get_or, slice_range, refl, sym, ap, ◌∙◌, subst, arith, append_assoc, length-drop, min, max}
 use Rattle.std.specs.List.{fold}
 use Rattle.std.proofs.Math.Nat.{sub_self}
 use Rattle.std.proofs.Math.Seq.{take-add}
 use Rattle.std.proofs.lemmas.Grind.{fold-append}
-use Rattle.std.proofs.lemmas.List.{take_at, drop-append-le, drop-drop, get_or-drop, take-append-drop, take-append-le, take_all, take_more}
-use Rattle.mdc_ast.specs.Cutting.{Semicolon, ScriptEnd, Piece, Cut}
-use Rattle.mdc_ast.specs.Reading.{Item, ItemsOf, Reads, Closes}
+use Rattle.std.proofs.lemmas.List.{take_at, drop-drop, get_or-drop, take_all, take_more}
+use Rattle.mdc_ast.specs.Cutting.{Piece, Cut}
 use Rattle.sql_reader.specs.declared.place.Place.{Place}
 use Rattle.sql_reader.specs.declared.place.Place.TheVariants.{Outside}
-use Rattle.sql_reader.specs.Progress.{Progress, Given}
 use Rattle.sql_reader.specs.Scan.{EndsPiece, IsLast, IsScanned, next_place, place_after, place_behind}
-use Rattle.sql_reader.proofs.Items.{closes_last, closes_piece, reads_last}
 use Rattle.sql_reader.proofs.Trimming.{slice_from}
 use Rattle.sql_reader.proofs.Pieces.{cut_closed, only_semicolon, piece_before, piece_behind}
 
@@ -83,22 +80,6 @@ pass_scanned held start scanned end place was ends = record {
   cut = subst (λ l. Cut l (was.closed ++ slice_range held start end ∷ []) []) (sym (take_piece held start end ends)) (cut_closed (take start held) (slice_range held start end) was.closed was.cut ends.piece);
   came = ap (λ n. place_behind Outside (take n (drop (end + 1) held))) (sub_self (end + 1));
 }
-
--- bytes that come behind leave it sound
-pub more_scanned : (held more : List ℕ) (start scanned : ℕ) (place : Place) → IsScanned held start scanned place → IsScanned (held ++ more) start scanned place
-more_scanned held more start scanned place was =
-    let front : start ≤ length held = omega (arith, was.order, was.within) in
-    let fits : scanned - start ≤ length (drop start held) = simp length-drop (omega (arith, was.order, was.within)) in
-    let taken : take start (held ++ more) ≡ take start held = take-append-le start held more front in
-    let rest : drop start (held ++ more) ≡ drop start held ++ more = drop-append-le start held more front in
-    record {
-      order = was.order;
-      within = simp length-append (omega (arith, was.within));
-      closed = was.closed;
-      cut = subst (λ l. Cut l was.closed []) (sym taken) was.cut;
-      came = ap (λ l. place_behind Outside (take (scanned - start) l)) rest
-          ∙ (ap (place_behind Outside) (take-append-le (scanned - start) (drop start held) more fits) ∙ was.came);
-    }
 
 -- the scan of the slice of what is held went on
 pub scan_went : (held bytes : List ℕ) (start scanned count : ℕ) (place to : Place) → IsScanned held start scanned place → bytes ≡ held → count ≤ length (take (length bytes - scanned) (drop scanned bytes))

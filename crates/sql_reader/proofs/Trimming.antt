@@ -1,5 +1,5 @@
 -- Each piece has one statement, or none.
-use Rattle.std.proofs.Common.{◌≡◌, ◌≢◌, ◌⊎◌, inl, inr, ℕ, Bool, true, false, IsTrue, List, [], ◌∷◌, ◌++◌, ◌+◌, ◌<◌, ◌-◌, zero, length, take, drop, get_or, arith, length-drop, refl, sym, ap, ◌∙◌, subst}
+use Rattle.std.proofs.Common.{◌≡◌, ◌≢◌, inl, inr, ℕ, true, false, IsTrue, List, [], ◌∷◌, ◌++◌, ◌<◌, ◌-◌, length, take, drop, arith, length-drop, refl, sym, ap, ◌∙◌, subst}
 use Rattle.std.proofs.lemmas.List.{take_all}
 use Rattle.std.proofs.lemmas.Bool.{cases_eq, cases_Bool, both_ways}
 use Rattle.mdc_ast.specs.Cutting.{Lacks, BeginsWith, BeginsNoComment, is_blank, Trims}

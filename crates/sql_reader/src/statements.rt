@@ -106,7 +106,7 @@ impl Statements {
     }
 
     /// The next item, or `None` at the end of the script. It reads on only where no closed statement waits in what
-    /// it holds, and asks for the byte past the limit only then. After `TooLong` it is at its end.
+    /// it holds, and asks for the byte past the limit only then. After `TooLong` it takes no further call.
     pub fn next<I: Source>(&mut self, source: &mut I) -> Result<Option<Read>, ReadStop>
         requires { length self.old.taken ≤ 67108864 }
 
@@ -129,7 +129,7 @@ impl Statements {
         ensures too_long { IsErrOf result ReadStop.TooLong → (67108864 < length self.new.taken)
             × ((given : List Item) → Given self.old given → Closes (take 67108864 self.new.taken) given) }
         ensures within { (length self.new.taken ≤ 67108864) ⊎ IsErrOf result ReadStop.TooLong }
-        ensures memory { IsErrOf result ReadStop.Memory → (given : List Item) → Given self.old given → Given self.new given }
+        ensures kept { OnErr result (Keeps self.old self.new) }
         ensures count { I.read_faults source.old ≤ I.read_faults source.new }
 
         // With each item a piece more is done with, or the last one is.

@@ -1,4 +1,4 @@
-use Rattle.std.proofs.Common.{◌≡◌, ◌∙◌, ap, sym, map, string_bytes, arith, codes}
+use Rattle.std.proofs.Common.{◌∙◌, ap, sym, map, string_bytes, arith, codes}
 use Rattle.std.proofs.lemmas.Bool.Decides.{Decides-eqb}
 use Rattle.std.proofs.lemmas.Slice.Eq.{slice_eq-Decides}
 use Rattle.mdc_shell.proofs.WordsLemmas.{pair_of, line_of}

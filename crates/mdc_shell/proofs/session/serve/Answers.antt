@@ -1,7 +1,6 @@
-use Rattle.std.proofs.Common.{◌≡◌, List, [], ◌∷◌, ◌++◌, Err, refl, sym, ap, inl, inr, arith, ◌∙◌, Bool, Ok, subst}
+use Rattle.std.proofs.Common.{[], ◌∷◌, ◌++◌, Err, refl, sym, ap, inl, inr, arith, ◌∙◌, Bool, Ok, subst}
 use Rattle.sql_reader.specs.Progress.{IsGivenAt}
 use Rattle.std.proofs.lemmas.Result.{err_from_is_err_and}
-use Rattle.mdc_ast.specs.Reading.{Item}
 use Rattle.mdc_shell.specs.declared.status.Stop.TheVariants.{Memory}
 use Rattle.mdc_shell.proofs.Ends.{runs_to, runs_to_part, none_given, ends_reading, ends_answering, stops_within, nothing_left, still_ended}
 use Rattle.mdc_shell.proofs.Sessions.{says_nothing, says_all, says_part, engine_goes, less_to_do, refused_goes, tape_goes}
@@ -42,7 +41,7 @@ returns-in_err-read-clause-runs g c =
     (λ e. (said.source (ap Err e)).1 items inv.given.1)
     (λ e. let l = said.too_long (ap Err e) in (l.0, l.1 items inv.given.1))
     (elim said.within [ inl fits ↦ inl fits | inr e ↦ inr cc ])
-    (λ e. stops_within c.next.new.self.finished _ rest _ c.next.new.self.past items closed.0 (said.memory (ap Err e) items inv.given.1)
+    (λ e. stops_within c.next.new.self.finished _ rest _ c.next.new.self.past items closed.0 (said.kept items inv.given.1)
     (λ f. nothing_left _ rest (ended f) is) closed.1 (λ front closes. c.one_closing.ensures.front _ _ front closed.0 closes closed.1) (says_all items))))
 
 pub loop-session-preserved : goal.loop-session-preserved

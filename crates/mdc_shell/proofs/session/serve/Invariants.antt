@@ -1,4 +1,4 @@
-use Rattle.std.proofs.Common.{◌≡◌, ◌≤◌, ℕ, List, [], length, Bool, true, IfSome}
+use Rattle.std.proofs.Common.{◌≡◌, ◌≤◌, List, [], length, true, IfSome}
 use Rattle.mdc_ast.specs.Database.{empty_database}
 use Rattle.mdc_ast.specs.Reading.{Item}
 use Rattle.mdc_outside.specs.Outside.{Takes}

@@ -1,4 +1,4 @@
-use Rattle.std.proofs.Common.{◌≡◌, [], ◌==◌, length, true, false, sym, ap, ◌∙◌}
+use Rattle.std.proofs.Common.{◌≡◌, ◌==◌, length, true, false, sym, ap, ◌∙◌}
 use Rattle.sql_reader.proofs.Items.{has_item}
 use Rattle.sql_reader.proofs.item.item_in.Goals as goal
 

@@ -1,6 +1,5 @@
-use Rattle.std.proofs.Common.{refl}
 use Rattle.sql_reader.specs.Token.{tokens_of}
-use Rattle.sql_reader.proofs.Items.{unsaid}
+use Rattle.sql_reader.proofs.Spelling.{unsaid}
 use Rattle.sql_reader.proofs.item.item_of_bytes.Goals as goal
 
 pub returns : goal.returns

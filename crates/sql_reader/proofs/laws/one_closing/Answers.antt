@@ -1,4 +1,4 @@
-use Rattle.std.proofs.Common.{List, ℕ, subst, sym, take, drop}
+use Rattle.std.proofs.Common.{subst, sym, take, drop}
 use Rattle.std.proofs.lemmas.List.{take-append-drop}
 use Rattle.mdc_ast.specs.Reading.{Closes}
 use Rattle.sql_reader.proofs.Items as items

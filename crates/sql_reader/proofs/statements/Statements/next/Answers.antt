@@ -1,8 +1,9 @@
-use Rattle.std.proofs.Common.{◌≡◌, ◌<◌, ◌≤◌, List, length, take, Ok, Err, true, sym, subst, ap, ◌∙◌, inr, arith}
+use Rattle.std.proofs.Common.{Ok, sym, subst, ap, ◌∙◌, inr, arith}
 use Rattle.mdc_ast.specs.Reading.{Closes}
+use Rattle.sql_reader.specs.Gives.{Keeps}
 use Rattle.sql_reader.specs.Progress.{Given, Took}
 use Rattle.sql_reader.specs.declared.statements.ReadStop.TheVariants as stop
-use Rattle.sql_reader.proofs.Giving.{none_waits, passed_on, ends_all, rose_since, through, took_more, waits}
+use Rattle.sql_reader.proofs.Giving.{none_waits, on_err, passed_on, ends_all, rose_since, through, took_more, waits}
 use Rattle.sql_reader.proofs.statements.Statements.next.Goals as goal
 
 pub returns-in_err-read-clause-waiting : goal.returns-in_err-read-clause-waiting
@@ -35,11 +36,6 @@ returns-in_err-fill-clause-too_long g c is =
     let long = c.fill.ensures.too_long (passed_on c.from_residual-in_err-fill.result c.fill.result c.in_err-fill.field-0.0 stop.TooLong c.from_residual-in_err-fill.ensures.1 c.in_err-fill.was is) in
     (long.0, λ given h. subst (λ l. Closes l given) (sym long.1) (all.all_now given h))
 
-pub returns-in_err-fill-clause-memory : goal.returns-in_err-fill-clause-memory
-returns-in_err-fill-clause-memory g c is given h =
-    let all = through c.next_closed.new.self c.in_ok-read.field-0 c.loop-read.invariant.0 c.next_closed.ensures.same.0 c.next_closed.ensures.same.1 c.in_default.is c.in_ok-read.ensures.none in
-    c.fill.ensures.kept given (all.keeps given h)
-
 pub returns-in_err-last-clause-taken : goal.returns-in_err-last-clause-taken
 returns-in_err-last-clause-taken g c =
     let all = through c.next_closed.new.self c.in_ok-read.field-0 c.loop-read.invariant.0 c.next_closed.ensures.same.0 c.next_closed.ensures.same.1 c.in_default.is c.in_ok-read.ensures.none in
@@ -50,11 +46,6 @@ pub returns-in_err-last-clause-waiting : goal.returns-in_err-last-clause-waiting
 returns-in_err-last-clause-waiting g c =
     let all = through c.next_closed.new.self c.in_ok-read.field-0 c.loop-read.invariant.0 c.next_closed.ensures.same.0 c.next_closed.ensures.same.1 c.in_default.is c.in_ok-read.ensures.none in
     λ given closed h more less. absurd (none_waits all given closed h more less)
-
-pub returns-in_err-last-clause-memory : goal.returns-in_err-last-clause-memory
-returns-in_err-last-clause-memory g c is given h =
-    let all = through c.next_closed.new.self c.in_ok-read.field-0 c.loop-read.invariant.0 c.next_closed.ensures.same.0 c.next_closed.ensures.same.1 c.in_default.is c.in_ok-read.ensures.none in
-    subst (λ p. Given p given) (sym c.in_err-last.ensures.err) (c.fill.ensures.kept given (all.keeps given h))
 
 pub returns-then-not-branch-clause-taken : goal.returns-then-not-branch-clause-taken
 returns-then-not-branch-clause-taken g c =
@@ -75,12 +66,25 @@ returns-then-not-branch-clause-end g c =
 pub loop-read-preserved : goal.loop-read-preserved
 loop-read-preserved g c =
     let all = through c.next_closed.new.self c.in_ok-read.field-0 c.loop-read.invariant.0 c.next_closed.ensures.same.0 c.next_closed.ensures.same.1 c.in_default.is c.in_ok-read.ensures.none in
-    let more = c.fill.ensures.more (c.in_ok-fill.was ∙ ap Ok c.if-not-branch.false) in
-    (record {
-      unfinished = c.fill.ensures.open.0;
-      within = more.1;
-      took = took_more (g.I.Source.left c.args.source.now) (g.I.Source.left c.loop-read.source) (g.I.Source.left c.fill.new.source) c.args.self.now.taken c.next_closed.new.self.taken c.fill.new.self.taken all.took c.fill.ensures.taken;
-      keeps = λ given h. c.fill.ensures.kept given (all.keeps given h);
-      unread = inr all.all_old;
-      count = omega (arith, all.count, c.fill.ensures.count);
-    }, omega (arith, c.loop-read.invariant.1, c.next_closed.ensures.past, c.fill.ensures.open.1))
+    let more = c.fill.ensures.more (c.in_ok-fill.was ∙ ap Ok c.if-not-branch.false) in (
+      record {
+        unfinished = c.fill.ensures.open.0;
+        within = more.1;
+        took = took_more (g.I.Source.left c.args.source.now) (g.I.Source.left c.loop-read.source) (g.I.Source.left c.fill.new.source) c.args.self.now.taken c.next_closed.new.self.taken c.fill.new.self.taken all.took c.fill.ensures.taken;
+        keeps = λ given h. c.fill.ensures.kept given (all.keeps given h);
+        unread = inr all.all_old;
+        count = omega (arith, all.count, c.fill.ensures.count);
+      },
+      omega (arith, c.loop-read.invariant.1, c.next_closed.ensures.past, c.fill.ensures.open.1),
+    )
+
+pub returns-in_err-fill-clause-kept : goal.returns-in_err-fill-clause-kept
+returns-in_err-fill-clause-kept g c =
+    let all = through c.next_closed.new.self c.in_ok-read.field-0 c.loop-read.invariant.0 c.next_closed.ensures.same.0 c.next_closed.ensures.same.1 c.in_default.is c.in_ok-read.ensures.none in
+    on_err c.from_residual-in_err-fill.result (Keeps c.args.self.now c.fill.new.self) (λ given h. c.fill.ensures.kept given (all.keeps given h))
+
+pub returns-in_err-last-clause-kept : goal.returns-in_err-last-clause-kept
+returns-in_err-last-clause-kept g c =
+    let all = through c.next_closed.new.self c.in_ok-read.field-0 c.loop-read.invariant.0 c.next_closed.ensures.same.0 c.next_closed.ensures.same.1 c.in_default.is c.in_ok-read.ensures.none in
+    on_err c.from_residual-in_err-last.result (Keeps c.args.self.now c.next_last.new.self)
+    (λ given h. subst (λ p. Given p given) (sym c.in_err-last.ensures.err) (c.fill.ensures.kept given (all.keeps given h)))

@@ -1,5 +1,4 @@
-use Rattle.std.proofs.Common.{◌≡◌, ap, refl, true}
-use Rattle.sql_reader.specs.Progress.{Progress}
+use Rattle.std.proofs.Common.{ap, refl, true}
 use Rattle.sql_reader.proofs.Giving.{ended, gives_found, keeps_last}
 use Rattle.sql_reader.proofs.statements.Statements.next_last.Goals as goal
 
