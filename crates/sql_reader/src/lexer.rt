@@ -2,9 +2,10 @@
 ghost use Rattle.std.specs.Prelude.{◌≡◌, ◌∷◌, List, map, IfOk, MatchOption};
 ghost use Rattle.mdc_ast.specs.Tokens as ast;
 ghost use Rattle.mdc_ast.specs.Tokens.{Tokens, is_word_byte, upper};
-ghost use Rattle.sql_reader.specs.Lexeme.{EndsNumber, IsFront, IsOfClass, after_line, front_len};
+ghost use Rattle.sql_reader.specs.Lexeme.{EndsNumber, IsFront, IsOfClass, front_len};
 ghost use Rattle.sql_reader.specs.Token.{tokens_of};
 
+use crate::comment::after_line;
 use crate::token::{Symbol, Token};
 use mdc_values::{Chars, Memory};
 use std::alloc::Global;
@@ -110,20 +111,6 @@ fn front_of_dash(behind: &[u8]) -> Lexeme
     } else {
         Lexeme::Token(Token::Symbol(Symbol::Minus), behind)
     }
-}
-
-/// The bytes behind the next line feed.
-fn after_line(bytes: &[u8]) -> &[u8]
-    ensures { result.now ≡ after_line bytes.now }
-{
-    let mut rest = bytes;
-    while let [byte, behind @ ..] = rest {
-        if *byte == b'\n' {
-            return behind;
-        }
-        rest = behind;
-    }
-    rest
 }
 
 /// How many bytes at the front can stand in a word.

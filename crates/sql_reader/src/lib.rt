@@ -5,6 +5,7 @@
 //! It stands on `mdc_ast` for statements and their spelling, and on `mdc_outside` for sources.
 #![tactic(auto)]
 
+mod comment;
 mod cursor;
 mod item;
 mod laws;

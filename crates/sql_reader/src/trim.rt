@@ -2,7 +2,9 @@
 ghost use Rattle.std.specs.Prelude.{◌≡◌, ◌↔◌, IsTrue};
 ghost use Rattle.mdc_ast.specs.Cutting as cutting;
 ghost use Rattle.mdc_ast.specs.Cutting.{Trims};
-ghost use Rattle.sql_reader.specs.Trim.{IsBehindLine, IsComment};
+ghost use Rattle.sql_reader.specs.Trim.{IsComment};
+
+use crate::comment::after_line;
 
 /// The statement in a piece: its bytes from the first that isn't blank and isn't in a comment.
 pub(crate) fn trim(piece: &[u8]) -> &[u8]
@@ -13,7 +15,7 @@ pub(crate) fn trim(piece: &[u8]) -> &[u8]
         if is_blank(*first) {
             rest = behind;
         } else if begins_comment(rest) {
-            rest = behind_line(&rest[2..]);
+            rest = after_line(&rest[2..]);
         } else {
             break;
         }
@@ -33,16 +35,4 @@ fn is_blank(byte: u8) -> bool
     ensures { result ≡ cutting.is_blank byte }
 {
     matches!(byte, b'\t' | b'\n' | b'\r' | b' ')
-}
-
-/// What stands behind the first line feed, or nothing where there is none.
-fn behind_line(bytes: &[u8]) -> &[u8]
-    ensures { IsBehindLine bytes.now result.now }
-{
-    for (i, byte) in bytes.iter().enumerate() {
-        if *byte == b'\n' {
-            return &bytes[i + 1..];
-        }
-    }
-    &[]
 }

@@ -1,6 +1,7 @@
-use Rattle.std.proofs.Common.{◌≡◌, true, false, sym, ◌∙◌}
+use Rattle.std.proofs.Common.{◌≡◌, true, false, sym, subst, ◌∙◌, ℕ, ap, arith, length, length-take, length-drop}
 use Rattle.mdc_ast.specs.Cutting.{is_blank}
-use Rattle.sql_reader.specs.Trim.{IsComment}
+use Rattle.sql_reader.specs.Trim.{IsBehindLine, IsComment}
+use Rattle.sql_reader.proofs.Fronts.{length-after_line, line_ends}
 use Rattle.sql_reader.proofs.Trimming.{behind_trims, blank_trims, empty_trims, statement_trims}
 use Rattle.sql_reader.proofs.trim.trim.Goals as goal
 
@@ -12,7 +13,7 @@ loop-first-preserved-then-is_blank c statement trims =
 pub loop-first-preserved : goal.loop-first-preserved
 loop-first-preserved c statement trims =
     let is : IsComment c.loop-first.rest.now = c.begins_comment.ensures.0 c.if-begins_comment.true in
-    c.loop-first.invariant statement (behind_trims c.loop-first.rest.now c.behind_line-rest.result.now statement is c.behind_line-rest.ensures trims)
+    c.loop-first.invariant statement (behind_trims c.loop-first.rest.now c.after_line-rest.result.now statement is (subst (IsBehindLine _) (sym c.after_line-rest.ensures) (line_ends _)) trims)
 
 pub returns-else-begins_comment : goal.returns-else-begins_comment
 returns-else-begins_comment c =
@@ -22,3 +23,8 @@ returns-else-begins_comment c =
 
 pub returns-in_default : goal.returns-in_default
 returns-in_default c = c.loop-first.invariant c.loop-first.rest.now (empty_trims c.loop-first.rest.now c.in_default.ensures.cases)
+
+pub loop-first-smaller : goal.loop-first-smaller
+loop-first-smaller c =
+    let is : IsComment c.loop-first.rest.now = c.begins_comment.ensures.0 c.if-begins_comment.true in
+    omega (arith, is.0, ap length c.after_line-rest.ensures, length-after_line, length-take {A = ℕ}, length-drop {A = ℕ})

@@ -1,6 +1,6 @@
 use Rattle.std.proofs.Common.{◌≡◌, length}
 use Rattle.sql_reader.specs.Lexeme.{after_line}
-use Rattle.sql_reader.proofs.lexer.after_line.Given as goal
+use Rattle.sql_reader.proofs.comment.after_line.Given as goal
 
 abbrev pub invariant-loop-rest : goal.invariant-loop-rest
 invariant-loop-rest l = after_line l.rest ≡ after_line l.fn.bytes
