@@ -5,9 +5,9 @@ use Rattle.std.specs.Prelude.{◌≡◌, ◌⊎◌, ◌<◌, ℕ, List, ◌++◌
 abbrev pub Rose : ℕ → ℕ → Type 0
 Rose before now = (before < now) ⊎ (before ≡ 18446744073709551615)
 
--- where the bytes left are told, a piece came off their front
+-- where the bytes left are told, a piece came off their front; where they aren't, they stay untold
 abbrev pub Gives : Option (List ℕ) → List ℕ → Option (List ℕ) → Type 0
-Gives None piece new = Unit {0}
+Gives None piece new = new ≡ None
 Gives (Some bytes) piece new = (rest : List ℕ) × (bytes ≡ piece ++ rest) × (new ≡ Some rest)
 
 -- where the tape is told, it has a piece more at its end
