@@ -1,1 +1,6 @@
+pub mod Contents
+pub mod Disk
+pub mod Moments
 pub mod Outside
+pub mod Replay
+pub mod ReplayLaws

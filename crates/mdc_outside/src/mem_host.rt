@@ -1,31 +1,71 @@
 // A host in memory, for tests.
-ghost use Rattle.std.specs.Prelude.{◌≡◌, [], Some};
+ghost use Rattle.std.specs.Prelude.{◌≡◌, ◌≢◌, ◌≤◌, ◌++◌, ◌∷◌, [], true, false, Ok, Some, length, IsTrue, IfOk, OnOk, OnErr};
 
-use crate::{Failed, Host};
+use crate::call::{Entry, Event};
+use crate::{Disk, Failed, Host, contents};
+use mdc_values::{Chars, Memory};
 use std::alloc::Global;
+use std::marker::Model;
 
-/// A host that keeps its tape in memory. It fails the calls whose numbers, counted from 1, stand in `fails`. A tape
-/// that can't grow counts as a fault of its call.
+/// A host that keeps its file and its tape in memory, and records its calls. It has one file under every path. It fails
+/// the calls whose numbers, counted from 1, stand in `fails`. A buffer that can't grow counts as a fault of its call.
 #[derive(Debug, Drop)]
 pub struct MemHost {
-    file: Option<Vec<u8>>,
+    alloc: Global,
+    first: Option<Chars>,
+    changed: Option<Vec<u8>>,
+    is_there: bool,
+    is_attached: bool,
     tape: Vec<u8>,
+    entries: Vec<Entry>,
     fails: Vec<u64>,
-    calls: u64,
-    faults: u64,
+    begun: u64,
+    disk_faults: u64,
+    say_faults: u64,
+}
+
+impl Model for MemHost {
+    ghost use Rattle.std.specs.Prelude.{◌≡◌};
+    ghost use Rattle.mdc_outside.specs.Contents.{contents_of};
+    ghost use Rattle.mdc_outside.specs.Replay.{Past, replay, at_first};
+
+    ghost Value = { Past };
+
+    ghost view = { λ host. record {
+      first = host.first;
+      entries = host.entries.items;
+      is_attached = host.is_attached;
+      disk_faults = host.disk_faults;
+      say_faults = host.say_faults;
+    } };
+
+    ghost invariant = { λ host. (contents_of host.first host.changed ≡ (replay (at_first host.first) host.entries.items).file.bytes)
+        × (host.is_there ≡ (replay (at_first host.first) host.entries.items).file.is_there)
+        × (host.tape.items ≡ (replay (at_first host.first) host.entries.items).tape) };
 }
 
 impl MemHost {
+    ghost use Rattle.mdc_outside.specs.Outside.{Rose};
+    ghost use Rattle.mdc_outside.specs.Disk.{file_at_first};
+    ghost use Rattle.mdc_outside.specs.Replay.{state_of, called, with_faults, IsQuiet};
+    ghost use Rattle.mdc_outside.specs.declared.call.Event.TheVariants.{Attach, Len, Read, Write, Sync, Say};
+
     /// A host with an empty tape and one file, or none.
     pub fn new(alloc: Global, file: Option<Vec<u8>>, fails: Vec<u64>) -> MemHost
         ensures { ⟦<MemHost as Host>⟧.tape result ≡ Some [] }
     {
         MemHost {
-            file,
+            alloc,
+            is_there: file.is_some(),
+            first: file.map(Chars::from_vec),
+            changed: None,
+            is_attached: false,
             tape: Vec::new(alloc),
+            entries: Vec::new(alloc),
             fails,
-            calls: 0,
-            faults: 0,
+            begun: 0,
+            disk_faults: 0,
+            say_faults: 0,
         }
     }
 
@@ -35,19 +75,175 @@ impl MemHost {
     {
         &self.tape
     }
+
+    // Lends the bytes of the file.
+    fn bytes(&self) -> &[u8]
+        ensures { result.now ≡ (state_of self.now).file.bytes }
+    {
+        contents::bytes_of(&self.first, &self.changed)
+    }
+
+    // Counts a call, and answers whether it is to be done.
+    fn begin(&mut self) -> bool
+        ensures { self.new ≡ self.old }
+    {
+        self.begun = self.begun.saturating_add(1);
+        !self.fails.contains(&self.begun)
+    }
+
+    // Answers a call of the disk, and counts a fault where it wasn't done.
+    fn answer(&mut self, outcome: Result<bool, Memory>) -> Result<(), Failed>
+        ensures ok { OnOk result ((outcome ≡ Ok true) × (self.new ≡ self.old)) }
+        ensures err { OnErr result ((outcome ≢ Ok true) × (self.new ≡ with_faults self.new.disk_faults self.old)) }
+        ensures rose { OnErr result (Rose self.old.disk_faults self.new.disk_faults) }
+        ensures count { self.old.disk_faults ≤ self.new.disk_faults }
+    {
+        if let Ok(true) = outcome {
+            return Ok(());
+        }
+        self.disk_faults = self.disk_faults.saturating_add(1);
+        Err(Failed)
+    }
+
+    // Records a call that keeps the bytes and the tape.
+    fn note(&mut self, event: Event, done: bool) -> Result<bool, Memory>
+        requires { IsQuiet event }
+        ensures ok { IfOk result (λ noted. (noted ≡ done) × (self.new ≡ called event done self.old)) }
+        ensures err { OnErr result (self.new ≡ self.old) }
+    {
+        self.entries.push(Entry { event, done })?;
+        Ok(done)
+    }
+
+    // Records an attach, and makes the file where it is done.
+    fn try_attach(&mut self, path: &str, make: bool, done: bool) -> Result<bool, Memory>
+        ensures ok { IfOk result (λ noted. (noted ≡ done) × (self.new ≡ called (Attach path.now make) done self.old)) }
+        ensures err { OnErr result (self.new ≡ self.old) }
+    {
+        let path = Chars::of(self.alloc, path.as_bytes())?;
+        let event = Event::Attach(path, make);
+        self.entries.push(Entry { event, done })?;
+        if done {
+            self.is_there = true;
+        }
+        Ok(done)
+    }
+
+    // Records a write, and writes the bytes where it is done.
+    fn try_write(&mut self, at: u64, bytes: &[u8], done: bool) -> Result<bool, Memory>
+        requires { at ≤ length (state_of self.old).file.bytes }
+        ensures ok { IfOk result (λ noted. (noted ≡ done) × (self.new ≡ called (Write at bytes.now) done self.old)) }
+        ensures err { OnErr result (self.new ≡ self.old) }
+    {
+        let event = Event::Write(at, Chars::of(self.alloc, bytes)?);
+        self.entries.try_reserve(1)?;
+        if done {
+            contents::overwrite(
+                self.alloc,
+                &self.first,
+                &mut self.changed,
+                at as usize,
+                bytes,
+            )?;
+        }
+        self.is_there = true;
+        self.entries.push_reserved(Entry { event, done });
+        Ok(done)
+    }
+
+    // Records a say, and puts the bytes on the tape where it is done.
+    fn try_say(&mut self, bytes: &[u8], done: bool) -> Result<bool, Memory>
+        ensures ok { IfOk result (λ noted. (noted ≡ done) × (self.new ≡ called (Say bytes.now) done self.old)) }
+        ensures err { OnErr result (self.new ≡ self.old) }
+    {
+        let event = Event::Say(Chars::of(self.alloc, bytes)?);
+        self.entries.try_reserve(1)?;
+        if done {
+            self.tape.extend_from_slice(bytes)?;
+        }
+        self.entries.push_reserved(Entry { event, done });
+        Ok(done)
+    }
+}
+
+impl Disk for MemHost {
+    ghost use Rattle.mdc_outside.specs.Replay.{state_of, may_leave, attaches_in};
+    ghost use Rattle.mdc_outside.specs.ReplayLaws.{sound, only_now, earlier};
+
+    ghost file = { λ host. Some (state_of host).file };
+
+    ghost beside = { λ host. record { tape = Some (state_of host).tape; say_faults = host.say_faults } };
+
+    ghost attaches = { λ host. Some (attaches_in host.entries) };
+
+    ghost is_attached = { λ host. host.is_attached };
+
+    ghost disk_faults = { λ host. host.disk_faults };
+
+    ghost clock = { λ host. length host.entries };
+
+    ghost moment = { may_leave };
+
+    ghost sound = { sound };
+
+    ghost only_now = { only_now };
+
+    ghost earlier = { earlier };
+
+    fn attach(&mut self, path: &str, make: bool) -> Result<(), Failed> {
+        let done = self.begin() && (make || self.is_there);
+        let outcome = self.try_attach(path, make, done);
+        self.answer(outcome)?;
+        self.is_attached = true;
+        Ok(())
+    }
+
+    fn len(&mut self) -> Result<u64, Failed> {
+        let done = self.begin();
+        let outcome = self.note(Event::Len, done);
+        self.answer(outcome)?;
+        Ok(self.bytes().len() as u64)
+    }
+
+    fn read(&mut self, at: u64, out: &mut [u8]) -> Result<(), Failed> {
+        let done = self.begin();
+        let outcome = self.note(Event::Read(at), done);
+        self.answer(outcome)?;
+        let start = at as usize;
+        out.copy_from_slice(&self.bytes()[start..start + out.len()]);
+        Ok(())
+    }
+
+    fn write(&mut self, at: u64, bytes: &[u8]) -> Result<(), Failed> {
+        let done = self.begin();
+        let outcome = self.try_write(at, bytes, done);
+        self.answer(outcome)
+    }
+
+    fn sync(&mut self) -> Result<(), Failed> {
+        let done = self.begin();
+        let outcome = self.note(Event::Sync, done);
+        self.answer(outcome)
+    }
 }
 
 impl Host for MemHost {
-    ghost tape = { λ host. Some host.tape.items };
+    ghost use Rattle.std.specs.Prelude.{refl};
+    ghost use Rattle.mdc_outside.specs.Replay.{state_of};
 
-    ghost say_faults = { λ host. host.faults };
+    ghost tape = { λ host. Some (state_of host).tape };
+
+    ghost say_faults = { λ host. host.say_faults };
+
+    ghost lies_beside = { λ host. (refl, refl) };
 
     fn say(&mut self, bytes: &[u8]) -> Result<(), Failed> {
-        self.calls = self.calls.saturating_add(1);
-        if self.fails.contains(&self.calls) || self.tape.extend_from_slice(bytes).is_err() {
-            self.faults = self.faults.saturating_add(1);
-            return Err(Failed);
+        let done = self.begin();
+        let outcome = self.try_say(bytes, done);
+        if let Ok(true) = outcome {
+            return Ok(());
         }
-        Ok(())
+        self.say_faults = self.say_faults.saturating_add(1);
+        Err(Failed)
     }
 }
