@@ -1,10 +1,12 @@
 -- What a host in memory tells: it replays the calls that it has recorded.
-use Rattle.std.specs.Prelude.{◌≡◌, ◌⊎◌, ℕ, Bool, true, false, List, [], ◌∷◌, ◌++◌, Option, take, drop, length, if◌then◌else◌}
+use Rattle.std.specs.Prelude.{◌≡◌, ◌⊎◌, ℕ, Bool, true, false, List, [], ◌∷◌, ◌++◌, Option, Result, Ok, Err, take, drop, length, if◌then◌else◌}
 use Rattle.mdc_outside.specs.Disk.{File, Since, file_at_first, opened, torn, written, settled}
 use Rattle.mdc_outside.specs.Moments.{IsMoment}
 use Rattle.mdc_outside.specs.declared.call.Event.{Event}
 use Rattle.mdc_outside.specs.declared.call.Event.TheVariants.{Attach, Len, Read, Write, Sync, Say}
 use Rattle.mdc_outside.specs.declared.call.Entry.{Entry}
+use Rattle.mdc_outside.specs.declared.source.Failed.{Failed}
+use Rattle.mdc_values.specs.declared.memory.Memory.{Memory}
 
 -- the file and the tape at one time
 pub record State : Type 0 where
@@ -102,12 +104,33 @@ abbrev pub called : Event → Bool → Past → Past
 called event done past = record past { entries = past.entries ++ record { event = event; done = done } ∷ [] }
 
 -- the past with another count of disk faults
-abbrev pub with_faults : ℕ → Past → Past
-with_faults faults past = record past { disk_faults = faults }
+abbrev pub with_disk_faults : ℕ → Past → Past
+with_disk_faults faults past = record past { disk_faults = faults }
+
+-- the past with another count of faults of `say`
+abbrev pub with_say_faults : ℕ → Past → Past
+with_say_faults faults past = record past { say_faults = faults }
 
 -- the past with a file attached
 abbrev pub with_file : Past → Past
 with_file past = record past { is_attached = true }
+
+-- Where the call was recorded, it was done as the result says. Where it wasn't, it came to nothing.
+abbrev pub IsRecorded : Event → Result Bool Memory → Past → Past → Type 0
+IsRecorded event (Ok done) old new = new ≡ called event done old
+IsRecorded event (Err e) old new = new ≡ old
+
+-- The call was recorded as done. Or it was recorded as failed, or came to nothing, and a fault of the disk was counted.
+abbrev pub IsAnswered : Event → Result (Unit {0}) Failed → Past → Past → Type 0
+IsAnswered event (Ok done) old new = new ≡ called event true old
+IsAnswered event (Err e) old new =
+    (new ≡ with_disk_faults new.disk_faults (called event false old)) ⊎ (new ≡ with_disk_faults new.disk_faults old)
+
+-- what a host holds is what the calls have made
+pub record IsUpToDate (bytes : List ℕ) (is_there : Bool) (tape : List ℕ) (state : State) : Type 0 where
+  pub file : bytes ≡ state.file.bytes
+  pub there : is_there ≡ state.file.is_there
+  pub said : tape ≡ state.tape
 
 -- a call that keeps the bytes and the tape
 abbrev pub IsQuiet : Event → Type 0

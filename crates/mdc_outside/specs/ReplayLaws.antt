@@ -85,17 +85,17 @@ sound-failed Sync state is = is
 sound-failed (Say piece) state is = is
 
 -- a call keeps a file sound
-sound-step : (event : Event) (done : Bool) (state : State) → IsSound state.file → IsSound (step (record { event = event; done = done }) state).file
+pub sound-step : (event : Event) (done : Bool) (state : State) → IsSound state.file → IsSound (step (record { event = event; done = done }) state).file
 sound-step event true state is = sound-done event state is
 sound-step event false state is = sound-failed event state is
 
 -- calls keep a file sound
-sound-replay : (state : State) (entries : List Entry) → IsSound state.file → IsSound (replay state entries).file
+pub sound-replay : (state : State) (entries : List Entry) → IsSound state.file → IsSound (replay state entries).file
 sound-replay state [] is = is
 sound-replay state (entry ∷ entries) is = sound-replay (step entry state) entries (sound-step entry.event entry.done state is)
 
 -- the file that a disk has at first is sound
-sound-first : (first : Option (List ℕ)) → IsSound (file_at_first first)
+pub sound-first : (first : Option (List ℕ)) → IsSound (file_at_first first)
 sound-first None = record { image = image-synced []; absent = λ no. refl }
 sound-first (Some bytes) = record { image = image-synced bytes; absent = λ no. cc }
 

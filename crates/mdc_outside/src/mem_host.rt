@@ -25,9 +25,8 @@ pub struct MemHost {
 }
 
 impl Model for MemHost {
-    ghost use Rattle.std.specs.Prelude.{◌≡◌};
     ghost use Rattle.mdc_outside.specs.Contents.{contents_of};
-    ghost use Rattle.mdc_outside.specs.Replay.{Past, replay, at_first};
+    ghost use Rattle.mdc_outside.specs.Replay.{Past, IsUpToDate, replay, at_first};
 
     ghost Value = { Past };
 
@@ -39,15 +38,14 @@ impl Model for MemHost {
       say_faults = host.say_faults;
     } };
 
-    ghost invariant = { λ host. (contents_of host.first host.changed ≡ (replay (at_first host.first) host.entries.items).file.bytes)
-        × (host.is_there ≡ (replay (at_first host.first) host.entries.items).file.is_there)
-        × (host.tape.items ≡ (replay (at_first host.first) host.entries.items).tape) };
+    ghost invariant = { λ host. IsUpToDate (contents_of host.first host.changed) host.is_there host.tape.items
+        (replay (at_first host.first) host.entries.items) };
 }
 
 impl MemHost {
-    ghost use Rattle.mdc_outside.specs.Outside.{Rose};
+    ghost use Rattle.mdc_outside.specs.Moments.{HasCause};
     ghost use Rattle.mdc_outside.specs.Disk.{file_at_first};
-    ghost use Rattle.mdc_outside.specs.Replay.{state_of, called, with_faults, IsQuiet};
+    ghost use Rattle.mdc_outside.specs.Replay.{state_of, with_disk_faults, IsQuiet, IsRecorded, IsAnswered};
     ghost use Rattle.mdc_outside.specs.declared.call.Event.TheVariants.{Attach, Len, Read, Write, Sync, Say};
 
     /// A host with an empty tape and one file, or none.
@@ -94,9 +92,8 @@ impl MemHost {
     // Answers a call of the disk, and counts a fault where it wasn't done.
     fn answer(&mut self, outcome: Result<bool, Memory>) -> Result<(), Failed>
         ensures ok { OnOk result ((outcome ≡ Ok true) × (self.new ≡ self.old)) }
-        ensures err { OnErr result ((outcome ≢ Ok true) × (self.new ≡ with_faults self.new.disk_faults self.old)) }
-        ensures rose { OnErr result (Rose self.old.disk_faults self.new.disk_faults) }
-        ensures count { self.old.disk_faults ≤ self.new.disk_faults }
+        ensures err { OnErr result ((outcome ≢ Ok true) × (self.new ≡ with_disk_faults self.new.disk_faults self.old)) }
+        ensures cause { HasCause result self.old.disk_faults self.new.disk_faults }
     {
         if let Ok(true) = outcome {
             return Ok(());
@@ -105,46 +102,60 @@ impl MemHost {
         Err(Failed)
     }
 
-    // Records a call that keeps the bytes and the tape.
-    fn note(&mut self, event: Event, done: bool) -> Result<bool, Memory>
+    // Makes a call that keeps the bytes and the tape.
+    fn note(&mut self, event: Event) -> Result<(), Failed>
         requires { IsQuiet event }
-        ensures ok { IfOk result (λ noted. (noted ≡ done) × (self.new ≡ called event done self.old)) }
-        ensures err { OnErr result (self.new ≡ self.old) }
+        ensures answer { IsAnswered event result self.old self.new }
+        ensures cause { HasCause result self.old.disk_faults self.new.disk_faults }
+    {
+        let done = self.begin();
+        let outcome = self.try_note(event, done);
+        self.answer(outcome)
+    }
+
+    // Records a call that keeps the bytes and the tape.
+    fn try_note(&mut self, event: Event, done: bool) -> Result<bool, Memory>
+        requires { IsQuiet event }
+        ensures recorded { IsRecorded event result self.old self.new }
+        ensures done { IfOk result (λ recorded. recorded ≡ done) }
     {
         self.entries.push(Entry { event, done })?;
         Ok(done)
     }
 
+    // Makes an attach.
+    fn open(&mut self, path: &str, make: bool) -> Result<(), Failed>
+        ensures answer { IsAnswered (Attach path.now make) result self.old self.new }
+        ensures there { OnOk result (make ≡ false → IsTrue (state_of self.old).file.is_there) }
+        ensures cause { HasCause result self.old.disk_faults self.new.disk_faults }
+    {
+        let done = self.begin() && (make || self.is_there);
+        let outcome = self.try_open(path, make, done);
+        self.answer(outcome)
+    }
+
     // Records an attach, and makes the file where it is done.
-    fn try_attach(&mut self, path: &str, make: bool, done: bool) -> Result<bool, Memory>
-        ensures ok { IfOk result (λ noted. (noted ≡ done) × (self.new ≡ called (Attach path.now make) done self.old)) }
-        ensures err { OnErr result (self.new ≡ self.old) }
+    fn try_open(&mut self, path: &str, make: bool, done: bool) -> Result<bool, Memory>
+        ensures recorded { IsRecorded (Attach path.now make) result self.old self.new }
+        ensures done { IfOk result (λ recorded. recorded ≡ done) }
     {
         let path = Chars::of(self.alloc, path.as_bytes())?;
         let event = Event::Attach(path, make);
         self.entries.push(Entry { event, done })?;
-        if done {
-            self.is_there = true;
-        }
+        self.is_there = self.is_there || done;
         Ok(done)
     }
 
     // Records a write, and writes the bytes where it is done.
     fn try_write(&mut self, at: u64, bytes: &[u8], done: bool) -> Result<bool, Memory>
         requires { at ≤ length (state_of self.old).file.bytes }
-        ensures ok { IfOk result (λ noted. (noted ≡ done) × (self.new ≡ called (Write at bytes.now) done self.old)) }
-        ensures err { OnErr result (self.new ≡ self.old) }
+        ensures recorded { IsRecorded (Write at bytes.now) result self.old self.new }
+        ensures done { IfOk result (λ recorded. recorded ≡ done) }
     {
         let event = Event::Write(at, Chars::of(self.alloc, bytes)?);
         self.entries.try_reserve(1)?;
         if done {
-            contents::overwrite(
-                self.alloc,
-                &self.first,
-                &mut self.changed,
-                at as usize,
-                bytes,
-            )?;
+            contents::overwrite(self.alloc, &self.first, &mut self.changed, at as usize, bytes)?;
         }
         self.is_there = true;
         self.entries.push_reserved(Entry { event, done });
@@ -153,8 +164,8 @@ impl MemHost {
 
     // Records a say, and puts the bytes on the tape where it is done.
     fn try_say(&mut self, bytes: &[u8], done: bool) -> Result<bool, Memory>
-        ensures ok { IfOk result (λ noted. (noted ≡ done) × (self.new ≡ called (Say bytes.now) done self.old)) }
-        ensures err { OnErr result (self.new ≡ self.old) }
+        ensures recorded { IsRecorded (Say bytes.now) result self.old self.new }
+        ensures done { IfOk result (λ recorded. recorded ≡ done) }
     {
         let event = Event::Say(Chars::of(self.alloc, bytes)?);
         self.entries.try_reserve(1)?;
@@ -191,24 +202,18 @@ impl Disk for MemHost {
     ghost earlier = { earlier };
 
     fn attach(&mut self, path: &str, make: bool) -> Result<(), Failed> {
-        let done = self.begin() && (make || self.is_there);
-        let outcome = self.try_attach(path, make, done);
-        self.answer(outcome)?;
+        self.open(path, make)?;
         self.is_attached = true;
         Ok(())
     }
 
     fn len(&mut self) -> Result<u64, Failed> {
-        let done = self.begin();
-        let outcome = self.note(Event::Len, done);
-        self.answer(outcome)?;
+        self.note(Event::Len)?;
         Ok(self.bytes().len() as u64)
     }
 
     fn read(&mut self, at: u64, out: &mut [u8]) -> Result<(), Failed> {
-        let done = self.begin();
-        let outcome = self.note(Event::Read(at), done);
-        self.answer(outcome)?;
+        self.note(Event::Read(at))?;
         let start = at as usize;
         out.copy_from_slice(&self.bytes()[start..start + out.len()]);
         Ok(())
@@ -221,9 +226,7 @@ impl Disk for MemHost {
     }
 
     fn sync(&mut self) -> Result<(), Failed> {
-        let done = self.begin();
-        let outcome = self.note(Event::Sync, done);
-        self.answer(outcome)
+        self.note(Event::Sync)
     }
 }
 
