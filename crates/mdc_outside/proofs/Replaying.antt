@@ -37,14 +37,16 @@ pub elapses-called : (event : Event) (done : Bool) (past : Past) (file : File) (
     → Elapses (Some file) (Some (state_of past).tape) piece (length past.entries) (length (called event done past).entries) (may_leave past) (may_leave (called event done past))
 elapses-called event done past file piece same said = record {
   later = omega (arith, length-append past.entries (record { event = event; done = done } ∷ []));
-  each = λ t image tape le. rw (same, said) (leaves_grown_since (at_first past.first) past.entries (record { event = event; done = done }) t image tape (sound-first past.first) le) }
+  each = λ t image tape le. rw (same, said) (leaves_grown_since (at_first past.first) past.entries (record { event = event; done = done }) t image tape (sound-first past.first) le);
+}
 
 -- over a call that came to nothing there are no new moments
 pub elapses-nothing : (past : Past) → Elapses (Some (state_of past).file) (Some (state_of past).tape) [] (length past.entries) (length past.entries) (may_leave past) (may_leave past)
 elapses-nothing past = record {
   later = omega arith;
   each = λ t image tape le.
-    (λ may. inl may, elim [ inl may ↦ may | inr now ↦ earlier past t (length past.entries) image tape le (omega arith) ((only_now past image tape).1 now) ]) }
+      (λ may. inl may, elim [ inl may ↦ may | inr now ↦ earlier past t (length past.entries) image tape le (omega arith) ((only_now past image tape).1 now) ]);
+}
 
 -- with a true one it is true
 or-true : (b : Bool) → b || true ≡ true

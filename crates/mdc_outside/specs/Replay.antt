@@ -1,7 +1,7 @@
 -- What a host in memory tells: it replays the calls that it has recorded.
-use Rattle.std.specs.Prelude.{◌≡◌, ◌⊎◌, ℕ, Bool, true, false, List, [], ◌∷◌, ◌++◌, Option, Result, Ok, Err, take, drop, length, if◌then◌else◌}
+use Rattle.std.specs.Prelude.{◌≡◌, ◌⊎◌, ℕ, Bool, true, false, List, [], ◌∷◌, ◌++◌, Option, Some, Result, Ok, Err, take, drop, length, if◌then◌else◌}
 use Rattle.mdc_outside.specs.Disk.{File, Since, file_at_first, opened, torn, written, settled}
-use Rattle.mdc_outside.specs.Moments.{IsMoment}
+use Rattle.mdc_outside.specs.Moments.{Beside, IsMoment}
 use Rattle.mdc_outside.specs.declared.call.Event.{Event}
 use Rattle.mdc_outside.specs.declared.call.Event.TheVariants.{Attach, Len, Read, Write, Sync, Say}
 use Rattle.mdc_outside.specs.declared.call.Entry.{Entry}
@@ -95,6 +95,10 @@ at_first first = record { file = file_at_first first; tape = [] }
 abbrev pub state_of : Past → State
 state_of past = replay (at_first past.first) past.entries
 
+-- what lies beside the disk
+abbrev pub beside_of : Past → Beside
+beside_of past = record { tape = Some (state_of past).tape; say_faults = past.say_faults }
+
 -- a crash since so many calls may leave this
 abbrev pub may_leave : Past → ℕ → List ℕ → List ℕ → Type 0
 may_leave past t image tape = Leaves (replay (at_first past.first) (take t past.entries)) (drop t past.entries) image tape
@@ -125,6 +129,12 @@ abbrev pub IsAnswered : Event → Result (Unit {0}) Failed → Past → Past →
 IsAnswered event (Ok done) old new = new ≡ called event true old
 IsAnswered event (Err e) old new =
     (new ≡ with_disk_faults new.disk_faults (called event false old)) ⊎ (new ≡ with_disk_faults new.disk_faults old)
+
+-- The bytes were said. Or the call was recorded as failed, or came to nothing, and a fault of `say` was counted.
+abbrev pub IsSaid : List ℕ → Result (Unit {0}) Failed → Past → Past → Type 0
+IsSaid piece (Ok done) old new = new ≡ called (Say piece) true old
+IsSaid piece (Err e) old new =
+    (new ≡ with_say_faults new.say_faults (called (Say piece) false old)) ⊎ (new ≡ with_say_faults new.say_faults old)
 
 -- what a host holds is what the calls have made
 pub record IsUpToDate (bytes : List ℕ) (is_there : Bool) (tape : List ℕ) (state : State) : Type 0 where

@@ -10,7 +10,7 @@ use Rattle.mdc_outside.specs.declared.call.Event.TheVariants.{Attach, Len, Read,
 use Rattle.mdc_outside.specs.declared.call.Entry.{Entry}
 
 -- what may be left before a write may be left within it
-image-torn : (since : Since) (image : List ℕ) (at count : ℕ) → IsImage since image → IsImage (torn at count since) image
+pub image-torn : (since : Since) (image : List ℕ) (at count : ℕ) → IsImage since image → IsImage (torn at count since) image
 image-torn since image at count is = record {
   no_shorter = is.no_shorter;
   no_longer = omega (arith, is.no_longer);

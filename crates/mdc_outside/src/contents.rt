@@ -1,5 +1,5 @@
 // The bytes of a file in memory: those of the first file, until the first write copies them.
-ghost use Rattle.std.specs.Prelude.{◌≡◌, ◌≤◌, length, OnOk, OnErr};
+ghost use Rattle.std.specs.Prelude.{◌≡◌, ◌≤◌, ◌+◌, length, take, drop, OnOk, OnErr};
 ghost use Rattle.mdc_outside.specs.Contents.{contents_of};
 ghost use Rattle.mdc_outside.specs.Disk.{overwritten};
 
@@ -15,6 +15,16 @@ pub fn bytes_of<'a>(first: &'a Option<Chars>, changed: &'a Option<Vec<u8>>) -> &
         (None, Some(bytes)) => bytes.bytes(),
         (None, None) => &[],
     }
+}
+
+/// Fills `out` with the bytes from a place on.
+pub fn copy_out(bytes: &[u8], at: usize, out: &mut [u8])
+    requires { at + length out.old ≤ length bytes.now }
+    ensures { out.new ≡ take (length out.old) (drop at bytes.now) }
+{
+    let (_, rest) = bytes.split_at(at);
+    let (piece, _) = rest.split_at(out.len());
+    out.copy_from_slice(piece);
 }
 
 /// Puts bytes in the place of others. Where memory runs out, nothing is changed.

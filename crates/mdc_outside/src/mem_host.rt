@@ -45,7 +45,7 @@ impl Model for MemHost {
 impl MemHost {
     ghost use Rattle.mdc_outside.specs.Moments.{HasCause};
     ghost use Rattle.mdc_outside.specs.Disk.{file_at_first};
-    ghost use Rattle.mdc_outside.specs.Replay.{state_of, with_disk_faults, IsQuiet, IsRecorded, IsAnswered};
+    ghost use Rattle.mdc_outside.specs.Replay.{state_of, with_disk_faults, with_file, IsQuiet, IsRecorded, IsAnswered, IsSaid};
     ghost use Rattle.mdc_outside.specs.declared.call.Event.TheVariants.{Attach, Len, Read, Write, Sync, Say};
 
     /// A host with an empty tape and one file, or none.
@@ -146,6 +146,24 @@ impl MemHost {
         Ok(done)
     }
 
+    // Has a file attached.
+    fn mark_attached(&mut self)
+        ensures { self.new ≡ with_file self.old }
+    {
+        self.is_attached = true;
+    }
+
+    // Makes a write.
+    fn put(&mut self, at: u64, bytes: &[u8]) -> Result<(), Failed>
+        requires { at ≤ length (state_of self.old).file.bytes }
+        ensures answer { IsAnswered (Write at bytes.now) result self.old self.new }
+        ensures cause { HasCause result self.old.disk_faults self.new.disk_faults }
+    {
+        let done = self.begin();
+        let outcome = self.try_write(at, bytes, done);
+        self.answer(outcome)
+    }
+
     // Records a write, and writes the bytes where it is done.
     fn try_write(&mut self, at: u64, bytes: &[u8], done: bool) -> Result<bool, Memory>
         requires { at ≤ length (state_of self.old).file.bytes }
@@ -155,11 +173,30 @@ impl MemHost {
         let event = Event::Write(at, Chars::of(self.alloc, bytes)?);
         self.entries.try_reserve(1)?;
         if done {
-            contents::overwrite(self.alloc, &self.first, &mut self.changed, at as usize, bytes)?;
+            contents::overwrite(
+                self.alloc,
+                &self.first,
+                &mut self.changed,
+                at as usize,
+                bytes,
+            )?;
         }
         self.is_there = true;
         self.entries.push_reserved(Entry { event, done });
         Ok(done)
+    }
+
+    // Makes a say.
+    fn utter(&mut self, bytes: &[u8]) -> Result<(), Failed>
+        ensures said { IsSaid bytes.now result self.old self.new }
+        ensures cause { HasCause result self.old.say_faults self.new.say_faults }
+    {
+        let done = self.begin();
+        if let Ok(true) = self.try_say(bytes, done) {
+            return Ok(());
+        }
+        self.say_faults = self.say_faults.saturating_add(1);
+        Err(Failed)
     }
 
     // Records a say, and puts the bytes on the tape where it is done.
@@ -178,12 +215,12 @@ impl MemHost {
 }
 
 impl Disk for MemHost {
-    ghost use Rattle.mdc_outside.specs.Replay.{state_of, may_leave, attaches_in};
+    ghost use Rattle.mdc_outside.specs.Replay.{state_of, beside_of, may_leave, attaches_in};
     ghost use Rattle.mdc_outside.specs.ReplayLaws.{sound, only_now, earlier};
 
     ghost file = { λ host. Some (state_of host).file };
 
-    ghost beside = { λ host. record { tape = Some (state_of host).tape; say_faults = host.say_faults } };
+    ghost beside = { beside_of };
 
     ghost attaches = { λ host. Some (attaches_in host.entries) };
 
@@ -203,7 +240,7 @@ impl Disk for MemHost {
 
     fn attach(&mut self, path: &str, make: bool) -> Result<(), Failed> {
         self.open(path, make)?;
-        self.is_attached = true;
+        self.mark_attached();
         Ok(())
     }
 
@@ -214,15 +251,12 @@ impl Disk for MemHost {
 
     fn read(&mut self, at: u64, out: &mut [u8]) -> Result<(), Failed> {
         self.note(Event::Read(at))?;
-        let start = at as usize;
-        out.copy_from_slice(&self.bytes()[start..start + out.len()]);
+        contents::copy_out(self.bytes(), at as usize, out);
         Ok(())
     }
 
     fn write(&mut self, at: u64, bytes: &[u8]) -> Result<(), Failed> {
-        let done = self.begin();
-        let outcome = self.try_write(at, bytes, done);
-        self.answer(outcome)
+        self.put(at, bytes)
     }
 
     fn sync(&mut self) -> Result<(), Failed> {
@@ -241,12 +275,6 @@ impl Host for MemHost {
     ghost lies_beside = { λ host. (refl, refl) };
 
     fn say(&mut self, bytes: &[u8]) -> Result<(), Failed> {
-        let done = self.begin();
-        let outcome = self.try_say(bytes, done);
-        if let Ok(true) = outcome {
-            return Ok(());
-        }
-        self.say_faults = self.say_faults.saturating_add(1);
-        Err(Failed)
+        self.utter(bytes)
     }
 }

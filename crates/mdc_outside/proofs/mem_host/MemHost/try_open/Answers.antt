@@ -8,7 +8,8 @@ pub invariant_of-self-2 : goal.invariant_of-self-2
 invariant_of-self-2 c =
     let h = c.self.inside in
     let there : c.if-self.self ≡ (h.is_there || c.args.done) =
-        elim c.if-self.branch [
-          then-self w ↦ w.self-is ∙ (w.if-self.true ∙ sym (ap (λ there. there || c.args.done) w.if-self.true))
-        | else-self w ↦ w.self-is ∙ sym (ap (λ there. there || c.args.done) w.if-self.false) ] in
+    elim c.if-self.branch [
+      | then-self w ↦ w.self-is ∙ (w.if-self.true ∙ sym (ap (λ there. there || c.args.done) w.if-self.true))
+      | else-self w ↦ w.self-is ∙ sym (ap (λ there. there || c.args.done) w.if-self.false)
+    ] in
     rw (c.in_ok-push.ensures.items, there) (held-attach (at_first h.first) h.entries.items c.in_ok-path.path c.args.make c.args.done _ _ _ c.self.invariant)
