@@ -15,7 +15,7 @@ replay-grown state (first ∷ entries) entry = replay-grown (step first state) e
 
 -- the state after one more call
 pub state-called : (event : Event) (done : Bool) (past : Past) → state_of (called event done past) ≡ step (record { event = event; done = done }) (state_of past)
-state-called event done past = replay-grown (at_first past.first) past.entries (record { event = event; done = done })
+state-called event done past = replay-grown (at_first past.first past.heard) past.entries (record { event = event; done = done })
 
 -- the attaches of more calls stand behind that of the first
 with_attach-append : (event : Event) (xs ys : List (List ℕ × Bool)) → with_attach event (xs ++ ys) ≡ with_attach event xs ++ ys
@@ -37,7 +37,7 @@ pub elapses-called : (event : Event) (done : Bool) (past : Past) (file : File) (
     → Elapses (Some file) (Some (state_of past).tape) piece (length past.entries) (length (called event done past).entries) (may_leave past) (may_leave (called event done past))
 elapses-called event done past file piece same said = record {
   later = omega (arith, length-append past.entries (record { event = event; done = done } ∷ []));
-  each = λ t image tape le. rw (same, said) (leaves_grown_since (at_first past.first) past.entries (record { event = event; done = done }) t image tape (sound-first past.first) le);
+  each = λ t image tape le. rw (same, said) (leaves_grown_since (at_first past.first past.heard) past.entries (record { event = event; done = done }) t image tape (sound-first past.first) le);
 }
 
 -- over a call that came to nothing there are no new moments

@@ -79,21 +79,23 @@ abbrev pub attaches_in : List Entry → List (List ℕ × Bool)
 attaches_in [] = []
 attaches_in (entry ∷ entries) = with_attach entry.event (attaches_in entries)
 
--- What contracts see of a host in memory: its first file and all its calls, whether a file is attached, and the counts.
+-- What contracts see of a host in memory: its first file and tape, all its calls, whether a file is attached, and the
+-- counts.
 pub record Past : Type 0 where
   pub first : Option (List ℕ)
+  pub heard : List ℕ
   pub entries : List Entry
   pub is_attached : Bool
   pub disk_faults : ℕ
   pub say_faults : ℕ
 
 -- before the first call
-abbrev pub at_first : Option (List ℕ) → State
-at_first first = record { file = file_at_first first; tape = [] }
+abbrev pub at_first : Option (List ℕ) → List ℕ → State
+at_first first heard = record { file = file_at_first first; tape = heard }
 
 -- after the last call so far
 abbrev pub state_of : Past → State
-state_of past = replay (at_first past.first) past.entries
+state_of past = replay (at_first past.first past.heard) past.entries
 
 -- what lies beside the disk
 abbrev pub beside_of : Past → Beside
@@ -101,7 +103,11 @@ beside_of past = record { tape = Some (state_of past).tape; say_faults = past.sa
 
 -- a crash since so many calls may leave this
 abbrev pub may_leave : Past → ℕ → List ℕ → List ℕ → Type 0
-may_leave past t image tape = Leaves (replay (at_first past.first) (take t past.entries)) (drop t past.entries) image tape
+may_leave past t image tape = Leaves (replay (at_first past.first past.heard) (take t past.entries)) (drop t past.entries) image tape
+
+-- a host that was made of this file and tape, with no call yet
+abbrev pub fresh : Option (List ℕ) → List ℕ → Past
+fresh first heard = record { first = first; heard = heard; entries = []; is_attached = false; disk_faults = 0; say_faults = 0 }
 
 -- the past with one more call
 abbrev pub called : Event → Bool → Past → Past

@@ -101,7 +101,7 @@ sound-first (Some bytes) = record { image = image-synced bytes; absent = λ no. 
 
 -- the file is one that a crash may leave as it reads
 pub sound : (past : Past) → IsSound (state_of past).file
-sound past = sound-replay (at_first past.first) past.entries (sound-first past.first)
+sound past = sound-replay (at_first past.first past.heard) past.entries (sound-first past.first)
 
 -- since the last call there is what may be left now
 pub only_now : (past : Past) (image tape : List ℕ) → may_leave past (length past.entries) image tape ↔ IsMoment (state_of past).file.since (state_of past).tape [] image tape
@@ -125,7 +125,7 @@ earlier_since state (entry ∷ entries) (suc s) (suc t) image tape le may = earl
 
 -- the moments since a time are among those since an earlier one
 pub earlier : (past : Past) (s t : ℕ) (image tape : List ℕ) → s ≤ t → t ≤ length past.entries → may_leave past t image tape → may_leave past s image tape
-earlier past s t image tape le within may = earlier_since (at_first past.first) past.entries s t image tape le may
+earlier past s t image tape le within may = earlier_since (at_first past.first past.heard) past.entries s t image tape le may
 
 -- nothing is a first part of nothing
 part-nil : (part unsaid : List ℕ) → [] ≡ part ++ unsaid → part ≡ []

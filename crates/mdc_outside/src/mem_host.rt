@@ -1,5 +1,6 @@
 // A host in memory, for tests.
-ghost use Rattle.std.specs.Prelude.{◌≡◌, ◌≢◌, ◌≤◌, ◌++◌, ◌∷◌, [], true, false, Ok, Some, length, IsTrue, IfOk, OnOk, OnErr};
+ghost use Rattle.std.specs.Prelude.{◌≡◌, ◌≢◌, ◌≤◌, ◌++◌, ◌∷◌, [], true, false, Ok, Some, length, IsTrue, IfOk, OnOk, OnErr, vec_items};
+ghost use Rattle.std.specs.Option.{option_map};
 
 use crate::call::{Entry, Event};
 use crate::{Disk, Failed, Host, contents};
@@ -13,6 +14,7 @@ use std::marker::Model;
 pub struct MemHost {
     alloc: Global,
     first: Option<Chars>,
+    heard: Chars,
     changed: Option<Vec<u8>>,
     is_there: bool,
     is_attached: bool,
@@ -32,6 +34,7 @@ impl Model for MemHost {
 
     ghost view = { λ host. record {
       first = host.first;
+      heard = host.heard;
       entries = host.entries.items;
       is_attached = host.is_attached;
       disk_faults = host.disk_faults;
@@ -39,23 +42,25 @@ impl Model for MemHost {
     } };
 
     ghost invariant = { λ host. IsUpToDate (contents_of host.first host.changed) host.is_there host.tape.items
-        (replay (at_first host.first) host.entries.items) };
+        (replay (at_first host.first host.heard) host.entries.items) };
 }
 
 impl MemHost {
     ghost use Rattle.mdc_outside.specs.Moments.{HasCause};
     ghost use Rattle.mdc_outside.specs.Disk.{file_at_first};
-    ghost use Rattle.mdc_outside.specs.Replay.{state_of, with_disk_faults, with_file, IsQuiet, IsRecorded, IsAnswered, IsSaid};
+    ghost use Rattle.mdc_outside.specs.Replay.{state_of, fresh, with_disk_faults, with_file, IsQuiet, IsRecorded, IsAnswered, IsSaid};
     ghost use Rattle.mdc_outside.specs.declared.call.Event.TheVariants.{Attach, Len, Read, Write, Sync, Say};
 
     /// A host with an empty tape and one file, or none.
     pub fn new(alloc: Global, file: Option<Vec<u8>>, fails: Vec<u64>) -> MemHost
-        ensures { ⟦<MemHost as Host>⟧.tape result ≡ Some [] }
+        ensures tape { ⟦<MemHost as Host>⟧.tape result ≡ Some [] }
+        ensures fresh { result ≡ fresh (option_map vec_items file) [] }
     {
         MemHost {
             alloc,
             is_there: file.is_some(),
             first: file.map(Chars::from_vec),
+            heard: Chars::from_vec(Vec::new(alloc)),
             changed: None,
             is_attached: false,
             tape: Vec::new(alloc),

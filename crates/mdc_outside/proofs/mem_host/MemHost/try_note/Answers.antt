@@ -5,4 +5,4 @@ use Rattle.mdc_outside.proofs.mem_host.MemHost.try_note.Goals as goal
 pub invariant_of-self-2 : goal.invariant_of-self-2
 invariant_of-self-2 c =
     let h = c.self.inside in
-    rw c.in_ok-push.ensures.items (held-quiet (at_first h.first) h.entries.items c.args.event c.args.done _ _ _ c.requires c.self.invariant)
+    rw c.in_ok-push.ensures.items (held-quiet (at_first h.first h.heard) h.entries.items c.args.event c.args.done _ _ _ c.requires c.self.invariant)

@@ -12,4 +12,4 @@ invariant_of-self-2 c =
       | then-self w ↦ w.self-is ∙ (w.if-self.true ∙ sym (ap (λ there. there || c.args.done) w.if-self.true))
       | else-self w ↦ w.self-is ∙ sym (ap (λ there. there || c.args.done) w.if-self.false)
     ] in
-    rw (c.in_ok-push.ensures.items, there) (held-attach (at_first h.first) h.entries.items c.in_ok-path.path c.args.make c.args.done _ _ _ c.self.invariant)
+    rw (c.in_ok-push.ensures.items, there) (held-attach (at_first h.first h.heard) h.entries.items c.in_ok-path.path c.args.make c.args.done _ _ _ c.self.invariant)
