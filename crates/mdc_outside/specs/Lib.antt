@@ -1,3 +1,4 @@
+pub mod Aftermath
 pub mod Contents
 pub mod Disk
 pub mod Moments

@@ -53,7 +53,7 @@ image-overwritten since image piece at is = record {
 }
 
 -- what is on the disk as a whole may be left
-image-synced : (bytes : List ℕ) → IsImage (all_synced bytes) bytes
+pub image-synced : (bytes : List ℕ) → IsImage (all_synced bytes) bytes
 image-synced bytes = record { no_shorter = omega arith; no_longer = omega arith; kept = λ i below outside. refl }
 
 -- what is left once all bytes are on the disk might have been left before

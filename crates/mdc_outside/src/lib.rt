@@ -5,6 +5,7 @@
 //! tell all that they hold, and fail where a test says so. It stands on `mdc_values`.
 #![tactic(auto)]
 
+mod aftermath;
 mod call;
 mod contents;
 mod disk;
