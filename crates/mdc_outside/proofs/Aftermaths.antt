@@ -1,8 +1,8 @@
 -- What a crash in the midst of recorded calls leaves is one of their moments.
 use Rattle.std.proofs.Common.{◌≡◌, ◌⊎◌, ◌≤◌, ◌<◌, ◌+◌, min, ℕ, Bool, true, false, List, [], ◌∷◌, ◌++◌, Option, Some, None, take, drop, length, replicate, get_or, fold, arith, refl, sym, ap, ◌∙◌, inl, inr, length-append, take_all}
-use Rattle.std.proofs.lemmas.List.{length-replicate, length-take, drop_all, take_more, drop-append-le}
-use Rattle.mdc_outside.specs.Disk.{File, Since, IsImage, all_synced, overwritten, torn}
-use Rattle.mdc_outside.specs.Replay.{State, replay, step, since_within}
+use Rattle.std.proofs.lemmas.List.{length-replicate, length-take, drop_all, take_more, drop_more, drop-append-le, append-nil}
+use Rattle.mdc_outside.specs.Disk.{File, Since, IsImage, AreBytes, all_synced, overwritten, torn}
+use Rattle.mdc_outside.specs.Replay.{Past, State, replay, step, at_first, may_leave, since_within, piece_within}
 use Rattle.mdc_outside.specs.Aftermath.{filled, torn_bytes, torn_by, bytes_after, said_bytes, tape_after, since_all, EndsSynced, PutsNothing, MayBeLeft}
 use Rattle.mdc_outside.specs.ReplayLaws.{image-overwritten, image-synced}
 use Rattle.mdc_outside.specs.declared.call.Event.{Event}
@@ -127,3 +127,12 @@ synced-more calls i entry inside is sync =
     let grown : take (i + 1) calls ≡ take i calls ++ record { event = Sync; done = true } ∷ [] =
         take_more calls i entry inside ∙ ap (λ last. take i calls ++ last ∷ []) (sym is ∙ sync) in
     rw grown (synced-grown (take i calls))
+
+-- what may be left within a call may be left since the calls before it
+pub moment-within : (past : Past) (n : ℕ) (entry : Entry) (image : List ℕ) → n < length past.entries → entry ≡ get_or past.entries n entry → AreBytes image
+    → IsImage (since_within entry.event (replay (at_first past.first past.heard) (take n past.entries)).file.since) image
+    → may_leave past n image (replay (at_first past.first past.heard) (take n past.entries)).tape
+moment-within past n entry image inside is bytes left =
+    let here : drop n past.entries ≡ entry ∷ drop (n + 1) past.entries = drop_more past.entries n entry inside ∙ ap (λ entry. entry ∷ drop (n + 1) past.entries) (sym is) in
+    let before = replay (at_first past.first past.heard) (take n past.entries) in
+    rw here (inl (record { left = left; byte = bytes; said = ([], piece_within entry.event, refl, sym (append-nil before.tape)) }))

@@ -1,4 +1,5 @@
 pub mod Aftermath
+pub mod Calls
 pub mod Contents
 pub mod Disk
 pub mod Moments

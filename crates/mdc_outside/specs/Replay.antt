@@ -1,5 +1,5 @@
 -- What a host in memory tells: it replays the calls that it has recorded.
-use Rattle.std.specs.Prelude.{◌≡◌, ◌⊎◌, ℕ, Bool, true, false, List, [], ◌∷◌, ◌++◌, Option, Some, Result, Ok, Err, take, drop, length, if◌then◌else◌}
+use Rattle.std.specs.Prelude.{◌≡◌, ◌⊎◌, ◌-◌, ℕ, Bool, true, false, List, [], ◌∷◌, ◌++◌, Option, Some, Result, Ok, Err, take, drop, length, if◌then◌else◌}
 use Rattle.mdc_outside.specs.Disk.{File, Since, file_at_first, opened, torn, written, settled}
 use Rattle.mdc_outside.specs.Moments.{Beside, IsMoment}
 use Rattle.mdc_outside.specs.declared.call.Event.{Event}
@@ -96,6 +96,10 @@ at_first first heard = record { file = file_at_first first; tape = heard }
 -- after the last call so far
 abbrev pub state_of : Past → State
 state_of past = replay (at_first past.first past.heard) past.entries
+
+-- before the call of this number, counted from 1
+abbrev pub state_before : ℕ → Past → State
+state_before call past = replay (at_first past.first past.heard) (take (call - 1) past.entries)
 
 -- what lies beside the disk
 abbrev pub beside_of : Past → Beside

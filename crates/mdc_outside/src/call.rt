@@ -1,4 +1,6 @@
 // A call of a host in memory, as the host records it.
+ghost use Rattle.std.specs.Prelude.{◌≡◌};
+
 use mdc_values::Chars;
 
 /// A recorded call, with its place in the file.
@@ -28,4 +30,27 @@ pub enum Event {
 pub struct Entry {
     pub event: Event,
     pub done: bool,
+}
+
+impl Entry {
+    ghost use Rattle.mdc_outside.specs.Calls.{call_of};
+
+    // The call, with its place in the file.
+    pub fn call(&self) -> Call
+        ensures { result ≡ call_of self.now }
+    {
+        match &self.event {
+            Event::Attach(_, _) => Call::Attach,
+            Event::Len => Call::Len,
+            Event::Read(at) => Call::Read(*at),
+            Event::Write(at, _) => Call::Write(*at),
+            Event::Sync => Call::Sync,
+            Event::Say(_) => Call::Say,
+        }
+    }
+
+    // Whether an attach was done.
+    pub fn is_attach(&self) -> bool {
+        self.done && matches!(self.event, Event::Attach(_, _))
+    }
 }

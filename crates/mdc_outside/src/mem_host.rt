@@ -1,8 +1,9 @@
 // A host in memory, for tests.
-ghost use Rattle.std.specs.Prelude.{◌≡◌, ◌≢◌, ◌≤◌, ◌++◌, ◌∷◌, [], true, false, Ok, Some, length, IsTrue, IfOk, OnOk, OnErr, vec_items};
+ghost use Rattle.std.specs.Prelude.{◌≡◌, ◌≢◌, ◌≤◌, ◌-◌, slice_get, ◌++◌, ◌∷◌, [], true, false, Ok, Some, length, IsTrue, IfOk, OnOk, OnErr, vec_items};
 ghost use Rattle.std.specs.Option.{option_map};
 
-use crate::call::{Entry, Event};
+use crate::aftermath;
+use crate::call::{Call, Entry, Event};
 use crate::{Disk, Failed, Host, contents};
 use mdc_values::{Chars, Memory};
 use std::alloc::Global;
@@ -46,9 +47,10 @@ impl Model for MemHost {
 }
 
 impl MemHost {
-    ghost use Rattle.mdc_outside.specs.Moments.{HasCause};
-    ghost use Rattle.mdc_outside.specs.Disk.{file_at_first};
-    ghost use Rattle.mdc_outside.specs.Replay.{state_of, fresh, with_disk_faults, with_file, IsQuiet, IsRecorded, IsAnswered, IsSaid};
+    ghost use Rattle.mdc_outside.specs.Moments.{HasCause, WhereTold};
+    ghost use Rattle.mdc_outside.specs.Calls.{call_of};
+    ghost use Rattle.mdc_outside.specs.Disk.{file_at_first, AreBytes};
+    ghost use Rattle.mdc_outside.specs.Replay.{state_of, state_before, fresh, with_disk_faults, with_file, IsQuiet, IsRecorded, IsAnswered, IsSaid};
     ghost use Rattle.mdc_outside.specs.declared.call.Event.TheVariants.{Attach, Len, Read, Write, Sync, Say};
 
     /// A host with an empty tape and one file, or none.
@@ -77,6 +79,67 @@ impl MemHost {
         ensures { ⟦<MemHost as Host>⟧.tape self.now ≡ Some result.now }
     {
         &self.tape
+    }
+
+    /// How many calls are recorded.
+    pub fn calls(&self) -> u64
+        ensures { result ≡ ⟦<MemHost as Disk>⟧.clock self.now }
+    {
+        self.entries.len() as u64
+    }
+
+    /// The recorded call of this number, counted from 1.
+    pub fn call(&self, n: u64) -> Call
+        requires first { 1 ≤ n }
+        requires last { n ≤ ⟦<MemHost as Disk>⟧.clock self.now }
+        ensures { option_map call_of (slice_get self.now.entries (n - 1)) ≡ Some result }
+    {
+        self.entries[n as usize - 1].call()
+    }
+
+    /// A host as a crash within the recorded call of this number leaves it. Its file has the greatest length since the
+    /// last sync that succeeded, the call itself counted, and what was written since holds the fill, or what was
+    /// written. Its tape is the one before the call. No file is attached to it.
+    pub fn after(&self, alloc: Global, call: u64, fill: Option<u8>) -> Result<MemHost, Memory>
+        requires first { 1 ≤ call }
+        requires last { call ≤ ⟦<MemHost as Disk>⟧.clock self.now }
+        ensures fresh { IfOk result (λ host. host ≡ fresh host.first host.heard) }
+        ensures tape { IfOk result (λ host. host.heard ≡ (state_before call self.now).tape) }
+        ensures moment { IfOk result (λ host. WhereTold (⟦<MemHost as Disk>⟧.file host) (⟦<MemHost as Disk>⟧.beside host).tape
+            (λ file tape. ⟦<MemHost as Disk>⟧.moment self.now (call - 1) file.bytes tape)) }
+    {
+        let n = call as usize - 1;
+        let (before, _) = self.entries.split_at(n);
+        let first = contents::bytes_of(&self.first, &None);
+        let mut bytes = aftermath::left_after(alloc, first, before, fill)?;
+        aftermath::tear(alloc, &mut bytes, &self.entries[n].event, fill)?;
+        let tape = aftermath::said_after(alloc, self.heard.bytes(), before)?;
+        let was_there = self.first.is_some() || before.iter().any(|entry| entry.is_attach());
+        MemHost::resume(alloc, bytes, tape, was_there)
+    }
+
+    // A host with this file and tape, and no call yet.
+    fn resume(alloc: Global, bytes: Vec<u8>, tape: Vec<u8>, was_there: bool) -> Result<MemHost, Memory>
+        ensures fresh { IfOk result (λ host. host ≡ fresh host.first tape.items) }
+        ensures bytes { IfOk result (λ host. (file_at_first host.first).bytes ≡ bytes.items) }
+        ensures range { AreBytes bytes.items }
+    {
+        let heard = Chars::of(alloc, &tape)?;
+        let is_there = was_there || !bytes.is_empty();
+        Ok(MemHost {
+            alloc,
+            first: is_there.then_some(Chars::from_vec(bytes)),
+            heard,
+            changed: None,
+            is_there,
+            is_attached: false,
+            tape,
+            entries: Vec::new(alloc),
+            fails: Vec::new(alloc),
+            begun: 0,
+            disk_faults: 0,
+            say_faults: 0,
+        })
     }
 
     // Lends the bytes of the file.
