@@ -1,9 +1,10 @@
 -- What a crash in the midst of recorded calls leaves is one of their moments.
-use Rattle.std.proofs.Common.{◌≡◌, ◌⊎◌, ◌≤◌, ◌<◌, ◌+◌, min, ℕ, Bool, true, false, List, [], ◌∷◌, ◌++◌, Option, Some, None, take, drop, length, replicate, get_or, fold, arith, refl, sym, ap, ◌∙◌, inl, inr, length-append, take_all}
+use Rattle.std.proofs.Common.{◌≡◌, ◌⊎◌, ◌≤◌, ◌<◌, ◌+◌, min, ℕ, Bool, true, false, List, [], ◌∷◌, ◌++◌, Option, Some, None, Result, Ok, Err, IfOk, take, drop, length, replicate, get_or, fold, arith, refl, sym, ap, ◌∙◌, inl, inr, length-append, take_all}
 use Rattle.std.proofs.lemmas.List.{length-replicate, length-take, drop_all, take_more, drop_more, drop-append-le, append-nil}
-use Rattle.mdc_outside.specs.Disk.{File, Since, IsImage, AreBytes, all_synced, overwritten, torn}
-use Rattle.mdc_outside.specs.Replay.{Past, State, replay, step, at_first, may_leave, since_within, piece_within}
+use Rattle.mdc_outside.specs.Disk.{File, Since, IsImage, AreBytes, file_at_first, all_synced, overwritten, torn}
+use Rattle.mdc_outside.specs.Replay.{Past, State, state_of, fresh, replay, step, at_first, may_leave, since_within, piece_within}
 use Rattle.mdc_outside.specs.Aftermath.{filled, torn_bytes, torn_by, bytes_after, said_bytes, tape_after, since_all, EndsSynced, PutsNothing, MayBeLeft}
+use Rattle.mdc_outside.specs.Contents.{contents_of}
 use Rattle.mdc_outside.specs.ReplayLaws.{image-overwritten, image-synced}
 use Rattle.mdc_outside.specs.declared.call.Event.{Event}
 use Rattle.mdc_outside.specs.declared.call.Event.TheVariants.{Attach, Len, Read, Write, Sync, Say}
@@ -136,3 +137,27 @@ moment-within past n entry image inside is bytes left =
     let here : drop n past.entries ≡ entry ∷ drop (n + 1) past.entries = drop_more past.entries n entry inside ∙ ap (λ entry. entry ∷ drop (n + 1) past.entries) (sym is) in
     let before = replay (at_first past.first past.heard) (take n past.entries) in
     rw here (inl (record { left = left; byte = bytes; said = ([], piece_within entry.event, refl, sym (append-nil before.tape)) }))
+
+-- the file that a host begins with has its bytes, all of them on the disk
+pub first-bytes : (first : Option (List ℕ)) → (file_at_first first).bytes ≡ contents_of first None
+first-bytes None = refl
+first-bytes (Some bytes) = refl
+
+-- and nothing was written since
+pub first-since : (first : Option (List ℕ)) → (file_at_first first).since ≡ all_synced (contents_of first None)
+first-since None = refl
+first-since (Some bytes) = refl
+
+-- the tape of the host that is left
+pub after-tape : {E : Type 0} (result : Result Past E) (tape before : List ℕ) → IfOk result (λ host. host ≡ fresh host.first tape) → tape ≡ before → IfOk result (λ host. host.heard ≡ before)
+after-tape (Ok host) tape before is same = ap (λ past. past.heard) is ∙ same
+after-tape (Err e) tape before is same = tt
+
+-- the file and the tape of the host that is left are a moment of the first
+pub after-moment : {E : Type 0} (result : Result Past E) (past : Past) (n : ℕ) (bytes tape : List ℕ) → IfOk result (λ host. host ≡ fresh host.first tape) → IfOk result (λ host. (file_at_first host.first).bytes ≡ bytes)
+    → may_leave past n bytes tape → IfOk result (λ host. may_leave past n (state_of host).file.bytes (state_of host).tape)
+after-moment (Ok host) past n bytes tape is same may =
+    let image : (state_of host).file.bytes ≡ bytes = ap (λ past. (state_of past).file.bytes) is ∙ same in
+    let said : (state_of host).tape ≡ tape = ap (λ past. (state_of past).tape) is in
+    rw (image, said) may
+after-moment (Err e) past n bytes tape is same may = tt
