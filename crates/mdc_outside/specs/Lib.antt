@@ -4,5 +4,6 @@ pub mod Contents
 pub mod Disk
 pub mod Moments
 pub mod Outside
+pub mod Points
 pub mod Replay
 pub mod ReplayLaws
