@@ -1,9 +1,9 @@
 -- What a crash in the midst of recorded calls leaves is one of their moments.
-use Rattle.std.proofs.Common.{◌≡◌, ◌⊎◌, ◌≤◌, ◌<◌, ◌+◌, min, ℕ, Bool, true, false, List, [], ◌∷◌, ◌++◌, Option, Some, None, Result, Ok, Err, IfOk, take, drop, length, replicate, get_or, fold, arith, refl, sym, ap, ◌∙◌, inl, inr, length-append, take_all}
+use Rattle.std.proofs.Common.{◌≡◌, ◌≤◌, ◌<◌, ◌+◌, ℕ, Bool, true, false, List, [], ◌∷◌, ◌++◌, Option, Some, None, Result, Ok, Err, IfOk, take, drop, length, get_or, fold, arith, refl, sym, ap, ◌∙◌, inl}
 use Rattle.std.proofs.lemmas.List.{length-replicate, length-take, drop_all, take_more, drop_more, drop-append-le, append-nil}
-use Rattle.mdc_outside.specs.Disk.{File, Since, IsImage, AreBytes, file_at_first, all_synced, overwritten, torn}
+use Rattle.mdc_outside.specs.Disk.{Since, IsImage, AreBytes, file_at_first, all_synced, torn}
 use Rattle.mdc_outside.specs.Replay.{Past, State, state_of, fresh, replay, step, at_first, may_leave, since_within, piece_within}
-use Rattle.mdc_outside.specs.Aftermath.{filled, torn_bytes, torn_by, bytes_after, said_bytes, tape_after, since_all, EndsSynced, PutsNothing, MayBeLeft}
+use Rattle.mdc_outside.specs.Aftermath.{filled, torn_bytes, torn_by, bytes_after, tape_after, since_all, EndsSynced, PutsNothing, MayBeLeft}
 use Rattle.mdc_outside.specs.Contents.{contents_of}
 use Rattle.mdc_outside.specs.ReplayLaws.{image-overwritten, image-synced}
 use Rattle.mdc_outside.specs.declared.call.Event.{Event}
@@ -118,7 +118,7 @@ pub nothing-more : (calls : List Entry) (synced i : ℕ) (entry : Entry) → syn
 nothing-more calls synced i entry le inside is nothing none =
     let at_end : synced ≤ length (take i calls) = omega (arith, length-take i calls) in
     let grown : drop synced (take (i + 1) calls) ≡ drop synced (take i calls) ++ entry ∷ [] =
-        ap (drop synced) (take_more calls i entry inside) ∙ (drop-append-le synced (take i calls) (get_or calls i entry ∷ []) at_end ∙ ap (λ last. drop synced (take i calls) ++ last ∷ []) (sym is)) in
+    ap (drop synced) (take_more calls i entry inside) ∙ (drop-append-le synced (take i calls) (get_or calls i entry ∷ []) at_end ∙ ap (λ last. drop synced (take i calls) ++ last ∷ []) (sym is)) in
     rw grown (nothing-grown (drop synced (take i calls)) entry nothing none)
 
 -- the first calls up to a sync that was done
@@ -126,7 +126,7 @@ pub synced-more : (calls : List Entry) (i : ℕ) (entry : Entry) → i < length 
     → EndsSynced (take (i + 1) calls)
 synced-more calls i entry inside is sync =
     let grown : take (i + 1) calls ≡ take i calls ++ record { event = Sync; done = true } ∷ [] =
-        take_more calls i entry inside ∙ ap (λ last. take i calls ++ last ∷ []) (sym is ∙ sync) in
+    take_more calls i entry inside ∙ ap (λ last. take i calls ++ last ∷ []) (sym is ∙ sync) in
     rw grown (synced-grown (take i calls))
 
 -- what may be left within a call may be left since the calls before it

@@ -1,14 +1,13 @@
 -- What an answered call of a host in memory means for what the host tells.
-use Rattle.std.proofs.Common.{◌≡◌, ◌⊎◌, ◌≤◌, ℕ, Bool, true, false, List, [], ◌∷◌, ◌++◌, Option, Some, None, Result, Ok, Err, OnOk, OnErr, IsTrue, length, arith, refl, sym, ap, ◌∙◌, inl, inr}
+use Rattle.std.proofs.Common.{◌≡◌, ◌⊎◌, ℕ, Bool, true, false, List, [], ◌∷◌, ◌++◌, Some, Result, Ok, Err, OnOk, OnErr, IsTrue, length, refl, sym, ap, ◌∙◌, inl, inr}
 use Rattle.std.proofs.lemmas.List.{append-nil}
-use Rattle.mdc_outside.specs.Disk.{File, Since, IsTorn, IsUnsettled, Becomes, written, settled, opened, torn}
+use Rattle.mdc_outside.specs.Disk.{Since, IsTorn, IsUnsettled, Becomes, written, settled, opened}
 use Rattle.mdc_outside.specs.Outside.{Takes, TakesPart}
-use Rattle.mdc_outside.specs.Moments.{Beside, IsMoment, Elapses}
-use Rattle.mdc_outside.specs.Replay.{Past, State, state_of, beside_of, may_leave, step, after_done, after_failed, since_within, piece_within, called, with_disk_faults, attaches_in, with_attach, IsAnswered, IsSaid}
+use Rattle.mdc_outside.specs.Moments.{Elapses}
+use Rattle.mdc_outside.specs.Replay.{Past, State, state_of, beside_of, may_leave, step, after_done, after_failed, since_within, piece_within, called, attaches_in, with_attach, IsAnswered, IsSaid}
 use Rattle.mdc_outside.specs.ReplayLaws.{sound, image-torn}
 use Rattle.mdc_outside.specs.declared.call.Event.{Event}
 use Rattle.mdc_outside.specs.declared.call.Event.TheVariants.{Attach, Len, Read, Write, Sync, Say}
-use Rattle.mdc_outside.specs.declared.call.Entry.{Entry}
 use Rattle.mdc_outside.specs.declared.source.Failed.{Failed}
 use Rattle.mdc_outside.proofs.Replaying.{state-called, attaches-called, elapses-called, elapses-nothing}
 

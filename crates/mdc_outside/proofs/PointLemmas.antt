@@ -1,5 +1,5 @@
 -- The moments since a time are those at the points from it on.
-use Rattle.std.proofs.Common.{◌≡◌, ◌⊎◌, ◌↔◌, ◌≤◌, ◌+◌, ℕ, zero, suc, List, [], ◌∷◌, take, drop, length, arith, inl, inr}
+use Rattle.std.proofs.Common.{◌↔◌, ◌≤◌, ℕ, zero, suc, List, [], ◌∷◌, take, drop, length, arith, inl, inr}
 use Rattle.mdc_outside.specs.Replay.{Past, State, replay, step, at_first, may_leave, Leaves}
 use Rattle.mdc_outside.specs.Points.{IsNext, IsLeftAt}
 use Rattle.mdc_outside.specs.declared.call.Entry.{Entry}
@@ -31,6 +31,7 @@ moment_of state (entry ∷ entries) (suc t) (suc k) image tape from to may = mom
 -- the moments of a host are those at the points of its record
 pub moments-points : (past : Past) (t : ℕ) (image tape : List ℕ) → t ≤ length past.entries
     → may_leave past t image tape ↔ ((k : ℕ) × (t ≤ k) × (k ≤ length past.entries) × IsLeftAt past k image tape)
-moments-points past t image tape le =
-    (λ may. point_of (at_first past.first past.heard) past.entries t image tape le may,
-     λ at. moment_of (at_first past.first past.heard) past.entries t at.0 image tape at.1 at.2 at.3)
+moments-points past t image tape le = (
+  λ may. point_of (at_first past.first past.heard) past.entries t image tape le may,
+  λ at. moment_of (at_first past.first past.heard) past.entries t at.0 image tape at.1 at.2 at.3,
+)

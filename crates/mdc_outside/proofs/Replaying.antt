@@ -1,9 +1,9 @@
 -- What one more call does to what a host in memory tells.
-use Rattle.std.proofs.Common.{◌≡◌, ◌⊎◌, ◌↔◌, ◌≤◌, ◌+◌, ◌||◌, ℕ, Bool, true, false, List, [], ◌∷◌, ◌++◌, Option, Some, None, take, drop, length, arith, refl, sym, ap, ◌∙◌, inl, inr, length-append}
-use Rattle.mdc_outside.specs.Disk.{File, Since, IsSound, file_at_first, torn, overwritten}
-use Rattle.mdc_outside.specs.Moments.{IsMoment, Elapses}
-use Rattle.mdc_outside.specs.Replay.{Past, State, state_of, at_first, may_leave, replay, step, after_done, after_failed, since_within, piece_within, Leaves, called, attaches_in, with_attach, IsQuiet, IsUpToDate}
-use Rattle.mdc_outside.specs.ReplayLaws.{sound, sound-first, only_now, earlier, leaves_grown_since}
+use Rattle.std.proofs.Common.{◌≡◌, ◌||◌, ℕ, Bool, true, false, List, [], ◌∷◌, ◌++◌, Some, length, arith, refl, ap, ◌∙◌, inl, inr, length-append}
+use Rattle.mdc_outside.specs.Disk.{File, overwritten}
+use Rattle.mdc_outside.specs.Moments.{Elapses}
+use Rattle.mdc_outside.specs.Replay.{Past, State, state_of, at_first, may_leave, replay, step, since_within, piece_within, called, attaches_in, with_attach, IsQuiet, IsUpToDate}
+use Rattle.mdc_outside.specs.ReplayLaws.{sound-first, only_now, earlier, leaves_grown_since}
 use Rattle.mdc_outside.specs.declared.call.Event.{Event}
 use Rattle.mdc_outside.specs.declared.call.Event.TheVariants.{Attach, Len, Read, Write, Sync, Say}
 use Rattle.mdc_outside.specs.declared.call.Entry.{Entry}

@@ -1,7 +1,7 @@
 -- What a crash in the midst of recorded calls leaves.
-use Rattle.std.specs.Prelude.{◌≡◌, ◌≤◌, ℕ, Bool, true, false, List, [], ◌∷◌, ◌++◌, Option, Some, None, take, drop, length, replicate, fold, if◌then◌else◌}
-use Rattle.mdc_outside.specs.Disk.{File, Since, IsImage, all_synced, overwritten}
-use Rattle.mdc_outside.specs.Replay.{State, replay, step, since_within}
+use Rattle.std.specs.Prelude.{◌≡◌, ℕ, List, [], ◌∷◌, ◌++◌, Option, Some, None, length, replicate, if◌then◌else◌}
+use Rattle.mdc_outside.specs.Disk.{Since, IsImage, all_synced, overwritten}
+use Rattle.mdc_outside.specs.Replay.{State, replay, since_within}
 use Rattle.mdc_outside.specs.declared.call.Event.{Event}
 use Rattle.mdc_outside.specs.declared.call.Event.TheVariants.{Attach, Len, Read, Write, Sync, Say}
 use Rattle.mdc_outside.specs.declared.call.Entry.{Entry}

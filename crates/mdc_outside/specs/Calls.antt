@@ -1,5 +1,4 @@
 -- A recorded call as a caller sees it.
-use Rattle.std.specs.Prelude.{ℕ}
 use Rattle.mdc_outside.specs.declared.call.Call.{Call}
 use Rattle.mdc_outside.specs.declared.call.Call.TheVariants as call
 use Rattle.mdc_outside.specs.declared.call.Event.{Event}

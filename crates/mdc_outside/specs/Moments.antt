@@ -1,5 +1,5 @@
 -- What a crash may leave of a file and of the tape beside it, at each moment.
-use Rattle.std.specs.Prelude.{◌≡◌, ◌⊎◌, ◌↔◌, ◌≤◌, ℕ, Bool, List, [], ◌∷◌, ◌++◌, Option, Some, None, Result, IsErr}
+use Rattle.std.specs.Prelude.{◌≡◌, ◌⊎◌, ◌↔◌, ◌≤◌, ℕ, List, [], ◌∷◌, ◌++◌, Option, Some, None, Result, IsErr}
 use Rattle.mdc_outside.specs.Outside.{Rose}
 use Rattle.mdc_outside.specs.Disk.{File, Since, IsImage, AreBytes}
 

@@ -1,5 +1,5 @@
 -- The moments of a host in memory, one point of its record after another.
-use Rattle.std.specs.Prelude.{◌≡◌, ◌⊎◌, ◌≤◌, ℕ, List, [], ◌∷◌, take, drop, length}
+use Rattle.std.specs.Prelude.{ℕ, List, [], ◌∷◌, take, drop}
 use Rattle.mdc_outside.specs.Moments.{IsMoment}
 use Rattle.mdc_outside.specs.Replay.{Past, State, replay, at_first, since_within, piece_within}
 use Rattle.mdc_outside.specs.declared.call.Entry.{Entry}

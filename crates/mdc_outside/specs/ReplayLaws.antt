@@ -1,8 +1,8 @@
 -- Laws of what a host in memory tells.
-use Rattle.std.proofs.Common.{◌≡◌, ◌⊎◌, ◌↔◌, ◌≤◌, ◌<◌, ◌+◌, ◌-◌, min, max, ℕ, zero, suc, Bool, true, false, List, [], ◌∷◌, ◌++◌, Option, Some, None, take, drop, length, slice_index, get_or, get_or-take, get_or-drop, arith, refl, sym, ap, ◌∙◌, inl, inr, length-take, length-append, length-drop}
+use Rattle.std.proofs.Common.{◌≡◌, ◌⊎◌, ◌↔◌, ◌≤◌, ◌<◌, ◌+◌, ◌-◌, min, ℕ, zero, suc, Bool, true, false, List, [], ◌∷◌, ◌++◌, Option, Some, None, take, drop, length, get_or, get_or-take, get_or-drop, arith, refl, sym, ap, ◌∙◌, inl, inr, length-take, length-append, length-drop}
 use Rattle.std.proofs.Math.Seq.{take-length, drop-length}
 use Rattle.std.proofs.lemmas.List.{append-nil, get_or_append_left, get_or-append_right}
-use Rattle.mdc_outside.specs.Disk.{File, Since, Range, IsSound, IsImage, IsOutside, IsInNone, AreBytes, all_synced, no_file, file_at_first, torn, overwritten, written, opened, settled}
+use Rattle.mdc_outside.specs.Disk.{Since, IsSound, IsImage, IsOutside, all_synced, file_at_first, torn, overwritten, settled}
 use Rattle.mdc_outside.specs.Moments.{IsMoment}
 use Rattle.mdc_outside.specs.Replay.{Past, State, state_of, at_first, may_leave, replay, step, after_done, after_failed, since_within, piece_within, Leaves}
 use Rattle.mdc_outside.specs.declared.call.Event.{Event}

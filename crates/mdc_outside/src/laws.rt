@@ -10,6 +10,5 @@ use crate::{Disk, MemHost};
 pub fn moments_of_a_host_in_memory()
     ensures { (host : MemHost) (t : ℕ) (image tape : List ℕ) → t ≤ ⟦<MemHost as Disk>⟧.clock host
         → ⟦<MemHost as Disk>⟧.moment host t image tape
-          ↔ ((k : ℕ) × (t ≤ k) × (k ≤ ⟦<MemHost as Disk>⟧.clock host) × IsLeftAt host k image tape) }
-{
-}
+        ↔ ((k : ℕ) × (t ≤ k) × (k ≤ ⟦<MemHost as Disk>⟧.clock host) × IsLeftAt host k image tape) }
+{}

@@ -2,9 +2,8 @@
 ghost use Rattle.std.specs.Prelude.{◌≡◌, ◌≢◌, ◌≤◌, ◌-◌, slice_get, ◌++◌, ◌∷◌, [], true, false, Ok, Some, length, IsTrue, IfOk, OnOk, OnErr, vec_items};
 ghost use Rattle.std.specs.Option.{option_map};
 
-use crate::aftermath;
 use crate::call::{Call, Entry, Event};
-use crate::{Disk, Failed, Host, contents};
+use crate::{Disk, Failed, Host, aftermath, contents};
 use mdc_values::{Chars, Memory};
 use std::alloc::Global;
 use std::marker::Model;
@@ -119,7 +118,12 @@ impl MemHost {
     }
 
     // A host with this file and tape, and no call yet.
-    fn resume(alloc: Global, bytes: Vec<u8>, tape: Vec<u8>, was_there: bool) -> Result<MemHost, Memory>
+    fn resume(
+        alloc: Global,
+        bytes: Vec<u8>,
+        tape: Vec<u8>,
+        was_there: bool,
+    ) -> Result<MemHost, Memory>
         ensures fresh { IfOk result (λ host. host ≡ fresh host.first tape.items) }
         ensures bytes { IfOk result (λ host. (file_at_first host.first).bytes ≡ bytes.items) }
         ensures range { AreBytes bytes.items }

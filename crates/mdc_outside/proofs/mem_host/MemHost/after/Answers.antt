@@ -1,8 +1,8 @@
-use Rattle.std.proofs.Common.{◌≡◌, ◌≤◌, ◌<◌, ◌-◌, ◌∙◌, List, subst, sym, ap, arith, fold, take, Some, None, length, get_or}
+use Rattle.std.proofs.Common.{◌≡◌, ◌≤◌, ◌-◌, ◌∙◌, List, subst, sym, ap, arith, fold, take, None, length, get_or}
 use Rattle.mdc_outside.specs.Disk.{IsImage, all_synced}
 use Rattle.mdc_outside.specs.declared.call.Entry.{Entry}
 use Rattle.mdc_outside.specs.Contents.{contents_of}
-use Rattle.mdc_outside.specs.Replay.{Past, replay, at_first, since_within}
+use Rattle.mdc_outside.specs.Replay.{replay, at_first, since_within}
 use Rattle.mdc_outside.specs.Aftermath.{tape_after, torn_bytes, MayBeLeft}
 use Rattle.mdc_outside.proofs.Aftermaths.{tape-replay, after-tape, after-moment, first-bytes, first-since, image-torn_bytes, moment-within}
 use Rattle.mdc_outside.proofs.mem_host.MemHost.after.Goals as goal
@@ -32,9 +32,9 @@ returns-clause-moment c =
     let last : c.args.call ≤ length past.entries = c.requires.last in
     let start = at_first past.first past.heard in
     let image : IsImage (replay start c.split_at.result.0.now).file.since c.in_ok-bytes.bytes.items =
-        left start (first-bytes past.first ∙ sym first) (first-since past.first ∙ ap all_synced (sym first)) in
+    left start (first-bytes past.first ∙ sym first) (first-since past.first ∙ ap all_synced (sym first)) in
     let P : List Entry → Type 0 = λ calls. IsImage (replay start calls).file.since c.in_ok-bytes.bytes.items in
     let within : IsImage (since_within c.index.result.now.event (replay start (take n past.entries)).file.since) c.tear.new.bytes.items =
-        rw torn (image-torn_bytes c.args.fill c.index.result.now.event (replay start (take n past.entries)).file.since c.in_ok-bytes.bytes.items (subst P before image)) in
+    rw torn (image-torn_bytes c.args.fill c.index.result.now.event (replay start (take n past.entries)).file.since c.in_ok-bytes.bytes.items (subst P before image)) in
     let may = moment-within past n c.index.result.now c.tear.new.bytes.items (omega arith) entry c.resume.ensures.range within in
     after-moment c.resume.result past n c.tear.new.bytes.items c.in_ok-tape.tape.items c.resume.ensures.fresh c.resume.ensures.bytes (rw (said-before c) may)

@@ -1,4 +1,3 @@
-use Rattle.std.proofs.Common.{◌≡◌, ◌||◌, ◌∙◌, sym, ap}
 use Rattle.mdc_outside.specs.Replay.{at_first}
 use Rattle.mdc_outside.proofs.Replaying.{held-written, held-torn}
 use Rattle.mdc_outside.proofs.mem_host.MemHost.try_write.Goals as goal

@@ -1,6 +1,6 @@
-use Rattle.std.proofs.Common.{ap, refl, Ok, Err, Some}
+use Rattle.std.proofs.Common.{ap, Ok, Err, Some}
 use Rattle.mdc_outside.specs.declared.call.Event.TheVariants.{Attach}
-use Rattle.mdc_outside.proofs.Answering.{on_err, state-done, same-attaches, same-beside, mild-time, attach-listed, attach-listed_failed, attach-file_failed}
+use Rattle.mdc_outside.proofs.Answering.{on_err, state-done, same-beside, mild-time, attach-listed, attach-listed_failed, attach-file_failed}
 use Rattle.mdc_outside.proofs.mem_host.MemHostDisk.attach.Goals as goal
 
 pub returns-in_err-open-clause-file_failed : goal.returns-in_err-open-clause-file_failed

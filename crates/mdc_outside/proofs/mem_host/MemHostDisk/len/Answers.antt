@@ -1,4 +1,4 @@
-use Rattle.std.proofs.Common.{ap, refl, ◌∙◌, length, take, drop, Ok, Err, Some}
+use Rattle.std.proofs.Common.{ap, refl, ◌∙◌, length, Ok, Err, Some}
 use Rattle.mdc_outside.specs.declared.call.Event.TheVariants.{Len}
 use Rattle.mdc_outside.proofs.Answering.{same-read, same-attaches, same-beside, mild-time}
 use Rattle.mdc_outside.proofs.mem_host.MemHostDisk.len.Goals as goal

@@ -1,4 +1,4 @@
-use Rattle.std.proofs.Common.{ap, refl, Some}
+use Rattle.std.proofs.Common.{ap, Some}
 use Rattle.mdc_outside.proofs.Answering.{say-takes, say-takes_part, say-file, say-attaches, say-time, say-time_failed}
 use Rattle.mdc_outside.proofs.mem_host.MemHostHost.say.Goals as goal
 

@@ -1,4 +1,4 @@
-use Rattle.std.proofs.Common.{refl, take, drop, ◌+◌, ◌∙◌, ap}
+use Rattle.std.proofs.Common.{refl, take, drop, ◌∙◌, ap}
 use Rattle.mdc_outside.proofs.Pieces.{piece_off}
 use Rattle.mdc_outside.proofs.mem_source.MemSourceSource.read.Goals as goal
 
