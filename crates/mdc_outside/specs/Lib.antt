@@ -1,1 +1,9 @@
+pub mod Aftermath
+pub mod Calls
+pub mod Contents
+pub mod Disk
+pub mod Moments
 pub mod Outside
+pub mod Points
+pub mod Replay
+pub mod ReplayLaws

@@ -1,0 +1,40 @@
+use Rattle.std.proofs.Common.{◌≡◌, ◌≤◌, ◌-◌, ◌∙◌, List, subst, sym, ap, arith, fold, take, None, length, get_or}
+use Rattle.mdc_outside.specs.Disk.{IsImage, all_synced}
+use Rattle.mdc_outside.specs.declared.call.Entry.{Entry}
+use Rattle.mdc_outside.specs.Contents.{contents_of}
+use Rattle.mdc_outside.specs.Replay.{replay, at_first, since_within}
+use Rattle.mdc_outside.specs.Aftermath.{tape_after, torn_bytes, MayBeLeft}
+use Rattle.mdc_outside.proofs.Aftermaths.{tape-replay, after-tape, after-moment, first-bytes, first-since, image-torn_bytes, moment-within}
+use Rattle.mdc_outside.proofs.mem_host.MemHost.after.Goals as goal
+
+-- the tape that was said before the call
+said-before : (c : goal.After-resume) → c.in_ok-tape.tape.items ≡ (replay (at_first c.args.self.now.first c.args.self.now.heard) (take (c.args.call - 1) c.args.self.now.entries)).tape
+said-before c =
+    let past = c.args.self.now in
+    let n = c.args.call - 1 in
+    let said : c.in_ok-tape.tape.items ≡ fold tape_after c.bytes.result.now c.split_at.result.0.now = c.in_ok-tape.ensures in
+    let heard : c.bytes.result.now ≡ past.heard = c.bytes.ensures ∙ ap (λ past. past.heard) c.self.view_is in
+    let before : c.split_at.result.0.now ≡ take n past.entries = c.split_at.ensures.front ∙ (ap (take n) c.deref.ensures.value ∙ ap (λ past. take n past.entries) c.self.view_is) in
+    said ∙ (ap (λ heard. fold tape_after heard c.split_at.result.0.now) heard ∙ (ap (fold tape_after past.heard) before ∙ sym (tape-replay (at_first past.first past.heard) (take n past.entries))))
+
+pub returns-clause-tape : goal.returns-clause-tape
+returns-clause-tape c = after-tape c.resume.result c.in_ok-tape.tape.items _ c.resume.ensures.fresh (said-before c)
+
+pub returns-clause-moment : goal.returns-clause-moment
+returns-clause-moment c =
+    let past = c.args.self.now in
+    let n = c.args.call - 1 in
+    let before : c.split_at.result.0.now ≡ take n past.entries = c.split_at.ensures.front ∙ (ap (take n) c.deref.ensures.value ∙ ap (λ past. take n past.entries) c.self.view_is) in
+    let first : c.bytes_of-first.result.now ≡ contents_of past.first None = c.bytes_of-first.ensures ∙ ap (λ past. contents_of past.first None) c.self.view_is in
+    let left : MayBeLeft c.bytes_of-first.result.now c.split_at.result.0.now c.in_ok-bytes.bytes.items = c.in_ok-bytes.ensures in
+    let torn : c.tear.new.bytes.items ≡ torn_bytes c.args.fill c.in_ok-bytes.bytes.items c.index.result.now.event = c.in_ok-tear.ensures in
+    let entry : c.index.result.now ≡ get_or past.entries n c.index.result.now = c.index.ensures ∙ ap (λ past. get_or past.entries n c.index.result.now) c.self.view_is in
+    let last : c.args.call ≤ length past.entries = c.requires.last in
+    let start = at_first past.first past.heard in
+    let image : IsImage (replay start c.split_at.result.0.now).file.since c.in_ok-bytes.bytes.items =
+    left start (first-bytes past.first ∙ sym first) (first-since past.first ∙ ap all_synced (sym first)) in
+    let P : List Entry → Type 0 = λ calls. IsImage (replay start calls).file.since c.in_ok-bytes.bytes.items in
+    let within : IsImage (since_within c.index.result.now.event (replay start (take n past.entries)).file.since) c.tear.new.bytes.items =
+    rw torn (image-torn_bytes c.args.fill c.index.result.now.event (replay start (take n past.entries)).file.since c.in_ok-bytes.bytes.items (subst P before image)) in
+    let may = moment-within past n c.index.result.now c.tear.new.bytes.items (omega arith) entry c.resume.ensures.range within in
+    after-moment c.resume.result past n c.tear.new.bytes.items c.in_ok-tape.tape.items c.resume.ensures.fresh c.resume.ensures.bytes (rw (said-before c) may)
