@@ -1,0 +1,168 @@
+// A file of the system, or one in memory, and standard output.
+ghost use Rattle.std.specs.Prelude.{◌≡◌, ◌↔◌, ◌||◌, None, false, is_some, refl, IsOk, IsTrue, OnOk};
+ghost use Rattle.std.specs.Io.KnownBytes.{Appends};
+
+use crate::faults::counted;
+use crate::positioned;
+use mdc_outside::{Disk, Failed, Host};
+use std::alloc::Global;
+use std::fs::{OpenFile, OpenOptions};
+use std::io::{self, Cursor, ErrorKind, Write};
+use std::rt::Files;
+
+// The path of the scratch file.
+const SCRATCH: &str = "-";
+
+/// The files of the system, and standard output. Each reply is written through before `say` answers. Under the path `-`
+/// lies a scratch file in memory, which is there once it was made and lasts as long as the host.
+#[derive(Drop)]
+pub struct FileHost<R: Files, W> {
+    files: R,
+    output: W,
+    attached: Option<Attached<R::File>>,
+    scratch: Cursor<Vec<u8>>,
+    has_scratch: bool,
+    disk_faults: u64,
+    say_faults: u64,
+}
+
+// What is attached.
+#[derive(Drop)]
+enum Attached<F> {
+    File(F),
+    Scratch,
+}
+
+impl<R: Files + Drop, W: Write + Drop> FileHost<R, W> {
+    /// A host with nothing attached. It opens no file.
+    pub fn new(alloc: Global, files: R, output: W) -> FileHost<R, W>
+        ensures detached { ⟦<FileHost<R, W> as Disk>⟧.is_attached result ≡ false }
+        ensures disk_count { ⟦<FileHost<R, W> as Disk>⟧.disk_faults result ≡ 0 }
+        ensures say_count { ⟦<FileHost<R, W> as Host>⟧.say_faults result ≡ 0 }
+    {
+        FileHost {
+            files,
+            output,
+            attached: None,
+            scratch: Cursor::new(Vec::new(alloc)),
+            has_scratch: false,
+            disk_faults: 0,
+            say_faults: 0,
+        }
+    }
+}
+
+impl<R: Files + Drop, W: Write + Drop> Disk for FileHost<R, W> {
+    ghost file = { λ _. None };
+
+    ghost beside = { λ host. record { tape = None; say_faults = host.say_faults } };
+
+    ghost attaches = { λ _. None };
+
+    ghost is_attached = { λ host. is_some host.attached };
+
+    ghost disk_faults = { λ host. host.disk_faults };
+
+    ghost clock = { λ _. 0 };
+
+    ghost moment = { λ _ _ _ _. ⊥ };
+
+    ghost sound = { λ _. tt };
+
+    ghost only_now = { λ _. tt };
+
+    ghost earlier = { λ _ _ _ _ _ _ _ may. may };
+
+    fn attach(&mut self, path: &str, make: bool) -> Result<(), Failed> {
+        let found = if path == SCRATCH {
+            scratch(&mut self.has_scratch, make)
+        } else {
+            open(&self.files, path, make)
+        };
+        self.attached = Some(counted(&mut self.disk_faults, found)?);
+        Ok(())
+    }
+
+    fn len(&mut self) -> Result<u64, Failed> {
+        let outcome = match &mut self.attached {
+            Some(Attached::File(file)) => positioned::len(file),
+            Some(Attached::Scratch) => positioned::len(&mut self.scratch),
+            None => Err(ErrorKind::NotFound.into()),
+        };
+        counted(&mut self.disk_faults, outcome)
+    }
+
+    fn read(&mut self, at: u64, out: &mut [u8]) -> Result<(), Failed> {
+        let outcome = match &mut self.attached {
+            Some(Attached::File(file)) => positioned::read_at(file, at, out),
+            Some(Attached::Scratch) => positioned::read_at(&mut self.scratch, at, out),
+            None => Err(ErrorKind::NotFound.into()),
+        };
+        counted(&mut self.disk_faults, outcome)
+    }
+
+    fn write(&mut self, at: u64, bytes: &[u8]) -> Result<(), Failed> {
+        let outcome = match &mut self.attached {
+            Some(Attached::File(file)) => positioned::write_at(file, at, bytes),
+            Some(Attached::Scratch) => positioned::write_at(&mut self.scratch, at, bytes),
+            None => Err(ErrorKind::NotFound.into()),
+        };
+        counted(&mut self.disk_faults, outcome)
+    }
+
+    fn sync(&mut self) -> Result<(), Failed> {
+        let outcome = match &self.attached {
+            Some(Attached::File(file)) => file.sync_all(),
+            Some(Attached::Scratch) => Ok(()),
+            None => Err(ErrorKind::NotFound.into()),
+        };
+        counted(&mut self.disk_faults, outcome)
+    }
+}
+
+impl<R: Files + Drop, W: Write + Drop> Host for FileHost<R, W> {
+    ghost tape = { λ _. None };
+
+    ghost say_faults = { λ host. host.say_faults };
+
+    ghost lies_beside = { λ _. (refl, refl) };
+
+    fn say(&mut self, bytes: &[u8]) -> Result<(), Failed> {
+        let outcome = write_through(&mut self.output, bytes);
+        counted(&mut self.say_faults, outcome)
+    }
+}
+
+// The scratch file, if it is there or is to be made.
+fn scratch<F: Drop>(is_there: &mut bool, make: bool) -> io::Result<Attached<F>>
+    ensures there { is_there.new ≡ (is_there.old || make) }
+    ensures found { IsOk result ↔ IsTrue is_there.new }
+{
+    *is_there = *is_there || make;
+    if *is_there {
+        Ok(Attached::Scratch)
+    } else {
+        Err(ErrorKind::NotFound.into())
+    }
+}
+
+// The file at the path, or the empty one that is made there.
+fn open<R: Files>(files: &R, path: &str, make: bool) -> io::Result<Attached<R::File>> {
+    let file = OpenOptions::new()
+        .read(true)
+        .write(true)
+        .create(make)
+        .open(files, path)?;
+    Ok(Attached::File(file))
+}
+
+// Writes all of the bytes, past any buffer.
+fn write_through<W: Write>(output: &mut W, bytes: &[u8]) -> io::Result<()>
+    ensures { OnOk result (Appends (W.contents output.old) (W.contents output.new) bytes.now) }
+{
+    output.write_all(bytes)?;
+    output.flush()
+}
+
+#[cfg(test)]
+mod tests;
