@@ -1,3 +1,5 @@
 pub mod Calls
+pub mod Journal
+pub mod MemStore
 pub mod Moments
 pub mod StoreState

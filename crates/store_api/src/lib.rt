@@ -6,9 +6,12 @@
 #![tactic(auto)]
 
 mod fault;
+mod journal;
+mod mem_store;
 mod pages;
 mod store;
 
 pub use fault::{Damage, DeviceFault, Mute, PageFault, StoreFault};
+pub use mem_store::MemStore;
 pub use pages::{MAX_PAGES, Page, Pages};
 pub use store::Store;
