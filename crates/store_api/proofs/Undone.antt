@@ -1,5 +1,5 @@
 -- Pages before changes to them.
-use Rattle.std.proofs.Common.{◌≡◌, ◌≢◌, ℕ, zero, suc, ◌+◌, ◌<◌, ◌≤◌, List, [], ◌∷◌, ◌++◌, length, take, drop, set, get_or, eqb, ltb, Bool, true, false, Some, None, Option, position, refl, ap, sym, inl, inr, ◌∙◌, arith}
+use Rattle.std.proofs.Common.{◌≡◌, ◌≢◌, ℕ, zero, suc, ◌<◌, ◌≤◌, List, [], ◌∷◌, ◌++◌, length, take, drop, set, get_or, eqb, Bool, true, false, Some, None, Option, position, refl, ap, sym, inl, inr, ◌∙◌, arith}
 use Rattle.std.proofs.lemmas.List.{length-set, set-set, set-get_or, take-append-le, get_or-set_other, get_or-take, length-take, drop-append-le, take-take, take-append-drop, take_all}
 use Rattle.std.proofs.lemmas.List.Quantifiers.{position-Some}
 use Rattle.std.proofs.lemmas.List.Sums.{fails_before_first}
@@ -10,7 +10,7 @@ use Rattle.std.specs.List.{position_or_len}
 use Rattle.std.specs.Option.{ForSome}
 use Rattle.store_api.specs.declared.journal.Mark.{Mark}
 use Rattle.store_api.specs.declared.journal.Change.{Change}
-use Rattle.store_api.specs.Journal.{undone, was_at, at_mark, marked_pages, IsMarkWithin}
+use Rattle.store_api.specs.Journal.{undone, was_at, marked_pages, IsMarkWithin}
 
 -- a front of a list after a write
 pub take-set_any : {X : Type 0} (n : ℕ) (xs : List X) (i : ℕ) (y : X) → take n (set xs i y) ≡ set (take n xs) i y

@@ -1,5 +1,5 @@
 -- What the store in memory keeps for going back: the pages that were written over.
-use Rattle.std.specs.Prelude.{ℕ, zero, suc, ◌+◌, ◌-◌, min, ◌≤◌, Bool, true, List, [], ◌∷◌, length, take, drop, slice_set, slice_index_or, Option, Some, None, nat_lt}
+use Rattle.std.specs.Prelude.{ℕ, zero, suc, ◌≤◌, Bool, true, List, [], ◌∷◌, take, drop, slice_set, Option, Some, None, nat_lt}
 use Rattle.store_api.specs.declared.journal.Change.{Change}
 use Rattle.store_api.specs.declared.journal.Mark.{Mark}
 use Rattle.store_api.specs.declared.mem_store.Hand.{Hand}

@@ -1,6 +1,6 @@
-use Rattle.std.proofs.Common.{◌≡◌, ◌≤◌, List, ◌++◌, ◌∷◌, [], length, take, drop, set, refl, sym, ap, ◌∙◌, arith}
+use Rattle.std.proofs.Common.{◌≤◌, ◌∷◌, [], length, take, drop, refl, sym, ap, ◌∙◌, arith}
 use Rattle.std.proofs.lemmas.List.{take-append-le, take_all, drop_all, set_past}
-use Rattle.store_api.specs.Journal.{undone, at_mark}
+use Rattle.store_api.specs.Journal.{undone}
 use Rattle.store_api.proofs.Undone.{undone-last}
 use Rattle.store_api.proofs.journal.go_back.Goals as goal
 

@@ -1,4 +1,4 @@
-use Rattle.std.proofs.Common.{◌≡◌, ◌+◌, ◌-◌, vec_len, ◌++◌, List, ℕ, length, replicate, take, ap, sym, ◌∙◌, refl, arith}
+use Rattle.std.proofs.Common.{◌≡◌, ◌+◌, ◌-◌, vec_len, ◌++◌, List, ℕ, length, replicate, take, ap, ◌∙◌, refl, arith}
 use Rattle.std.proofs.lemmas.List.{take_all, take-append-le}
 use Rattle.store_api.specs.Journal.{undone}
 use Rattle.store_api.specs.StoreState.{zero_page}

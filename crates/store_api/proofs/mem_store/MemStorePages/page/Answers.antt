@@ -1,4 +1,4 @@
-use Rattle.std.proofs.Common.{◌≡◌, ◌<◌, vec_len, ap, sym, ◌∙◌, Some, arith, rules, length}
+use Rattle.std.proofs.Common.{◌≡◌, ◌<◌, vec_len, ap, sym, ◌∙◌, Some, arith, rules}
 use Rattle.store_api.specs.declared.mem_store.Hand.TheVariants.{Journal}
 use Rattle.store_api.specs.Journal.{was_at}
 use Rattle.store_api.proofs.Undone.{was_at-is}

@@ -1,5 +1,4 @@
-use Rattle.std.proofs.Common.{◌≡◌, ◌≤◌, Some, vec_len, refl, sym, ◌∙◌, arith, rules}
-use Rattle.store_api.specs.Journal.{IsMarkWithin}
+use Rattle.std.proofs.Common.{◌≡◌, Some, refl, sym, ◌∙◌}
 use Rattle.store_api.proofs.Undone.{base-at_mark}
 use Rattle.store_api.proofs.mem_store.MemStorePages.undo.Goals as goal
 

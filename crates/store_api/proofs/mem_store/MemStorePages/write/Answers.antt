@@ -1,4 +1,4 @@
-use Rattle.std.proofs.Common.{◌≡◌, get_or, [], refl, arith, length}
+use Rattle.std.proofs.Common.{[], refl, arith, length}
 use Rattle.std.proofs.lemmas.List.{get_or_read}
 use Rattle.store_api.proofs.Undone.{undone-write, marked-write, IsMarkWithin-more}
 use Rattle.store_api.proofs.mem_store.MemStorePages.write.Goals as goal

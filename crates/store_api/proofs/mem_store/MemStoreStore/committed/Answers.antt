@@ -1,4 +1,4 @@
-use Rattle.std.proofs.Common.{◌≡◌, ◌<◌, eqb, ltb, take, length, vec_len, true, position, sym, ap, ◌∙◌, refl, arith, Some, None, rules}
+use Rattle.std.proofs.Common.{◌≡◌, ◌<◌, eqb, take, true, position, sym, ap, ◌∙◌, refl, arith, rules}
 use Rattle.std.proofs.lemmas.List.{length-take}
 use Rattle.std.proofs.lemmas.Bool.{lt-ltb}
 use Rattle.store_api.specs.Journal.{is_hand_within}

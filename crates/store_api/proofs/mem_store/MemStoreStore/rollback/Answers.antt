@@ -1,4 +1,4 @@
-use Rattle.std.proofs.Common.{◌≡◌, refl, arith, rules}
+use Rattle.std.proofs.Common.{refl}
 use Rattle.store_api.proofs.Undone.{take-base}
 use Rattle.store_api.proofs.mem_store.MemStoreStore.rollback.Goals as goal
 
