@@ -1,4 +1,5 @@
 pub mod Calls
+pub mod Faults
 pub mod Journal
 pub mod MemStore
 pub mod Moments

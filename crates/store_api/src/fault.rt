@@ -59,3 +59,39 @@ impl<T: Drop> From<AllocFailed<T>> for PageFault {
         PageFault::Memory
     }
 }
+
+impl From<AllocError> for StoreFault {
+    ghost use Rattle.std.specs.Prelude.{◌≡◌};
+    ghost use Rattle.store_api.specs.declared.fault.StoreFault.TheVariants.{Memory};
+
+    ghost from_gives = { λ _ e. e ≡ Memory };
+
+    fn from(_: AllocError) -> Self {
+        StoreFault::Memory
+    }
+}
+
+impl<T: Drop> From<AllocFailed<T>> for StoreFault {
+    ghost use Rattle.std.specs.Prelude.{◌≡◌};
+    ghost use Rattle.store_api.specs.declared.fault.StoreFault.TheVariants.{Memory};
+
+    ghost from_gives = { λ _ e. e ≡ Memory };
+
+    fn from(_: AllocFailed<T>) -> Self {
+        StoreFault::Memory
+    }
+}
+
+impl From<PageFault> for StoreFault {
+    ghost use Rattle.std.specs.Prelude.{◌≡◌};
+    ghost use Rattle.store_api.specs.Faults.{store_fault_of};
+
+    ghost from_gives = { λ fault e. e ≡ store_fault_of fault };
+
+    fn from(fault: PageFault) -> Self {
+        match fault {
+            PageFault::Device => StoreFault::Device,
+            PageFault::Memory => StoreFault::Memory,
+        }
+    }
+}

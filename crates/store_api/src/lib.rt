@@ -15,3 +15,6 @@ pub use fault::{Damage, DeviceFault, Mute, PageFault, StoreFault};
 pub use mem_store::MemStore;
 pub use pages::{MAX_PAGES, Page, Pages};
 pub use store::Store;
+
+#[cfg(test)]
+mod tests;
