@@ -47,14 +47,14 @@ Passes-after state clock left A B old middle new first second = record {
   later = omega (arith, first.later, second.later);
   since_call = λ pages told now. elim (second.nothing_else (clock old) pages told first.later now) [ inl before ↦ inl (first.since_call pages told before) | inr since ↦ inr (second.since_call pages told since) ];
   nothing_else = λ t pages told le now. elim (second.nothing_else t pages told (omega (arith, le, first.later)) now) [
-      inl before ↦ elim (first.nothing_else t pages told le before) [ inl long_before ↦ inl long_before | inr since ↦ inr (second.keeps (clock old) pages told first.later since) ]
+    | inl before ↦ elim (first.nothing_else t pages told le before) [ inl long_before ↦ inl long_before | inr since ↦ inr (second.keeps (clock old) pages told first.later since) ]
     | inr since ↦ inr (second.adds (clock old) pages told first.later since)
-    ];
+  ];
   keeps = λ t pages told le before. second.keeps t pages told (omega (arith, le, first.later)) (first.keeps t pages told le before);
   adds = λ t pages told le now. elim (second.nothing_else (clock old) pages told first.later now) [
-      inl before ↦ second.keeps t pages told (omega (arith, le, first.later)) (first.adds t pages told le before)
+    | inl before ↦ second.keeps t pages told (omega (arith, le, first.later)) (first.adds t pages told le before)
     | inr since ↦ second.adds t pages told (omega (arith, le, first.later)) since
-    ];
+  ];
   at_rest = second.at_rest;
 }
 
