@@ -95,3 +95,14 @@ impl From<PageFault> for StoreFault {
         }
     }
 }
+
+impl From<DeviceFault> for StoreFault {
+    ghost use Rattle.std.specs.Prelude.{◌≡◌};
+    ghost use Rattle.store_api.specs.declared.fault.StoreFault.TheVariants.{Device};
+
+    ghost from_gives = { λ _ e. e ≡ Device };
+
+    fn from(_: DeviceFault) -> Self {
+        StoreFault::Device
+    }
+}

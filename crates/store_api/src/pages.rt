@@ -32,6 +32,7 @@ pub trait Pages {
     ghost clock: { Self → ℕ };
 
     /// Whether a crash at some time since this one may leave a file that reopens to these pages, with these bytes told.
+    /// A store that tells no moments allows none.
     ghost left: { Self → ℕ → Outcomes };
 
     /// The number of pages of the work.

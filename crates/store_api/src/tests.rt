@@ -2,7 +2,8 @@ ghost use Rattle.std.specs.Prelude.{◌≡◌, ◌<◌, ℕ, false, List, [], �
 ghost use Rattle.std.specs.Int.{from_be_bytes, w32};
 ghost use Rattle.store_api.specs.MemStore.{opened};
 ghost use Rattle.store_api.specs.StoreState.{page_at};
-ghost use Rattle.store_api.specs.Moments.{OnlyBase, Passes};
+ghost use Rattle.store_api.specs.Bound.{Passing, KeepingFaults};
+ghost use Rattle.store_api.specs.Moments.{OnlyBase};
 
 use crate::{MemStore, Page, PageFault, Pages, Store};
 use std::alloc::{AllocError, Global};
@@ -16,7 +17,8 @@ fn copy_page<S: Store>(store: &mut S, from: u32, to: u32) -> Result<(), PageFaul
     ensures copied { OnOk result ((S.state store.new).work
         ≡ slice_set (S.state store.old).work to (page_at (S.state store.old).work from)) }
     ensures marked { OnOk result ((S.state store.new).marked ≡ (S.state store.old).marked) }
-    ensures time { Passes S.state S.clock S.left (OnlyBase (S.state store.old)) store.old store.new }
+    ensures faults { KeepingFaults S.Pages store.old store.new }
+    ensures time { Passing S.Pages (OnlyBase (S.state store.old)) store.old store.new }
 {
     store.fetch(from)?;
     let page = *store.page();
