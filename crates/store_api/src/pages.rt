@@ -1,5 +1,5 @@
 // Pages by their numbers, which may change and can be taken back to a mark.
-ghost use Rattle.std.specs.Prelude.{◌≡◌, ◌≢◌, ◌+◌, ◌<◌, ◌≤◌, ℕ, false, List, length, Some, None, IsSome, OnOk, OnErr, IsErrOf};
+ghost use Rattle.std.specs.Prelude.{◌≡◌, ◌+◌, ◌<◌, ◌≤◌, ℕ, false, length, None, IsSome, OnOk, OnErr, IsErrOf};
 ghost use Rattle.store_api.specs.StoreState.{StoreState};
 ghost use Rattle.store_api.specs.Calls.{Rose, KeepsFaults, Fetches, LosesHand, Writes, Grows, LosesReadiness, Marks, Keeps, Undoes};
 ghost use Rattle.store_api.specs.Moments.{Outcomes, OnlyBase, Passes};

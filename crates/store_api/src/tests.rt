@@ -1,3 +1,4 @@
+// The store in memory, and a caller of the contract.
 ghost use Rattle.std.specs.Prelude.{◌≡◌, ◌<◌, ℕ, false, List, [], ◌∷◌, is_some, length, take, drop, slice_set, OnOk, IfOk};
 ghost use Rattle.std.specs.Int.{from_be_bytes, w32};
 ghost use Rattle.store_api.specs.MemStore.{opened};
