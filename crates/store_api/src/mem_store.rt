@@ -3,6 +3,7 @@ ghost use Rattle.std.specs.Prelude.{◌≡◌, ◌≤◌, IsTrue, vec_len};
 ghost use Rattle.std.specs.Option.{ForSome};
 ghost use Rattle.store_api.specs.Journal.{IsMarkWithin, is_hand_within};
 ghost use Rattle.store_api.specs.StoreState.{zero_page};
+ghost use Rattle.store_api.specs.declared.pages.TheConstants.{MAX_PAGES};
 
 use crate::journal::{Change, Mark, go_back, oldest_change};
 use crate::{DeviceFault, MAX_PAGES, Mute, Page, PageFault, Pages, Store};
@@ -28,7 +29,7 @@ pub struct MemStore {
     told: Vec<u8>,
     fetched: Vec<u32>,
     say_faults: u64,
-    ghost few: { vec_len work ≤ 262289 },
+    ghost few: { vec_len work ≤ MAX_PAGES },
     ghost based: { base_count ≤ vec_len work },
     ghost mark_within: { ForSome mark (IsMarkWithin base_count (vec_len journal) (vec_len work)) },
     ghost hand_within: { IsTrue (is_hand_within hand (vec_len journal) (vec_len work)) },
