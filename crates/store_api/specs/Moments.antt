@@ -1,0 +1,75 @@
+-- What a crash may leave: the pages to which the file then reopens, with the bytes that were told.
+use Rattle.std.specs.Prelude.{◌≡◌, ◌⊎◌, ◌≤◌, ℕ, List, MatchBool, IfSome}
+use Rattle.std.proofs.Common.{inl, inr, arith}
+use Rattle.store_api.specs.StoreState.{StoreState}
+use Rattle.store_api.specs.Calls.{continued, IsFrontOf}
+
+-- pages, and the bytes told with them
+abbrev pub Outcomes : Type 1
+Outcomes = List (List ℕ) → List ℕ → Type 0
+
+-- the base, with the bytes told so far, where they are told
+abbrev pub OnlyBase : StoreState → Outcomes
+OnlyBase s pages told = (pages ≡ s.base) × IfSome s.told (λ bytes. told ≡ bytes)
+
+-- the base or the work, with the bytes told so far, where they are told
+abbrev pub BaseOrWork : StoreState → Outcomes
+BaseOrWork s pages told = ((pages ≡ s.base) ⊎ (pages ≡ s.work)) × IfSome s.told (λ bytes. told ≡ bytes)
+
+-- the base, with the bytes told so far and a front of the piece
+abbrev pub BaseWithFront : List ℕ → StoreState → Outcomes
+BaseWithFront piece s pages told =
+    (pages ≡ s.base) × (part : List ℕ) × IsFrontOf part piece × IfSome (continued part s.told) (λ bytes. told ≡ bytes)
+
+-- between two calls: the base, and after a commit that failed the base or the work
+abbrev pub AtRest : StoreState → Outcomes
+AtRest s pages told = MatchBool s.ended (BaseOrWork s pages told) (OnlyBase s pages told)
+
+-- Time goes on over a call, or over a run of calls. A crash since it began leaves only what is within, and what may be
+-- left since an earlier time is what could be left before, and what may be left since the call began.
+pub record Passes {S : Type 0} (state : S → StoreState) (clock : S → ℕ) (left : S → ℕ → Outcomes) (Within : Outcomes) (old new : S) : Type 0 where
+  pub later : clock old ≤ clock new
+  pub since_call : (pages : List (List ℕ)) (told : List ℕ) → left new (clock old) pages told → Within pages told
+  pub nothing_else : (t : ℕ) (pages : List (List ℕ)) (told : List ℕ) → t ≤ clock old → left new t pages told → left old t pages told ⊎ left new (clock old) pages told
+  pub keeps : (t : ℕ) (pages : List (List ℕ)) (told : List ℕ) → t ≤ clock old → left old t pages told → left new t pages told
+  pub adds : (t : ℕ) (pages : List (List ℕ)) (told : List ℕ) → t ≤ clock old → left new (clock old) pages told → left new t pages told
+  -- a crash after it
+  pub at_rest : (pages : List (List ℕ)) (told : List ℕ) → left new (clock new) pages told → AtRest (state new) pages told
+
+-- one of two
+abbrev pub Either : Outcomes → Outcomes → Outcomes
+Either A B pages told = A pages told ⊎ B pages told
+
+-- one call after another
+pub Passes-after : {S : Type 0} (state : S → StoreState) (clock : S → ℕ) (left : S → ℕ → Outcomes) (A B : Outcomes) (old middle new : S)
+    → Passes state clock left A old middle → Passes state clock left B middle new → Passes state clock left (Either A B) old new
+Passes-after state clock left A B old middle new first second = record {
+  later = omega (arith, first.later, second.later);
+  since_call = λ pages told now. elim (second.nothing_else (clock old) pages told first.later now) [ inl before ↦ inl (first.since_call pages told before) | inr since ↦ inr (second.since_call pages told since) ];
+  nothing_else = λ t pages told le now. elim (second.nothing_else t pages told (omega (arith, le, first.later)) now) [
+    | inl before ↦ elim (first.nothing_else t pages told le before) [ inl long_before ↦ inl long_before | inr since ↦ inr (second.keeps (clock old) pages told first.later since) ]
+    | inr since ↦ inr (second.adds (clock old) pages told first.later since)
+  ];
+  keeps = λ t pages told le before. second.keeps t pages told (omega (arith, le, first.later)) (first.keeps t pages told le before);
+  adds = λ t pages told le now. elim (second.nothing_else (clock old) pages told first.later now) [
+    | inl before ↦ second.keeps t pages told (omega (arith, le, first.later)) (first.adds t pages told le before)
+    | inr since ↦ second.adds t pages told (omega (arith, le, first.later)) since
+  ];
+  at_rest = second.at_rest;
+}
+
+-- the same, with a set that has both
+pub Passes-then : {S : Type 0} {state : S → StoreState} {clock : S → ℕ} {left : S → ℕ → Outcomes} {A B C : Outcomes} {old middle new : S}
+    → Passes state clock left A old middle → Passes state clock left B middle new
+    → ((pages : List (List ℕ)) (told : List ℕ) → A pages told → C pages told) → ((pages : List (List ℕ)) (told : List ℕ) → B pages told → C pages told)
+    → Passes state clock left C old new
+Passes-then {state} {clock} {left} {A} {B} {C} {old} {middle} {new} first second in_first in_second =
+    let both = Passes-after state clock left A B old middle new first second in
+    record {
+      later = both.later;
+      since_call = λ pages told now. elim (both.since_call pages told now) [ inl a ↦ in_first pages told a | inr b ↦ in_second pages told b ];
+      nothing_else = both.nothing_else;
+      keeps = both.keeps;
+      adds = both.adds;
+      at_rest = both.at_rest;
+    }

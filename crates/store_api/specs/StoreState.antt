@@ -1,0 +1,60 @@
+-- What a store of pages is seen as. A page is the list of its bytes.
+use Rattle.std.specs.Prelude.{◌≡◌, ℕ, ◌+◌, Bool, if◌then◌else◌, List, [], ◌∷◌, length, take, drop, replicate, slice_index_or, Option}
+use Rattle.std.specs.Int.{from_be_bytes, w32}
+use Rattle.std.specs.Str.{bytes_eq}
+use Rattle.std.proofs.Common.{refl, ap, inl, inr, ◌∙◌, arith}
+use Rattle.std.proofs.lemmas.Bool.{cases_Bool}
+use Rattle.std.proofs.lemmas.Slice.Eq.{bytes_eq-Decides}
+
+-- all that the calls of a store speak of, but for the counts of faults, the clock and the count of pages written
+pub record StoreState : Type 0 where
+  -- the pages of the last commit
+  pub base : List (List ℕ)
+  -- the pages as they are now
+  pub work : List (List ℕ)
+  -- the work at the mark, where one is open
+  pub marked : Option (List (List ℕ))
+  -- the page at hand, where there is one
+  pub hand : Option (List ℕ)
+  -- the work is ready for `commit`
+  pub prepared : Bool
+  -- a commit failed, and the store takes no further call
+  pub ended : Bool
+  -- the bytes told, where they are told
+  pub told : Option (List ℕ)
+  -- the numbers of the pages that were brought to hand, in order, where they are told
+  pub fetched : Option (List ℕ)
+  -- the attaches of the host beneath, each a path and whether it may make the file, where they are told
+  pub attached : Option (List (List ℕ × Bool))
+  -- the time since which moments are told
+  pub origin : ℕ
+
+-- the page of a number
+abbrev pub page_at : List (List ℕ) → ℕ → List ℕ
+page_at pages p = slice_index_or pages p []
+
+-- a page of zeros
+unfoldable pub zero_page : List ℕ
+zero_page = replicate 4096 0
+
+-- the page count that page 0 states, in its bytes 8 to 11
+abbrev pub stated_count : List (List ℕ) → ℕ
+stated_count pages = from_be_bytes w32 (take 4 (drop 8 (page_at pages 0)))
+
+-- how many pages differ. A page that only one of the two has counts.
+abbrev pub differing : List (List ℕ) → List (List ℕ) → ℕ
+differing [] work = length work
+differing (page ∷ base) [] = length (page ∷ base)
+differing (old ∷ base) (new ∷ work) = (if bytes_eq old new then 0 else 1) + differing base work
+
+-- where no page differs, the pages are the same
+pub differing-none : (base work : List (List ℕ)) → differing base work ≡ 0 → base ≡ work
+differing-none [] [] none = refl
+differing-none [] (new ∷ work) none = absurd (omega arith)
+differing-none (old ∷ base) [] none = absurd (omega arith)
+differing-none (old ∷ base) (new ∷ work) none =
+    elim (cases_Bool (bytes_eq old new)) [
+      | inl same ↦ (let rest : differing base work ≡ 0 = omega arith in
+          ap (λ page. page ∷ base) ((bytes_eq-Decides old new).0 same) ∙ ap (λ pages. new ∷ pages) (differing-none base work rest))
+      | inr other ↦ absurd (let one = rw other at none in omega (arith, one))
+    ]

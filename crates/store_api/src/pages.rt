@@ -1,0 +1,108 @@
+// Pages by their numbers, which may change and can be taken back to a mark.
+ghost use Rattle.std.specs.Prelude.{◌≡◌, ◌+◌, ◌<◌, ◌≤◌, ℕ, false, length, None, IsSome, OnOk, OnErr, IsErrOf};
+ghost use Rattle.store_api.specs.StoreState.{StoreState};
+ghost use Rattle.store_api.specs.Calls.{Rose, KeepsFaults, Fetches, LosesHand, Writes, Grows, LosesReadiness, Marks, Keeps, Undoes};
+ghost use Rattle.store_api.specs.Moments.{Outcomes, OnlyBase, Passes};
+
+use crate::PageFault;
+
+/// The bytes of a page.
+pub type Page = [u8; 4096];
+
+/// The most pages that a store has.
+pub const MAX_PAGES: u32 = 262_289;
+
+/// The work of a store: numbered pages that can be read one at a time, changed, and taken back to a mark.
+///
+/// Each call with `&mut self` takes the page at hand away, but for a `fetch` or a `committed` that succeeds.
+pub trait Pages {
+    /// What the calls speak of.
+    ghost state: { Self → StoreState };
+
+    /// In how many pages the work and the base differ, or may differ.
+    ghost written: { Self → ℕ };
+
+    /// How many calls of the disk have failed. It never falls.
+    ghost disk_faults: { Self → ℕ };
+
+    /// How many calls to tell bytes have failed. It never falls.
+    ghost say_faults: { Self → ℕ };
+
+    /// The time. It never falls.
+    ghost clock: { Self → ℕ };
+
+    /// Whether a crash at some time since this one may leave a file that reopens to these pages, with these bytes told.
+    /// A store that tells no moments allows none.
+    ghost left: { Self → ℕ → Outcomes };
+
+    /// The number of pages of the work.
+    fn count(&self) -> u32
+        ensures { result ≡ length (state self.now).work };
+
+    /// Brings a page of the work to hand.
+    fn fetch(&mut self, p: u32) -> Result<(), PageFault>
+        requires going { (state self.old).ended ≡ false }
+        requires within { p < length (state self.old).work }
+        ensures ok { OnOk result (Fetches p (state self.old) (state self.new)) }
+        ensures err { OnErr result (LosesHand (state self.old) (state self.new)) }
+        ensures device { IsErrOf result PageFault.Device → Rose (disk_faults self.old) (disk_faults self.new) }
+        ensures written { written self.new ≡ written self.old }
+        ensures faults { KeepsFaults disk_faults say_faults self.old self.new }
+        ensures time { Passes state clock left (OnlyBase (state self.old)) self.old self.new };
+
+    /// Lends the page at hand.
+    fn page(&self) -> &Page
+        requires { IsSome (state self.now).hand }
+        ensures { (state self.now).hand ≡ Some result.now };
+
+    /// Writes over a page of the work.
+    fn write(&mut self, p: u32, bytes: &Page) -> Result<(), PageFault>
+        requires going { (state self.old).ended ≡ false }
+        requires within { p < length (state self.old).work }
+        ensures ok { OnOk result (Writes p bytes.now (state self.old) (state self.new)) }
+        ensures err { OnErr result (LosesReadiness (state self.old) (state self.new)) }
+        ensures device { IsErrOf result PageFault.Device → Rose (disk_faults self.old) (disk_faults self.new) }
+        ensures written { written self.new ≤ written self.old + 1 }
+        ensures faults { KeepsFaults disk_faults say_faults self.old self.new }
+        ensures time { Passes state clock left (OnlyBase (state self.old)) self.old self.new };
+
+    /// Adds pages of zeros at the end of the work.
+    fn grow(&mut self, n: u32) -> Result<(), PageFault>
+        requires going { (state self.old).ended ≡ false }
+        requires room { length (state self.old).work + n ≤ MAX_PAGES }
+        ensures ok { OnOk result (Grows n (state self.old) (state self.new)) }
+        ensures err { OnErr result (LosesReadiness (state self.old) (state self.new)) }
+        ensures device { IsErrOf result PageFault.Device → Rose (disk_faults self.old) (disk_faults self.new) }
+        ensures written { written self.new ≤ written self.old + n }
+        ensures faults { KeepsFaults disk_faults say_faults self.old self.new }
+        ensures time { Passes state clock left (OnlyBase (state self.old)) self.old self.new };
+
+    /// Notes the work, for `undo`.
+    fn mark(&mut self)
+        requires going { (state self.old).ended ≡ false }
+        requires unmarked { (state self.old).marked ≡ None }
+        ensures marked { Marks (state self.old) (state self.new) }
+        ensures written { written self.new ≡ written self.old }
+        ensures faults { KeepsFaults disk_faults say_faults self.old self.new }
+        ensures time { Passes state clock left (OnlyBase (state self.old)) self.old self.new };
+
+    /// Drops the mark. After a fault it is still open.
+    fn keep(&mut self) -> Result<(), PageFault>
+        requires going { (state self.old).ended ≡ false }
+        requires marked { IsSome (state self.old).marked }
+        ensures ok { OnOk result (Keeps (state self.old) (state self.new)) }
+        ensures err { OnErr result (LosesHand (state self.old) (state self.new)) }
+        ensures device { IsErrOf result PageFault.Device → Rose (disk_faults self.old) (disk_faults self.new) }
+        ensures written { written self.new ≡ written self.old }
+        ensures faults { KeepsFaults disk_faults say_faults self.old self.new }
+        ensures time { Passes state clock left (OnlyBase (state self.old)) self.old self.new };
+
+    /// Goes back to the work of the mark, and drops it.
+    fn undo(&mut self)
+        requires going { (state self.old).ended ≡ false }
+        requires marked { IsSome (state self.old).marked }
+        ensures undone { Undoes (state self.old) (state self.new) }
+        ensures written { written self.new ≤ written self.old }
+        ensures faults { KeepsFaults disk_faults say_faults self.old self.new }
+        ensures time { Passes state clock left (OnlyBase (state self.old)) self.old self.new };
+}
