@@ -6,7 +6,6 @@
 
 mod answer_text;
 mod cells;
-mod console;
 mod definition;
 mod engine;
 #[cfg(test)]
@@ -21,22 +20,30 @@ mod session;
 mod status;
 mod table;
 
-use console::{StdinSource, StdoutHost};
+use host_edge::{FileHost, StdinSource};
 use program::run;
 use status::Status;
 use std::process::ExitCode;
 use std::{env, io};
 
 fn main(rt: HostRuntime) -> ExitCode {
-    let mut input = StdinSource::new(rt.reader());
-    let host = StdoutHost::new(io::writer(&rt));
-    let words = match words(&rt) {
-        Ok(words) => words,
-        Err(error) if error.kind() == io::ErrorKind::InvalidData => Vec::new(rt.alloc()),
-        Err(_) => return ExitCode::from(8),
+    ExitCode::from(status_of_call(&rt).0)
+}
+
+// Calls the program on the real words, standard input and output. What can't be made for want of memory ends it.
+fn status_of_call(rt: &HostRuntime) -> Status {
+    let Ok(files) = rt.clone() else {
+        return Status::MEMORY;
     };
-    let Status(status) = run(rt.alloc(), &words, &mut input, host).status;
-    ExitCode::from(status)
+    let words = match words(rt) {
+        Ok(words) => words,
+        // A word that is no text is no word of a command line.
+        Err(error) if error.kind() == io::ErrorKind::InvalidData => Vec::new(rt.alloc()),
+        Err(_) => return Status::MEMORY,
+    };
+    let mut input = StdinSource::new(rt.reader());
+    let host = FileHost::new(rt.alloc(), files, rt.stdout());
+    run(rt.alloc(), &words, &mut input, host).status
 }
 
 // The words after the program's name. A word that is no text is an error, of the kind `InvalidData`.

@@ -13,6 +13,9 @@ use sql_reader::ReadStop;
 pub struct Status(pub u8);
 
 impl Status {
+    /// Want of memory.
+    pub const MEMORY: Status = Status(8);
+
     /// The status of a script that was read to its end, with a refusal or without, or stopped.
     pub fn of(served: &Result<bool, Stop>) -> Status
         ensures { result.0 ≡ status_of served.now }
