@@ -6,8 +6,9 @@ use crate::faults::counted;
 use crate::positioned;
 use mdc_outside::{Disk, Failed, Host};
 use std::alloc::Global;
-use std::fs::{OpenFile, OpenOptions};
+use std::fs::{self, OpenFile, OpenOptions};
 use std::io::{self, Cursor, ErrorKind, Write};
+use std::path::Path;
 use std::rt::Files;
 
 // The path of the scratch file.
@@ -146,14 +147,26 @@ fn scratch<F: Drop>(is_there: &mut bool, make: bool) -> io::Result<Attached<F>>
     }
 }
 
-// The file at the path, or the empty one that is made there.
+// The file at the path, or the empty one that is made there. A sync of a file doesn't reach its name, so the folder of a
+// file that may be new is synced too.
 fn open<R: Files>(files: &R, path: &str, make: bool) -> io::Result<Attached<R::File>> {
     let file = OpenOptions::new()
         .read(true)
         .write(true)
         .create(make)
         .open(files, path)?;
+    if make {
+        fs::open(files, folder_of(path))?.sync_all()?;
+    }
     Ok(Attached::File(file))
+}
+
+// The folder that the path lies in.
+fn folder_of(path: &str) -> &str {
+    match Path::new(path).parent() {
+        Some(folder) if !folder.as_str().is_empty() => folder.as_str(),
+        _ => ".",
+    }
 }
 
 // Writes all of the bytes, past any buffer.
