@@ -3,7 +3,8 @@ ghost use Rattle.std.specs.Prelude.{◌≡◌, ◌≤◌, ◌<◌, [], ℕ, List
 
 use crate::{Failed, Source};
 
-/// from 1, stand in `fails`.
+/// A source that keeps its script in memory. It gives at most `step` bytes a read, and fails the reads whose numbers,
+/// counted from 1, stand in `fails`.
 #[derive(Debug, Drop)]
 pub struct MemSource {
     bytes: Vec<u8>,
