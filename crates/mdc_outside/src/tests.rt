@@ -119,17 +119,24 @@ const CRASHES: [(u64, &[u8], &[u8], &[u8]); 7] = [
     (7, b"QbXYZ", b"ObOOO", b"OK"),
 ];
 
+// Runs that script. Its sixth call fails.
+fn scripted(alloc: Global) -> Result<MemHost, Fail> {
+    let mut host = MemHost::new(alloc, None, [6].to_vec(alloc)?);
+    host.attach("table", true)?;
+    host.write(0, b"abc")?;
+    host.sync()?;
+    host.write(2, b"XYZ")?;
+    host.say(b"OK")?;
+    if host.write(0, b"Q").is_err() {
+        host.say(b"end")?;
+    }
+    Ok(host)
+}
+
 #[test]
 fn a_crash_within_each_call(rt: HostRuntime) -> Result<(), Fail> {
     let alloc = rt.alloc();
-    let mut host = MemHost::new(alloc, None, [6].to_vec(alloc)?);
-    assert_eq!(rt; host.attach("table", true), Ok(()));
-    assert_eq!(rt; host.write(0, b"abc"), Ok(()));
-    assert_eq!(rt; host.sync(), Ok(()));
-    assert_eq!(rt; host.write(2, b"XYZ"), Ok(()));
-    assert_eq!(rt; host.say(b"OK"), Ok(()));
-    assert_eq!(rt; host.write(0, b"Q"), Err(Failed));
-    assert_eq!(rt; host.say(b"end"), Ok(()));
+    let host = scripted(alloc)?;
     assert_eq!(rt; host.calls(), 7);
     assert_eq!(rt; host.call(1), Call::Attach);
     assert_eq!(rt; host.call(4), Call::Write(2));
