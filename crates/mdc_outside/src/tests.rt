@@ -1,4 +1,6 @@
-use crate::{Call, Disk, Failed, Host, MemHost, MemSource, Source};
+ghost use Rattle.std.specs.Prelude.{IsTrue};
+
+use crate::{Call, Failed, Host, MemHost, MemSource, Source};
 use std::alloc::Global;
 use std::test::Fail;
 
@@ -28,135 +30,171 @@ fn a_host_keeps_its_tape(rt: HostRuntime) -> Result<(), Fail> {
     Ok(())
 }
 
+// Writes where the file goes so far. It asks for the length first.
+fn put<H: Host>(host: &mut H, at: u64, bytes: &[u8]) -> Result<(), Failed>
+    requires { IsTrue (H.is_attached host.old) }
+    ensures { IsTrue (H.is_attached host.new) }
+{
+    if host.len()? < at {
+        return Err(Failed);
+    }
+    host.write(at, bytes)
+}
+
+// All bytes of the file, which is attached first.
+fn contents<H: Host>(alloc: Global, host: &mut H) -> Result<Vec<u8>, Fail> {
+    host.attach("table", true)?;
+    let length = host.len()?;
+    let mut bytes = vec![in alloc; 0u8; length as usize]?;
+    host.read(0, &mut bytes)?;
+    Ok(bytes)
+}
+
+// Three writes, of which the last two overlap, and a sync.
+fn overwrite<H: Host>(host: &mut H) -> Result<(), Failed> {
+    host.attach("table", true)?;
+    put(host, 0, b"rows")?;
+    put(host, 2, b"ot")?;
+    put(host, 3, b"und")?;
+    host.sync()
+}
+
 #[test]
 fn a_disk_gives_back_what_was_written(rt: HostRuntime) -> Result<(), Fail> {
     let alloc = rt.alloc();
-    let mut host = MemHost::new(alloc, None, [].to_vec(alloc)?);
-    assert_eq!(rt; host.attach("table", false), Err(Failed));
-    assert_eq!(rt; host.attach("table", true), Ok(()));
-    assert_eq!(rt; host.write(0, b"rows"), Ok(()));
-    assert_eq!(rt; host.write(2, b"ot"), Ok(()));
-    assert_eq!(rt; host.write(3, b"und"), Ok(()));
-    assert_eq!(rt; host.sync(), Ok(()));
-    assert_eq!(rt; host.len(), Ok(6));
-    let mut out = [0u8; 4];
-    assert_eq!(rt; host.read(1, &mut out), Ok(()));
-    assert_eq!(rt; out, *b"ooun");
+    let mut host = MemHost::new(alloc, None, Vec::new(alloc));
+    assert_eq!(rt; overwrite(&mut host), Ok(()));
+    assert_eq!(rt;
+        contents(alloc, &mut host)?.as_slice(),
+        b"roound".as_slice()
+    );
     Ok(())
+}
+
+// Whether the file is there before anyone makes it.
+fn is_found<H: Host>(host: &mut H) -> bool {
+    host.attach("any", false).is_ok()
 }
 
 #[test]
 fn the_first_file_is_there_under_every_path(rt: HostRuntime) -> Result<(), Fail> {
     let alloc = rt.alloc();
-    let mut host = MemHost::new(alloc, Some(b"old".to_vec(alloc)?), [].to_vec(alloc)?);
-    assert_eq!(rt; host.attach("any", false), Ok(()));
-    assert_eq!(rt; host.write(3, b"er"), Ok(()));
-    let mut out = [0u8; 5];
-    assert_eq!(rt; host.read(0, &mut out), Ok(()));
-    assert_eq!(rt; out, *b"older");
+    let mut none = MemHost::new(alloc, None, Vec::new(alloc));
+    assert_eq!(rt; is_found(&mut none), false);
+    let mut old = MemHost::new(alloc, Some(b"old".to_vec(alloc)?), Vec::new(alloc));
+    assert_eq!(rt; is_found(&mut old), true);
+    assert_eq!(rt; contents(alloc, &mut old)?.as_slice(), b"old".as_slice());
     Ok(())
 }
 
-// Runs a script of one call of each kind, and answers which of them failed.
-fn failed_calls(alloc: Global, fails: u64) -> Result<[bool; 6], Fail> {
-    let mut host = MemHost::new(alloc, None, [fails].to_vec(alloc)?);
-    let mut out = [0u8; 2];
+// Calls of each kind, one after another up to the first that fails, and how many were done.
+fn calls_done<H: Host>(host: &mut H) -> u64 {
     if host.attach("table", true).is_err() {
-        return Ok([true, false, false, false, false, false]);
+        return 0;
     }
-    let write = host.write(0, b"row").is_err();
-    let sync = host.sync().is_err();
-    let len = host.len();
-    let mut read = false;
-    if let Ok(3) = len {
-        read = host.read(1, &mut out).is_err();
+    if host.len().is_err() {
+        return 1;
     }
-    let say = host.say(b"OK").is_err();
-    Ok([false, write, sync, len.is_err(), read, say])
+    if host.write(0, b"").is_err() {
+        return 2;
+    }
+    if host.read(0, &mut []).is_err() {
+        return 3;
+    }
+    if host.sync().is_err() {
+        return 4;
+    }
+    if host.say(b"OK").is_err() {
+        return 5;
+    }
+    6
 }
 
 #[test]
 fn each_call_fails_where_it_is_told(rt: HostRuntime) -> Result<(), Fail> {
     let alloc = rt.alloc();
-    let no = [false; 6];
-    assert_eq!(rt; failed_calls(alloc, 0)?, no);
-    assert_eq!(rt;
-        failed_calls(alloc, 1)?,
-        [true, false, false, false, false, false]
-    );
-    assert_eq!(rt;
-        failed_calls(alloc, 2)?,
-        [false, true, false, false, false, false]
-    );
-    assert_eq!(rt;
-        failed_calls(alloc, 3)?,
-        [false, false, true, false, false, false]
-    );
-    assert_eq!(rt;
-        failed_calls(alloc, 4)?,
-        [false, false, false, true, false, false]
-    );
-    assert_eq!(rt;
-        failed_calls(alloc, 5)?,
-        [false, false, false, false, true, false]
-    );
-    assert_eq!(rt;
-        failed_calls(alloc, 6)?,
-        [false, false, false, false, false, true]
-    );
-    assert_eq!(rt; failed_calls(alloc, 7)?, no);
+    for fails in 1..8 {
+        let mut host = MemHost::new(alloc, None, [fails].to_vec(alloc)?);
+        assert_eq!(rt; calls_done(&mut host), fails - 1);
+    }
     Ok(())
 }
 
-// What a crash within a call leaves of this script.
-const CRASHES: [(u64, &[u8], &[u8], &[u8]); 7] = [
+// What a crash within a call leaves of the script below: with what was written, with a fill, and the tape.
+const CRASHES: [(u64, &[u8], &[u8], &[u8]); 10] = [
     (1, b"", b"", b""),
-    (2, b"abc", b"OOO", b""),
+    (2, b"", b"", b""),
     (3, b"abc", b"OOO", b""),
-    (4, b"abXYZ", b"abOOO", b""),
-    (5, b"abXYZ", b"abOOO", b""),
-    (6, b"QbXYZ", b"ObOOO", b"OK"),
-    (7, b"QbXYZ", b"ObOOO", b"OK"),
+    (4, b"abc", b"OOO", b""),
+    (5, b"abc", b"abc", b""),
+    (6, b"abXYZ", b"abOOO", b""),
+    (7, b"abXYZ", b"abOOO", b""),
+    (8, b"abXYZ", b"abOOO", b"OK"),
+    (9, b"QbXYZ", b"ObOOO", b"OK"),
+    (10, b"QbXYZ", b"ObOOO", b"OK"),
 ];
 
-// Runs that script. Its sixth call fails.
-fn scripted(alloc: Global) -> Result<MemHost, Fail> {
-    let mut host = MemHost::new(alloc, None, [6].to_vec(alloc)?);
+// Attach, length and write, sync, length and write, a reply, length and a write that fails, a reply.
+fn scripted<H: Host>(host: &mut H) -> Result<(), Failed> {
     host.attach("table", true)?;
-    host.write(0, b"abc")?;
+    put(host, 0, b"abc")?;
     host.sync()?;
-    host.write(2, b"XYZ")?;
+    put(host, 2, b"XYZ")?;
     host.say(b"OK")?;
-    if host.write(0, b"Q").is_err() {
+    if put(host, 0, b"Q").is_err() {
         host.say(b"end")?;
     }
-    Ok(host)
+    Ok(())
+}
+
+// The file and the tape that a crash within a call leaves.
+fn crashed(
+    alloc: Global,
+    host: &MemHost,
+    call: u64,
+    fill: Option<u8>,
+) -> Result<(Vec<u8>, Vec<u8>), Fail> {
+    if call < 1 || call > host.calls() {
+        return Err(Failed)?;
+    }
+    let mut left = host.after(alloc, call, fill)?;
+    let tape = left.said().to_vec(alloc)?;
+    Ok((contents(alloc, &mut left)?, tape))
+}
+
+// Which call of the host this is, if it is one.
+fn kind(host: &MemHost, call: u64) -> Option<Call> {
+    if call < 1 || call > host.calls() {
+        return None;
+    }
+    Some(host.call(call))
+}
+
+#[test]
+fn calls_are_recorded(rt: HostRuntime) -> Result<(), Fail> {
+    let alloc = rt.alloc();
+    let mut host = MemHost::new(alloc, None, Vec::new(alloc));
+    assert_eq!(rt; scripted(&mut host), Ok(()));
+    assert_eq!(rt; kind(&host, 1), Some(Call::Attach));
+    assert_eq!(rt; kind(&host, 6), Some(Call::Write(2)));
+    assert_eq!(rt; kind(&host, 7), Some(Call::Say));
+    assert_eq!(rt; kind(&host, 9), Some(Call::Write(0)));
+    assert_eq!(rt; kind(&host, 10), None);
+    Ok(())
 }
 
 #[test]
 fn a_crash_within_each_call(rt: HostRuntime) -> Result<(), Fail> {
     let alloc = rt.alloc();
-    let host = scripted(alloc)?;
-    assert_eq!(rt; host.calls(), 7);
-    assert_eq!(rt; host.call(1), Call::Attach);
-    assert_eq!(rt; host.call(4), Call::Write(2));
-    assert_eq!(rt; host.call(7), Call::Say);
+    let mut host = MemHost::new(alloc, None, [9].to_vec(alloc)?);
+    assert_eq!(rt; scripted(&mut host), Ok(()));
     for (call, written, filled, tape) in CRASHES {
-        let mut kept = host.after(alloc, call, None)?;
-        assert_eq!(rt; contents(alloc, &mut kept)?.as_slice(), written);
-        assert_eq!(rt; kept.said(), tape);
-        let mut torn = host.after(alloc, call, Some(0x4f))?;
-        assert_eq!(rt; contents(alloc, &mut torn)?.as_slice(), filled);
-        assert_eq!(rt; torn.said(), tape);
+        let kept = crashed(alloc, &host, call, None)?;
+        assert_eq!(rt; kept.0.as_slice(), written, "in {call}");
+        assert_eq!(rt; kept.1.as_slice(), tape, "in {call}");
+        let torn = crashed(alloc, &host, call, Some(0x4f))?;
+        assert_eq!(rt; torn.0.as_slice(), filled, "in {call}");
+        assert_eq!(rt; torn.1.as_slice(), tape, "in {call}");
     }
     Ok(())
-}
-
-// All bytes of the file.
-fn contents(alloc: Global, host: &mut MemHost) -> Result<Vec<u8>, Fail> {
-    host.attach("table", true)?;
-    let n = host.len()?;
-    let mut bytes = vec![in alloc; 0u8; n as usize]?;
-    host.read(0, &mut bytes)?;
-    Ok(bytes)
 }
