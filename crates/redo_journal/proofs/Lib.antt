@@ -1,0 +1,11 @@
+pub mod Bytes
+pub mod Composing
+pub mod Covering
+pub mod Covers
+pub mod Entries
+pub mod GateByte
+pub mod Places
+pub mod Rising
+pub mod Standing
+pub mod Steps
+pub mod Written

@@ -1,0 +1,50 @@
+-- Each part lies within what a journal tears, and the parts stand one behind the other.
+use Rattle.std.proofs.Common.{◌≡◌, ◌+◌, ◌*◌, length, arith, ap, ◌∙◌, sym}
+use Rattle.redo_journal.specs.Layout.{index_pages}
+use Rattle.redo_journal.proofs.Composing.{runs_within, runs_then_settle}
+use Rattle.redo_journal.proofs.Covers.{journal_covers, runs_wider, runs_zeros, runs_journal, runs_header}
+use Rattle.redo_journal.proofs.Bytes.{length-index_bytes}
+use Rattle.redo_journal.proofs.Steps.{zeros_reach, piece_reaches}
+use Rattle.redo_journal.proofs.Written.{written_stands}
+use Rattle.redo_journal.specs.Pieces.{index_bytes, header}
+use Rattle.redo_journal.proofs.journal.write_journal.Goals as goal
+
+pub returns-in_err-end-clause-runs : goal.returns-in_err-end-clause-runs
+returns-in_err-end-clause-runs g c = runs_within (runs_wider (journal_covers c.args.start (length c.args.images.now)) c.end_of.ensures.runs)
+
+pub returns-in_err-fill-clause-runs : goal.returns-in_err-fill-clause-runs
+returns-in_err-fill-clause-runs g c = runs_within (runs_zeros c.args.start (length c.args.images.now) c.in_ok-end.end _ c.requires.ready c.in_ok-end.ensures.end (omega arith) (runs_wider (journal_covers c.args.start (length c.args.images.now)) c.end_of.ensures.runs) c.fill.ensures.runs)
+
+pub write_index-requires-clause-within : goal.write_index-requires-clause-within
+write_index-requires-clause-within g c = zeros_reach c.in_ok-end.end (c.from-index.result * 4096) c.fill.ensures.runs c.in_ok-fill.ensures.filled (λ x is. c.in_ok-end.ensures.end x (sym c.end_of.ensures.same ∙ is))
+
+pub returns-in_err-write_index-clause-runs : goal.returns-in_err-write_index-clause-runs
+returns-in_err-write_index-clause-runs g c = runs_within (runs_journal c.args.start (length c.args.images.now) _ _ (omega arith) (omega arith) (runs_zeros c.args.start (length c.args.images.now) c.in_ok-end.end _ c.requires.ready c.in_ok-end.ensures.end (omega arith) (runs_wider (journal_covers c.args.start (length c.args.images.now)) c.end_of.ensures.runs) c.fill.ensures.runs) c.write_index.ensures.runs)
+
+pub write_pages-requires-clause-within : goal.write_pages-requires-clause-within
+write_pages-requires-clause-within g c = λ x is.
+    let reach = piece_reaches (c.from-index.result * 4096) (index_bytes (index_pages (length c.args.images.now)) c.args.images.now) c.write_index.ensures.runs c.in_ok-write_index.ensures.index (zeros_reach c.in_ok-end.end (c.from-index.result * 4096) c.fill.ensures.runs c.in_ok-fill.ensures.filled (λ x is. c.in_ok-end.ensures.end x (sym c.end_of.ensures.same ∙ is))) x is in
+    omega (arith, reach, length-index_bytes (index_pages (length c.args.images.now)) c.args.images.now)
+
+pub returns-in_err-write_pages-clause-runs : goal.returns-in_err-write_pages-clause-runs
+returns-in_err-write_pages-clause-runs g c = runs_within (runs_journal c.args.start (length c.args.images.now) _ _ (omega arith) (omega arith) (runs_journal c.args.start (length c.args.images.now) _ _ (omega arith) (omega arith) (runs_zeros c.args.start (length c.args.images.now) c.in_ok-end.end _ c.requires.ready c.in_ok-end.ensures.end (omega arith) (runs_wider (journal_covers c.args.start (length c.args.images.now)) c.end_of.ensures.runs) c.fill.ensures.runs) c.write_index.ensures.runs) c.write_pages.ensures.runs)
+
+pub returns-in_err-put-clause-runs : goal.returns-in_err-put-clause-runs
+returns-in_err-put-clause-runs g c =
+    let size : length c.header.result ≡ 8 = ap length c.header.ensures in
+    runs_within (runs_header c.args.start (length c.args.images.now) (runs_journal c.args.start (length c.args.images.now) _ _ (omega arith) (omega arith) (runs_journal c.args.start (length c.args.images.now) _ _ (omega arith) (omega arith) (runs_zeros c.args.start (length c.args.images.now) c.in_ok-end.end _ c.requires.ready c.in_ok-end.ensures.end (omega arith) (runs_wider (journal_covers c.args.start (length c.args.images.now)) c.end_of.ensures.runs) c.fill.ensures.runs) c.write_index.ensures.runs) c.write_pages.ensures.runs) (rw size at c.put.ensures.runs))
+
+pub returns-clause-written : goal.returns-clause-written
+returns-clause-written g c =
+    let size : length c.header.result ≡ 8 = ap length c.header.ensures in
+    written_stands c.settle.result c.args.start c.args.images.now c.in_ok-end.end (c.from-index.result * 4096) (c.from-index.result * 4096 + c.index_len.result * 4096) c.header.result
+    c.len.ensures.images.each (omega arith) c.requires.few c.requires.behind_gates (omega arith) (omega arith) (c.header.ensures ∙ ap (λ n. header c.args.start n) c.len.ensures.len) size
+    c.requires.ready c.requires.closed c.end_of.ensures.same c.in_ok-end.ensures.end
+    (runs_then_settle (runs_header c.args.start (length c.args.images.now) (runs_journal c.args.start (length c.args.images.now) _ _ (omega arith) (omega arith) (runs_journal c.args.start (length c.args.images.now) _ _ (omega arith) (omega arith) (runs_zeros c.args.start (length c.args.images.now) c.in_ok-end.end _ c.requires.ready c.in_ok-end.ensures.end (omega arith) (runs_wider (journal_covers c.args.start (length c.args.images.now)) c.end_of.ensures.runs) c.fill.ensures.runs) c.write_index.ensures.runs) c.write_pages.ensures.runs) (rw size at c.put.ensures.runs)) c.settle.ensures.runs)
+    c.fill.ensures.runs c.in_ok-fill.ensures.filled c.write_index.ensures.runs c.in_ok-write_index.ensures.index c.write_pages.ensures.runs c.in_ok-write_pages.ensures.pages
+    c.put.ensures.runs c.in_ok-put.ensures.written c.settle.ensures.settled
+
+pub returns-clause-runs : goal.returns-clause-runs
+returns-clause-runs g c =
+    let size : length c.header.result ≡ 8 = ap length c.header.ensures in
+    runs_then_settle (runs_header c.args.start (length c.args.images.now) (runs_journal c.args.start (length c.args.images.now) _ _ (omega arith) (omega arith) (runs_journal c.args.start (length c.args.images.now) _ _ (omega arith) (omega arith) (runs_zeros c.args.start (length c.args.images.now) c.in_ok-end.end _ c.requires.ready c.in_ok-end.ensures.end (omega arith) (runs_wider (journal_covers c.args.start (length c.args.images.now)) c.end_of.ensures.runs) c.fill.ensures.runs) c.write_index.ensures.runs) c.write_pages.ensures.runs) (rw size at c.put.ensures.runs)) c.settle.ensures.runs

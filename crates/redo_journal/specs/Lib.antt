@@ -1,0 +1,5 @@
+pub mod Faults
+pub mod Images
+pub mod Layout
+pub mod Pieces
+pub mod Runs

@@ -1,0 +1,169 @@
+ghost use Rattle.std.specs.Prelude.{◌≡◌, None, true, OnOk};
+ghost use Rattle.mdc_outside.specs.Moments.{HasCause};
+
+use crate::{Images, close_gate, home, open_gate, replay, write_journal};
+use mdc_outside::{Disk, Failed};
+use std::alloc::Global;
+use std::io::{self, Cursor, Read, Seek, SeekFrom, Write};
+use std::test::Fail;
+use store_api::Page;
+
+// A disk over bytes in memory, which tells nothing.
+#[derive(Drop)]
+struct Scratch {
+    bytes: Cursor<Vec<u8>>,
+    faults: u64,
+}
+
+// Counts a fault where a call failed.
+fn counted<T: Drop>(faults: &mut u64, outcome: io::Result<T>) -> Result<T, Failed>
+    ensures { HasCause result faults.old faults.new }
+{
+    match outcome {
+        Ok(value) => Ok(value),
+        Err(_) => {
+            *faults = faults.saturating_add(1);
+            Err(Failed)
+        }
+    }
+}
+
+fn read_at(bytes: &mut Cursor<Vec<u8>>, at: u64, out: &mut [u8]) -> io::Result<()> {
+    bytes.seek(SeekFrom::Start(at))?;
+    bytes.read_exact(out)
+}
+
+fn write_at(file: &mut Cursor<Vec<u8>>, at: u64, bytes: &[u8]) -> io::Result<()> {
+    file.seek(SeekFrom::Start(at))?;
+    file.write_all(bytes)
+}
+
+impl Disk for Scratch {
+    ghost file = { λ _. None };
+
+    ghost beside = { λ _. record { tape = None; say_faults = 0 } };
+
+    ghost attaches = { λ _. None };
+
+    ghost is_attached = { λ _. true };
+
+    ghost disk_faults = { λ scratch. scratch.faults };
+
+    ghost clock = { λ _. 0 };
+
+    ghost moment = { λ _ _ _ _. ⊥ };
+
+    ghost sound = { λ _. tt };
+
+    ghost only_now = { λ _. tt };
+
+    ghost earlier = { λ _ _ _ _ _ _ _ may. may };
+
+    fn attach(&mut self, _path: &str, _make: bool) -> Result<(), Failed> {
+        Ok(())
+    }
+
+    fn len(&mut self) -> Result<u64, Failed> {
+        let outcome = self.bytes.seek(SeekFrom::End(0));
+        counted(&mut self.faults, outcome)
+    }
+
+    fn read(&mut self, at: u64, out: &mut [u8]) -> Result<(), Failed> {
+        let outcome = read_at(&mut self.bytes, at, out);
+        counted(&mut self.faults, outcome)
+    }
+
+    fn write(&mut self, at: u64, bytes: &[u8]) -> Result<(), Failed> {
+        let outcome = write_at(&mut self.bytes, at, bytes);
+        counted(&mut self.faults, outcome)
+    }
+
+    fn sync(&mut self) -> Result<(), Failed> {
+        Ok(())
+    }
+}
+
+fn page_of(byte: u8) -> Page {
+    [byte; 4096]
+}
+
+// Two images, of the pages 2 and 3.
+fn two_images(alloc: Global) -> Result<Images, Fail> {
+    let mut images = Images::new(alloc);
+    images.push(2, &page_of(7))?;
+    images.push(3, &page_of(8))?;
+    Ok(images)
+}
+
+// A file of two pages of zeros.
+fn blank(alloc: Global) -> Result<Scratch, Fail> {
+    let bytes = vec![in alloc; 0u8; 8192]?;
+    Ok(Scratch {
+        bytes: Cursor::new(bytes),
+        faults: 0,
+    })
+}
+
+// The numbers that a replay finds, and the first byte of each page.
+fn replayed(alloc: Global, disk: &mut Scratch) -> Result<Option<Vec<(u32, u8)>>, Fail> {
+    let Ok(found) = replay(alloc, disk) else {
+        return Err(Failed)?;
+    };
+    let Some(images) = found else {
+        return Ok(None);
+    };
+    let mut seen = Vec::new(alloc);
+    for i in 0..images.len() {
+        let (number, page) = images.at(i);
+        seen.push((number, page[0]))?;
+    }
+    Ok(Some(seen))
+}
+
+// The byte of the disk at a place.
+fn byte_at(disk: &mut Scratch, at: u64) -> Result<u8, Failed> {
+    let mut byte = [0u8];
+    disk.read(at, &mut byte)?;
+    Ok(byte[0])
+}
+
+#[test]
+fn a_journal_counts_while_its_gate_is_open(rt: HostRuntime) -> Result<(), Fail> {
+    let alloc = rt.alloc();
+    let images = two_images(alloc)?;
+    assert_eq!(rt; images.len(), 2);
+    let mut disk = blank(alloc)?;
+    write_journal(&mut disk, 70, &images)?;
+    assert_eq!(rt; replayed(alloc, &mut disk)?.is_none(), true);
+    open_gate(&mut disk)?;
+    let seen = replayed(alloc, &mut disk)?.unwrap_or(Vec::new(alloc));
+    assert_eq!(rt; seen.as_slice(), [(2, 7), (3, 8)].as_slice());
+    home(&mut disk, &images)?;
+    close_gate(&mut disk)?;
+    assert_eq!(rt; replayed(alloc, &mut disk)?.is_none(), true);
+    assert_eq!(rt; disk.len()?, 73 * 4096);
+    Ok(())
+}
+
+#[test]
+fn bytes_stand_where_the_format_says(rt: HostRuntime) -> Result<(), Fail> {
+    let alloc = rt.alloc();
+    let images = two_images(alloc)?;
+    assert_eq!(rt; images.len(), 2);
+    let mut disk = blank(alloc)?;
+    write_journal(&mut disk, 70, &images)?;
+    open_gate(&mut disk)?;
+    home(&mut disk, &images)?;
+    // The gate; the start and the number; the second number of the index; the second image; the home page of the first.
+    for (at, byte) in [
+        (512, 0x4f),
+        (1027, 70),
+        (1031, 2),
+        (70 * 4096 + 7, 3),
+        (72 * 4096, 8),
+        (68 * 4096 + 4095, 7),
+    ] {
+        assert_eq!(rt; byte_at(&mut disk, at)?, byte, "at {at}");
+    }
+    Ok(())
+}
