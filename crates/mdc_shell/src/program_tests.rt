@@ -96,22 +96,22 @@ fn statements_are_answered_in_any_pieces(rt: HostRuntime) -> Result<(), Fail> {
 fn what_fails_stops_the_run(rt: HostRuntime) -> Result<(), Fail> {
     let alloc = rt.alloc();
     let script = format!(in alloc; "{T}SELECT * FROM T;SELECT * FROM T;")?;
-    let first = T.len() + 20;
     // The second read fails: what closed in the first piece is answered.
+    let first = T.len() + 20;
     let bytes = script.as_bytes().to_vec(alloc)?;
     let (status, tape) = run_in_steps(alloc, bytes, first, &[2], &[])?;
-    assert_eq!(rt;
-        (status, tape.as_slice()),
-        (4, b"OK\nA|B\n0 ROWS\n".as_slice())
-    );
+    assert_eq!(rt; status, 4);
+    assert_eq!(rt; tape.as_slice(), b"OK\nA|B\n0 ROWS\n".as_slice());
     // The first reply can't be said.
     let bytes = script.as_bytes().to_vec(alloc)?;
     let (status, tape) = run_in_steps(alloc, bytes, 4096, &[], &[1])?;
-    assert_eq!(rt; (status, tape.as_slice()), (5, b"".as_slice()));
+    assert_eq!(rt; status, 5);
+    assert_eq!(rt; tape.as_slice(), b"".as_slice());
     // The second reply can't be said.
     let bytes = script.as_bytes().to_vec(alloc)?;
     let (status, tape) = run_in_steps(alloc, bytes, 4096, &[], &[2])?;
-    assert_eq!(rt; (status, tape.as_slice()), (5, b"OK\n".as_slice()));
+    assert_eq!(rt; status, 5);
+    assert_eq!(rt; tape.as_slice(), b"OK\n".as_slice());
     Ok(())
 }
 
