@@ -126,10 +126,10 @@ images_next images i x is = let zero_more : 0 + i ≡ i = omega arith in take_ne
 
 module _ {D : Type 0} {file : D → Option File} {aside : D → Beside} {attaches : D → Option (List (List ℕ × Bool))} {is_attached : D → Bool} {clock : D → ℕ} {moment : D → ℕ → List ℕ → List ℕ → Type 0} where
   -- the same of a file
-  pub home_step : {W1 W2 : Since → Since → Type 0} {a1 a2 : Since → Since} {old middle new : D} (images : Numbered) (i number place end : ℕ) (page : List ℕ)
+  pub home_step : {Within1 Within2 : Since → Since → Type 0} {a1 a2 : Since → Since} {old middle new : D} (images : Numbered) (i number place end : ℕ) (page : List ℕ)
       → AreImages images → slice_get images i ≡ Some (number, page) → place ≡ 4096 * (66 + number)
-      → Runs file aside attaches is_attached clock moment W1 a1 old middle → Between (file old) (file middle) (λ before after. after ≡ before ++ replicate (place - end) 0)
-      → Runs file aside attaches is_attached clock moment W2 a2 middle new → Between (file middle) (file new) (λ before after. after ≡ overwritten place page before)
+      → Runs file aside attaches is_attached clock moment Within1 a1 old middle → Between (file old) (file middle) (λ before after. after ≡ before ++ replicate (place - end) 0)
+      → Runs file aside attaches is_attached clock moment Within2 a2 middle new → Between (file middle) (file new) (λ before after. after ≡ overwritten place page before)
       → ForSome (file old) (λ f. end ≡ length f.bytes) → ForSome (file old) (λ f. All (λ y. home_page f.bytes y.0 ≡ y.1) (take i images))
       → ForSome (file new) (λ f. All (λ y. home_page f.bytes y.0 ≡ y.1) (take (i + 1) images) × (max end (place + 4096) ≡ length f.bytes))
   home_step images i number place end page are at place_is r1 filled r2 put size home = λ after is.

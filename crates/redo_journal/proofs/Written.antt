@@ -18,16 +18,16 @@ mapped f o new x y is old now = let both : Some y ≡ Some (f x) = sym now ∙ (
 
 module _ {D : Type 0} {file : D → Option File} {aside : D → Beside} {attaches : D → Option (List (List ℕ × Bool))} {is_attached : D → Bool} {clock : D → ℕ} {moment : D → ℕ → List ℕ → List ℕ → Type 0} where
   -- zeros, the index, the pages, the start and the number, and then all on the disk
-  pub written_stands : {Whole W1 W2 W3 W4 : Since → Since → Type 0} {whole a1 a2 a3 a4 : Since → Since} {old m0 m1 m2 m3 m4 new : D} {T E : Type 0}
+  pub written_stands : {Whole Within1 Within2 Within3 Within4 : Since → Since → Type 0} {whole a1 a2 a3 a4 : Since → Since} {old m0 m1 m2 m3 m4 new : D} {T E : Type 0}
       (result : Result T E) (start : ℕ) (images : Numbered) (end place next : ℕ) (piece : List ℕ)
       → All IsPageImage images → start < 4294967296 → length images < 4294967296 → 66 ≤ start
       → place ≡ 4096 * start → next ≡ place + 4096 * index_pages (length images) → piece ≡ header start (length images) → length piece ≡ 8
       → ForSome (file old) IsReady → ForSome (file old) (λ f. IsFalse (is_open f.bytes)) → file m0 ≡ file old → ForSome (file old) (λ f. end ≡ length f.bytes)
       → Runs file aside attaches is_attached clock moment Whole whole old new
-      → Runs file aside attaches is_attached clock moment W1 a1 m0 m1 → Between (file m0) (file m1) (λ before after. after ≡ before ++ replicate (place - end) 0)
-      → Runs file aside attaches is_attached clock moment W2 a2 m1 m2 → Between (file m1) (file m2) (Replaces place (index_bytes (index_pages (length images)) images))
-      → Runs file aside attaches is_attached clock moment W3 a3 m2 m3 → Between (file m2) (file m3) (Replaces next (page_bytes images))
-      → Runs file aside attaches is_attached clock moment W4 a4 m3 m4 → file m4 ≡ option_map (written 1024 piece) (file m3)
+      → Runs file aside attaches is_attached clock moment Within1 a1 m0 m1 → Between (file m0) (file m1) (λ before after. after ≡ before ++ replicate (place - end) 0)
+      → Runs file aside attaches is_attached clock moment Within2 a2 m1 m2 → Between (file m1) (file m2) (Replaces place (index_bytes (index_pages (length images)) images))
+      → Runs file aside attaches is_attached clock moment Within3 a3 m2 m3 → Between (file m2) (file m3) (Replaces next (page_bytes images))
+      → Runs file aside attaches is_attached clock moment Within4 a4 m3 m4 → file m4 ≡ option_map (written 1024 piece) (file m3)
       → OnOk result (file new ≡ option_map settled (file m4)) → OnOk result (ForSome (file new) (HoldsJournal start images))
   written_stands {old = old} {m0 = m0} {m3 = m3} {m4 = m4} {new = new} (Ok done) start images end place next piece all start_fits few behind place_is next_is piece_is piece_size ready closed same ends whole r1 filled r2 index r3 pages r4 put synced = λ after is.
       let before = was_told whole after is in
