@@ -1,6 +1,6 @@
 -- What each call of a store does. All that a definition doesn't name stays.
-use Rattle.std.specs.Prelude.{◌≡◌, ◌⊎◌, ◌<◌, ◌≤◌, ℕ, true, false, List, [], ◌∷◌, ◌++◌, Option, Some, None, unwrap_or, replicate, slice_set}
-use Rattle.store_api.specs.StoreState.{StoreState, page_at, zero_page}
+use Rattle.std.specs.Prelude.{◌≡◌, ◌⊎◌, ◌<◌, ◌≤◌, ℕ, IsTrue, true, false, List, [], ◌∷◌, ◌++◌, Option, Some, None, unwrap_or, replicate, slice_set}
+use Rattle.store_api.specs.StoreState.{StoreState, page_at, zero_page, seen}
 
 -- A count of faults rose. It is kept in 64 bits, and stands still at the last number.
 abbrev pub Rose : ℕ → ℕ → Type 0
@@ -25,13 +25,18 @@ continued piece (Some bytes) = Some (bytes ++ piece)
 abbrev pub IsFrontOf : List ℕ → List ℕ → Type 0
 IsFrontOf part piece = (rest : List ℕ) × (piece ≡ part ++ rest)
 
+-- page p came to hand, which is this one where it is told
+abbrev pub Brings : ℕ → List ℕ → StoreState → StoreState → Type 0
+Brings p told old new =
+    (page : List ℕ) × (IsTrue old.is_told → page ≡ told) × (new ≡ record old { hand = Some page; fetched = noted p old.fetched })
+
 -- page p of the work came to hand
 abbrev pub Fetches : ℕ → StoreState → StoreState → Type 0
-Fetches p old new = new ≡ record old { hand = Some (page_at old.work p); fetched = noted p old.fetched }
+Fetches p old new = Brings p (page_at old.work p) old new
 
 -- page p of the base came to hand
 abbrev pub FetchesCommitted : ℕ → StoreState → StoreState → Type 0
-FetchesCommitted p old new = new ≡ record old { hand = Some (page_at old.base p); fetched = noted p old.fetched }
+FetchesCommitted p old new = Brings p (page_at old.base p) old new
 
 -- no page is at hand
 abbrev pub LosesHand : StoreState → StoreState → Type 0
@@ -39,11 +44,11 @@ LosesHand old new = new ≡ record old { hand = None }
 
 -- page p of the work is these bytes
 abbrev pub Writes : ℕ → List ℕ → StoreState → StoreState → Type 0
-Writes p bytes old new = new ≡ record old { work = slice_set old.work p bytes; hand = None; prepared = false }
+Writes p bytes old new = new ≡ record old { work = seen old.is_told (slice_set old.work p bytes); hand = None; prepared = false }
 
 -- the work has n pages of zeros more at its end
 abbrev pub Grows : ℕ → StoreState → StoreState → Type 0
-Grows n old new = new ≡ record old { work = old.work ++ replicate n zero_page; hand = None; prepared = false }
+Grows n old new = new ≡ record old { work = seen old.is_told (old.work ++ replicate n zero_page); hand = None; prepared = false }
 
 -- the work is as it was, and no longer ready for `commit`
 abbrev pub LosesReadiness : StoreState → StoreState → Type 0
@@ -69,9 +74,11 @@ Prepares old new = new ≡ record old { hand = None; prepared = true }
 abbrev pub Commits : StoreState → StoreState → Type 0
 Commits old new = new ≡ record old { base = old.work; marked = None; hand = None; prepared = false }
 
--- the store takes no further call
+-- The store takes no further call. Its base is what it was, or the work.
 abbrev pub Ends : StoreState → StoreState → Type 0
-Ends old new = new ≡ record old { hand = None; prepared = false; ended = true }
+Ends old new =
+    (base : List (List ℕ)) × ((base ≡ old.base) ⊎ (base ≡ old.work))
+    × (new ≡ record old { base = base; hand = None; prepared = false; ended = true })
 
 -- the work is the base again, and no mark is open
 abbrev pub RollsBack : StoreState → StoreState → Type 0

@@ -1,5 +1,5 @@
 -- What a store in memory is seen as.
-use Rattle.std.specs.Prelude.{ℕ, ◌+◌, ◌-◌, min, false, List, [], length, take, Some, None}
+use Rattle.std.specs.Prelude.{ℕ, ◌+◌, ◌-◌, min, true, false, List, [], length, take, Some, None}
 use Rattle.store_api.specs.declared.mem_store.MemStore.{MemStore}
 use Rattle.store_api.specs.StoreState.{StoreState}
 use Rattle.store_api.specs.Journal.{undone, marked_pages, hand_page}
@@ -7,6 +7,7 @@ use Rattle.store_api.specs.Journal.{undone, marked_pages, hand_page}
 -- all but the counts and the time
 abbrev pub state_of : MemStore → StoreState
 state_of s = record {
+  is_told = true;
   base = undone s.journal.items (take s.base_count s.work.items);
   work = s.work.items;
   marked = marked_pages s.mark s.journal.items s.work.items;
@@ -16,7 +17,6 @@ state_of s = record {
   told = Some s.told.items;
   fetched = Some s.fetched.items;
   attached = None;
-  origin = 0;
 }
 
 -- a page for each change and each page that was added, and no more than there are
@@ -26,6 +26,7 @@ written_of s = min (length s.journal.items + (length s.work.items - s.base_count
 -- a store of these pages that was just opened
 abbrev pub opened : List (List ℕ) → StoreState
 opened pages = record {
+  is_told = true;
   base = pages;
   work = pages;
   marked = None;
@@ -35,5 +36,4 @@ opened pages = record {
   told = Some [];
   fetched = Some [];
   attached = None;
-  origin = 0;
 }

@@ -1,5 +1,5 @@
 -- What a store of pages is seen as. A page is the list of its bytes.
-use Rattle.std.specs.Prelude.{◌≡◌, ℕ, ◌+◌, Bool, if◌then◌else◌, List, [], ◌∷◌, length, take, drop, replicate, slice_index_or, Option}
+use Rattle.std.specs.Prelude.{◌≡◌, ℕ, ◌+◌, Bool, true, false, if◌then◌else◌, List, [], ◌∷◌, length, take, drop, replicate, slice_index_or, Option}
 use Rattle.std.specs.Int.{from_be_bytes, w32}
 use Rattle.std.specs.Str.{bytes_eq}
 use Rattle.std.proofs.Common.{refl, ap, inl, inr, ◌∙◌, arith}
@@ -8,6 +8,8 @@ use Rattle.std.proofs.lemmas.Slice.Eq.{bytes_eq-Decides}
 
 -- all that the calls of a store speak of, but for the counts of faults, the clock and the count of pages written
 pub record StoreState : Type 0 where
+  -- whether it tells what its pages hold. No store can tell that of a real file.
+  pub is_told : Bool
   -- the pages of the last commit
   pub base : List (List ℕ)
   -- the pages as they are now
@@ -26,8 +28,11 @@ pub record StoreState : Type 0 where
   pub fetched : Option (List ℕ)
   -- the attaches of the host beneath, each a path and whether it may make the file, where they are told
   pub attached : Option (List (List ℕ × Bool))
-  -- the time since which moments are told
-  pub origin : ℕ
+
+-- Pages as a store shows them to contracts: one that doesn't tell what they hold shows how many there are.
+abbrev pub seen : Bool → List (List ℕ) → List (List ℕ)
+seen true pages = pages
+seen false pages = replicate (length pages) []
 
 -- the page of a number
 abbrev pub page_at : List (List ℕ) → ℕ → List ℕ
@@ -37,9 +42,13 @@ page_at pages p = slice_index_or pages p []
 unfoldable pub zero_page : List ℕ
 zero_page = replicate 4096 0
 
--- the page count that page 0 states, in its bytes 8 to 11
+-- the page count that a page 0 states, in its bytes 8 to 11
+abbrev pub stated_in : List ℕ → ℕ
+stated_in page = from_be_bytes w32 (take 4 (drop 8 page))
+
+-- the page count that page 0 of these states
 abbrev pub stated_count : List (List ℕ) → ℕ
-stated_count pages = from_be_bytes w32 (take 4 (drop 8 (page_at pages 0)))
+stated_count pages = stated_in (page_at pages 0)
 
 -- how many pages differ. A page that only one of the two has counts.
 abbrev pub differing : List (List ℕ) → List (List ℕ) → ℕ

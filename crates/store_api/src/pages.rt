@@ -31,8 +31,8 @@ pub trait Pages {
     /// The time. It never falls.
     ghost clock: { Self → ℕ };
 
-    /// Whether a crash at some time since this one may leave a file that reopens to these pages, with these bytes told.
-    /// A store that tells no moments allows none.
+    /// Whether a crash at some time since this one may leave a file that reopens to these pages, or that doesn't reopen,
+    /// with these bytes told. A store that tells no moments allows none.
     ghost left: { Self → ℕ → Outcomes };
 
     /// The number of pages of the work.

@@ -1,5 +1,5 @@
 // A store of pages whose work becomes its base whole or not at all, and which tells bytes.
-ghost use Rattle.std.specs.Prelude.{◌≡◌, ◌<◌, ◌≤◌, true, false, length, None, OnOk, OnErr, IsErrOf};
+ghost use Rattle.std.specs.Prelude.{◌≡◌, ◌<◌, ◌≤◌, IsTrue, true, false, length, None, OnOk, OnErr, IsErrOf};
 ghost use Rattle.store_api.specs.StoreState.{stated_count, differing};
 ghost use Rattle.store_api.specs.Calls.{Rose, KeepsFaults, FetchesCommitted, LosesHand, LosesReadiness, Prepares, Commits, Ends, RollsBack, Tells, TellsPart};
 ghost use Rattle.store_api.specs.Moments.{OnlyBase, BaseOrWork, BaseWithFront, Passes};
@@ -24,11 +24,11 @@ pub trait Store: Pages {
         ensures faults { KeepsFaults Self.disk_faults Self.say_faults self.old self.new }
         ensures time { Passes Self.state Self.clock Self.left (OnlyBase (Self.state self.old)) self.old self.new };
 
-    /// Makes the work ready for `commit`. Its page 0 states how many pages it has.
+    /// Makes the work ready for `commit`. Where its pages are told, its page 0 states how many there are.
     fn prepare(&mut self) -> Result<(), PageFault>
         requires going { (Self.state self.old).ended ≡ false }
         requires unmarked { (Self.state self.old).marked ≡ None }
-        requires counted { stated_count (Self.state self.old).work ≡ length (Self.state self.old).work }
+        requires counted { IsTrue (Self.state self.old).is_told → stated_count (Self.state self.old).work ≡ length (Self.state self.old).work }
         ensures ok { OnOk result (Prepares (Self.state self.old) (Self.state self.new)) }
         ensures err { OnErr result (LosesReadiness (Self.state self.old) (Self.state self.new)) }
         ensures device { IsErrOf result PageFault.Device → Rose (Self.disk_faults self.old) (Self.disk_faults self.new) }

@@ -1,7 +1,8 @@
 use Rattle.std.proofs.Common.{◌≡◌, ◌<◌, eqb, take, true, position, sym, ap, ◌∙◌, refl, arith, rules}
 use Rattle.std.proofs.lemmas.List.{length-take}
 use Rattle.std.proofs.lemmas.Bool.{lt-ltb}
-use Rattle.store_api.specs.Journal.{is_hand_within}
+use Rattle.store_api.specs.Journal.{is_hand_within, was_at}
+use Rattle.store_api.specs.StoreState.{page_at}
 use Rattle.store_api.proofs.Undone.{length-undone, page-undone_changed, page-undone_unchanged}
 use Rattle.store_api.proofs.mem_store.MemStoreStore.committed.Goals as goal
 use Rattle.store_api.proofs.mem_store.MemStoreStore.committed.Goals.{in-Some, in-None}
@@ -13,9 +14,9 @@ returns-clause-ok c =
     let there : c.args.p < s.base_count = omega (arith, c.requires.within, length-undone s.journal.items (take s.base_count s.work.items), length-take s.base_count s.work.items) in
     elim c.match-oldest_change.branch [
       | in-Some w ↦ (let page = page-undone_changed s.journal.items s.work.items s.base_count c.args.p w.in-Some.at (found ∙ w.in-Some.is) (omega (arith, s.work.ok.0, s.based)) there in
-          rw (w.self-is, c.in_ok-push.ensures.items, page) refl)
+          rw (w.self-is, c.in_ok-push.ensures.items, page) (was_at s.journal.items w.in-Some.at, λ told. refl, refl))
       | in-None w ↦ (let page = page-undone_unchanged s.journal.items s.work.items s.base_count c.args.p (found ∙ w.in-None.is) there in
-          rw (w.self-is, c.in_ok-push.ensures.items, page) refl)
+          rw (w.self-is, c.in_ok-push.ensures.items, page) (page_at s.work.items c.args.p, λ told. refl, refl))
     ]
 
 pub invariant_of-self-2 : goal.invariant_of-self-2

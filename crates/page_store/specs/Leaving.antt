@@ -1,0 +1,23 @@
+-- What a crash may leave of a file at each moment of a run of calls: images of one kind alone.
+use Rattle.std.specs.Prelude.{◌≡◌, ◌⊎◌, ◌≤◌, ℕ, Bool, List, Option, Some, None}
+use Rattle.mdc_outside.specs.Disk.{File}
+use Rattle.mdc_outside.specs.Moments.{Beside}
+
+-- Time goes on over a run that began at `before`. Each moment since then leaves an image of the kind, with the tape as it
+-- was. What may be left since an earlier time is what could be left before, and what may be left since the run began.
+pub record LeavesOnly (Kind : List ℕ → Type 0) (said : List ℕ) (before : ℕ) (past since : ℕ → List ℕ → List ℕ → Type 0) : Type 0 where
+  pub since_call : (image tape : List ℕ) → since before image tape → Kind image × (tape ≡ said)
+  pub nothing_else : (t : ℕ) (image tape : List ℕ) → t ≤ before → since t image tape → past t image tape ⊎ since before image tape
+  pub keeps : (t : ℕ) (image tape : List ℕ) → t ≤ before → past t image tape → since t image tape
+  pub adds : (t : ℕ) (image tape : List ℕ) → t ≤ before → since before image tape → since t image tape
+
+-- A run of calls of a disk: where the file is told, it stays told and reads as an image of the kind, and where the tape is
+-- told too, a crash at each moment leaves images of the kind alone. All beside the file is as it was.
+pub record Leaves {D : Type 0} (file : D → Option File) (aside : D → Beside) (attaches : D → Option (List (List ℕ × Bool))) (is_attached : D → Bool) (clock : D → ℕ) (moment : D → ℕ → List ℕ → List ℕ → Type 0) (Kind : File → List ℕ → Type 0) (old new : D) : Type 0 where
+  pub untold : file old ≡ None → file new ≡ None
+  pub told : (before : File) → file old ≡ Some before → (after : File) × (file new ≡ Some after) × Kind before after.bytes
+  pub crash : (before : File) (said : List ℕ) → file old ≡ Some before → (aside old).tape ≡ Some said → LeavesOnly (Kind before) said (clock old) (moment old) (moment new)
+  pub later : clock old ≤ clock new
+  pub attached : is_attached new ≡ is_attached old
+  pub listed : attaches new ≡ attaches old
+  pub beside : aside new ≡ aside old

@@ -1,0 +1,6 @@
+pub mod Changes
+pub mod Fresh
+pub mod Leaving
+pub mod Opening
+pub mod Shape
+pub mod Standing

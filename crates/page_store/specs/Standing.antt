@@ -1,0 +1,54 @@
+-- What the bytes of a database file stand for (docs/FORMAT.md).
+use Rattle.std.specs.Prelude.{◌≡◌, ◌≤◌, ◌<◌, ◌==◌, ℕ, ◌+◌, ◌*◌, Bool, IsTrue, if◌then◌else◌, Option, Some, None, unwrap_or, List, [], ◌∷◌, length, map, slice_index}
+use Rattle.std.specs.List.{All, range_with_len}
+use Rattle.store_api.specs.StoreState.{stated_in}
+use Rattle.redo_journal.specs.Images.{Numbered}
+use Rattle.redo_journal.specs.Layout.{file_page, home_page, is_open, start_of, journal_of, IsJournal}
+use Rattle.page_store.specs.Shape.{IsBirth}
+
+-- what f gives for each number below n, in order
+abbrev pub listed : {X : Type 0} → ℕ → (ℕ → X) → List X
+listed n f = map f (range_with_len 0 n)
+
+-- the image of page p, where there is one
+abbrev pub image_of : Numbered → ℕ → Option (List ℕ)
+image_of [] p = None
+image_of (image ∷ images) p = if image.0 == p then Some image.1 else image_of images p
+
+-- the images that count before the home pages: those of the journal, where its gate is open
+abbrev pub counted : List ℕ → Numbered
+counted file = if is_open file then journal_of file else []
+
+-- the bytes of page p: its image that counts, or else its home page
+abbrev pub page_of : List ℕ → ℕ → List ℕ
+page_of file p = unwrap_or (image_of (counted file) p) (home_page file p)
+
+-- how many pages there are, as page 0 states it
+abbrev pub count_of : List ℕ → ℕ
+count_of file = stated_in (page_of file 0)
+
+-- the pages that a file stands for
+abbrev pub pages_of : List ℕ → List (List ℕ)
+pages_of file = listed (count_of file) (page_of file)
+
+-- the made byte is open
+abbrev pub is_made : List ℕ → Bool
+is_made file = slice_index file 0 == 77
+
+-- the journal lies behind all pages and within the file, and its numbers rise and name pages
+pub record IsFitting (file : List ℕ) : Type 0 where
+  pub behind : 66 + count_of file ≤ start_of file
+  pub journal : IsJournal file
+  pub named : All (λ image. image.0 < count_of file) (journal_of file)
+
+-- The file was made, its file page 1 is a birth page, a journal that counts fits, and no page is missing.
+pub record IsFormed (file : List ℕ) : Type 0 where
+  pub made : IsTrue (is_made file)
+  pub birth : IsBirth (file_page file 1)
+  pub journal : IsTrue (is_open file) → IsFitting file
+  pub whole : 4096 * (66 + count_of file) ≤ length file
+
+-- what opening a file gives: its pages, where it is formed, and else nothing
+abbrev pub Reopens : List ℕ → Option (List (List ℕ)) → Type 0
+Reopens file None = ¬ IsFormed file
+Reopens file (Some pages) = IsFormed file × (pages ≡ pages_of file)

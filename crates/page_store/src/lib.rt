@@ -1,0 +1,10 @@
+//! A store of pages in a database file: a commit reaches it whole or not at all.
+//!
+//! `make` makes an empty database. `FileStore` opens one, after a crash too, and is a `Store` whose base is what the
+//! file stands for. It keeps clean pages in a cache, and changed pages until the commit, which goes through the journal.
+//! It stands on `redo_journal`.
+#![tactic(auto)]
+
+mod fault;
+
+pub use fault::OpenFault;
