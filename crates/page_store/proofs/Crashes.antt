@@ -5,28 +5,8 @@ use Rattle.store_api.specs.StoreState.{stated_in}
 use Rattle.mdc_outside.specs.Disk.{IsImage, all_synced, torn}
 use Rattle.redo_journal.specs.Images.{Numbered, AreRising}
 use Rattle.redo_journal.specs.Layout.{file_page, home_page, is_open, start_of, journal_of, index_pages, torn_journal, torn_home}
-use Rattle.page_store.specs.Standing.{listed, image_of, count_of, pages_of, IsFormed}
-
--- the image is formed, stands for these pages, and has the file's birth page
-pub record Stands (file : List ℕ) (all : List (List ℕ)) (image : List ℕ) : Type 0 where
-  pub formed : IsFormed image
-  pub pages : pages_of image ≡ all
-  pub birth : file_page image 1 ≡ file_page file 1
-
--- how many pages there are with these images, as page 0 then states it
-abbrev pub count_with : Numbered → List ℕ → ℕ
-count_with images file = stated_in (unwrap_or (image_of images 0) (home_page file 0))
-
--- the home pages with these images in place of some
-abbrev pub pages_with : Numbered → List ℕ → List (List ℕ)
-pages_with images file = listed (count_with images file) (λ p. unwrap_or (image_of images p) (home_page file p))
-
--- the journal of these images lies behind all pages and within the file, and they name pages
-pub record AreFitting (start : ℕ) (images : Numbered) (file : List ℕ) : Type 0 where
-  pub behind : 66 + count_with images file ≤ start
-  pub within : 4096 * (start + index_pages (length images) + length images) ≤ length file
-  pub rising : AreRising images
-  pub named : All (λ image. image.0 < count_with images file) images
+use Rattle.page_store.specs.Standing.{count_of, pages_of, IsFormed}
+use Rattle.page_store.specs.Commit.{Stands, AreFitting, pages_with}
 
 -- where all is on the disk, a crash leaves what the file holds
 pub only_itself : (bytes image : List ℕ) → IsImage (all_synced bytes) image → image ≡ bytes

@@ -1,6 +1,6 @@
 -- What a crash may leave of a file at each moment of a run of calls: images of one kind alone.
 use Rattle.std.specs.Prelude.{◌≡◌, ◌⊎◌, ◌≤◌, ℕ, Bool, List, Option, Some, None}
-use Rattle.mdc_outside.specs.Disk.{File}
+use Rattle.mdc_outside.specs.Disk.{File, IsImage}
 use Rattle.mdc_outside.specs.Moments.{Beside}
 
 -- Time goes on over a run that began at `before`. Each moment since then leaves an image of the kind, with the tape as it
@@ -11,11 +11,13 @@ pub record LeavesOnly (Kind : List ℕ → Type 0) (said : List ℕ) (before : �
   pub keeps : (t : ℕ) (image tape : List ℕ) → t ≤ before → past t image tape → since t image tape
   pub adds : (t : ℕ) (image tape : List ℕ) → t ≤ before → since before image tape → since t image tape
 
--- A run of calls of a disk: where the file is told, it stays told and reads as an image of the kind, and where the tape is
--- told too, a crash at each moment leaves images of the kind alone. All beside the file is as it was.
+-- A run of calls of a disk: where the file is told, it stays told, and a crash after the run leaves images of the kind
+-- alone, of which what it reads is one; where the tape is told too, so does a crash at each moment of the run. All beside
+-- the file is as it was.
 pub record Leaves {D : Type 0} (file : D → Option File) (aside : D → Beside) (attaches : D → Option (List (List ℕ × Bool))) (is_attached : D → Bool) (clock : D → ℕ) (moment : D → ℕ → List ℕ → List ℕ → Type 0) (Kind : File → List ℕ → Type 0) (old new : D) : Type 0 where
   pub untold : file old ≡ None → file new ≡ None
   pub told : (before : File) → file old ≡ Some before → (after : File) × (file new ≡ Some after) × Kind before after.bytes
+      × ((image : List ℕ) → IsImage after.since image → Kind before image)
   pub crash : (before : File) (said : List ℕ) → file old ≡ Some before → (aside old).tape ≡ Some said → LeavesOnly (Kind before) said (clock old) (moment old) (moment new)
   pub later : clock old ≤ clock new
   pub attached : is_attached new ≡ is_attached old

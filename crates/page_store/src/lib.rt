@@ -6,5 +6,6 @@
 #![tactic(auto)]
 
 mod fault;
+mod write_through;
 
 pub use fault::OpenFault;

@@ -1,5 +1,5 @@
 // The store in memory, and a caller of the contract.
-ghost use Rattle.std.specs.Prelude.{◌≡◌, ◌<◌, ℕ, false, List, [], ◌∷◌, is_some, length, take, drop, slice_set, OnOk, IfOk};
+ghost use Rattle.std.specs.Prelude.{◌≡◌, ◌<◌, ℕ, IsTrue, false, List, [], ◌∷◌, is_some, length, take, drop, slice_set, OnOk, IfOk};
 ghost use Rattle.std.specs.Int.{from_be_bytes, w32};
 ghost use Rattle.store_api.specs.MemStore.{opened};
 ghost use Rattle.store_api.specs.StoreState.{page_at};
@@ -15,7 +15,7 @@ fn copy_page<S: Store>(store: &mut S, from: u32, to: u32) -> Result<(), PageFaul
     requires going { (S.state store.old).ended ≡ false }
     requires from_there { from < length (S.state store.old).work }
     requires to_there { to < length (S.state store.old).work }
-    ensures copied { OnOk result ((S.state store.new).work
+    ensures copied { OnOk result (IsTrue (S.state store.old).is_told → (S.state store.new).work
         ≡ slice_set (S.state store.old).work to (page_at (S.state store.old).work from)) }
     ensures marked { OnOk result ((S.state store.new).marked ≡ (S.state store.old).marked) }
     ensures faults { KeepingFaults S.Pages store.old store.new }

@@ -1,0 +1,79 @@
+-- What a commit needs of its images, and what it leaves of the file.
+use Rattle.std.specs.Prelude.{◌≡◌, ◌⊎◌, ◌≤◌, ◌<◌, ℕ, ◌+◌, ◌*◌, IsTrue, IsFalse, List, length, Option, Some, None, unwrap_or}
+use Rattle.std.specs.List.{All}
+use Rattle.store_api.specs.StoreState.{stated_in}
+use Rattle.mdc_outside.specs.Disk.{File, IsImage, all_synced}
+use Rattle.redo_journal.specs.Images.{Numbered, AreRising}
+use Rattle.redo_journal.specs.Layout.{file_page, home_page, is_open, journal_of, index_pages}
+use Rattle.page_store.specs.Standing.{listed, image_of, count_of, pages_of, IsFormed}
+
+-- the image is formed, stands for these pages, and has the file's birth page
+pub record Stands (file : List ℕ) (all : List (List ℕ)) (image : List ℕ) : Type 0 where
+  pub formed : IsFormed image
+  pub pages : pages_of image ≡ all
+  pub birth : file_page image 1 ≡ file_page file 1
+
+-- how many pages there are with these images, as page 0 then states it
+abbrev pub count_with : Numbered → List ℕ → ℕ
+count_with images file = stated_in (unwrap_or (image_of images 0) (home_page file 0))
+
+-- the home pages with these images in place of some
+abbrev pub pages_with : Numbered → List ℕ → List (List ℕ)
+pages_with images file = listed (count_with images file) (λ p. unwrap_or (image_of images p) (home_page file p))
+
+-- the journal of these images lies behind all pages and within the file, and they name pages
+pub record AreFitting (start : ℕ) (images : Numbered) (file : List ℕ) : Type 0 where
+  pub behind : 66 + count_with images file ≤ start
+  pub within : 4096 * (start + index_pages (length images) + length images) ≤ length file
+  pub rising : AreRising images
+  pub named : All (λ image. image.0 < count_with images file) images
+
+-- The file can take a commit of these images: all is on the disk, the gate is closed, and a journal that starts there lies
+-- behind all pages, old and new.
+pub record IsReadyFor (start : ℕ) (images : Numbered) (file : File) : Type 0 where
+  pub synced : file.since ≡ all_synced file.bytes
+  pub formed : IsFormed file.bytes
+  pub closed : IsFalse (is_open file.bytes)
+  pub behind_old : 66 + count_of file.bytes ≤ start
+  pub behind_new : 66 + count_with images file.bytes ≤ start
+  pub named : All (λ image. image.0 < count_with images file.bytes) images
+
+-- the journal counts: all is on the disk, the gate is open, and these are the images
+pub record IsCounting (images : Numbered) (file : File) : Type 0 where
+  pub synced : file.since ≡ all_synced file.bytes
+  pub gate : IsTrue (is_open file.bytes)
+  pub journal : journal_of file.bytes ≡ images
+
+-- all is on the disk, and the gate is closed
+pub record IsClosed (file : File) : Type 0 where
+  pub synced : file.since ≡ all_synced file.bytes
+  pub closed : IsFalse (is_open file.bytes)
+
+-- the home pages of a file are in the image as they were
+abbrev pub HomeStays : List ℕ → List ℕ → Type 0
+HomeStays file image = (p : ℕ) → p < count_of file → home_page image p ≡ home_page file p
+
+-- while images go into the journal: it doesn't count yet, or it does; the home pages are as they were
+pub record IsJournaled (images : Numbered) (file image : List ℕ) : Type 0 where
+  pub stands : Stands file (pages_of file) image ⊎ Stands file (pages_with images file) image
+  pub stays : HomeStays file image
+
+-- the file stands for what it stood for
+abbrev pub StandsStill : File → List ℕ → Type 0
+StandsStill before image = Stands before.bytes (pages_of before.bytes) image
+
+-- the file stands for its pages or for those with the images
+abbrev pub StandsEither : Numbered → File → List ℕ → Type 0
+StandsEither images before image = Stands before.bytes (pages_of before.bytes) image ⊎ Stands before.bytes (pages_with images before.bytes) image
+
+-- a fact of the file before and after, where both are told
+pub record Both (old new : Option File) (fact : File → File → Type 0) : Type 0 where
+  pub holds : (before after : File) → old ≡ Some before → new ≡ Some after → fact before after
+
+-- after a commit: the journal is closed, and the home pages are those with the images
+abbrev pub IsCommitted : Numbered → File → File → Type 0
+IsCommitted images before after = IsClosed after × Stands before.bytes (pages_with images before.bytes) after.bytes
+
+-- what a crash leaves from now on stands for the pages with the images
+abbrev pub RestsWith : Numbered → File → File → Type 0
+RestsWith images before after = (image : List ℕ) → IsImage after.since image → Stands before.bytes (pages_with images before.bytes) image

@@ -1,0 +1,72 @@
+// The calls by which images reach the file, whole or not at all.
+ghost use Rattle.std.specs.Prelude.{◌≡◌, ◌≤◌, ◌<◌, IsTrue, length, OnOk, IsErrOf, IsErr};
+ghost use Rattle.std.specs.Option.{ForSome};
+ghost use Rattle.mdc_outside.specs.Moments.{HasCause};
+ghost use Rattle.page_store.specs.Leaving.{Leaves};
+ghost use Rattle.page_store.specs.Commit.{Both, IsReadyFor, IsCounting, IsClosed, IsCommitted, IsJournaled, Stands, StandsStill, StandsEither, HomeStays, RestsWith, pages_with};
+ghost use Rattle.page_store.specs.Standing.{IsFormed};
+
+use mdc_outside::{Disk, Failed};
+use redo_journal::{Images, close_gate, home, open_gate, write_journal};
+
+/// How far a commit came that failed.
+#[derive(Clone, Copy, Debug, PartialEq, Eq)]
+pub(crate) enum Halt {
+    /// The home pages are as they were.
+    BeforeHome,
+    /// The journal counts, whatever the home pages hold.
+    BehindGate,
+}
+
+/// Writes images into the file by way of a journal that starts at this file page. It takes no memory.
+pub(crate) fn write_through<D: Disk>(
+    disk: &mut D,
+    start: u32,
+    images: &Images,
+) -> Result<(), Halt>
+    requires attached { IsTrue (D.is_attached disk.old) }
+    requires ready { ForSome (D.file disk.old) (IsReadyFor start images.now) }
+    requires behind_gates { 66 ≤ start }
+    requires few { length images.now < 4294967296 }
+    ensures committed { OnOk result (Both (D.file disk.old) (D.file disk.new) (IsCommitted images.now)) }
+    ensures stays { IsErrOf result Halt.BeforeHome → Both (D.file disk.old) (D.file disk.new) (λ before after. HomeStays before.bytes after.bytes) }
+    ensures counts { IsErrOf result Halt.BehindGate → Both (D.file disk.old) (D.file disk.new) (RestsWith images.now) }
+    ensures leaves { Leaves D.file D.beside D.attaches D.is_attached D.clock D.moment (StandsEither images.now) disk.old disk.new }
+    ensures cause { HasCause result (D.disk_faults disk.old) (D.disk_faults disk.new) }
+{
+    match commit_to_journal(disk, start, images) {
+        Err(Failed) => Err(Halt::BeforeHome),
+        Ok(()) => match bring_home(disk, images) {
+            Err(Failed) => Err(Halt::BehindGate),
+            Ok(()) => Ok(()),
+        },
+    }
+}
+
+// Writes the journal and opens its gate. The home pages stay as they are.
+fn commit_to_journal<D: Disk>(disk: &mut D, start: u32, images: &Images) -> Result<(), Failed>
+    requires attached { IsTrue (D.is_attached disk.old) }
+    requires ready { ForSome (D.file disk.old) (IsReadyFor start images.now) }
+    requires behind_gates { 66 ≤ start }
+    requires few { length images.now < 4294967296 }
+    ensures counts { OnOk result (Both (D.file disk.old) (D.file disk.new)
+        (λ before after. IsCounting images.now after × Stands before.bytes (pages_with images.now before.bytes) after.bytes)) }
+    ensures leaves { Leaves D.file D.beside D.attaches D.is_attached D.clock D.moment (λ before. IsJournaled images.now before.bytes) disk.old disk.new }
+    ensures cause { HasCause result (D.disk_faults disk.old) (D.disk_faults disk.new) }
+{
+    write_journal(disk, start, images)?;
+    open_gate(disk)
+}
+
+/// Writes home the images of a journal that counts, and closes its gate.
+pub(crate) fn bring_home<D: Disk>(disk: &mut D, images: &Images) -> Result<(), Failed>
+    requires attached { IsTrue (D.is_attached disk.old) }
+    requires counts { ForSome (D.file disk.old) (IsCounting images.now) }
+    requires formed { ForSome (D.file disk.old) (λ file. IsFormed file.bytes) }
+    ensures closed { OnOk result (ForSome (D.file disk.new) IsClosed) }
+    ensures leaves { Leaves D.file D.beside D.attaches D.is_attached D.clock D.moment StandsStill disk.old disk.new }
+    ensures cause { HasCause result (D.disk_faults disk.old) (D.disk_faults disk.new) }
+{
+    home(disk, images)?;
+    close_gate(disk)
+}
