@@ -1,2 +1,6 @@
 pub mod Crashes
+pub mod Deciding
+pub mod Kept
 pub mod Leaving
+pub mod Listed
+pub mod Pages

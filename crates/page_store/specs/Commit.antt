@@ -1,5 +1,5 @@
 -- What a commit needs of its images, and what it leaves of the file.
-use Rattle.std.specs.Prelude.{◌≡◌, ◌⊎◌, ◌≤◌, ◌<◌, ℕ, ◌+◌, ◌*◌, IsTrue, IsFalse, List, length, Option, Some, None, unwrap_or}
+use Rattle.std.specs.Prelude.{◌≡◌, ◌⊎◌, ◌≤◌, ◌<◌, ℕ, ◌+◌, ◌*◌, IsTrue, IsFalse, IsSome, List, length, Option, Some, None, unwrap_or}
 use Rattle.std.specs.List.{All}
 use Rattle.store_api.specs.StoreState.{stated_in}
 use Rattle.mdc_outside.specs.Disk.{File, IsImage, all_synced}
@@ -28,15 +28,17 @@ pub record AreFitting (start : ℕ) (images : Numbered) (file : List ℕ) : Type
   pub rising : AreRising images
   pub named : All (λ image. image.0 < count_with images file) images
 
--- The file can take a commit of these images: all is on the disk, the gate is closed, and a journal that starts there lies
--- behind all pages, old and new.
+-- The file can take a commit of these images: all is on the disk, the gate is closed, a journal that starts there lies
+-- behind all pages, old and new, and each new page is among the images.
 pub record IsReadyFor (start : ℕ) (images : Numbered) (file : File) : Type 0 where
   pub synced : file.since ≡ all_synced file.bytes
   pub formed : IsFormed file.bytes
   pub closed : IsFalse (is_open file.bytes)
+  pub some : 0 < count_of file.bytes
   pub behind_old : 66 + count_of file.bytes ≤ start
   pub behind_new : 66 + count_with images file.bytes ≤ start
   pub named : All (λ image. image.0 < count_with images file.bytes) images
+  pub grown : (p : ℕ) → count_of file.bytes ≤ p → p < count_with images file.bytes → IsSome (image_of images p)
 
 -- the journal counts: all is on the disk, the gate is open, and these are the images
 pub record IsCounting (images : Numbered) (file : File) : Type 0 where
