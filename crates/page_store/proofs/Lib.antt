@@ -1,3 +1,4 @@
+pub mod Committing
 pub mod Crashes
 pub mod Deciding
 pub mod Kept
