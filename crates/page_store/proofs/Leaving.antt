@@ -45,7 +45,7 @@ module _ {D : Type 0} {file : D → Option File} {aside : D → Beside} {attache
     untold = run.untold;
     told = λ before is.
         let after = run.told before is in
-        (after.0, after.1, kind before after.0.bytes is (after.2 after.0.bytes (as_read after.0 after.1)));
+        (after.0, after.1, kind before after.0.bytes is (after.2 after.0.bytes (as_read after.0 after.1)), λ image left. kind before image is (after.2 image left));
     crash = λ before said is tape.
         let passes = run.crash before said is tape in
         record {
@@ -74,7 +74,7 @@ module _ {D : Type 0} {file : D → Option File} {aside : D → Beside} {attache
     told = λ before is.
         let half = first.told before is in
         let after = second.told half.0 half.1 in
-        (after.0, after.1, in_second before half.0 after.0.bytes is half.1 half.2 after.2);
+        (after.0, after.1, in_second before half.0 after.0.bytes is half.1 half.2 after.2, λ image left. in_second before half.0 image is half.1 half.2 (after.3 image left));
     crash = λ before said is tape.
         let half = first.told before is in
         leaves_only_then (First before) (Second half.0) (Both before) said (clock old) (clock middle) (moment old) (moment middle) (moment new)
@@ -84,4 +84,26 @@ module _ {D : Type 0} {file : D → Option File} {aside : D → Beside} {attache
     attached = second.attached ∙ first.attached;
     listed = second.listed ∙ first.listed;
     beside = second.beside ∙ first.beside;
+  }
+
+  -- a wider kind
+  pub leaves_as : {Kind Wider : File → List ℕ → Type 0} {old new : D}
+      → Leaves file aside attaches is_attached clock moment Kind old new
+      → ((before : File) (image : List ℕ) → file old ≡ Some before → Kind before image → Wider before image)
+      → Leaves file aside attaches is_attached clock moment Wider old new
+  leaves_as {Kind} {Wider} {old} {new} leaves wider = record {
+    untold = leaves.untold;
+    told = λ before is. let after = leaves.told before is in (after.0, after.1, wider before after.0.bytes is after.2, λ image left. wider before image is (after.3 image left));
+    crash = λ before said is tape.
+        let only = leaves.crash before said is tape in
+        record {
+          since_call = λ image taken left. let kind = only.since_call image taken left in (wider before image is kind.0, kind.1);
+          nothing_else = only.nothing_else;
+          keeps = only.keeps;
+          adds = only.adds;
+        };
+    later = leaves.later;
+    attached = leaves.attached;
+    listed = leaves.listed;
+    beside = leaves.beside;
   }

@@ -1,3 +1,4 @@
+pub mod Calls
 pub mod Committing
 pub mod Crashes
 pub mod Deciding

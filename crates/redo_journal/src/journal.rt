@@ -3,6 +3,7 @@ ghost use Rattle.std.specs.Prelude.{◌≡◌, ◌≤◌, ◌<◌, ◌+◌, ◌*
 ghost use Rattle.std.specs.Option.{ForSome};
 ghost use Rattle.mdc_outside.specs.Disk.{torn};
 ghost use Rattle.mdc_outside.specs.Moments.{HasCause};
+ghost use Rattle.redo_journal.specs.Images.{AreRising};
 ghost use Rattle.redo_journal.specs.Layout.{IsReady, HoldsJournal, index_pages, is_open, torn_journal};
 ghost use Rattle.redo_journal.specs.Pieces.{Replaces, header, index_bytes, page_bytes};
 ghost use Rattle.redo_journal.specs.Runs.{Runs, IsWithin, IsCovered, Between};
@@ -25,6 +26,7 @@ pub fn write_journal<D: Disk>(disk: &mut D, start: u32, images: &Images) -> Resu
     requires behind_gates { 66 ≤ start }
     requires few { length images.now < 2 ^ 32 }
     ensures written { OnOk result (ForSome (D.file disk.new) (HoldsJournal start images.now)) }
+    ensures rising { OnOk result (AreRising images.now) }
     ensures runs { Runs D.file D.beside D.attaches D.is_attached D.clock D.moment IsWithin (torn_journal start (length images.now)) disk.old disk.new }
     ensures cause { HasCause result (D.disk_faults disk.old) (D.disk_faults disk.new) }
 {

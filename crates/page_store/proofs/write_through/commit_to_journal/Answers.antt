@@ -1,0 +1,20 @@
+-- The journal leaves the home pages as they are, and so does its gate.
+use Rattle.std.proofs.Common.{length}
+use Rattle.page_store.proofs.Calls.{sound_image, journal_leaves, opened_leaves, opened_counts}
+use Rattle.page_store.proofs.write_through.commit_to_journal.Goals as goal
+
+pub returns-in_err-write_journal-clause-leaves : goal.returns-in_err-write_journal-clause-leaves
+returns-in_err-write_journal-clause-leaves g c =
+    journal_leaves c.args.start (length c.args.images.now) c.args.images.now (λ f is. sound_image _ f (g.met.D.Disk.sound c.write_journal.new.disk) is) c.requires.ready c.write_journal.ensures.runs
+
+pub returns-clause-counts : goal.returns-clause-counts
+returns-clause-counts g c =
+    opened_counts c.open_gate.result c.args.start (length c.args.images.now) c.args.images.now
+    (λ f is. sound_image _ f (g.met.D.Disk.sound c.write_journal.new.disk) is) (λ f is. sound_image _ f (g.met.D.Disk.sound c.open_gate.new.disk) is)
+    c.in_ok-write_journal.ensures.rising c.requires.ready c.write_journal.ensures.runs c.in_ok-write_journal.ensures.written c.open_gate.ensures.runs c.open_gate.ensures.written c.open_gate.ensures.open
+
+pub returns-clause-leaves : goal.returns-clause-leaves
+returns-clause-leaves g c =
+    opened_leaves c.args.start (length c.args.images.now) c.args.images.now
+    (λ f is. sound_image _ f (g.met.D.Disk.sound c.write_journal.new.disk) is) (λ f is. sound_image _ f (g.met.D.Disk.sound c.open_gate.new.disk) is)
+    c.in_ok-write_journal.ensures.rising c.requires.ready c.write_journal.ensures.runs c.in_ok-write_journal.ensures.written c.open_gate.ensures.runs
