@@ -1,2 +1,4 @@
+pub mod Cached
 pub mod Crashes
 pub mod Leaving
+pub mod Recent

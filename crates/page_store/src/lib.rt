@@ -6,5 +6,6 @@
 #![tactic(auto)]
 
 mod fault;
+mod page_cache;
 
 pub use fault::OpenFault;

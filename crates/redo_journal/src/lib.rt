@@ -18,7 +18,7 @@ pub use gate::{close_gate, open_gate};
 pub use home_pages::home;
 pub use images::Images;
 pub use journal::write_journal;
-pub use replaying::{ReplayFault, replay};
+pub use replaying::{ReplayFault, read_page, replay};
 
 #[cfg(test)]
 mod tests;
