@@ -125,3 +125,6 @@ fn read_home<D: Disk>(disk: &mut D, p: u32) -> Result<Page, PageFault>
         Err(_) => Err(PageFault::Device),
     }
 }
+
+#[cfg(test)]
+mod tests;
