@@ -1,8 +1,7 @@
 -- What holds of the clean pages in memory once the file or its images have changed.
-use Rattle.std.proofs.Common.{◌≡◌, ◌≤◌, ◌<◌, ◌==◌, ℕ, zero, suc, ◌+◌, Bool, true, false, nat_eq, List, [], ◌∷◌, Option, Some, None, unwrap_or, refl, ap, sym, ◌∙◌, subst, arith, length, drop, slice_get, get_or}
+use Rattle.std.proofs.Common.{◌≡◌, ◌≤◌, ◌<◌, ◌==◌, ℕ, zero, suc, ◌+◌, true, false, nat_eq, List, [], ◌∷◌, Some, None, unwrap_or, refl, ap, sym, ◌∙◌, subst, arith, length, drop, slice_get, get_or}
 use Rattle.std.proofs.lemmas.Bool.Decides.{Decides-eqb, nat_tests}
 use Rattle.std.proofs.lemmas.Grind.{common_steps}
-use Rattle.std.proofs.lemmas.List.{drop_all}
 use Rattle.std.proofs.lemmas.Map.{keys-set_value}
 use Rattle.std.proofs.lemmas.Option.{get_or_from_slice_get, slice_get_within}
 use Rattle.std.proofs.lemmas.Map.Keys.{IsDistinct-head, IsDistinct-tail}
@@ -56,10 +55,10 @@ renewed-step image images [] above distinct = refl
 renewed-step image images (entry ∷ entries) above distinct =
     (elim (nat_eq image.0 entry.0) as (λ here. nat_eq image.0 entry.0 ≡ here → renewed images (set_value (nat_eq image.0) (entry ∷ entries) image.1) ≡ renewed (image ∷ images) (entry ∷ entries)) [
       | true ↦ λ here.
-        let same : image.0 ≡ entry.0 = (Decides-eqb image.0 entry.0).0 here in
-        let none : image_of images entry.0 ≡ None = subst (λ p. image_of images p ≡ None) same (image_of-below images image.0 above) in
-        let absent : AllByRecursion (λ q. nat_eq image.0 q ≡ false) (keys_of entries) = subst (λ p. AllByRecursion (λ q. nat_eq p q ≡ false) (keys_of entries)) (sym same) (IsDistinct-head nat_eq entry.0 (keys_of entries) distinct) in
-        rw (here, none, renewed-absent image images entries absent) refl
+          let same : image.0 ≡ entry.0 = (Decides-eqb image.0 entry.0).0 here in
+          let none : image_of images entry.0 ≡ None = subst (λ p. image_of images p ≡ None) same (image_of-below images image.0 above) in
+          let absent : AllByRecursion (λ q. nat_eq image.0 q ≡ false) (keys_of entries) = subst (λ p. AllByRecursion (λ q. nat_eq p q ≡ false) (keys_of entries)) (sym same) (IsDistinct-head nat_eq entry.0 (keys_of entries) distinct) in
+          rw (here, none, renewed-absent image images entries absent) refl
       | false ↦ λ apart. rw (apart, renewed-step image images entries above (IsDistinct-tail nat_eq entry.0 (keys_of entries) distinct)) refl
     ]) refl
 

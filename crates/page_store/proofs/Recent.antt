@@ -1,5 +1,5 @@
 -- The pages of a cache that is ordered by their last use, as they are in their boxes.
-use Rattle.std.proofs.Common.{◌≡◌, ◌<◌, ◌-◌, ℕ, zero, suc, Bool, true, false, cond, nat_eq, is_some, List, [], ◌∷◌, map, take, drop, Box, Global, Option, Some, None, refl, ap, sym, ◌∙◌, subst, arith}
+use Rattle.std.proofs.Common.{◌≡◌, ◌<◌, ◌-◌, ℕ, true, false, nat_eq, is_some, List, [], ◌∷◌, take, Box, Global, Option, Some, None, refl, ap, sym, subst}
 use Rattle.std.proofs.lemmas.Bool.Decides.{Decides-eqb}
 use Rattle.std.proofs.lemmas.List.{take-map}
 use Rattle.std.proofs.lemmas.List.Elements.{All-cons, All-head, All-tail, All-take}
@@ -25,9 +25,9 @@ entry_found : (P : ℕ × List ℕ → Type 0) (p : ℕ) (es : List Boxed) (e : 
 entry_found P p [] e h all = cc
 entry_found P p (f ∷ es) e h all = (elim (nat_eq p f.0) as (λ y. nat_eq p f.0 ≡ y → P (seen e) × (e.0 ≡ p)) [
   | true ↦ λ t.
-    let found = rw t at h in
-    let same : f ≡ e = cc in
-    subst (λ (x : Boxed). P (seen x) × (x.0 ≡ p)) same (All-head P (seen f) (unboxed es) all, sym ((Decides-eqb p f.0).0 t))
+      let found = rw t at h in
+      let same : f ≡ e = cc in
+      subst (λ (x : Boxed). P (seen x) × (x.0 ≡ p)) same (All-head P (seen f) (unboxed es) all, sym ((Decides-eqb p f.0).0 t))
   | false ↦ λ t. entry_found P p es e (rw t at h) (All-tail P (seen f) (unboxed es) all)
 ]) refl
 

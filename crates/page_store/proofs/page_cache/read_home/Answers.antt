@@ -1,5 +1,5 @@
 -- The place is that of the home page.
-use Rattle.std.proofs.Common.{◌≡◌, ◌+◌, ◌*◌, take, drop, arith, ap, ◌∙◌}
+use Rattle.std.proofs.Common.{take, drop, arith, ap, ◌∙◌}
 use Rattle.page_store.proofs.page_cache.read_home.Goals as goal
 
 pub returns-in-Ok-clause-page : goal.returns-in-Ok-clause-page

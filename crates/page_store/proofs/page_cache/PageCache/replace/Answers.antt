@@ -9,7 +9,7 @@ pub returns : goal.returns
 returns c = elim c.match-peek_mut.branch [
   | in-Some w ↦ rw w.self-inside-is (unboxed-set_value c.args.p c.self.inside.pages.entries _ ∙ ap (λ entries. set_value (nat_eq c.args.p) entries c.args.image.now) c.self.view_is)
   | in_default w ↦
-    let value = w.in_default.ensures.value in
-    let absent : lookup (nat_eq c.args.p) c.self.inside.pages.entries ≡ None = sym value in
-    rw w.self-inside-is (sym (set_value-absent c.args.p c.self.inside.pages.entries c.args.image.now absent) ∙ ap (λ entries. set_value (nat_eq c.args.p) entries c.args.image.now) c.self.view_is)
+      let value = w.in_default.ensures.value in
+      let absent : lookup (nat_eq c.args.p) c.self.inside.pages.entries ≡ None = sym value in
+      rw w.self-inside-is (sym (set_value-absent c.args.p c.self.inside.pages.entries c.args.image.now absent) ∙ ap (λ entries. set_value (nat_eq c.args.p) entries c.args.image.now) c.self.view_is)
 ]
