@@ -1,13 +1,15 @@
 -- The pages of a cache that is ordered by their last use, as they are in their boxes.
-use Rattle.std.proofs.Common.{◌≡◌, ◌<◌, ◌-◌, ℕ, true, false, nat_eq, is_some, List, [], ◌∷◌, take, Box, Global, Option, Some, None, refl, ap, sym, subst}
+use Rattle.std.proofs.Common.{◌≡◌, ◌<◌, ◌-◌, ℕ, true, false, nat_eq, is_some, List, [], ◌∷◌, take, Box, Global, Option, Some, None, refl, ap, sym, ◌∙◌, subst, IsTrue}
 use Rattle.std.proofs.lemmas.Bool.Decides.{Decides-eqb}
 use Rattle.std.proofs.lemmas.List.{take-map}
 use Rattle.std.proofs.lemmas.List.Elements.{All-cons, All-head, All-tail, All-take}
 use Rattle.std.proofs.lemmas.Map.Views.{All-map-remove_entry}
-use Rattle.std.specs.List.{All}
+use Rattle.std.proofs.lemmas.Map.Made.{is_some-lookup}
+use Rattle.std.specs.List.{All, list_any}
 use Rattle.std.specs.Map.{lookup, lookup_entry, remove_entry, keys_of, set_value}
 use Rattle.std.specs.Option.{option_map_or}
 use Rattle.lru.specs.LruCache.{LruCache, promoted, put_entries}
+use Rattle.lru.proofs.Pairs.{promoted_absent}
 use Rattle.redo_journal.specs.Images.{Numbered}
 use Rattle.redo_journal.specs.Layout.{home_page}
 use Rattle.page_store.specs.Cached.{AreHome, Leads, unboxed}
@@ -105,6 +107,11 @@ pub put_home : (file : List ℕ) (count p : ℕ) (cache : LruCache ℕ (Box (Lis
     → AreHome file count (unboxed cache.entries) → AreHome file count (unboxed (put_entries nat_eq cache p box))
 put_home file count p cache box lt is home = All-put p cache box (IsHome file count) (lt, is) home
 
+-- where a page isn't here, none goes to the front
+pub promoted-absent : (p : ℕ) (cache : LruCache ℕ (Box (List ℕ) Global)) (old : Numbered) → unboxed cache.entries ≡ old → is_some (lookup (nat_eq p) cache.entries) ≡ false
+    → unboxed (promoted (nat_eq p) cache.entries) ≡ old
+promoted-absent p cache old is absent = ap unboxed (promoted_absent nat_eq cache p absent).1 ∙ is
+
 -- pages have the same numbers in their boxes
 pub keys_of-unboxed : (es : List Boxed) → keys_of (unboxed es) ≡ keys_of es
 keys_of-unboxed [] = refl
@@ -125,3 +132,10 @@ set_value-absent p (e ∷ es) page absent = (elim (nat_eq p e.0) as (λ y. nat_e
   | true ↦ λ t. let here = rw t at absent in cc
   | false ↦ λ t. rw (t, set_value-absent p es page (rw t at absent)) refl
 ]) refl
+
+-- a page that isn't found isn't among the pages
+pub not_among : (p : ℕ) (es : List Boxed) (old : Numbered) → unboxed es ≡ old → is_some (lookup (nat_eq p) es) ≡ false → IsTrue (list_any (nat_eq p) (keys_of old)) → ⊥
+not_among p es old is absent among =
+    let found : is_some (lookup (nat_eq p) es) ≡ list_any (nat_eq p) (keys_of old) =
+    is_some-lookup (nat_eq p) es ∙ ap (list_any (nat_eq p)) (sym (keys_of-unboxed es) ∙ ap keys_of is) in
+    cc

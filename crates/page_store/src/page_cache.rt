@@ -1,6 +1,6 @@
 // The clean pages that are in memory.
-ghost use Rattle.std.specs.Prelude.{◌≡◌, ◌≤◌, ◌<◌, ◌+◌, ◌*◌, ◌==◌, ◌∷◌, [], ℕ, List, Some, nat_eq, length, option_map, slice_get, IsTrue, IfOk, OnOk, OnErr, IsErrOf};
-ghost use Rattle.std.specs.List.{IsDistinct};
+ghost use Rattle.std.specs.Prelude.{◌≡◌, ◌≤◌, ◌<◌, ◌+◌, ◌*◌, ◌==◌, ◌∷◌, [], ℕ, List, Some, nat_eq, length, option_map, slice_get, IsTrue, IsOk, IfOk, OnOk, OnErr, IsErrOf};
+ghost use Rattle.std.specs.List.{IsDistinct, list_any};
 ghost use Rattle.std.specs.Map.{keys_of, set_value};
 ghost use Rattle.std.specs.Option.{ForSome};
 ghost use Rattle.mdc_outside.specs.Disk.{File};
@@ -50,13 +50,17 @@ impl PageCache {
         Ok(PageCache { alloc, pages })
     }
 
-    /// Brings a page to the front, from the disk where it isn't here.
+    /// Brings a page to the front, from the disk where it isn't here. After a fault the pages are as before.
+    ///
+    /// `Device` where the disk failed, and `Memory` where memory ran out. A page that is here takes neither.
     pub(crate) fn bring<D: Disk>(&mut self, disk: &mut D, p: u32) -> Result<(), PageFault>
         requires attached { IsTrue (D.is_attached disk.old) }
         requires within { ForSome (D.file disk.old) (λ file. 4096 * (66 + p) + 4096 ≤ length file.bytes) }
         ensures first { OnOk result ((page : List ℕ) × Leads p page self.new) }
         ensures page { OnOk result ((file : File) (count : ℕ) → D.file disk.old ≡ Some file → p < count → AreHome file.bytes count self.old → Leads p (home_page file.bytes p) self.new) }
         ensures clean { (file : File) (count : ℕ) → D.file disk.old ≡ Some file → p < count → AreHome file.bytes count self.old → AreHome file.bytes count self.new }
+        ensures here { IsTrue (list_any (nat_eq p) (keys_of self.old)) → IsOk result × (disk.new ≡ disk.old) }
+        ensures err { OnErr result (self.new ≡ self.old) }
         ensures device { IsErrOf result PageFault.Device → Rose (D.disk_faults disk.old) (D.disk_faults disk.new) }
         ensures same { D.file disk.new ≡ D.file disk.old }
         ensures runs { Runs D.file D.beside D.attaches D.is_attached D.clock D.moment IsCovered (λ since. since) disk.old disk.new }
