@@ -1,3 +1,4 @@
+pub mod Cached
 pub mod Calls
 pub mod Committing
 pub mod Crashes
@@ -6,3 +7,4 @@ pub mod Kept
 pub mod Leaving
 pub mod Listed
 pub mod Pages
+pub mod Recent

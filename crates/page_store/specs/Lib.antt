@@ -1,3 +1,4 @@
+pub mod Cached
 pub mod Changes
 pub mod Commit
 pub mod Fresh

@@ -7,5 +7,6 @@
 
 mod fault;
 mod write_through;
+mod page_cache;
 
 pub use fault::OpenFault;
