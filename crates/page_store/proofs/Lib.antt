@@ -1,2 +1,3 @@
 pub mod Crashes
 pub mod Leaving
+pub mod PageMaps
