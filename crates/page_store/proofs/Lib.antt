@@ -1,3 +1,6 @@
 pub mod Crashes
+pub mod Imaged
+pub mod LaidOver
 pub mod Leaving
+pub mod Listed
 pub mod PageMaps
