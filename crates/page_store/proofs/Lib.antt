@@ -3,8 +3,11 @@ pub mod Calls
 pub mod Committing
 pub mod Crashes
 pub mod Deciding
+pub mod Imaged
 pub mod Kept
+pub mod LaidOver
 pub mod Leaving
 pub mod Listed
+pub mod PageMaps
 pub mod Pages
 pub mod Recent

@@ -1,8 +1,10 @@
 pub mod Cached
 pub mod Changes
+pub mod ChangesView
 pub mod Commit
 pub mod Fresh
 pub mod Leaving
 pub mod Opening
+pub mod PageMaps
 pub mod Shape
 pub mod Standing

@@ -5,6 +5,7 @@
 //! It stands on `redo_journal`.
 #![tactic(auto)]
 
+mod changes;
 mod fault;
 mod write_through;
 mod page_cache;

@@ -1,0 +1,106 @@
+-- Pages with changes laid over them.
+use Rattle.std.proofs.Common.{◌≡◌, ◌≢◌, ◌≤◌, ◌<◌, ◌+◌, ◌-◌, ℕ, zero, suc, List, [], ◌∷◌, ◌++◌, Option, Some, None, Bool, true, false, cond, eqb, length, get_or, set, replicate, unwrap_or, refl, sym, ap, ◌∙◌, inl, inr, arith}
+use Rattle.std.specs.Str.{bytes_eq}
+use Rattle.std.proofs.lemmas.List.FromFn.{fill_by_all}
+use Rattle.std.proofs.lemmas.List.{length-replicate}
+use Rattle.std.proofs.lemmas.Slice.Eq.{bytes_eq-Decides}
+use Rattle.store_api.specs.StoreState.{zero_page, differing, page_at}
+use Rattle.store_api.proofs.Differing.{one_at_most}
+use Rattle.redo_journal.specs.Images.{Numbered}
+use Rattle.page_store.specs.Standing.{listed, image_of}
+use Rattle.page_store.specs.Changes.{Overlay, laid_over, unchanged, changed_in, image_in}
+
+-- there are as many pages as the changes tell of
+pub length-laid_over : (changes : Overlay) (pages : List (List ℕ)) → length (laid_over changes pages) ≡ length changes
+length-laid_over [] pages = refl
+length-laid_over (None ∷ changes) [] = ap suc (length-laid_over changes [])
+length-laid_over (None ∷ changes) (page ∷ pages) = ap suc (length-laid_over changes pages)
+length-laid_over (Some new ∷ changes) [] = ap suc (length-laid_over changes [])
+length-laid_over (Some new ∷ changes) (page ∷ pages) = ap suc (length-laid_over changes pages)
+
+-- a page that is written over has its new bytes
+pub laid_over-set : (changes : Overlay) (pages : List (List ℕ)) (p : ℕ) (x : List ℕ) → laid_over (set changes p (Some x)) pages ≡ set (laid_over changes pages) p x
+laid_over-set [] pages zero x = refl
+laid_over-set [] pages (suc p) x = refl
+laid_over-set (None ∷ changes) [] zero x = refl
+laid_over-set (None ∷ changes) [] (suc p) x = ap (λ rest. zero_page ∷ rest) (laid_over-set changes [] p x)
+laid_over-set (None ∷ changes) (page ∷ pages) zero x = refl
+laid_over-set (None ∷ changes) (page ∷ pages) (suc p) x = ap (λ rest. page ∷ rest) (laid_over-set changes pages p x)
+laid_over-set (Some new ∷ changes) [] zero x = refl
+laid_over-set (Some new ∷ changes) [] (suc p) x = ap (λ rest. new ∷ rest) (laid_over-set changes [] p x)
+laid_over-set (Some new ∷ changes) (page ∷ pages) zero x = refl
+laid_over-set (Some new ∷ changes) (page ∷ pages) (suc p) x = ap (λ rest. new ∷ rest) (laid_over-set changes pages p x)
+
+-- pages behind the last one have zeros
+laid_over-behind : (n : ℕ) → laid_over (unchanged n) [] ≡ replicate n zero_page
+laid_over-behind zero = refl
+laid_over-behind (suc n) = ap (λ rest. zero_page ∷ rest) (laid_over-behind n)
+
+-- pages that are added have zeros
+pub laid_over-grown : (changes : Overlay) (pages : List (List ℕ)) (n : ℕ) → length pages ≤ length changes → laid_over (changes ++ unchanged n) pages ≡ laid_over changes pages ++ replicate n zero_page
+laid_over-grown [] [] n le = laid_over-behind n
+laid_over-grown [] (page ∷ pages) n le = absurd (omega arith)
+laid_over-grown (None ∷ changes) [] n le = ap (λ rest. zero_page ∷ rest) (laid_over-grown changes [] n (omega arith))
+laid_over-grown (None ∷ changes) (page ∷ pages) n le = ap (λ rest. page ∷ rest) (laid_over-grown changes pages n (omega arith))
+laid_over-grown (Some new ∷ changes) [] n le = ap (λ rest. new ∷ rest) (laid_over-grown changes [] n (omega arith))
+laid_over-grown (Some new ∷ changes) (page ∷ pages) n le = ap (λ rest. new ∷ rest) (laid_over-grown changes pages n (omega arith))
+
+-- with no change the pages are as they were
+pub laid_over-unchanged : (pages : List (List ℕ)) → laid_over (unchanged (length pages)) pages ≡ pages
+laid_over-unchanged [] = refl
+laid_over-unchanged (page ∷ pages) = ap (λ rest. page ∷ rest) (laid_over-unchanged pages)
+
+-- no more pages differ than have a change or were grown
+pub differing-laid_over : (changes : Overlay) (pages : List (List ℕ)) → length pages ≤ length changes → differing pages (laid_over changes pages) ≤ changed_in changes + (length changes - length pages)
+differing-laid_over [] [] le = omega arith
+differing-laid_over [] (page ∷ pages) le = absurd (omega arith)
+differing-laid_over (None ∷ changes) [] le = omega (arith, length-laid_over changes [])
+differing-laid_over (None ∷ changes) (page ∷ pages) le =
+    let same : bytes_eq page page ≡ true = (bytes_eq-Decides page page).1 refl in
+    rw same (omega (arith, differing-laid_over changes pages (omega arith)))
+differing-laid_over (Some new ∷ changes) [] le = omega (arith, length-laid_over changes [])
+differing-laid_over (Some new ∷ changes) (page ∷ pages) le =
+    omega (arith, one_at_most (bytes_eq page new), differing-laid_over changes pages (omega arith))
+
+-- what is to be written for a page, or else the page, is the page as it is now
+pub laid_over-at : (changes : Overlay) (pages : List (List ℕ)) (p : ℕ) → p < length changes → get_or (laid_over changes pages) p [] ≡ unwrap_or (image_in (length pages) changes p) (page_at pages p)
+laid_over-at [] pages p lt = absurd (omega arith)
+laid_over-at (None ∷ changes) [] zero lt = refl
+laid_over-at (None ∷ changes) [] (suc p) lt = laid_over-at changes [] p (omega arith)
+laid_over-at (None ∷ changes) (page ∷ pages) zero lt = refl
+laid_over-at (None ∷ changes) (page ∷ pages) (suc p) lt = laid_over-at changes pages p (omega arith)
+laid_over-at (Some new ∷ changes) [] zero lt = refl
+laid_over-at (Some new ∷ changes) [] (suc p) lt = laid_over-at changes [] p (omega arith)
+laid_over-at (Some new ∷ changes) (page ∷ pages) zero lt = refl
+laid_over-at (Some new ∷ changes) (page ∷ pages) (suc p) lt = laid_over-at changes pages p (omega arith)
+
+-- each of them
+listed-laid_over_at : (base : ℕ) (changes : Overlay) (pages : List (List ℕ)) (images : Numbered)
+    → length pages ≡ base → ((p : ℕ) → p < length changes → image_of images p ≡ image_in base changes p)
+    → (p : ℕ) → p < length changes → get_or (laid_over changes pages) p [] ≡ unwrap_or (image_of images p) (page_at pages p)
+listed-laid_over_at base changes pages images is_base found p lt =
+    let image : image_of images p ≡ image_in (length pages) changes p = found p lt ∙ ap (λ n. image_in n changes p) (sym is_base) in
+    laid_over-at changes pages p lt ∙ ap (λ i. unwrap_or i (page_at pages p)) (sym image)
+
+-- Images of what is to be written, and else the pages, are the pages as they are now.
+pub listed-laid_over : (base : ℕ) (changes : Overlay) (pages : List (List ℕ)) (images : Numbered)
+    → length pages ≡ base → ((p : ℕ) → p < length changes → image_of images p ≡ image_in base changes p)
+    → listed (length changes) (λ p. unwrap_or (image_of images p) (page_at pages p)) ≡ laid_over changes pages
+listed-laid_over base changes pages images is_base found =
+    sym (fill_by_all (λ p. unwrap_or (image_of images p) (page_at pages p)) (laid_over changes pages) (length changes) [] (length-laid_over changes pages) (λ p lt. listed-laid_over_at base changes pages images is_base found p lt))
+
+-- a write makes one page more have a change, at most
+pub changed_in-set : (changes : Overlay) (p : ℕ) (w : Option (List ℕ)) → changed_in (set changes p w) ≤ changed_in changes + 1
+changed_in-set [] zero w = omega arith
+changed_in-set [] (suc p) w = omega arith
+changed_in-set (None ∷ changes) zero None = omega arith
+changed_in-set (None ∷ changes) zero (Some new) = omega arith
+changed_in-set (Some old ∷ changes) zero None = omega arith
+changed_in-set (Some old ∷ changes) zero (Some new) = omega arith
+changed_in-set (None ∷ changes) (suc p) w = changed_in-set changes p w
+changed_in-set (Some old ∷ changes) (suc p) w = omega (arith, changed_in-set changes p w)
+
+-- no change
+pub changed_in-unchanged : (n : ℕ) → changed_in (unchanged n) ≡ 0
+changed_in-unchanged zero = refl
+changed_in-unchanged (suc n) = changed_in-unchanged n
