@@ -1,2 +1,4 @@
 pub mod Crashes
+pub mod FreshBytes
 pub mod Leaving
+pub mod MakeCrashes

@@ -6,5 +6,8 @@
 #![tactic(auto)]
 
 mod fault;
+mod fresh;
+mod making;
 
 pub use fault::OpenFault;
+pub use making::make;
