@@ -1,4 +1,5 @@
 pub mod Crashes
 pub mod FreshBytes
+pub mod FreshDatabase
 pub mod Leaving
 pub mod MakeCrashes

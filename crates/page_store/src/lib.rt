@@ -11,3 +11,6 @@ mod making;
 
 pub use fault::OpenFault;
 pub use making::make;
+
+#[cfg(test)]
+mod tests;
