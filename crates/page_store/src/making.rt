@@ -5,6 +5,7 @@ ghost use Rattle.mdc_outside.specs.Disk.{all_synced, torn, written, settled};
 ghost use Rattle.mdc_outside.specs.Moments.{HasCause};
 ghost use Rattle.mdc_outside.specs.Outside.{Rose};
 ghost use Rattle.redo_journal.specs.Runs.{Runs, IsWithin, IsCovered, Between};
+ghost use Rattle.page_store.specs.Empty.{IsEmptyDatabase};
 ghost use Rattle.page_store.specs.Fresh.{HoldsFresh, IsOfMaking, file_with, fresh_len, front_with, root_page, zero_pages};
 ghost use Rattle.page_store.specs.Leaving.{Leaves};
 ghost use Rattle.page_store.specs.Shape.{is_shape, first_count, map_pages};
@@ -34,6 +35,7 @@ pub fn make<D: Disk>(disk: &mut D, extents: u32, extent_pages: u32) -> Result<()
     requires attached { IsTrue (D.is_attached disk.old) }
     requires shape { IsTrue (is_shape extents extent_pages) }
     ensures made { OnOk result (ForSome (D.file disk.new) (HoldsFresh extents extent_pages)) }
+    ensures empty { OnOk result (ForSome (D.file disk.new) (λ file. IsEmptyDatabase extents file.bytes)) }
     ensures exists { IsErrOf result OpenFault.Exists → ForSome (D.file disk.old) (λ file. 0 < length file.bytes) }
     ensures as_before { IsErrOf result OpenFault.Exists → D.file disk.new ≡ D.file disk.old }
     ensures refused { ForSome (D.file disk.old) (λ file. 0 < length file.bytes → IsErrOf result OpenFault.Exists ⊎ IsErrOf result OpenFault.Device) }
