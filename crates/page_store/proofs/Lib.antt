@@ -3,11 +3,14 @@ pub mod Calls
 pub mod Committing
 pub mod Crashes
 pub mod Deciding
+pub mod FreshBytes
+pub mod FreshDatabase
 pub mod Imaged
 pub mod Kept
 pub mod LaidOver
 pub mod Leaving
 pub mod Listed
+pub mod MakeCrashes
 pub mod PageMaps
 pub mod Pages
 pub mod Recent

@@ -1,28 +1,17 @@
-<<<<<<< HEAD
--- Lists that a function of the place gives.
-use Rattle.std.proofs.Common.{◌≡◌, ◌<◌, ℕ, List, length, get_or, arith, sym, ◌∙◌}
-use Rattle.std.proofs.lemmas.List.{same_lists}
-use Rattle.std.proofs.lemmas.List.FromFn.{length-map-range_with_len, get_or-map-range_with_len}
-use Rattle.store_api.specs.StoreState.{page_at}
-use Rattle.page_store.specs.Standing.{listed}
-
--- it has as many as were asked for
-=======
 -- Lists that are made from what a function gives for each number.
 use Rattle.std.proofs.Common.{◌≡◌, ◌≢◌, ◌≤◌, ◌<◌, ◌+◌, ◌-◌, ℕ, List, [], ◌∷◌, ◌++◌, Option, Some, None, length, get_or, set, replicate, map, refl, sym, ap, ◌∙◌, subst, inl, inr, arith, length-append, get_or-set_other, get_or-set_same}
 use Rattle.std.proofs.lemmas.Bool.{cases_eq, cases_lt}
-use Rattle.std.proofs.lemmas.List.{length-set, length-replicate, get_or_append_left, get_or-append_right, get_or-replicate}
+use Rattle.std.proofs.lemmas.List.{same_lists, length-set, length-replicate, get_or_append_left, get_or-append_right, get_or-replicate}
 use Rattle.std.proofs.lemmas.List.FromFn.{fill_by_all, length-map-range_with_len, get_or-map-range_with_len}
+use Rattle.store_api.specs.StoreState.{page_at}
 use Rattle.page_store.specs.Standing.{listed}
 use Rattle.page_store.specs.Changes.{Overlay, unchanged}
 
 -- how many there are
->>>>>>> bb976586476b9b6b044419c135d083be86dd5610
 pub length-listed : {X : Type 0} (n : ℕ) (f : ℕ → X) → length (listed n f) ≡ n
 length-listed n f = length-map-range_with_len f 0 n
 
 -- the one at a place
-<<<<<<< HEAD
 pub get_or-listed : {X : Type 0} (n : ℕ) (f : ℕ → X) (i : ℕ) (d : X) → i < n → get_or (listed n f) i d ≡ f i
 get_or-listed n f i d lt = get_or-map-range_with_len f 0 n i i d lt (omega arith)
 
@@ -35,13 +24,6 @@ pub listed_same : {X : Type 0} (n : ℕ) (f g : ℕ → X) → ((i : ℕ) → i 
 listed_same n f g same = same_lists (listed n f) (listed n g) (length-listed n f ∙ sym (length-listed n g)) (λ k d lt.
     let below : k < n = omega (arith, length-listed n f) in
     get_or-listed n f k d below ∙ (same k below ∙ sym (get_or-listed n g k d below)))
-=======
-pub listed_at : {X : Type 0} (n : ℕ) (f : ℕ → X) (p : ℕ) (d : X) → p < n → get_or (listed n f) p d ≡ f p
-listed_at n f p d lt = get_or-map-range_with_len f 0 n p p d lt (omega arith)
-
--- functions that agree below a number give the same list
-pub listed_same : (n : ℕ) (f g : ℕ → Option (List ℕ)) → ((p : ℕ) → p < n → f p ≡ g p) → listed n f ≡ listed n g
-listed_same n f g same = fill_by_all g (listed n f) n None (length-listed n f) (λ p lt. listed_at n f p None lt ∙ same p lt)
 
 -- each of them
 listed_put_at : (n : ℕ) (f g : ℕ → Option (List ℕ)) (p : ℕ) (w : Option (List ℕ)) → g p ≡ w → ((q : ℕ) → q ≢ p → g q ≡ f q) → (q : ℕ) → q < n → get_or (set (listed n f) p w) q None ≡ g q
@@ -50,7 +32,7 @@ listed_put_at n f g p w here apart q lt =
       | inl e ↦ (let within : p < length (listed n f) = omega (arith, length-listed n f) in
           let there : get_or (set (listed n f) p w) p None ≡ g p = rw (get_or-set_same, here) refl in
           subst (λ (k : ℕ). get_or (set (listed n f) p w) k None ≡ g k) (sym e) there)
-      | inr ne ↦ rw get_or-set_other (listed_at n f q None lt ∙ sym (apart q ne))
+      | inr ne ↦ rw get_or-set_other (get_or-listed n f q None lt ∙ sym (apart q ne))
     ]
 
 -- functions that agree but at one number
@@ -62,7 +44,7 @@ listed_put n f g p w here apart =
 listed_more_at : (n k : ℕ) (f : ℕ → Option (List ℕ)) → ((q : ℕ) → n ≤ q → f q ≡ None) → (q : ℕ) → q < n + k → get_or (listed n f ++ unchanged k) q None ≡ f q
 listed_more_at n k f none q lt =
     elim (cases_lt q n) [
-      | inl below ↦ (get_or_append_left (listed n f) (unchanged k) None q (omega (arith, length-listed n f)) ∙ listed_at n f q None below)
+      | inl below ↦ (get_or_append_left (listed n f) (unchanged k) None q (omega (arith, length-listed n f)) ∙ get_or-listed n f q None below)
       | inr behind ↦ (let place : q - n < k = omega arith in
           get_or-append_right (listed n f) (unchanged k) n q None (length-listed n f) behind ∙ (get_or-replicate k (q - n) None None place ∙ sym (none q behind)))
     ]
@@ -71,4 +53,3 @@ listed_more_at n k f none q lt =
 pub listed_more : (n k : ℕ) (f : ℕ → Option (List ℕ)) → ((q : ℕ) → n ≤ q → f q ≡ None) → listed (n + k) f ≡ listed n f ++ unchanged k
 listed_more n k f none =
     sym (fill_by_all f (listed n f ++ unchanged k) (n + k) None (omega (arith, length-append (listed n f) (unchanged k), length-listed n f, length-replicate {A = Option (List ℕ)} k None)) (λ q lt. listed_more_at n k f none q lt))
->>>>>>> bb976586476b9b6b044419c135d083be86dd5610

@@ -9,5 +9,11 @@ mod changes;
 mod fault;
 mod write_through;
 mod page_cache;
+mod fresh;
+mod making;
 
 pub use fault::OpenFault;
+pub use making::make;
+
+#[cfg(test)]
+mod tests;
