@@ -2,6 +2,7 @@ pub mod Cached
 pub mod Changes
 pub mod ChangesView
 pub mod Commit
+pub mod Desk
 pub mod Empty
 pub mod Fresh
 pub mod Leaving

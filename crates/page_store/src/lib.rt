@@ -6,11 +6,12 @@
 #![tactic(auto)]
 
 mod changes;
+mod desk;
 mod fault;
-mod write_through;
-mod page_cache;
 mod fresh;
 mod making;
+mod page_cache;
+mod write_through;
 
 pub use fault::OpenFault;
 pub use making::make;

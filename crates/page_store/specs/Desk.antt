@@ -1,0 +1,79 @@
+-- What a store has in memory beside its file, and what the two together are seen as.
+use Rattle.std.specs.Prelude.{◌≡◌, ◌≤◌, ◌<◌, ℕ, Bool, false, IsSome, is_some, List, [], length, map, replicate, slice_get, slice_index_or, Option, Some, None}
+use Rattle.std.specs.Option.{ForSome, option_map}
+use Rattle.store_api.specs.StoreState.{StoreState, stated_count, zero_page}
+use Rattle.mdc_outside.specs.Disk.{File}
+use Rattle.redo_journal.specs.Images.{Numbered, AreRising}
+use Rattle.redo_journal.specs.Layout.{home_page}
+use Rattle.page_store.specs.declared.desk.Desk.{Desk}
+use Rattle.page_store.specs.declared.desk.Hand.{Hand}
+use Rattle.page_store.specs.declared.desk.Hand.TheVariants.{Changed, Clean, Blank}
+use Rattle.page_store.specs.declared.write_through.Halt.{Halt}
+use Rattle.page_store.specs.declared.write_through.Halt.TheVariants.{BeforeHome, BehindGate}
+use Rattle.page_store.specs.Standing.{listed, pages_of}
+use Rattle.page_store.specs.Changes.{Overlay, laid_over, image_in, HoldsBelow}
+use Rattle.page_store.specs.Cached.{AreHome}
+use Rattle.page_store.specs.Opening.{IsAtRest}
+
+-- The pages of the last commit. Once a commit has failed behind its gate, they are what the journal makes of them.
+abbrev pub base_in : Option Halt → ℕ → List ℕ → List (List ℕ)
+base_in None count file = listed count (home_page file)
+base_in (Some BeforeHome) count file = listed count (home_page file)
+base_in (Some BehindGate) count file = pages_of file
+
+-- the base, where the file is told, and else how many pages it has
+abbrev pub base_of : Option File → Desk → List (List ℕ)
+base_of None desk = replicate desk.base []
+base_of (Some file) desk = base_in desk.halt desk.base file.bytes
+
+-- the base with changes laid over it, and where the file isn't told how many pages that makes
+abbrev pub work_of : Option File → Desk → Overlay → List (List ℕ)
+work_of None desk changes = replicate (length changes) []
+work_of (Some file) desk changes = laid_over changes (base_in desk.halt desk.base file.bytes)
+
+-- the page at hand
+abbrev pub page_in : Option Hand → Overlay → Numbered → Option (List ℕ)
+page_in None changes cache = None
+page_in (Some (Changed p)) changes cache = slice_index_or changes p None
+page_in (Some Clean) changes cache = option_map (λ entry. entry.1) (slice_get cache 0)
+page_in (Some Blank) changes cache = Some zero_page
+
+-- what a store is seen as
+abbrev pub state_of : Option File → Option (List ℕ) → Option (List (List ℕ × Bool)) → Desk → StoreState
+state_of told tape attaches desk = record {
+  is_told = is_some told;
+  base = base_of told desk;
+  work = work_of told desk desk.changes.now;
+  marked = option_map (work_of told desk) desk.changes.marked;
+  hand = page_in desk.hand desk.changes.now desk.cache;
+  prepared = is_some desk.images;
+  ended = is_some desk.halt;
+  told = tape;
+  fetched = None;
+  attached = attaches;
+}
+
+-- The images are those that make the work, whose page 0 states how many pages it has.
+pub record IsPrepared (desk : Desk) (told : Option File) (images : Numbered) : Type 0 where
+  pub rising : AreRising images
+  pub holds : HoldsBelow (length desk.changes.now) (image_in desk.base desk.changes.now) images
+  pub counted : ForSome told (λ file. stated_count (laid_over desk.changes.now (listed desk.base (home_page file.bytes))) ≡ length desk.changes.now)
+
+-- a count of pages between that of the base and the greatest that there may be
+abbrev pub IsCount : ℕ → ℕ → Type 0
+IsCount base count = (base ≤ count) × (count ≤ 262289)
+
+-- What the desk has fits the file, which is at rest: between the calls of a store in which no commit has failed.
+pub record IsKept (desk : Desk) (told : Option File) : Type 0 where
+  pub at_rest : ForSome told (IsAtRest desk.extents desk.extent_pages desk.base)
+  pub clean : ForSome told (λ file. AreHome file.bytes desk.base desk.cache)
+  pub some : 18 ≤ desk.base
+  pub count : IsCount desk.base (length desk.changes.now)
+  pub marked : ForSome desk.changes.marked (λ changes. IsCount desk.base (length changes))
+  pub hand : IsSome desk.hand → IsSome (page_in desk.hand desk.changes.now desk.cache)
+  pub ready : ForSome desk.images (IsPrepared desk told)
+
+-- a step of a store, whatever is told of the tape and the attaches
+abbrev pub Does : (StoreState → StoreState → Type 0) → Option File → Desk → Option File → Desk → Type 0
+Does step before old after new =
+    (tape : Option (List ℕ)) (attaches : Option (List (List ℕ × Bool))) → step (state_of before tape attaches old) (state_of after tape attaches new)
