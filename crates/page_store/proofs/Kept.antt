@@ -43,7 +43,7 @@ saved_written count saved pages old new within keeps over = record {
 
 -- what is there has bytes
 no_bytes : (o : Option (Box (List ℕ))) → IsSome o → option_map bytes_in o ≡ None → ⊥
-no_bytes None had none = absurd had
+no_bytes None had none = cc
 no_bytes (Some page) had none = cc
 
 -- a key that is there is below the count

@@ -4,4 +4,3 @@ pub mod Kept
 pub mod LaidOver
 pub mod Leaving
 pub mod Listed
-pub mod PageMaps

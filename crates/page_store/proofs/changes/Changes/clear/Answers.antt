@@ -1,4 +1,4 @@
-use Rattle.std.proofs.Common.{◌≡◌, None, refl, ap, ◌∙◌}
+use Rattle.std.proofs.Common.{◌≡◌, refl}
 use Rattle.page_store.specs.Standing.{listed}
 use Rattle.page_store.specs.Changes.{unchanged}
 use Rattle.page_store.specs.PageMaps.{page_in}

@@ -1,4 +1,4 @@
-use Rattle.std.proofs.Common.{◌≡◌, ◌≤◌, List, Option, ℕ, length, refl, ap, sym, ◌∙◌, subst, arith}
+use Rattle.std.proofs.Common.{ℕ, length, ap, sym, subst, arith}
 use Rattle.page_store.specs.Standing.{listed}
 use Rattle.page_store.specs.Changes.{HoldsBelow, image_in, Overlay}
 use Rattle.page_store.specs.PageMaps.{page_in}

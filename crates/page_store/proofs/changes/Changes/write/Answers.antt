@@ -1,8 +1,8 @@
-use Rattle.std.proofs.Common.{◌≡◌, ◌<◌, Some, None, set, length, refl, ap, sym, ◌∙◌, arith, rules}
-use Rattle.std.specs.Option.{ForSome}
-use Rattle.page_store.specs.Standing.{listed}
-use Rattle.page_store.specs.PageMaps.{page_in, PutsPage}
+use Rattle.std.proofs.Common.{subst, ◌<◌, Some, set, length, ap, ◌∙◌, arith}
+use Rattle.page_store.specs.PageMaps.{page_in, PutsPage, IsSavedWithin}
 use Rattle.std.proofs.lemmas.Result.{on_ok_weaker}
+use Rattle.std.proofs.lemmas.Option.{same_Some}
+use Rattle.page_store.specs.declared.changes.saved.Saved.{Saved}
 use Rattle.page_store.proofs.Listed.{length-listed, listed_put}
 use Rattle.page_store.proofs.Kept.{within_written, saved_written}
 use Rattle.page_store.proofs.changes.Changes.write.Goals as goal
@@ -16,7 +16,7 @@ invariant_of-self c =
     let fits = c.self.invariant.mark c.in-Some.saved c.in-Some.is in
     record {
       within = within_written c.save_and_put.result old.count c.args.p (Some c.args.bytes.now) old.changed c.save_and_put.new.changed c.save_and_put.ensures.ok c.save_and_put.ensures.err lt c.self.invariant.within;
-      mark = λ saved is. cc (saved_written old.count c.in-Some.saved c.save_and_put.new.saved old.changed c.save_and_put.new.changed fits c.save_and_put.ensures.before c.save_and_put.ensures.over);
+      mark = λ saved is. subst (λ (s : Saved). IsSavedWithin old.count c.save_and_put.new.changed s) (same_Some _ _ is) (saved_written old.count c.in-Some.saved c.save_and_put.new.saved old.changed c.save_and_put.new.changed fits c.save_and_put.ensures.before c.save_and_put.ensures.over);
     }
 
 pub invariant_of-self-in-None : goal.invariant_of-self-in-None
