@@ -43,11 +43,11 @@ image_of-append (image ∷ front) rest p =
     ]
 
 -- a number is no other
-not_eqb : (a b : ℕ) → a ≢ b → eqb a b ≡ false
+pub not_eqb : (a b : ℕ) → a ≢ b → eqb a b ≡ false
 not_eqb a b ne = grind (arith, nat_tests)
 
 -- a number is itself
-eqb_self : (a : ℕ) → eqb a a ≡ true
+pub eqb_self : (a : ℕ) → eqb a a ≡ true
 eqb_self a = grind (arith, nat_tests)
 
 -- no image of a page that is above all
@@ -96,7 +96,7 @@ image_at-below base changed p lt =
     rw test (or_none (page_in changed p))
 
 -- a key is found by itself alone
-at_is : (k q : ℕ) → is_at (nat_cmp q) k ≡ eqb k q
+pub at_is : (k q : ℕ) → is_at (nat_cmp q) k ≡ eqb k q
 at_is k q = elim (cases_eq k q) [ inl e ↦ grind (arith, nat_tests) | inr ne ↦ grind (arith, nat_tests) ]
 
 -- the image of a page in the images of entries

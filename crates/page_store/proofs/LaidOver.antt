@@ -1,11 +1,13 @@
 -- Pages with changes laid over them.
-use Rattle.std.proofs.Common.{◌≡◌, ◌≢◌, ◌≤◌, ◌<◌, ◌+◌, ◌-◌, ℕ, zero, suc, List, [], ◌∷◌, ◌++◌, Option, Some, None, Bool, true, false, cond, eqb, length, get_or, set, replicate, unwrap_or, refl, sym, ap, ◌∙◌, inl, inr, arith}
+use Rattle.std.proofs.Common.{◌≡◌, ◌≢◌, ◌≤◌, ◌<◌, ◌+◌, ◌-◌, ℕ, zero, suc, List, [], ◌∷◌, ◌++◌, Option, Some, None, Bool, true, false, cond, eqb, leb, length, get_or, set, replicate, unwrap_or, refl, sym, ap, ◌∙◌, inl, inr, arith}
 use Rattle.std.specs.Str.{bytes_eq}
+use Rattle.std.specs.Option.{option_or}
 use Rattle.std.proofs.lemmas.List.FromFn.{fill_by_all}
 use Rattle.std.proofs.lemmas.List.{length-replicate}
 use Rattle.std.proofs.lemmas.Slice.Eq.{bytes_eq-Decides}
 use Rattle.store_api.specs.StoreState.{zero_page, differing, page_at}
-use Rattle.store_api.proofs.Differing.{one_at_most}
+use Rattle.std.proofs.lemmas.Bool.{cases_lt}
+use Rattle.std.proofs.lemmas.Bool.Decides.{nat_tests}
 use Rattle.redo_journal.specs.Images.{Numbered}
 use Rattle.page_store.specs.Standing.{listed, image_of}
 use Rattle.page_store.specs.Changes.{Overlay, laid_over, unchanged, changed_in, image_in}
@@ -50,6 +52,11 @@ pub laid_over-unchanged : (pages : List (List ℕ)) → laid_over (unchanged (le
 laid_over-unchanged [] = refl
 laid_over-unchanged (page ∷ pages) = ap (λ rest. page ∷ rest) (laid_over-unchanged pages)
 
+-- a page counts once at most
+one_at_most : (same : Bool) → cond same 0 1 ≤ 1
+one_at_most true = omega arith
+one_at_most false = omega arith
+
 -- no more pages differ than have a change or were grown
 pub differing-laid_over : (changes : Overlay) (pages : List (List ℕ)) → length pages ≤ length changes → differing pages (laid_over changes pages) ≤ changed_in changes + (length changes - length pages)
 differing-laid_over [] [] le = omega arith
@@ -62,17 +69,37 @@ differing-laid_over (Some new ∷ changes) [] le = omega (arith, length-laid_ove
 differing-laid_over (Some new ∷ changes) (page ∷ pages) le =
     omega (arith, one_at_most (bytes_eq page new), differing-laid_over changes pages (omega arith))
 
+-- the order is the same one further on
+le_suc : (a b : ℕ) → leb (suc a) (suc b) ≡ leb a b
+le_suc a b = elim (cases_lt b a) [ inl lt ↦ grind (arith, nat_tests) | inr le ↦ grind (arith, nat_tests) ]
+
+-- 0 is below all
+le_zero : (b : ℕ) → leb 0 (suc b) ≡ leb 0 b
+le_zero b = grind (arith, nat_tests)
+
+-- a page behind the first is to be written as behind the others
+image_in-next : (base : ℕ) (change : Option (List ℕ)) (changes : Overlay) (p : ℕ) → image_in (suc base) (change ∷ changes) (suc p) ≡ image_in base changes p
+image_in-next base change changes p =
+    let test : leb (suc base) (suc p) ≡ leb base p = le_suc base p in
+    ap (λ t. option_or (get_or changes p None) (cond t (Some zero_page) None)) test
+
+-- a page is to be written wherever there is no base
+image_in-grown : (change : Option (List ℕ)) (changes : Overlay) (p : ℕ) → image_in 0 (change ∷ changes) (suc p) ≡ image_in 0 changes p
+image_in-grown change changes p =
+    let test : leb 0 (suc p) ≡ leb 0 p = le_zero p in
+    ap (λ t. option_or (get_or changes p None) (cond t (Some zero_page) None)) test
+
 -- what is to be written for a page, or else the page, is the page as it is now
 pub laid_over-at : (changes : Overlay) (pages : List (List ℕ)) (p : ℕ) → p < length changes → get_or (laid_over changes pages) p [] ≡ unwrap_or (image_in (length pages) changes p) (page_at pages p)
 laid_over-at [] pages p lt = absurd (omega arith)
 laid_over-at (None ∷ changes) [] zero lt = refl
-laid_over-at (None ∷ changes) [] (suc p) lt = laid_over-at changes [] p (omega arith)
-laid_over-at (None ∷ changes) (page ∷ pages) zero lt = refl
-laid_over-at (None ∷ changes) (page ∷ pages) (suc p) lt = laid_over-at changes pages p (omega arith)
+laid_over-at (None ∷ changes) [] (suc p) lt = laid_over-at changes [] p (omega arith) ∙ ap (λ i. unwrap_or i []) (sym (image_in-grown None changes p))
+laid_over-at (None ∷ changes) (page ∷ pages) zero lt = let test : leb (suc (length pages)) 0 ≡ false = grind (arith, nat_tests) in rw test refl
+laid_over-at (None ∷ changes) (page ∷ pages) (suc p) lt = laid_over-at changes pages p (omega arith) ∙ ap (λ i. unwrap_or i (page_at pages p)) (sym (image_in-next (length pages) None changes p))
 laid_over-at (Some new ∷ changes) [] zero lt = refl
-laid_over-at (Some new ∷ changes) [] (suc p) lt = laid_over-at changes [] p (omega arith)
+laid_over-at (Some new ∷ changes) [] (suc p) lt = laid_over-at changes [] p (omega arith) ∙ ap (λ i. unwrap_or i []) (sym (image_in-grown (Some new) changes p))
 laid_over-at (Some new ∷ changes) (page ∷ pages) zero lt = refl
-laid_over-at (Some new ∷ changes) (page ∷ pages) (suc p) lt = laid_over-at changes pages p (omega arith)
+laid_over-at (Some new ∷ changes) (page ∷ pages) (suc p) lt = laid_over-at changes pages p (omega arith) ∙ ap (λ i. unwrap_or i (page_at pages p)) (sym (image_in-next (length pages) (Some new) changes p))
 
 -- each of them
 listed-laid_over_at : (base : ℕ) (changes : Overlay) (pages : List (List ℕ)) (images : Numbered)

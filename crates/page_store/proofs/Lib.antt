@@ -7,10 +7,10 @@ pub mod FreshBytes
 pub mod FreshDatabase
 pub mod Imaged
 pub mod Kept
+pub mod KeptPages
 pub mod LaidOver
 pub mod Leaving
 pub mod Listed
 pub mod MakeCrashes
-pub mod PageMaps
 pub mod Pages
 pub mod Recent

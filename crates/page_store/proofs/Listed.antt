@@ -53,3 +53,8 @@ listed_more_at n k f none q lt =
 pub listed_more : (n k : ℕ) (f : ℕ → Option (List ℕ)) → ((q : ℕ) → n ≤ q → f q ≡ None) → listed (n + k) f ≡ listed n f ++ unchanged k
 listed_more n k f none =
     sym (fill_by_all f (listed n f ++ unchanged k) (n + k) None (omega (arith, length-append (listed n f) (unchanged k), length-listed n f, length-replicate {A = Option (List ℕ)} k None)) (λ q lt. listed_more_at n k f none q lt))
+
+-- a function that gives nothing
+pub listed_none : (n : ℕ) (f : ℕ → Option (List ℕ)) → ((p : ℕ) → f p ≡ None) → listed n f ≡ unchanged n
+listed_none n f none =
+    sym (fill_by_all f (unchanged n) n None (length-replicate {A = Option (List ℕ)} n None) (λ p lt. get_or-replicate n p None None lt ∙ sym (none p)))

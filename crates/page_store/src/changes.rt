@@ -61,12 +61,15 @@ impl Changes {
         self.count
     }
 
-    /// How many pages are kept: at least those that have a change.
+    /// How many pages are kept: at least those that have a change, and no more than there are.
     pub(crate) fn kept(&self) -> u32
         ensures kept { result ≡ self.now.kept }
         ensures enough { changed_in self.now.now ≤ result }
+        ensures few { result ≤ length self.now.now }
     {
-        self.changed.len() as u32
+        let kept = self.changed.len();
+        prove!(kept <= self.count as usize);
+        kept as u32
     }
 
     /// Lends what was written over a page, where it was.

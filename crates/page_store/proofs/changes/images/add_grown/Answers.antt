@@ -1,4 +1,4 @@
-use Rattle.std.proofs.Common.{◌≡◌, ◌≤◌, ◌∷◌, Some, sym, ◌∙◌, ap, arith, rules}
+use Rattle.std.proofs.Common.{◌≡◌, Some, sym, ◌∙◌, ap, arith}
 use Rattle.page_store.specs.PageMaps.{image_at}
 use Rattle.page_store.proofs.Imaged.{HoldsBelow-push, image_at-grown}
 use Rattle.page_store.proofs.changes.images.add_grown.Goals as goal

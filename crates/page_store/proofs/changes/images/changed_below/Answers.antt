@@ -1,4 +1,4 @@
-use Rattle.std.proofs.Common.{◌≡◌, ◌++◌, ◌∷◌, [], List, ℕ, refl, sym, ap, ◌∙◌, subst, rules, append-nil}
+use Rattle.std.proofs.Common.{◌≡◌, ◌++◌, ◌∷◌, List, ℕ, sym, ap, ◌∙◌, subst, append-nil}
 use Rattle.redo_journal.specs.Images.{AreRising, Numbered}
 use Rattle.std.specs.Map.Iter.{deref_pair}
 use Rattle.std.specs.List.{All}
