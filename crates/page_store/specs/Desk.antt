@@ -1,16 +1,16 @@
 -- What a store has in memory beside its file, and what the two together are seen as.
-use Rattle.std.specs.Prelude.{◌≡◌, ◌≤◌, ◌<◌, ℕ, Bool, false, IsSome, is_some, List, [], length, map, replicate, slice_get, slice_index_or, Option, Some, None}
+use Rattle.std.specs.Prelude.{◌≡◌, ◌⊎◌, ◌≤◌, ◌<◌, ◌+◌, ◌-◌, min, ℕ, Bool, false, IsSome, is_some, List, [], length, map, replicate, slice_get, slice_index_or, Option, Some, None}
 use Rattle.std.specs.Option.{ForSome, option_map}
 use Rattle.store_api.specs.StoreState.{StoreState, stated_count, zero_page}
-use Rattle.mdc_outside.specs.Disk.{File}
-use Rattle.redo_journal.specs.Images.{Numbered, AreRising}
+use Rattle.mdc_outside.specs.Disk.{File, IsImage}
+use Rattle.redo_journal.specs.Images.{Numbered}
 use Rattle.redo_journal.specs.Layout.{home_page}
 use Rattle.page_store.specs.declared.desk.Desk.{Desk}
 use Rattle.page_store.specs.declared.desk.Hand.{Hand}
 use Rattle.page_store.specs.declared.desk.Hand.TheVariants.{Changed, Clean, Blank}
 use Rattle.page_store.specs.declared.write_through.Halt.{Halt}
 use Rattle.page_store.specs.declared.write_through.Halt.TheVariants.{BeforeHome, BehindGate}
-use Rattle.page_store.specs.Standing.{listed, pages_of}
+use Rattle.page_store.specs.Standing.{listed, pages_of, IsFormed}
 use Rattle.page_store.specs.Changes.{Overlay, laid_over, image_in, HoldsBelow}
 use Rattle.page_store.specs.Cached.{AreHome}
 use Rattle.page_store.specs.Opening.{IsAtRest}
@@ -55,7 +55,6 @@ state_of told tape attaches desk = record {
 
 -- The images are those that make the work, whose page 0 states how many pages it has.
 pub record IsPrepared (desk : Desk) (told : Option File) (images : Numbered) : Type 0 where
-  pub rising : AreRising images
   pub holds : HoldsBelow (length desk.changes.now) (image_in desk.base desk.changes.now) images
   pub counted : ForSome told (λ file. stated_count (laid_over desk.changes.now (listed desk.base (home_page file.bytes))) ≡ length desk.changes.now)
 
@@ -72,6 +71,25 @@ pub record IsKept (desk : Desk) (told : Option File) : Type 0 where
   pub marked : ForSome desk.changes.marked (λ changes. IsCount desk.base (length changes))
   pub hand : IsSome desk.hand → IsSome (page_in desk.hand desk.changes.now desk.cache)
   pub ready : ForSome desk.images (IsPrepared desk told)
+
+-- where the page of a number lies in memory: it was changed or grown, or else it is a clean page
+abbrev pub IsPlaced : ℕ → Desk → Option Hand → Type 0
+IsPlaced p desk None = (p < desk.base) × (image_in desk.base desk.changes.now p ≡ None)
+IsPlaced p desk (Some hand) =
+    (page : List ℕ) × (page_in (Some hand) desk.changes.now desk.cache ≡ Some page) × (image_in desk.base desk.changes.now p ≡ Some page)
+
+-- an image that is formed and stands for the base or for the work
+abbrev pub StandsForEither : Desk → File → List ℕ → Type 0
+StandsForEither desk file image =
+    IsFormed image × ((pages_of image ≡ base_of (Some file) desk) ⊎ (pages_of image ≡ work_of (Some file) desk desk.changes.now))
+
+-- what a crash leaves from now on stands for the base or for the work
+abbrev pub RestsEither : Desk → File → Type 0
+RestsEither desk file = (image : List ℕ) → IsImage file.since image → StandsForEither desk file image
+
+-- how many pages differ from the base, or may differ
+abbrev pub written_in : Desk → ℕ
+written_in desk = min (desk.changes.kept + (length desk.changes.now - desk.base)) 4294967295
 
 -- a step of a store, whatever is told of the tape and the attaches
 abbrev pub Does : (StoreState → StoreState → Type 0) → Option File → Desk → Option File → Desk → Type 0

@@ -1,21 +1,26 @@
 // What a store has in memory beside its host: its changes, clean pages, and where the page at hand lies.
-ghost use Rattle.std.specs.Prelude.{◌≡◌, ◌<◌, ◌≤◌, ◌+◌, IsTrue, IsSome, None, Some, length, OnOk, OnErr, IsErrOf};
+ghost use Rattle.std.specs.Prelude.{◌≡◌, ◌<◌, ◌≤◌, ◌+◌, IsTrue, IsSome, Option, None, Some, length, OnOk, OnErr, IsErrOf};
 ghost use Rattle.std.specs.Option.{ForSome};
 ghost use Rattle.mdc_outside.specs.Outside.{Rose};
 ghost use Rattle.mdc_outside.specs.Disk.{File};
+ghost use Rattle.mdc_outside.specs.Moments.{HasCause};
 ghost use Rattle.redo_journal.specs.Runs.{Runs, IsCovered};
-ghost use Rattle.store_api.specs.Calls.{Fetches, FetchesCommitted, LosesHand, LosesReadiness, Writes, Grows, Marks, Keeps, Undoes, Prepares, RollsBack};
-ghost use Rattle.store_api.specs.StoreState.{stated_count};
-ghost use Rattle.page_store.specs.Desk.{IsKept, Does, page_in, work_of};
+ghost use Rattle.store_api.specs.Calls.{Fetches, FetchesCommitted, LosesHand, LosesReadiness, Writes, Grows, Marks, Keeps, Undoes, Prepares, Commits, Ends, RollsBack};
+ghost use Rattle.store_api.specs.StoreState.{stated_count, zero_page, differing};
+ghost use Rattle.page_store.specs.Leaving.{Leaves};
+ghost use Rattle.page_store.specs.Desk.{IsKept, IsPlaced, Does, StandsForEither, RestsEither, page_in, base_of, work_of, written_in};
 
 use crate::changes::Changes;
 use crate::page_cache::PageCache;
-use crate::write_through::Halt;
+use crate::write_through::{Halt, write_through};
 use mdc_outside::Disk;
 use mdc_values::Memory;
 use redo_journal::Images;
 use std::alloc::Global;
-use store_api::{Page, PageFault};
+use store_api::{DeviceFault, Page, PageFault};
+
+// The file page of the store's page 0.
+const FIRST: u32 = 66;
 
 static BLANK: Page = [0; 4096];
 
@@ -54,24 +59,58 @@ impl Desk {
         ensures ok { OnOk result (Does (Fetches p) (D.file disk.old) self.old (D.file disk.new) self.new) }
         ensures err { OnErr result (Does LosesHand (D.file disk.old) self.old (D.file disk.new) self.new) }
         ensures device { IsErrOf result PageFault.Device → Rose (D.disk_faults disk.old) (D.disk_faults disk.new) }
-        ensures going_on { self.new.halt ≡ None }
         ensures changes { self.new.changes ≡ self.old.changes }
+        ensures base { self.new.base ≡ self.old.base }
+        ensures going_on { self.new.halt ≡ None }
         ensures still_kept { IsKept self.new (D.file disk.new) }
+        ensures same { D.file disk.new ≡ D.file disk.old }
+        ensures runs { Runs D.file D.beside D.attaches D.is_attached D.clock D.moment IsCovered (λ since. since) disk.old disk.new }
+        ensures later { D.disk_faults disk.old ≤ D.disk_faults disk.new }
+    {
+        match self.place_of(p) {
+            Some(hand) => {
+                self.hand = Some(hand);
+                Ok(())
+            }
+            None => self.committed(disk, p),
+        }
+    }
+
+    /// Brings a page of the base to hand.
+    pub(crate) fn committed<D: Disk>(&mut self, disk: &mut D, p: u32) -> Result<(), PageFault>
+        requires attached { IsTrue (D.is_attached disk.old) }
+        requires going { self.old.halt ≡ None }
+        requires kept { IsKept self.old (D.file disk.old) }
+        requires within { p < self.old.base }
+        ensures ok { OnOk result (Does (FetchesCommitted p) (D.file disk.old) self.old (D.file disk.new) self.new) }
+        ensures err { OnErr result (Does LosesHand (D.file disk.old) self.old (D.file disk.new) self.new) }
+        ensures device { IsErrOf result PageFault.Device → Rose (D.disk_faults disk.old) (D.disk_faults disk.new) }
+        ensures changes { self.new.changes ≡ self.old.changes }
+        ensures base { self.new.base ≡ self.old.base }
+        ensures going_on { self.new.halt ≡ None }
+        ensures still_kept { IsKept self.new (D.file disk.new) }
+        ensures same { D.file disk.new ≡ D.file disk.old }
         ensures runs { Runs D.file D.beside D.attaches D.is_attached D.clock D.moment IsCovered (λ since. since) disk.old disk.new }
         ensures later { D.disk_faults disk.old ≤ D.disk_faults disk.new }
     {
         self.hand = None;
-        if self.changes.get(p).is_some() {
-            self.hand = Some(Hand::Changed(p));
-            return Ok(());
-        }
-        if p >= self.base {
-            self.hand = Some(Hand::Blank);
-            return Ok(());
-        }
         self.cache.bring(disk, p)?;
         self.hand = Some(Hand::Clean);
         Ok(())
+    }
+
+    // Where the page of the work lies in memory, if it was changed or grown.
+    fn place_of(&self, p: u32) -> Option<Hand>
+        requires { p < length self.now.changes.now }
+        ensures { IsPlaced p self.now result }
+    {
+        if self.changes.get(p).is_some() {
+            Some(Hand::Changed(p))
+        } else if p >= self.base {
+            Some(Hand::Blank)
+        } else {
+            None
+        }
     }
 
     /// Lends the page at hand.
@@ -82,7 +121,7 @@ impl Desk {
         match self.hand {
             Some(Hand::Changed(p)) => self.changes.get(p).unwrap(),
             Some(Hand::Clean) => self.cache.first(),
-            Some(Hand::Blank) => &BLANK,
+            Some(Hand::Blank) => blank(),
             None => unreachable!(),
         }
     }
@@ -90,14 +129,12 @@ impl Desk {
     /// Writes over a page of the work.
     pub(crate) fn write(&mut self, p: u32, bytes: &Page) -> Result<(), PageFault>
         requires { p < length self.old.changes.now }
-        ensures ok { OnOk result ((told : _) → IsKept self.old told → Does (Writes p bytes.now) told self.old told self.new) }
-        ensures err { OnErr result ((told : _) → Does LosesReadiness told self.old told self.new) }
-        ensures device { IsErrOf result PageFault.Device → ⊥ }
+        ensures ok { OnOk result ((told : Option File) → IsKept self.old told → Does (Writes p bytes.now) told self.old told self.new) }
+        ensures err { OnErr result ((told : Option File) → Does LosesReadiness told self.old told self.new) }
+        ensures memory { IsErrOf result PageFault.Device → ⊥ }
         ensures halt { self.new.halt ≡ self.old.halt }
-        ensures kept { (told : _) → IsKept self.old told → IsKept self.new told }
-        ensures count { self.new.changes.kept ≤ self.old.changes.kept + 1 }
-        ensures length { length self.new.changes.now ≡ length self.old.changes.now }
-        ensures base { self.new.base ≡ self.old.base }
+        ensures kept { (told : Option File) → IsKept self.old told → IsKept self.new told }
+        ensures written { written_in self.new ≤ written_in self.old + 1 }
     {
         self.hand = None;
         self.images = None;
@@ -106,4 +143,142 @@ impl Desk {
             Err(Memory) => Err(PageFault::Memory),
         }
     }
+
+    /// Adds pages of zeros at the end of the work. It takes no memory.
+    pub(crate) fn grow(&mut self, n: u32)
+        requires { length self.old.changes.now + n ≤ 262289 }
+        ensures does { (told : Option File) → IsKept self.old told → self.old.halt ≡ None → Does (Grows n) told self.old told self.new }
+        ensures halt { self.new.halt ≡ self.old.halt }
+        ensures kept { (told : Option File) → IsKept self.old told → IsKept self.new told }
+        ensures written { written_in self.new ≤ written_in self.old + n }
+    {
+        self.hand = None;
+        self.images = None;
+        self.changes.grow(n);
+    }
+
+    /// Notes the work, for `undo`. It takes no memory.
+    pub(crate) fn mark(&mut self)
+        requires { self.old.changes.marked ≡ None }
+        ensures does { (told : Option File) → Does Marks told self.old told self.new }
+        ensures halt { self.new.halt ≡ self.old.halt }
+        ensures kept { (told : Option File) → IsKept self.old told → IsKept self.new told }
+        ensures written { written_in self.new ≡ written_in self.old }
+    {
+        self.hand = None;
+        self.images = None;
+        self.changes.mark();
+    }
+
+    /// Drops the mark. It takes no memory.
+    pub(crate) fn keep(&mut self)
+        requires { IsSome self.old.changes.marked }
+        ensures does { (told : Option File) → Does Keeps told self.old told self.new }
+        ensures halt { self.new.halt ≡ self.old.halt }
+        ensures kept { (told : Option File) → IsKept self.old told → IsKept self.new told }
+        ensures written { written_in self.new ≡ written_in self.old }
+    {
+        self.hand = None;
+        self.changes.keep();
+    }
+
+    /// Goes back to the work of the mark, and drops it. It takes no memory.
+    pub(crate) fn undo(&mut self)
+        requires { IsSome self.old.changes.marked }
+        ensures does { (told : Option File) → Does Undoes told self.old told self.new }
+        ensures halt { self.new.halt ≡ self.old.halt }
+        ensures kept { (told : Option File) → IsKept self.old told → IsKept self.new told }
+        ensures written { (told : Option File) → IsKept self.old told → written_in self.new ≤ written_in self.old }
+    {
+        self.hand = None;
+        self.images = None;
+        self.changes.undo();
+    }
+
+    /// Goes back to the base, and drops a mark. It takes no memory.
+    pub(crate) fn rollback(&mut self)
+        ensures does { (told : Option File) → IsKept self.old told → self.old.halt ≡ None → Does RollsBack told self.old told self.new }
+        ensures halt { self.new.halt ≡ self.old.halt }
+        ensures kept { (told : Option File) → IsKept self.old told → IsKept self.new told }
+        ensures written { written_in self.new ≡ 0 }
+    {
+        self.hand = None;
+        self.images = None;
+        self.changes.clear(self.base);
+    }
+
+    /// In how many pages the work and the base differ, or may differ.
+    pub(crate) fn written(&self) -> u32
+        requires { self.now.base ≤ length self.now.changes.now }
+        ensures value { result ≡ written_in self.now }
+        ensures enough { (told : Option File) → IsKept self.now told → self.now.halt ≡ None
+            → differing (base_of told self.now) (work_of told self.now self.now.changes.now) ≤ result }
+    {
+        let grown = self.changes.count() - self.base;
+        self.changes.kept().saturating_add(grown)
+    }
+
+    /// Makes the work ready for `commit`, and takes the memory that it needs.
+    pub(crate) fn prepare(&mut self) -> Result<(), PageFault>
+        requires { self.old.base ≤ length self.old.changes.now }
+        ensures ok { OnOk result ((told : Option File) → Does Prepares told self.old told self.new) }
+        ensures err { OnErr result ((told : Option File) → Does LosesReadiness told self.old told self.new) }
+        ensures memory { IsErrOf result PageFault.Device → ⊥ }
+        ensures halt { self.new.halt ≡ self.old.halt }
+        ensures kept { (told : Option File) → IsKept self.old told
+            → ForSome told (λ file. stated_count (work_of told self.old self.old.changes.now) ≡ length self.old.changes.now)
+            → self.old.halt ≡ None → IsKept self.new told }
+        ensures written { written_in self.new ≡ written_in self.old }
+    {
+        self.hand = None;
+        self.images = None;
+        match self.changes.images(self.alloc, self.base) {
+            Ok(images) => {
+                self.images = Some(images);
+                Ok(())
+            }
+            Err(Memory) => Err(PageFault::Memory),
+        }
+    }
+
+    /// Makes the work the base, whole or not at all. It takes no memory. After a fault a crash leaves the one or the other.
+    pub(crate) fn commit<D: Disk>(&mut self, disk: &mut D) -> Result<(), DeviceFault>
+        requires attached { IsTrue (D.is_attached disk.old) }
+        requires going { self.old.halt ≡ None }
+        requires kept { IsKept self.old (D.file disk.old) }
+        requires prepared { IsSome self.old.images }
+        ensures ok { OnOk result (Does Commits (D.file disk.old) self.old (D.file disk.new) self.new) }
+        ensures err { OnErr result (Does Ends (D.file disk.old) self.old (D.file disk.new) self.new) }
+        ensures rests { OnErr result (ForSome (D.file disk.new) (RestsEither self.new)) }
+        ensures going_on { OnOk result (self.new.halt ≡ None) }
+        ensures halted { OnErr result (IsSome self.new.halt) }
+        ensures still_kept { OnOk result (IsKept self.new (D.file disk.new)) }
+        ensures written { OnOk result (written_in self.new ≡ 0) }
+        ensures leaves { Leaves D.file D.beside D.attaches D.is_attached D.clock D.moment (StandsForEither self.old) disk.old disk.new }
+        ensures cause { HasCause result (D.disk_faults disk.old) (D.disk_faults disk.new) }
+    {
+        self.hand = None;
+        let Some(images) = self.images.take() else {
+            unreachable!();
+        };
+        let count = self.changes.count();
+        if images.len() > 0 {
+            if let Err(halt) = write_through(disk, FIRST + count, &images) {
+                self.halt = Some(halt);
+                return Err(DeviceFault);
+            }
+            self.cache.renew(&images);
+        }
+        self.base = count;
+        self.changes.clear(count);
+        Ok(())
+    }
+}
+
+// A page of zeros.
+#[tactic(auto, unfolding(store_api::specs::StoreState::zero_page))]
+fn blank() -> &'static Page
+    ensures { result.now ≡ zero_page }
+{
+    &BLANK
 }
