@@ -3,6 +3,7 @@ pub mod Calls
 pub mod Committing
 pub mod Crashes
 pub mod Deciding
+pub mod Desks
 pub mod FreshBytes
 pub mod FreshDatabase
 pub mod Imaged

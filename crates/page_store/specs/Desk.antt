@@ -58,17 +58,17 @@ pub record IsPrepared (desk : Desk) (told : Option File) (images : Numbered) : T
   pub holds : HoldsBelow (length desk.changes.now) (image_in desk.base desk.changes.now) images
   pub counted : ForSome told (λ file. stated_count (laid_over desk.changes.now (listed desk.base (home_page file.bytes))) ≡ length desk.changes.now)
 
--- a count of pages between that of the base and the greatest that there may be
-abbrev pub IsCount : ℕ → ℕ → Type 0
-IsCount base count = (base ≤ count) × (count ≤ 262289)
+-- a number between two
+abbrev pub IsBetween : ℕ → ℕ → ℕ → Type 0
+IsBetween low high n = (low ≤ n) × (n ≤ high)
 
 -- What the desk has fits the file, which is at rest: between the calls of a store in which no commit has failed.
 pub record IsKept (desk : Desk) (told : Option File) : Type 0 where
   pub at_rest : ForSome told (IsAtRest desk.extents desk.extent_pages desk.base)
   pub clean : ForSome told (λ file. AreHome file.bytes desk.base desk.cache)
   pub some : 18 ≤ desk.base
-  pub count : IsCount desk.base (length desk.changes.now)
-  pub marked : ForSome desk.changes.marked (λ changes. IsCount desk.base (length changes))
+  pub count : IsBetween desk.base 262289 (length desk.changes.now)
+  pub marked : ForSome desk.changes.marked (λ changes. IsBetween desk.base (length desk.changes.now) (length changes))
   pub hand : IsSome desk.hand → IsSome (page_in desk.hand desk.changes.now desk.cache)
   pub ready : ForSome desk.images (IsPrepared desk told)
 

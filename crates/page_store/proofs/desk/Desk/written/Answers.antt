@@ -1,0 +1,9 @@
+use Rattle.std.proofs.Common.{arith}
+use Rattle.page_store.specs.Changes.{changed_in}
+use Rattle.page_store.proofs.Desks.{differing_work}
+use Rattle.page_store.proofs.desk.Desk.written.Goals as goal
+
+pub returns-clause-enough : goal.returns-clause-enough
+returns-clause-enough c = λ told kept going.
+    let enough = differing_work told c.args.self.now kept going (omega (arith, c.kept.ensures.kept, c.kept.ensures.enough)) in
+    omega (arith, enough, c.kept.ensures.kept, c.count.ensures, c.saturating_add.ensures)
