@@ -5,5 +5,4 @@ pub mod Leaving
 pub mod Opening
 pub mod PageMaps
 pub mod Shape
-
 pub mod Standing

@@ -7,17 +7,18 @@ ghost use Rattle.page_store.specs.Changes.{unchanged, changed_in, image_in, Hold
 mod images;
 mod page_map;
 mod saved;
+#[cfg(test)]
+mod tests;
 
+use images::{add_grown, changed_below};
 use mdc_values::Memory;
+use page_map::{PageMap, put};
 use redo_journal::Images;
+use saved::{Saved, put_back, save_and_put};
 use std::alloc::Global;
 use std::collections::BTreeMap;
 use std::marker::Model;
 use store_api::Page;
-
-use images::{add_grown, changed_below};
-use page_map::{PageMap, put};
-use saved::{Saved, put_back, save_and_put};
 
 /// What has changed of the pages of a store since its last commit, and how it was at the mark, where one is open.
 #[derive(Debug, Drop)]

@@ -5,12 +5,11 @@ ghost use Rattle.std.specs.Ordering.{nat_cmp};
 ghost use Rattle.std.specs.BTreeMap.{btree_map_len, get, IsUnchanged, Updates};
 ghost use Rattle.page_store.specs.PageMaps.{bytes_in, page_in, page_before, PutsPage, IsOver, KeepsMark};
 
+use super::page_map::{PageMap, put};
 use mdc_values::Memory;
 use std::alloc::Global;
 use std::collections::BTreeMap;
 use store_api::Page;
-
-use super::page_map::{PageMap, put};
 
 /// How each page that was written since the mark was at it: with these bytes, or as at the last commit.
 pub(super) type SavedMap = BTreeMap<u32, Option<Box<Page>>>;
