@@ -76,6 +76,7 @@ fn put_page(changed: &mut PageMap, p: u32, was: Option<Box<Page>>)
 {
     match was {
         Some(page) => {
+            // The page has its place, so this takes no memory.
             let _ = changed.insert(p, page);
         }
         None => {

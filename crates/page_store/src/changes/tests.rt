@@ -25,9 +25,10 @@ fn undo_goes_back_to_the_mark(rt: HostRuntime) -> Result<(), Fail> {
     changes.write(1, &page_of(5))?;
     changes.mark();
     changes.grow(2);
-    for (p, byte) in [(1, 6), (1, 7), (2, 8), (4, 9)] {
-        changes.write(p, &page_of(byte))?;
-    }
+    changes.write(1, &page_of(6))?;
+    changes.write(1, &page_of(7))?;
+    changes.write(2, &page_of(8))?;
+    changes.write(4, &page_of(9))?;
     assert_eq!(rt; byte_at(&changes, 1), Some(7));
     assert_eq!(rt; changes.kept(), 3);
     changes.undo();
