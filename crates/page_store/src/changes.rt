@@ -1,7 +1,6 @@
 // What has changed of the pages of a store since its last commit, with a mark to go back to.
 ghost use Rattle.std.specs.Prelude.{◌≡◌, ◌<◌, ◌≤◌, ◌+◌, ◌++◌, length, slice_set, slice_index_or, Some, None, IsSome, OnOk, OnErr, IfOk};
 ghost use Rattle.std.specs.Option.{option_copied};
-ghost use Rattle.std.specs.List.{All};
 ghost use Rattle.page_store.specs.Changes.{unchanged, changed_in, image_in, HoldsBelow};
 
 mod images;

@@ -21,7 +21,8 @@ pub(super) struct Saved {
     pub(super) pages: SavedMap,
 }
 
-/// Writes over a page, and saves how it was where it wasn't written since the mark. After `Memory` the pages are as before.
+/// Writes over a page, and saves how it was where it wasn't written since the mark. After `Memory` the pages are as
+/// before, now and at the mark.
 pub(super) fn save_and_put(
     alloc: Global,
     changed: &mut PageMap,
