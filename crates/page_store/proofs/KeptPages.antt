@@ -1,26 +1,25 @@
 -- The changes of a store's pages as they are seen, and what is saved for a mark, through each call.
-use Rattle.std.proofs.Common.{◌≡◌, ◌≢◌, ◌<◌, ◌≤◌, ◌+◌, ℕ, List, [], ◌∷◌, Option, Some, None, Result, Ok, Err, Bool, true, false, cond, eqb, length, get_or, set, leb, map, refl, sym, ap, ◌∙◌, subst, inl, inr, arith}
+use Rattle.std.proofs.Common.{◌≡◌, ◌≢◌, ◌<◌, ◌≤◌, ℕ, List, [], ◌∷◌, Option, Some, None, Result, Ok, Err, true, false, cond, length, leb, refl, sym, ap, ◌∙◌, inl, inr, arith}
 use Rattle.std.specs.Prelude.{IsSome, OnOk, OnErr}
 use Rattle.std.specs.List.{All}
-use Rattle.std.specs.List.Sorted.{IsStrictlySortedBy}
 use Rattle.std.specs.Option.{option_map, option_or}
 use Rattle.std.specs.Ordering.{nat_cmp}
 use Rattle.std.specs.Map.{keys_of, lookup}
 use Rattle.std.specs.BTreeMap.{is_at, IsUnchanged, btree_map_len, IsOrdered}
 use Rattle.std.specs.Global.{Box}
 use Rattle.std.specs.Cmp.{nat_cmp_total, eq_by_cmp_equiv}
-use Rattle.std.proofs.lemmas.Bool.{cases_Bool, cases_eq, cases_lt}
+use Rattle.std.proofs.lemmas.Bool.{cases_lt}
 use Rattle.std.proofs.lemmas.Map.Views.{length-le_from_below, All-keys_from_lookup}
 use Rattle.std.proofs.lemmas.Map.Entries.{length-keys_of}
 use Rattle.store_api.specs.StoreState.{zero_page}
 use Rattle.redo_journal.specs.Images.{Numbered}
 use Rattle.page_store.specs.Standing.{listed}
-use Rattle.page_store.specs.Changes.{Overlay, unchanged, changed_in, image_in, HoldsBelow}
-use Rattle.page_store.specs.PageMaps.{PageMap, SavedMap, bytes_in, page_in, page_before, image_at, PutsPage, IsWithin, IsSavedWithin, IsOver, KeepsMark}
+use Rattle.page_store.specs.Changes.{changed_in, image_in, HoldsBelow}
+use Rattle.page_store.specs.PageMaps.{PageMap, SavedMap, bytes_in, page_in, image_at, PutsPage, IsWithin, IsSavedWithin, IsOver, KeepsMark}
 use Rattle.page_store.specs.declared.changes.saved.Saved.{Saved}
 use Rattle.page_store.proofs.Imaged.{at_is, eqb_self, not_eqb}
 use Rattle.page_store.proofs.LaidOver.{changed_in-set, changed_in-unchanged}
-use Rattle.page_store.proofs.Listed.{length-listed, get_or-listed, listed_same, listed_put, listed_none}
+use Rattle.page_store.proofs.Listed.{get_or-listed, listed_put, listed_none}
 
 -- the same entries have the same pages
 pub same_pages : (old new : PageMap) → IsUnchanged old new → (q : ℕ) → page_in new q ≡ page_in old q

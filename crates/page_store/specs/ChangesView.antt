@@ -1,5 +1,4 @@
 -- What `Changes` is seen as.
-use Rattle.std.specs.Prelude.{ℕ, Option}
 use Rattle.std.specs.Option.{option_map}
 use Rattle.std.specs.BTreeMap.{btree_map_len}
 use Rattle.page_store.specs.Standing.{listed}

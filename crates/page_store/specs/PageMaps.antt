@@ -1,5 +1,5 @@
 -- What the maps of `Changes` have for each page.
-use Rattle.std.specs.Prelude.{◌≡◌, ◌≢◌, ◌<◌, ◌≤◌, ℕ, List, Option, Some, None, IsSome, unwrap_or, nat_le, if◌then◌else◌}
+use Rattle.std.specs.Prelude.{◌≡◌, ◌≢◌, ◌≤◌, ℕ, List, Option, Some, None, IsSome, unwrap_or, nat_le, if◌then◌else◌}
 use Rattle.std.specs.Option.{option_map, option_or, ForSome}
 use Rattle.std.specs.Ordering.{nat_cmp}
 use Rattle.std.specs.BTreeMap.{BTreeMap, get}

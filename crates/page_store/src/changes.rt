@@ -1,23 +1,23 @@
 // What has changed of the pages of a store since its last commit, with a mark to go back to.
 ghost use Rattle.std.specs.Prelude.{◌≡◌, ◌<◌, ◌≤◌, ◌+◌, ◌++◌, length, slice_set, slice_index_or, Some, None, IsSome, OnOk, OnErr, IfOk};
 ghost use Rattle.std.specs.Option.{option_copied};
-ghost use Rattle.std.specs.List.{All};
 ghost use Rattle.page_store.specs.Changes.{unchanged, changed_in, image_in, HoldsBelow};
 
 mod images;
 mod page_map;
 mod saved;
+#[cfg(test)]
+mod tests;
 
+use images::{add_grown, changed_below};
 use mdc_values::Memory;
+use page_map::{PageMap, put};
 use redo_journal::Images;
+use saved::{Saved, put_back, save_and_put};
 use std::alloc::Global;
 use std::collections::BTreeMap;
 use std::marker::Model;
 use store_api::Page;
-
-use images::{add_grown, changed_below};
-use page_map::{PageMap, put};
-use saved::{Saved, put_back, save_and_put};
 
 /// What has changed of the pages of a store since its last commit, and how it was at the mark, where one is open.
 #[derive(Debug, Drop)]

@@ -4,12 +4,11 @@ ghost use Rattle.store_api.specs.StoreState.{zero_page};
 ghost use Rattle.page_store.specs.Changes.{HoldsBelow};
 ghost use Rattle.page_store.specs.PageMaps.{page_in, image_at};
 
+use super::page_map::PageMap;
 use mdc_values::Memory;
 use redo_journal::Images;
 use std::alloc::Global;
 use store_api::Page;
-
-use super::page_map::PageMap;
 
 static ZEROS: Page = [0; 4096];
 

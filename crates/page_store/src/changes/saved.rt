@@ -5,12 +5,11 @@ ghost use Rattle.std.specs.Ordering.{nat_cmp};
 ghost use Rattle.std.specs.BTreeMap.{btree_map_len, get, IsUnchanged, Updates};
 ghost use Rattle.page_store.specs.PageMaps.{bytes_in, page_in, page_before, PutsPage, IsOver, KeepsMark};
 
+use super::page_map::{PageMap, put};
 use mdc_values::Memory;
 use std::alloc::Global;
 use std::collections::BTreeMap;
 use store_api::Page;
-
-use super::page_map::{PageMap, put};
 
 /// How each page that was written since the mark was at it: with these bytes, or as at the last commit.
 pub(super) type SavedMap = BTreeMap<u32, Option<Box<Page>>>;
@@ -22,7 +21,8 @@ pub(super) struct Saved {
     pub(super) pages: SavedMap,
 }
 
-/// Writes over a page, and saves how it was where it wasn't written since the mark. After `Memory` the pages are as before.
+/// Writes over a page, and saves how it was where it wasn't written since the mark. After `Memory` the pages are as
+/// before, now and at the mark.
 pub(super) fn save_and_put(
     alloc: Global,
     changed: &mut PageMap,
@@ -77,6 +77,7 @@ fn put_page(changed: &mut PageMap, p: u32, was: Option<Box<Page>>)
 {
     match was {
         Some(page) => {
+            // The page has its place, so this takes no memory.
             let _ = changed.insert(p, page);
         }
         None => {

@@ -7,7 +7,7 @@ abbrev pub invariant-loop-p : goal.invariant-loop-p
 invariant-loop-p l = record {
   over : IsOver l.saved l.changed;
   back : KeepsMark l.fn.saved l.fn.changed l.saved l.changed;
-  kept : btree_map_len l.changed ≤ btree_map_len l.fn.changed
+  kept : btree_map_len l.changed ≤ btree_map_len l.fn.changed;
 }
 
 abbrev pub decreases-loop-p : goal.decreases-loop-p
