@@ -170,3 +170,11 @@ fetches_on_ok (Err e) told now desk new p same does = does
 -- a page that was grown and not changed has zeros
 pub grown_image : (base : ℕ) (changes : Overlay) (p : ℕ) → get_or changes p None ≡ None → base ≤ p → image_in base changes p ≡ Some zero_page
 grown_image base changes p none le = let more = le-leb base p le in rw (none, more) refl
+
+-- the file is told as it was
+pub brings_same : (told now : Option File) (desk new : Desk) (p : ℕ) → now ≡ told → Does (FetchesCommitted p) told desk told new → Does (FetchesCommitted p) told desk now new
+brings_same told now desk new p same does = subst (λ (t : Option File). Does (FetchesCommitted p) told desk t new) (sym same) does
+
+-- there is a first page
+pub some_first : (p : ℕ) (page : List ℕ) (entries : Numbered) → Leads p page entries → IsSome (option_map (λ entry. entry.1) (slice_get entries 0))
+some_first p page entries (rest, is) = rw is refl
