@@ -4,6 +4,7 @@ pub mod ChangesView
 pub mod Commit
 pub mod Desk
 pub mod Empty
+pub mod FileStore
 pub mod Fresh
 pub mod Leaving
 pub mod Opening

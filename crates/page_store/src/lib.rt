@@ -8,12 +8,14 @@
 mod changes;
 mod desk;
 mod fault;
+mod file_store;
 mod fresh;
 mod making;
 mod page_cache;
 mod write_through;
 
 pub use fault::OpenFault;
+pub use file_store::FileStore;
 pub use making::make;
 
 #[cfg(test)]

@@ -1,0 +1,106 @@
+// A store in a database file.
+ghost use Rattle.std.specs.Prelude.{◌≡◌};
+
+use crate::desk::Desk;
+use mdc_outside::Host;
+use std::marker::Model;
+use store_api::{DeviceFault, Mute, Page, PageFault, Pages, Store};
+
+/// A store whose base is what the file of its host stands for. It owns the host, and tells bytes through it. Where the
+/// host tells its file, the store tells its pages; it tells no fetches.
+#[derive(Drop)]
+pub struct FileStore<H: Host> {
+    host: H,
+    desk: Desk,
+}
+
+impl<H: Host> Model for FileStore<H> {
+    ghost use Rattle.page_store.specs.FileStore.{Held, IsWhole};
+
+    ghost Value = { Held H };
+
+    ghost view = { λ s. record { host = s.host; desk = s.desk } };
+
+    ghost invariant = { λ s. IsWhole (H.is_attached s.host) (H.file s.host) s.desk };
+}
+
+impl<H: Host> Pages for FileStore<H> {
+    ghost use Rattle.page_store.specs.Desk.{state_of, written_in};
+    ghost use Rattle.page_store.specs.FileStore.{left_of};
+
+    ghost state = { λ s. state_of (H.file s.host) (H.beside s.host).tape (H.attaches s.host) s.desk };
+
+    ghost written = { λ s. written_in s.desk };
+
+    ghost disk_faults = { λ s. H.disk_faults s.host };
+
+    ghost say_faults = { λ s. H.say_faults s.host };
+
+    ghost clock = { λ s. H.clock s.host };
+
+    ghost left = { λ s. left_of (H.file s.host) (H.beside s.host).tape (H.moment s.host) };
+
+    fn count(&self) -> u32 {
+        self.desk.changes.count()
+    }
+
+    fn fetch(&mut self, p: u32) -> Result<(), PageFault> {
+        self.desk.fetch(&mut self.host, p)
+    }
+
+    fn page(&self) -> &Page {
+        self.desk.page()
+    }
+
+    fn write(&mut self, p: u32, bytes: &Page) -> Result<(), PageFault> {
+        self.desk.write(p, bytes)
+    }
+
+    fn grow(&mut self, n: u32) -> Result<(), PageFault> {
+        self.desk.grow(n);
+        Ok(())
+    }
+
+    fn mark(&mut self) {
+        self.desk.mark();
+    }
+
+    fn keep(&mut self) -> Result<(), PageFault> {
+        self.desk.keep();
+        Ok(())
+    }
+
+    fn undo(&mut self) {
+        self.desk.undo();
+    }
+}
+
+impl<H: Host> Store for FileStore<H> {
+    fn written(&self) -> u32 {
+        self.desk.written()
+    }
+
+    fn committed(&mut self, p: u32) -> Result<(), PageFault> {
+        self.desk.committed(&mut self.host, p)
+    }
+
+    fn prepare(&mut self) -> Result<(), PageFault> {
+        self.desk.prepare()
+    }
+
+    fn commit(&mut self) -> Result<(), DeviceFault> {
+        self.desk.commit(&mut self.host)
+    }
+
+    fn rollback(&mut self) {
+        self.desk.rollback();
+    }
+
+    fn tell(&mut self, bytes: &[u8]) -> Result<(), Mute> {
+        self.desk.hand = None;
+        match self.host.say(bytes) {
+            Ok(()) => Ok(()),
+            Err(_) => Err(Mute),
+        }
+    }
+}
