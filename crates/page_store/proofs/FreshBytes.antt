@@ -1,5 +1,5 @@
 -- The bytes of an empty database, piece by piece.
-use Rattle.std.proofs.Common.{◌≡◌, ◌≤◌, ◌+◌, ◌-◌, ◌*◌, ℕ, zero, suc, List, [], ◌∷◌, ◌++◌, length, drop, replicate, get_or, arith, refl, ap, ◌∙◌, length-append, length-drop}
+use Rattle.std.proofs.Common.{◌≡◌, ◌+◌, ◌-◌, ◌*◌, ℕ, zero, suc, List, ◌++◌, length, drop, replicate, get_or, arith, refl, ap, ◌∙◌, length-append, length-drop}
 use Rattle.std.proofs.lemmas.List.{length-replicate, drop-replicate}
 use Rattle.store_api.specs.StoreState.{zero_page}
 use Rattle.page_store.specs.Shape.{map_pages, birth_page}

@@ -1,5 +1,5 @@
 -- A fresh file is an empty database.
-use Rattle.std.proofs.Common.{◌≡◌, ◌≤◌, ◌<◌, ◌+◌, ◌-◌, ◌*◌, ◌^◌, ℕ, zero, suc, Bool, IsTrue, IsFalse, if◌then◌else◌, List, [], ◌∷◌, ◌++◌, length, take, drop, replicate, map, get_or, unwrap_or, nat_eq, arith, refl, ap, sym, subst, ◌∙◌, append_assoc, length-append, length-drop, lit<}
+use Rattle.std.proofs.Common.{◌≡◌, ◌≤◌, ◌<◌, ◌+◌, ◌-◌, ◌*◌, ℕ, zero, suc, IsTrue, IsFalse, if◌then◌else◌, List, [], ◌∷◌, ◌++◌, length, take, drop, replicate, map, get_or, unwrap_or, nat_eq, arith, refl, ap, sym, ◌∙◌, append_assoc, length-drop, lit<}
 use Rattle.std.specs.List.{range_with_len}
 use Rattle.std.proofs.Math.Seq.{drop-append-add}
 use Rattle.std.proofs.lemmas.Nat.{from_be_bytes-to_be_bytes_4}
@@ -12,8 +12,8 @@ use Rattle.store_api.specs.StoreState.{zero_page, stated_in}
 use Rattle.redo_journal.specs.Layout.{file_page, home_page, is_open, journal_of}
 use Rattle.page_store.specs.Shape.{IsBirth, is_shape, map_pages, first_count, birth_page, extents_in, extent_pages_in}
 use Rattle.page_store.specs.Fresh.{zero_pages, gates, root_page, front_with, fresh_file, fresh_len}
-use Rattle.page_store.specs.Standing.{IsFormed, image_of, page_of, count_of, pages_of}
-use Rattle.page_store.specs.Opening.{IsRoot, IsServed, version_of}
+use Rattle.page_store.specs.Standing.{image_of, page_of, count_of, pages_of}
+use Rattle.page_store.specs.Opening.{version_of}
 use Rattle.page_store.specs.Empty.{IsEmptyDatabase}
 use Rattle.page_store.proofs.FreshBytes.{zero_page_is, length-gates, length-birth_page, length-root_page, length-front_with, length-up_to_root, length-file_with, up_to_root}
 

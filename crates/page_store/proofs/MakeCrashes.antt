@@ -1,5 +1,5 @@
 -- What a crash leaves while a database is made.
-use Rattle.std.proofs.Common.{◌≡◌, ◌⊎◌, ◌≤◌, ◌<◌, ◌+◌, ◌-◌, ◌*◌, ℕ, Bool, IsFalse, List, [], ◌∷◌, ◌++◌, length, drop, replicate, get_or, Option, Some, None, IfSome, Result, Ok, Err, OnOk, inl, inr, arith, refl, ap, sym, subst, ◌∙◌, length-append}
+use Rattle.std.proofs.Common.{◌≡◌, ◌≤◌, ◌+◌, ◌*◌, ℕ, Bool, List, [], ◌∷◌, ◌++◌, length, drop, replicate, get_or, Option, Some, None, IfSome, Result, Ok, Err, OnOk, inl, inr, arith, refl, ap, sym, subst, ◌∙◌}
 use Rattle.std.specs.Option.{option_map, ForSome}
 use Rattle.std.proofs.lemmas.List.{length-replicate, drop_all}
 use Rattle.std.proofs.lemmas.Bool.{cases_eq, ne_eqb}
@@ -13,7 +13,6 @@ use Rattle.redo_journal.proofs.Steps.{now_holds, was_told, between_then}
 use Rattle.redo_journal.proofs.Written.{mapped}
 use Rattle.page_store.specs.Shape.{map_pages}
 use Rattle.page_store.specs.Fresh.{zero_pages, root_page, front_with, file_with, fresh_file, fresh_len, IsUnmade, IsUnmadeOrFresh, IsOfMaking}
-use Rattle.page_store.specs.Standing.{is_made}
 use Rattle.page_store.specs.Leaving.{Leaves}
 use Rattle.page_store.proofs.Leaving.{runs_leave, leaves_then}
 use Rattle.page_store.proofs.FreshBytes.{length-file_with, same_behind_made}
@@ -133,21 +132,25 @@ module _ {D : Type 0} {file : D → Option File} {aside : D → Beside} {attache
       ∙ ap (λ n. before.bytes ++ root_page extents ++ zero_pages n) others_is))
   store_stands (Err e) extents others root new root_is others_is run first second = second
 
-  -- the front and the store's pages stand, and all is on the disk
-  pub pages_stand : {T E : Type 0} (result : Result T E) (extents extent_pages : ℕ) {Within1 Within2 : Since → Since → Type 0} {a1 a2 : Since → Since} {old middle new : D}
-      → Runs file aside attaches is_attached clock moment Within1 a1 old middle
-      → Runs file aside attaches is_attached clock moment Within2 a2 middle new
+  -- the front and the store's pages stand
+  pub pages_stand : {T E : Type 0} (result : Result T E) (extents extent_pages : ℕ) {Within : Since → Since → Type 0} {allowed : Since → Since} {old new : D}
+      → Runs file aside attaches is_attached clock moment Within allowed old new
       → ForSome (file old) (λ f. f.bytes ≡ front_with 0 extents extent_pages)
-      → Between (file old) (file middle) (λ before after. after ≡ before ++ root_page extents ++ zero_pages (16 + map_pages extents))
-      → OnOk result (file new ≡ option_map settled (file middle))
-      → OnOk result (ForSome (file new) (λ f. (f.bytes ≡ file_with 0 extents extent_pages) × (f.since ≡ all_synced f.bytes)))
-  pages_stand (Ok done) extents extent_pages {middle = middle} {new = new} run settles front store synced = λ after is.
-      let half = was_told settles after is in
-      let stands = now_holds (λ f. f.bytes ≡ front_with 0 extents extent_pages) (λ f. f.bytes ≡ file_with 0 extents extent_pages) run store front
-      (λ before half so more. more ∙ ap (λ bytes. bytes ++ root_page extents ++ zero_pages (16 + map_pages extents)) so) half.0 half.1 in
-      let same : after ≡ settled half.0 = mapped settled (file middle) (file new) half.0 after synced half.1 is in
-      (ap (λ f. f.bytes) same ∙ stands, ap (λ f. f.since) same ∙ ap (λ f. all_synced f.bytes) (sym same))
-  pages_stand (Err e) extents extent_pages run settles front store synced = synced
+      → OnOk result (Between (file old) (file new) (λ before after. after ≡ before ++ root_page extents ++ zero_pages (16 + map_pages extents)))
+      → OnOk result (ForSome (file new) (λ f. f.bytes ≡ file_with 0 extents extent_pages))
+  pages_stand (Ok done) extents extent_pages run front store = now_holds (λ f. f.bytes ≡ front_with 0 extents extent_pages) (λ f. f.bytes ≡ file_with 0 extents extent_pages) run store front
+      (λ before half so more. more ∙ ap (λ bytes. bytes ++ root_page extents ++ zero_pages (16 + map_pages extents)) so)
+  pages_stand (Err e) extents extent_pages run front store = store
+
+  -- bytes that stand are on the disk after a sync
+  pub settled_stand : (bytes : List ℕ) {Within : Since → Since → Type 0} {allowed : Since → Since} {old new : D}
+      → Runs file aside attaches is_attached clock moment Within allowed old new
+      → ForSome (file old) (λ f. f.bytes ≡ bytes) → file new ≡ option_map settled (file old)
+      → ForSome (file new) (λ f. (f.bytes ≡ bytes) × (f.since ≡ all_synced f.bytes))
+  settled_stand bytes {old = old} {new = new} run stands synced = λ after is.
+      let before = was_told run after is in
+      let same : after ≡ settled before.0 = mapped settled (file old) (file new) before.0 after synced before.1 is in
+      (ap (λ f. f.bytes) same ∙ stands before.0 before.1, ap (λ f. f.since) same ∙ ap (λ f. all_synced f.bytes) (sym same))
 
   -- the made byte stands alone in a file that was empty
   pub begun_stands : (made : ℕ) {Within : Since → Since → Type 0} {allowed : Since → Since} {old new : D}

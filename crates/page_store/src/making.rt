@@ -1,7 +1,7 @@
 // How an empty database is made.
 ghost use Rattle.std.specs.Prelude.{◌≡◌, ◌⊎◌, ◌≤◌, ◌<◌, ◌+◌, ◌-◌, ◌*◌, ◌^◌, [], ◌∷◌, ◌++◌, length, IsTrue, IsErrOf, OnOk, OnErr};
 ghost use Rattle.std.specs.Option.{option_map, ForSome};
-ghost use Rattle.mdc_outside.specs.Disk.{all_synced, torn, written, settled};
+ghost use Rattle.mdc_outside.specs.Disk.{torn, written, settled};
 ghost use Rattle.mdc_outside.specs.Moments.{HasCause};
 ghost use Rattle.mdc_outside.specs.Outside.{Rose};
 ghost use Rattle.redo_journal.specs.Runs.{Runs, IsWithin, IsCovered, Between};
@@ -60,6 +60,7 @@ fn write_database<D: Disk>(disk: &mut D, extents: u32, extent_pages: u32) -> Res
 {
     set_made(disk, UNMADE)?;
     write_pages(disk, extents, extent_pages)?;
+    settle(disk)?;
     set_made(disk, MADE)
 }
 
@@ -74,17 +75,16 @@ fn set_made<D: Disk>(disk: &mut D, made: u8) -> Result<(), Failed>
     settle(disk)
 }
 
-// Writes all pages behind a made byte that is shut, and has them on the disk.
+// Writes all pages behind a made byte that is shut.
 fn write_pages<D: Disk>(disk: &mut D, extents: u32, extent_pages: u32) -> Result<(), Failed>
     requires attached { IsTrue (D.is_attached disk.old) }
     requires begun { ForSome (D.file disk.old) (λ file. file.bytes ≡ 0 ∷ []) }
-    ensures written { OnOk result (ForSome (D.file disk.new) (λ file. (file.bytes ≡ file_with 0 extents extent_pages) × (file.since ≡ all_synced file.bytes))) }
-    ensures runs { Runs D.file D.beside D.attaches D.is_attached D.clock D.moment IsWithin (torn 1 (fresh_len extents - 1)) disk.old disk.new }
+    ensures written { OnOk result (ForSome (D.file disk.new) (λ file. file.bytes ≡ file_with 0 extents extent_pages)) }
+    ensures runs { Runs D.file D.beside D.attaches D.is_attached D.clock D.moment IsCovered (torn 1 (fresh_len extents - 1)) disk.old disk.new }
     ensures cause { HasCause result (D.disk_faults disk.old) (D.disk_faults disk.new) }
 {
     write_front(disk, extents, extent_pages)?;
-    write_store(disk, extents)?;
-    settle(disk)
+    write_store(disk, extents)
 }
 
 // Writes the pages before the root page, behind a made byte that is shut.

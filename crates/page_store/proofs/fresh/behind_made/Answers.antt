@@ -1,5 +1,5 @@
 -- All but one of a page of zeros.
-use Rattle.std.proofs.Common.{◌≡◌, ◌∙◌, sym, refl, replicate, arith}
+use Rattle.std.proofs.Common.{◌∙◌, sym, refl}
 use Rattle.store_api.specs.StoreState.{zero_page}
 use Rattle.page_store.proofs.FreshBytes.{zero_page_is, drop_zeros}
 use Rattle.page_store.proofs.fresh.behind_made.Goals as goal

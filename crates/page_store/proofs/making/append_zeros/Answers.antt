@@ -1,8 +1,5 @@
 -- As many zeros as so many pages have.
-use Rattle.std.proofs.Common.{◌≡◌, ◌+◌, ◌-◌, ◌*◌, ◌++◌, ℕ, List, replicate, Result, OnOk, Ok, Err, arith, ap, ◌∙◌, subst}
-use Rattle.mdc_outside.specs.Disk.{Since, torn}
-use Rattle.redo_journal.specs.Runs.{Runs, IsCovered, Between}
-use Rattle.page_store.specs.Fresh.{zero_pages}
+use Rattle.std.proofs.Common.{◌*◌, arith}
 use Rattle.page_store.proofs.MakeCrashes.{runs_in, between_zero_pages}
 use Rattle.page_store.proofs.making.append_zeros.Goals as goal
 

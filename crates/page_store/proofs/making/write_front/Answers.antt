@@ -1,5 +1,5 @@
 -- Each piece is written at the end of the one before, behind the made byte.
-use Rattle.std.proofs.Common.{◌≡◌, ◌+◌, ◌++◌, ◌∷◌, [], length, drop, arith, ap, ◌∙◌, sym, refl, length-drop}
+use Rattle.std.proofs.Common.{◌≡◌, ◌∷◌, [], length, drop, arith, ap, ◌∙◌, sym, length-drop}
 use Rattle.page_store.specs.Fresh.{gates, zero_pages}
 use Rattle.page_store.specs.Shape.{birth_page}
 use Rattle.store_api.specs.StoreState.{zero_page}
