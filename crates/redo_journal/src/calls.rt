@@ -8,7 +8,7 @@ ghost use Rattle.redo_journal.specs.Runs.{Runs, IsWithin, IsCovered};
 use mdc_outside::{Disk, Failed};
 
 /// Writes over what is there, and past the end.
-pub(crate) fn put<D: Disk>(disk: &mut D, at: u64, bytes: &[u8]) -> Result<(), Failed>
+pub fn put<D: Disk>(disk: &mut D, at: u64, bytes: &[u8]) -> Result<(), Failed>
     requires attached { IsTrue (D.is_attached disk.old) }
     requires within { ForSome (D.file disk.old) (λ file. at ≤ length file.bytes) }
     ensures written { OnOk result (D.file disk.new ≡ option_map (written at bytes.now) (D.file disk.old)) }
@@ -19,7 +19,7 @@ pub(crate) fn put<D: Disk>(disk: &mut D, at: u64, bytes: &[u8]) -> Result<(), Fa
 }
 
 /// Has all that was written on the disk.
-pub(crate) fn settle<D: Disk>(disk: &mut D) -> Result<(), Failed>
+pub fn settle<D: Disk>(disk: &mut D) -> Result<(), Failed>
     requires { IsTrue (D.is_attached disk.old) }
     ensures settled { OnOk result (D.file disk.new ≡ option_map settled (D.file disk.old)) }
     ensures runs { Runs D.file D.beside D.attaches D.is_attached D.clock D.moment IsWithin (λ since. since) disk.old disk.new }
@@ -29,7 +29,7 @@ pub(crate) fn settle<D: Disk>(disk: &mut D) -> Result<(), Failed>
 }
 
 /// Answers where the file ends.
-pub(crate) fn end_of<D: Disk>(disk: &mut D) -> Result<u64, Failed>
+pub fn end_of<D: Disk>(disk: &mut D) -> Result<u64, Failed>
     requires { IsTrue (D.is_attached disk.old) }
     ensures end { IfOk result (λ n. ForSome (D.file disk.old) (λ file. n ≡ length file.bytes)) }
     ensures same { D.file disk.new ≡ D.file disk.old }
@@ -40,7 +40,7 @@ pub(crate) fn end_of<D: Disk>(disk: &mut D) -> Result<u64, Failed>
 }
 
 /// Fills `out` with the bytes from a place on.
-pub(crate) fn get<D: Disk>(disk: &mut D, at: u64, out: &mut [u8]) -> Result<(), Failed>
+pub fn get<D: Disk>(disk: &mut D, at: u64, out: &mut [u8]) -> Result<(), Failed>
     requires attached { IsTrue (D.is_attached disk.old) }
     requires within { ForSome (D.file disk.old) (λ file. at + length out.old ≤ length file.bytes) }
     ensures read { OnOk result (ForSome (D.file disk.old) (λ file. out.new ≡ take (length out.old) (drop at file.bytes))) }

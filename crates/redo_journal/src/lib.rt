@@ -14,11 +14,12 @@ mod journal;
 mod page;
 mod replaying;
 
+pub use calls::{end_of, get, put, settle};
 pub use gate::{close_gate, open_gate};
 pub use home_pages::home;
 pub use images::Images;
 pub use journal::write_journal;
-pub use replaying::{ReplayFault, replay};
+pub use replaying::{ReplayFault, read_number, read_page, replay};
 
 #[cfg(test)]
 mod tests;

@@ -20,8 +20,8 @@ use mdc_values::Memory;
 use std::alloc::Global;
 use store_api::{Damage, Page};
 
-// Reads the number of four bytes at a place.
-pub(crate) fn read_number<D: Disk>(disk: &mut D, at: u64) -> Result<u32, Failed>
+/// Reads the number of four bytes at a place.
+pub fn read_number<D: Disk>(disk: &mut D, at: u64) -> Result<u32, Failed>
     requires attached { IsTrue (D.is_attached disk.old) }
     requires within { ForSome (D.file disk.old) (λ file. at + 4 ≤ length file.bytes) }
     ensures number { IfOk result (λ n. ForSome (D.file disk.old) (λ file. n ≡ big_number 4 (drop at file.bytes))) }
@@ -34,8 +34,8 @@ pub(crate) fn read_number<D: Disk>(disk: &mut D, at: u64) -> Result<u32, Failed>
     Ok(BigEndian::read_u32(&bytes))
 }
 
-// Reads the page at a place.
-pub(crate) fn read_page<D: Disk>(disk: &mut D, at: u64) -> Result<Page, Failed>
+/// Reads the page at a place.
+pub fn read_page<D: Disk>(disk: &mut D, at: u64) -> Result<Page, Failed>
     requires attached { IsTrue (D.is_attached disk.old) }
     requires within { ForSome (D.file disk.old) (λ file. at + 4096 ≤ length file.bytes) }
     ensures page { IfOk result (λ page. ForSome (D.file disk.old) (λ file. page ≡ take 4096 (drop at file.bytes))) }
