@@ -1,2 +1,5 @@
+pub mod Births
 pub mod Crashes
 pub mod Leaving
+pub mod Numbers
+pub mod Roots

@@ -6,5 +6,8 @@
 #![tactic(auto)]
 
 mod fault;
+mod number;
+mod root;
+mod shape;
 
 pub use fault::OpenFault;
