@@ -1,5 +1,6 @@
 pub mod Births
 pub mod Crashes
+pub mod Journals
 pub mod Leaving
 pub mod Numbers
 pub mod Roots

@@ -6,7 +6,11 @@
 #![tactic(auto)]
 
 mod fault;
+mod journal;
+mod judging;
 mod number;
+mod reading;
+mod recovery;
 mod root;
 mod shape;
 

@@ -1,0 +1,1 @@
+// What a file that is opened stands for, and how a journal that counts is brought home.
