@@ -1,6 +1,7 @@
 pub mod Births
 pub mod Crashes
 pub mod Journals
+pub mod Judged
 pub mod Leaving
 pub mod Numbers
 pub mod Roots
