@@ -106,6 +106,11 @@ pub replaces_length : (at : ℕ) (piece old new : List ℕ) → at ≤ length ol
 replaces_length at piece old new le (rest, is) =
     omega (arith, ap length is, length-append (take at old ++ piece) rest, length-append (take at old) piece, length-take-le at old le)
 
+-- a write makes no file shorter
+pub overwritten_length : (at : ℕ) (piece bytes : List ℕ) → at ≤ length bytes → length bytes ≤ length (overwritten at piece bytes)
+overwritten_length at piece bytes le =
+    omega (arith, length-append (take at bytes ++ piece) (drop (at + length piece) bytes), length-append (take at bytes) piece, length-take-le at bytes le, length-drop (at + length piece) bytes)
+
 -- an index page has the length of a page
 pub length-index_page : (images : Numbered) → length images ≤ 1024 → length (index_page images) ≡ 4096
 unfolding zero_page

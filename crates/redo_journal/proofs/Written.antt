@@ -9,6 +9,7 @@ use Rattle.redo_journal.specs.Images.{Numbered, IsPageImage}
 use Rattle.redo_journal.specs.Layout.{IsReady, HoldsJournal, index_pages, is_open}
 use Rattle.redo_journal.specs.Pieces.{Replaces, index_bytes, page_bytes, header}
 use Rattle.redo_journal.specs.Runs.{Runs, Between}
+use Rattle.redo_journal.proofs.Bytes.{replaces_length, overwritten_length, length-index_bytes, length-page_bytes}
 use Rattle.redo_journal.proofs.Standing.{journal_stands}
 use Rattle.redo_journal.proofs.Steps.{was_told}
 
@@ -45,12 +46,16 @@ module _ {D : Type 0} {file : D → Option File} {aside : D → Beside} {attache
       let reach : place ≤ length f1.0.bytes = omega (arith, ap length zeros, length-append before.0.bytes (replicate (place - end) 0), length-replicate {A = ℕ} (place - end) 0) in
       let bytes : after.bytes ≡ f4.0.bytes = ap (λ f. f.bytes) settles in
       let made : f4.0.bytes ≡ overwritten 1024 (header start (length images)) f3.0.bytes = ap (λ f. f.bytes) last ∙ ap (λ p. overwritten 1024 p f3.0.bytes) piece_is in
+      let index_end : next ≤ length f2.0.bytes = omega (arith, replaces_length place (index_bytes (index_pages (length images)) images) f1.0.bytes f2.0.bytes reach behind_index, length-index_bytes (index_pages (length images)) images) in
+      let pages_end : next + 4096 * length images ≤ length f3.0.bytes = omega (arith, replaces_length next (page_bytes images) f2.0.bytes f3.0.bytes index_end behind_pages, length-page_bytes images all) in
+      let long_made : length f3.0.bytes ≤ length (overwritten 1024 (header start (length images)) f3.0.bytes) = overwritten_length 1024 (header start (length images)) f3.0.bytes (omega arith) in
       let stands = journal_stands start images place next (replicate (place - end) 0) before.0.bytes f1.0.bytes f2.0.bytes f3.0.bytes after.bytes behind_index.0 behind_pages.0
       all start_fits few behind long place_is next_is reach zeros behind_index.1 behind_pages.1 (bytes ∙ made) in
       record {
         settled = ap (λ f. f.since) settles ∙ ap (λ xs. all_synced xs) (sym bytes);
         starts = stands.0;
         images = stands.1;
+        within = omega (arith, ap length bytes, ap length made, long_made);
         closed = ap (λ b. nat_eq b 79) stands.2 ∙ closed before.0 before.1;
       }
   written_stands (Err e) start images end place next piece all start_fits few behind place_is next_is piece_is piece_size ready closed same ends whole r1 filled r2 index r3 pages r4 put synced = synced

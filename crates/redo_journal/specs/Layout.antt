@@ -53,11 +53,12 @@ torn_home (image ∷ images) since = torn_home images (torn (4096 * (66 + image.
 abbrev pub torn_journal : ℕ → ℕ → Since → Since
 torn_journal start n since = torn (4096 * start) (4096 * (index_pages n + n)) (torn 1024 8 since)
 
--- the file holds this journal, with the gate closed, and all of it is on the disk
+-- the file holds this journal, with the gate closed, and all of it is on the disk; the journal lies within the file
 pub record HoldsJournal (start : ℕ) (listed : Numbered) (file : File) : Type 0 where
   pub settled : file.since ≡ all_synced file.bytes
   pub starts : start_of file.bytes ≡ start
   pub images : journal_of file.bytes ≡ listed
+  pub within : 4096 * (start + index_pages (length listed) + length listed) ≤ length file.bytes
   pub closed : IsFalse (is_open file.bytes)
 
 -- each image stands in its home page, and all is on the disk

@@ -7,7 +7,9 @@ ghost use Rattle.redo_journal.specs.Runs.{Runs, IsWithin, IsCovered};
 
 use mdc_outside::{Disk, Failed};
 
-/// Writes over what is there, and past the end.
+/// Writes over what is there, and past the end. A crash may leave any bytes in what was written until `settle` answers.
+///
+/// It answers `Failed` only where the disk did. What was written may then hold any bytes, or the call came to nothing.
 pub fn put<D: Disk>(disk: &mut D, at: u64, bytes: &[u8]) -> Result<(), Failed>
     requires attached { IsTrue (D.is_attached disk.old) }
     requires within { ForSome (D.file disk.old) (λ file. at ≤ length file.bytes) }
@@ -18,7 +20,9 @@ pub fn put<D: Disk>(disk: &mut D, at: u64, bytes: &[u8]) -> Result<(), Failed>
     disk.write(at, bytes)
 }
 
-/// Has all that was written on the disk.
+/// Has all that was written on the disk: from now on a crash leaves it as a read gives it.
+///
+/// It answers `Failed` only where the disk did. What was written before may then hold any bytes.
 pub fn settle<D: Disk>(disk: &mut D) -> Result<(), Failed>
     requires { IsTrue (D.is_attached disk.old) }
     ensures settled { OnOk result (D.file disk.new ≡ option_map settled (D.file disk.old)) }
@@ -28,7 +32,7 @@ pub fn settle<D: Disk>(disk: &mut D) -> Result<(), Failed>
     disk.sync()
 }
 
-/// Answers where the file ends.
+/// Answers where the file ends. It changes nothing in the file, and answers `Failed` only where the disk did.
 pub fn end_of<D: Disk>(disk: &mut D) -> Result<u64, Failed>
     requires { IsTrue (D.is_attached disk.old) }
     ensures end { IfOk result (λ n. ForSome (D.file disk.old) (λ file. n ≡ length file.bytes)) }
@@ -39,7 +43,8 @@ pub fn end_of<D: Disk>(disk: &mut D) -> Result<u64, Failed>
     disk.len()
 }
 
-/// Fills `out` with the bytes from a place on.
+/// Fills `out` with the bytes from a place on. It changes nothing in the file, and answers `Failed` only where the disk
+/// did.
 pub fn get<D: Disk>(disk: &mut D, at: u64, out: &mut [u8]) -> Result<(), Failed>
     requires attached { IsTrue (D.is_attached disk.old) }
     requires within { ForSome (D.file disk.old) (λ file. at + length out.old ≤ length file.bytes) }

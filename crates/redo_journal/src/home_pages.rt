@@ -9,7 +9,7 @@ ghost use Rattle.redo_journal.specs.Runs.{Runs, IsWithin};
 
 use crate::Images;
 use crate::calls::{end_of, put, settle};
-use crate::fill::fill;
+use crate::filling::fill;
 use crate::page::PAGE_BYTES;
 use mdc_outside::{Disk, Failed};
 

@@ -9,7 +9,7 @@ ghost use Rattle.redo_journal.specs.Runs.{Runs, IsWithin, IsCovered, Between};
 
 use crate::Images;
 use crate::calls::{end_of, put, settle};
-use crate::fill::fill;
+use crate::filling::fill;
 use crate::page::{NUMBERS, PAGE_BYTES, index_page};
 use byteorder::{BigEndian, ByteOrder};
 use mdc_outside::{Disk, Failed};

@@ -9,7 +9,7 @@ use byteorder::{BigEndian, ByteOrder};
 use store_api::Page;
 
 /// How many bytes a page has.
-pub(crate) const PAGE_BYTES: u64 = 4096;
+pub const PAGE_BYTES: u64 = 4096;
 
 /// How many page numbers stand in an index page.
 pub(crate) const NUMBERS: usize = 1024;
@@ -17,7 +17,7 @@ pub(crate) const NUMBERS: usize = 1024;
 static ZEROS: Page = [0; 4096];
 
 /// So many zeros, at most a page.
-pub(crate) fn zeros(n: usize) -> &'static [u8]
+pub fn zeros(n: usize) -> &'static [u8]
     requires { n ≤ 4096 }
     ensures { result.now ≡ replicate n 0 }
 {

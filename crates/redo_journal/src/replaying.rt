@@ -20,7 +20,9 @@ use mdc_values::Memory;
 use std::alloc::Global;
 use store_api::{Damage, Page};
 
-/// Reads the number of four bytes at a place.
+/// Reads the number of four bytes at a place, the first byte the highest. It changes nothing in the file.
+///
+/// It answers `Failed` only where the disk did.
 pub fn read_number<D: Disk>(disk: &mut D, at: u64) -> Result<u32, Failed>
     requires attached { IsTrue (D.is_attached disk.old) }
     requires within { ForSome (D.file disk.old) (λ file. at + 4 ≤ length file.bytes) }
@@ -34,7 +36,9 @@ pub fn read_number<D: Disk>(disk: &mut D, at: u64) -> Result<u32, Failed>
     Ok(BigEndian::read_u32(&bytes))
 }
 
-/// Reads the page at a place.
+/// Reads the page at a place. It changes nothing in the file.
+///
+/// It answers `Failed` only where the disk did.
 pub fn read_page<D: Disk>(disk: &mut D, at: u64) -> Result<Page, Failed>
     requires attached { IsTrue (D.is_attached disk.old) }
     requires within { ForSome (D.file disk.old) (λ file. at + 4096 ≤ length file.bytes) }

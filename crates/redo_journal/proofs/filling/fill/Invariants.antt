@@ -1,7 +1,7 @@
 use Rattle.std.proofs.Common.{◌≡◌, ◌≤◌, ◌-◌, ◌++◌, replicate, max}
 use Rattle.mdc_outside.specs.Disk.{torn}
 use Rattle.redo_journal.specs.Runs.{Runs, IsCovered, Between}
-use Rattle.redo_journal.proofs.fill.fill.Given as goal
+use Rattle.redo_journal.proofs.filling.fill.Given as goal
 
 -- zeros stand up to the end so far
 abbrev pub invariant-loop-end : goal.invariant-loop-end

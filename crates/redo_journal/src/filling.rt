@@ -9,8 +9,10 @@ use crate::calls::put;
 use crate::page::{PAGE_BYTES, zeros};
 use mdc_outside::{Disk, Failed};
 
-/// Writes zeros from the file's end up to a place, where the file ends before it.
-pub(crate) fn fill<D: Disk>(disk: &mut D, from: u64, to: u64) -> Result<(), Failed>
+/// Writes zeros from the file's end up to a place, where the file ends before it. They are on the disk after a `settle`.
+///
+/// It answers `Failed` only where the disk did. A first part of the zeros may then be written.
+pub fn fill<D: Disk>(disk: &mut D, from: u64, to: u64) -> Result<(), Failed>
     requires attached { IsTrue (D.is_attached disk.old) }
     requires end { ForSome (D.file disk.old) (λ file. from ≡ length file.bytes) }
     ensures filled { OnOk result (Between (D.file disk.old) (D.file disk.new) (λ old new. new ≡ old ++ replicate (to - from) 0)) }

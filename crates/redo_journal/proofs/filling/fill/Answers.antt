@@ -4,7 +4,7 @@ use Rattle.std.proofs.lemmas.List.{length-replicate}
 use Rattle.mdc_outside.specs.Disk.{overwritten}
 use Rattle.redo_journal.proofs.Bytes.{more_zeros}
 use Rattle.redo_journal.proofs.Steps.{runs_part, between_then, now_holds, written_between}
-use Rattle.redo_journal.proofs.fill.fill.Goals as goal
+use Rattle.redo_journal.proofs.filling.fill.Goals as goal
 
 pub put-requires-clause-within : goal.put-requires-clause-within
 put-requires-clause-within g c = now_holds (λ file. c.args.from ≡ length file.bytes) (λ file. c.loop-end.end ≤ length file.bytes) c.loop-end.invariant.runs c.loop-end.invariant.filled c.requires.end
