@@ -1,7 +1,11 @@
 pub mod Births
 pub mod Crashes
+pub mod Deciding
 pub mod Journals
 pub mod Judged
+pub mod Kept
 pub mod Leaving
+pub mod Listed
 pub mod Numbers
+pub mod Pages
 pub mod Roots

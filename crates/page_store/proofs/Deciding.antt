@@ -1,0 +1,90 @@
+-- Whether a file is formed is decided.
+use Rattle.std.proofs.Common.{◌≡◌, ◌⊎◌, ◌≤◌, ◌<◌, ◌+◌, ◌*◌, ℕ, suc, Bool, IsTrue, List, [], ◌∷◌, length, inl, inr, arith}
+use Rattle.std.specs.List.{All}
+use Rattle.std.proofs.lemmas.Bool.{cases_lt, cases_Bool, both_ways}
+use Rattle.std.proofs.lemmas.Bool.Decides.{not_from_Decides}
+use Rattle.std.proofs.lemmas.Slice.Eq.{bytes_eq-Decides}
+use Rattle.std.proofs.lemmas.List.Elements.{All-nil, All-cons}
+use Rattle.std.specs.Str.{bytes_eq}
+use Rattle.redo_journal.specs.Images.{Numbered, AreRising}
+use Rattle.redo_journal.specs.Layout.{file_page, is_open, start_of, number_of, journal_of, index_pages, IsJournal}
+use Rattle.page_store.specs.Shape.{IsBirth, is_shape, birth_page, extents_in, extent_pages_in}
+use Rattle.page_store.specs.Standing.{count_of, is_made, IsFitting, IsFormed}
+
+-- it holds or not
+abbrev pub Decided : Type 0 → Type 0
+Decided P = P ⊎ (¬ P)
+
+-- what is the same as something decided
+decided_as : {P Q : Type 0} → (P → Q) → (Q → P) → Decided P → Decided Q
+decided_as into back (inl holds) = inl (into holds)
+decided_as into back (inr fails) = inr (λ q. fails (back q))
+
+-- two that are decided
+decided_both : {P Q : Type 0} → Decided P → Decided Q → Decided (P × Q)
+decided_both (inl p) (inl q) = inl (p, q)
+decided_both (inl p) (inr fails) = inr (λ both. fails both.1)
+decided_both (inr fails) q = inr (λ both. fails both.0)
+
+-- one that matters only where another holds
+decided_where : {P Q : Type 0} → Decided P → Decided Q → Decided (P → Q)
+decided_where p (inl q) = inl (λ is. q)
+decided_where (inl p) (inr fails) = inr (λ gives. fails (gives p))
+decided_where (inr none) (inr fails) = inl (λ is. absurd (none is))
+
+-- a test
+decided_test : (b : Bool) → Decided (IsTrue b)
+decided_test b = elim (cases_Bool b) [ inl is ↦ inl is | inr not_so ↦ inr (both_ways b not_so) ]
+
+-- an order
+decided_le : (m n : ℕ) → Decided (m ≤ n)
+decided_le m n = elim (cases_lt n m) [ inl above ↦ inr (λ le. omega arith) | inr le ↦ inl le ]
+
+-- a fact on each
+decided_All : {X : Type 0} (P : X → Type 0) → ((x : X) → Decided (P x)) → (xs : List X) → Decided (All P xs)
+decided_All P each [] = inl (All-nil P)
+decided_All P each (x ∷ xs) = decided_as {P = P x × All P xs} (λ both. All-cons P x xs both.0 both.1)
+    (λ all. (all 0 x (omega arith), λ k d lt. all (suc k) d (omega arith))) (decided_both (each x) (decided_All P each xs))
+
+-- rising numbers
+decided_rising : (images : Numbered) → Decided (AreRising images)
+decided_rising [] = inl tt
+decided_rising (image ∷ images) =
+    decided_both (decided_All (λ (behind : ℕ × List ℕ). image.0 < behind.0) (λ behind. decided_le (suc image.0) behind.0) images) (decided_rising images)
+
+-- lists of numbers
+decided_bytes : (xs ys : List ℕ) → Decided (xs ≡ ys)
+decided_bytes xs ys = elim (cases_Bool (bytes_eq xs ys)) [
+  | inl same ↦ inl ((bytes_eq-Decides xs ys).0 same)
+  | inr other ↦ inr (not_from_Decides (bytes_eq xs ys) (bytes_eq-Decides xs ys) other)
+]
+
+-- a birth page
+decided_birth : (page : List ℕ) → Decided (IsBirth page)
+decided_birth page = decided_as {P = IsTrue (is_shape (extents_in page) (extent_pages_in page)) × (page ≡ birth_page (extents_in page) (extent_pages_in page))}
+    (λ both. record { limits = both.0; bytes = both.1 }) (λ birth. (birth.limits, birth.bytes))
+    (decided_both (decided_test (is_shape (extents_in page) (extent_pages_in page))) (decided_bytes page (birth_page (extents_in page) (extent_pages_in page))))
+
+-- a journal
+decided_journal : (file : List ℕ) → Decided (IsJournal file)
+decided_journal file =
+    decided_as {P = (66 ≤ start_of file) × ((4096 * (start_of file + index_pages (number_of file) + number_of file) ≤ length file) × AreRising (journal_of file))}
+    (λ all. record { behind_gates = all.0; within = all.1.0; rising = all.1.1 }) (λ journal. (journal.behind_gates, (journal.within, journal.rising)))
+    (decided_both (decided_le 66 (start_of file)) (decided_both (decided_le (4096 * (start_of file + index_pages (number_of file) + number_of file)) (length file)) (decided_rising (journal_of file))))
+
+-- a journal that fits
+decided_fitting : (file : List ℕ) → Decided (IsFitting file)
+decided_fitting file =
+    decided_as {P = (66 + count_of file ≤ start_of file) × (IsJournal file × All (λ image. image.0 < count_of file) (journal_of file))}
+    (λ all. record { behind = all.0; journal = all.1.0; named = all.1.1 }) (λ fitting. (fitting.behind, (fitting.journal, fitting.named)))
+    (decided_both (decided_le (66 + count_of file) (start_of file)) (decided_both (decided_journal file)
+    (decided_All (λ (image : ℕ × List ℕ). image.0 < count_of file) (λ image. decided_le (suc image.0) (count_of file)) (journal_of file))))
+
+-- a formed file
+pub decided_formed : (file : List ℕ) → Decided (IsFormed file)
+decided_formed file =
+    decided_as {P = IsTrue (is_made file) × (IsBirth (file_page file 1) × ((IsTrue (is_open file) → IsFitting file) × (4096 * (66 + count_of file) ≤ length file)))}
+    (λ all. record { made = all.0; birth = all.1.0; journal = all.1.1.0; whole = all.1.1.1 })
+    (λ formed. (formed.made, (formed.birth, (formed.journal, formed.whole))))
+    (decided_both (decided_test (is_made file)) (decided_both (decided_birth (file_page file 1))
+    (decided_both (decided_where (decided_test (is_open file)) (decided_fitting file)) (decided_le (4096 * (66 + count_of file)) (length file)))))
