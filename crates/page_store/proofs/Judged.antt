@@ -1,16 +1,22 @@
 -- What was read of a file says whether it can be served.
-use Rattle.std.proofs.Common.{◌≡◌, ◌≢◌, ◌≤◌, ◌<◌, ◌+◌, ◌-◌, ◌*◌, ◌/◌, ℕ, IsTrue, List, Option, Some, None, length, drop, arith, refl, sym, ap, ◌∙◌, subst, inl, inr}
+use Rattle.std.proofs.Common.{◌≡◌, ◌≢◌, ◌≤◌, ◌<◌, ◌+◌, ◌-◌, ◌*◌, ◌/◌, ℕ, IsTrue, IsFalse, List, Option, Some, None, length, drop, arith, refl, sym, ap, ◌∙◌, subst, inl, inr}
 use Rattle.std.specs.List.{All}
 use Rattle.byteorder.specs.Endian.{big_number}
 use Rattle.redo_journal.specs.Images.{Numbered}
-use Rattle.redo_journal.specs.Layout.{file_page, is_open, start_of, journal_of}
+use Rattle.mdc_outside.specs.Disk.{File, all_synced}
+use Rattle.redo_journal.specs.Faults.{IsDamaged}
+use Rattle.redo_journal.specs.Layout.{file_page, is_open, start_of, journal_of, IsJournal}
+use Rattle.redo_journal.specs.declared.replaying.ReplayFault.{ReplayFault}
+use Rattle.redo_journal.specs.declared.replaying.ReplayFault.TheVariants as replay
 use Rattle.store_api.specs.StoreState.{stated_in}
 use Rattle.page_store.specs.declared.fault.OpenFault.TheVariants.{Version, Damaged}
 use Rattle.page_store.specs.declared.journal.Journal.{Journal}
-use Rattle.page_store.specs.Shape.{extents_in, extent_pages_in}
-use Rattle.page_store.specs.Standing.{page_of, count_of, IsFitting}
-use Rattle.page_store.specs.Opening.{IsRoot, IsRead, IsWhole, IsServed, Refuses, version_of}
-use Rattle.page_store.specs.Reading.{IsCounting, IsBehind, WasRead}
+use Rattle.page_store.specs.declared.recovery.Opened.{Opened}
+use Rattle.page_store.specs.Faults.{open_fault_of}
+use Rattle.page_store.specs.Shape.{IsBirth, extents_in, extent_pages_in}
+use Rattle.page_store.specs.Standing.{page_of, count_of, IsFitting, IsFormed}
+use Rattle.page_store.specs.Opening.{IsMade, IsRoot, IsRead, IsWhole, IsServed, IsAtRest, IsOther, Refuses, version_of}
+use Rattle.page_store.specs.Reading.{IsCounting, IsBehind, States, WasRead}
 
 -- page 0 as it was read, in the file
 root_in_file : {bytes extents pages : ℕ} {journal : Option Journal} {root file : List ℕ} → WasRead bytes extents pages journal root file
@@ -96,3 +102,64 @@ pub can_serve : {bytes extents pages : ℕ} {journal : Option Journal} {root fil
     → version ≡ big_number 4 (drop 4 root) → version ≡ 1 → IsServed file × (count_of file ≡ count)
 can_serve count version read is counts behind long states one =
     ((read.made, read.birth, is_read count read is counts behind, is_whole count read counts long, ap (λ page. big_number 4 (drop 4 page)) (sym read.root_is) ∙ (sym states ∙ one)), count_is count read counts)
+
+-- what was read, put together
+pub was_read : (bytes extents pages : ℕ) (journal : Option Journal) (birth root file : List ℕ) → IsMade file × (birth ≡ file_page file 1)
+    → IsBirth birth × (extents ≡ extents_in birth) × (pages ≡ extent_pages_in birth) → bytes ≡ length file → IsCounting journal file → root ≡ page_of file 0
+    → WasRead bytes extents pages journal root file
+was_read bytes extents pages journal birth root file made shape size counting is = record {
+  made = made.0;
+  birth = subst (λ (page : List ℕ). IsBirth page) made.1 shape.0;
+  size = size;
+  states_extents = shape.1 ∙ ap extents_in made.1;
+  states_extent_pages = shape.2 ∙ ap extent_pages_in made.1;
+  counting = counting;
+  root_is = is;
+}
+
+-- the file isn't a database's
+pub is_other : (birth file : List ℕ) → IsMade file × (birth ≡ file_page file 1) → (IsBirth birth → ⊥) → IsOther file
+is_other birth file made none = (made.0, λ is. none (subst (λ (page : List ℕ). IsBirth page) (sym made.1) is))
+
+-- page 0 isn't whole
+pub root_missing : (extents pages : ℕ) (birth file : List ℕ) → IsMade file × (birth ≡ file_page file 1) → IsBirth birth × (extents ≡ extents_in birth) × (pages ≡ extent_pages_in birth)
+    → length (page_of file 0) ≢ 4096 → Refuses (Damaged (record { page = 0; rule = 1 })) file
+root_missing extents pages birth file made shape cut = (made.0, subst (λ (page : List ℕ). IsBirth page) made.1 shape.0, inl ((λ is. cut is.root.size), refl))
+
+-- the replay failed
+pub replay_refused : (fault : ReplayFault) (extents pages : ℕ) (birth file : List ℕ) → IsMade file × (birth ≡ file_page file 1) → IsBirth birth × (extents ≡ extents_in birth) × (pages ≡ extent_pages_in birth)
+    → (IsDamaged fault → (fault ≡ replay.Damaged (record { page = 0; rule = 1 })) × IsTrue (is_open file) × ¬ IsJournal file) → Refuses (open_fault_of fault) file
+replay_refused replay.Device extents pages birth file made shape damaged = tt
+replay_refused (replay.Damaged damage) extents pages birth file made shape damaged =
+    let broken = damaged tt in
+    let zero : damage ≡ record { page = 0; rule = 1 } = cc (broken.0) in
+    (made.0, subst (λ (page : List ℕ). IsBirth page) made.1 shape.0, inl ((λ is. broken.2 (is.journal broken.1).journal), zero))
+replay_refused replay.Memory extents pages birth file made shape damaged = tt
+
+-- a file that can be served is formed
+pub served_formed : (file : List ℕ) → IsServed file → IsFormed file
+served_formed file served = record { made = served.0.1; birth = served.1; journal = served.2.journal; whole = served.3 }
+
+-- a file without a journal rests
+pub found_at_rest : (opened : Opened) (file : File) → file.since ≡ all_synced file.bytes → IsFalse (is_open file.bytes) → IsServed file.bytes → States opened file.bytes
+    → IsAtRest opened.extents opened.extent_pages opened.count file
+found_at_rest opened file synced closed served states = record {
+  synced = synced;
+  closed = closed;
+  formed = served_formed file.bytes served;
+  states_pages = sym states.count;
+  states_extents = sym states.extents;
+  states_extent_pages = sym states.extent_pages;
+}
+
+-- a file that rests with what it stated before states what was found
+pub rests_as_found : (opened : Opened) (before : List ℕ) (file : File) → States opened before
+    → IsAtRest (extents_in (file_page before 1)) (extent_pages_in (file_page before 1)) (count_of before) file → IsAtRest opened.extents opened.extent_pages opened.count file
+rests_as_found opened before file states rest = record {
+  synced = rest.synced;
+  closed = rest.closed;
+  formed = rest.formed;
+  states_pages = rest.states_pages ∙ sym states.count;
+  states_extents = rest.states_extents ∙ sym states.extents;
+  states_extent_pages = rest.states_extent_pages ∙ sym states.extent_pages;
+}

@@ -8,4 +8,5 @@ pub mod Leaving
 pub mod Listed
 pub mod Numbers
 pub mod Pages
+pub mod Repairs
 pub mod Roots

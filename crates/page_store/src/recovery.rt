@@ -55,14 +55,13 @@ pub(crate) fn recover<D: Disk>(alloc: Global, disk: &mut D) -> Result<Opened, Op
     ensures later { D.disk_faults disk.old ≤ D.disk_faults disk.new }
     ensures leaves { Leaves D.file D.beside D.attaches D.is_attached D.clock D.moment (λ before image. StandsAs before.bytes image) disk.old disk.new }
 {
-    let found = match inspect(alloc, disk) {
-        Ok(found) => found,
-        Err(fault) => return Err(fault),
+    let found = inspect(alloc, disk)?;
+    let opened = found.opened;
+    let Some(journal) = found.journal else {
+        return Ok(opened);
     };
-    if let Some(journal) = &found.journal {
-        repair(disk, &journal.images)?;
-    }
-    Ok(found.opened)
+    repair(disk, &journal.images)?;
+    Ok(opened)
 }
 
 // Reads what the file stands for, and judges it.
