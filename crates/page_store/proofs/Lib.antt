@@ -1,11 +1,13 @@
-pub mod Births
 pub mod Crashes
 pub mod Deciding
+pub mod FreshBytes
+pub mod FreshDatabase
 pub mod Journals
 pub mod Judged
 pub mod Kept
 pub mod Leaving
 pub mod Listed
+pub mod MakeCrashes
 pub mod Numbers
 pub mod Pages
 pub mod Repairs

@@ -1,5 +1,5 @@
 -- What has changed of the pages of a store since its last commit.
-use Rattle.std.specs.Prelude.{◌≡◌, ◌⊎◌, ◌<◌, ◌≤◌, ℕ, ◌+◌, List, [], ◌∷◌, ◌++◌, Option, Some, None, length, slice_get, slice_set, replicate}
+use Rattle.std.specs.Prelude.{ℕ, List, [], ◌∷◌, Option, Some, None, replicate}
 use Rattle.store_api.specs.StoreState.{zero_page}
 
 -- for each page what was written over it, or nothing where it is as it was

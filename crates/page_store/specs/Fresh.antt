@@ -1,6 +1,7 @@
 -- The file that is made: empty but for its gates, its birth page and its root page (docs/FORMAT.md, "Creation").
-use Rattle.std.specs.Prelude.{◌≡◌, ◌⊎◌, ◌≤◌, ◌<◌, ℕ, ◌+◌, ◌*◌, List, [], ◌∷◌, ◌++◌, length, drop, replicate, IsFalse}
+use Rattle.std.specs.Prelude.{◌≡◌, ◌⊎◌, ◌<◌, ℕ, ◌+◌, ◌*◌, List, [], ◌∷◌, ◌++◌, length, drop, replicate, IsFalse}
 use Rattle.byteorder.specs.Endian.{big_bytes}
+use Rattle.mdc_outside.specs.Disk.{File, IsImage, all_synced}
 use Rattle.store_api.specs.StoreState.{zero_page}
 use Rattle.page_store.specs.Shape.{map_pages, first_count, birth_page}
 use Rattle.page_store.specs.Standing.{is_made}
@@ -17,10 +18,21 @@ gates made = made ∷ drop 1 zero_page
 abbrev pub root_page : ℕ → List ℕ
 root_page extents = (82 ∷ 79 ∷ 79 ∷ 84 ∷ []) ++ big_bytes 4 1 ++ big_bytes 4 (first_count extents) ++ drop 12 zero_page
 
--- An empty database: gates, birth page, 64 pages for a log, root page, 16 table pages and the extent map.
+-- gates with this made byte, birth page, and 64 pages for a log
+abbrev pub front_with : ℕ → ℕ → ℕ → List ℕ
+front_with made extents extent_pages = gates made ++ birth_page extents extent_pages ++ zero_pages 64
+
+-- behind these the root page, 16 table pages and the extent map
+abbrev pub file_with : ℕ → ℕ → ℕ → List ℕ
+file_with made extents extent_pages = front_with made extents extent_pages ++ root_page extents ++ zero_pages (16 + map_pages extents)
+
+-- an empty database
 abbrev pub fresh_file : ℕ → ℕ → List ℕ
-fresh_file extents extent_pages =
-    gates 77 ++ birth_page extents extent_pages ++ zero_pages 64 ++ root_page extents ++ zero_pages (16 + map_pages extents)
+fresh_file extents extent_pages = file_with 77 extents extent_pages
+
+-- how many bytes it has
+abbrev pub fresh_len : ℕ → ℕ
+fresh_len extents = 4096 * (66 + first_count extents)
 
 -- the file is too short for a database, or its made byte isn't open
 abbrev pub IsUnmade : List ℕ → Type 0
@@ -29,3 +41,13 @@ IsUnmade file = (length file < 8192) ⊎ IsFalse (is_made file)
 -- what a crash while a database is made leaves: a file that isn't made, or the whole
 abbrev pub IsUnmadeOrFresh : ℕ → ℕ → List ℕ → Type 0
 IsUnmadeOrFresh extents extent_pages file = IsUnmade file ⊎ (file ≡ fresh_file extents extent_pages)
+
+-- where a crash before left no byte, the image isn't made or is the whole
+abbrev pub IsOfMaking : ℕ → ℕ → File → List ℕ → Type 0
+IsOfMaking extents extent_pages before image =
+    ((left : List ℕ) → IsImage before.since left → left ≡ []) → IsUnmadeOrFresh extents extent_pages image
+
+-- the file holds an empty database, all of it on the disk
+pub record HoldsFresh (extents extent_pages : ℕ) (file : File) : Type 0 where
+  pub bytes : file.bytes ≡ fresh_file extents extent_pages
+  pub synced : file.since ≡ all_synced file.bytes

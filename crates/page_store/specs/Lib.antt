@@ -1,4 +1,5 @@
 pub mod Changes
+pub mod Empty
 pub mod Fresh
 pub mod Leaving
 pub mod Faults

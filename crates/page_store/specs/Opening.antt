@@ -1,7 +1,7 @@
 -- What opening a file finds (docs/FORMAT.md, "Opening").
-use Rattle.std.specs.Prelude.{◌≡◌, ◌≢◌, ◌⊎◌, ◌≤◌, ◌<◌, ℕ, ◌+◌, ◌-◌, ◌*◌, ◌/◌, Bool, IsTrue, IsFalse, List, [], ◌∷◌, length, take, drop}
+use Rattle.std.specs.Prelude.{◌≡◌, ◌≢◌, ◌⊎◌, ◌≤◌, ℕ, ◌+◌, ◌-◌, ◌*◌, ◌/◌, IsTrue, IsFalse, List, [], ◌∷◌, length, take, drop}
 use Rattle.byteorder.specs.Endian.{big_number}
-use Rattle.mdc_outside.specs.Disk.{File, IsImage, all_synced}
+use Rattle.mdc_outside.specs.Disk.{File, all_synced}
 use Rattle.redo_journal.specs.Layout.{file_page, is_open}
 use Rattle.store_api.specs.StoreState.{stated_in}
 use Rattle.store_api.specs.declared.fault.Damage.{Damage}

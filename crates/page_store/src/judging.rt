@@ -6,13 +6,11 @@ ghost use Rattle.page_store.specs.Reading.{WasRead};
 ghost use Rattle.page_store.specs.Standing.{count_of};
 
 use crate::OpenFault;
+use crate::fresh::VERSION;
 use crate::journal::{Journal, is_behind};
 use crate::root::{count_in, version_in};
 use crate::shape::Shape;
 use store_api::{Damage, Page};
-
-// The version that is served.
-const VERSION: u32 = 1;
 
 /// The page count of a file of so many bytes, or why it can't be served.
 pub(crate) fn judge(end: u64, shape: Shape, journal: &Option<Journal>, root: &Page) -> Result<u32, OpenFault>

@@ -6,8 +6,10 @@
 #![tactic(auto)]
 
 mod fault;
+mod fresh;
 mod journal;
 mod judging;
+mod making;
 mod number;
 mod reading;
 mod recovery;
@@ -15,3 +17,7 @@ mod root;
 mod shape;
 
 pub use fault::OpenFault;
+pub use making::make;
+
+#[cfg(test)]
+mod tests;

@@ -1,6 +1,6 @@
 // A number in a page.
-ghost use Rattle.std.specs.Prelude.{◌≡◌, ◌+◌, ◌≤◌, ◌++◌, take, drop};
-ghost use Rattle.byteorder.specs.Endian.{big_bytes, big_number};
+ghost use Rattle.std.specs.Prelude.{◌≡◌, ◌+◌, ◌≤◌, drop};
+ghost use Rattle.byteorder.specs.Endian.{big_number};
 
 use byteorder::{BigEndian, ByteOrder};
 use store_api::Page;
@@ -11,12 +11,4 @@ pub(crate) fn number_at(page: &Page, place: usize) -> u32
     ensures { result ≡ big_number 4 (drop place page.now) }
 {
     BigEndian::read_u32(&page[place..])
-}
-
-/// Writes a number into the four bytes from a place on.
-pub(crate) fn put_number(page: &mut Page, place: usize, number: u32)
-    requires { place + 4 ≤ 4096 }
-    ensures { page.new ≡ take place page.old ++ big_bytes 4 number ++ drop (place + 4) page.old }
-{
-    BigEndian::write_u32(&mut page[place..], number);
 }

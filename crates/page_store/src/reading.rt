@@ -12,21 +12,14 @@ ghost use Rattle.page_store.specs.Reading.{IsCounting};
 ghost use Rattle.page_store.specs.Standing.{page_of};
 
 use crate::journal::{Journal, root_image};
+use crate::making::{MADE, ROOT};
 use mdc_outside::{Disk, Failed};
-use redo_journal::{ReplayFault, get, read_number, read_page, replay};
+use redo_journal::{PAGE_BYTES, ReplayFault, get, read_number, read_page, replay};
 use std::alloc::Global;
 use store_api::Page;
 
-const PAGE_BYTES: u64 = 4096;
-
-// The made byte of a database.
-const MADE: u8 = 0x4d;
-
 // Where the journal's start stands in the file.
 const START: u64 = 1024;
-
-// The file page of page 0.
-const ROOT: u64 = 66;
 
 /// Reads the birth page, or nothing where the file isn't made.
 pub(crate) fn read_birth<D: Disk>(disk: &mut D, end: u64) -> Result<Option<Page>, Failed>

@@ -4,6 +4,7 @@ ghost use Rattle.byteorder.specs.Endian.{big_number};
 ghost use Rattle.store_api.specs.StoreState.{stated_in};
 ghost use Rattle.page_store.specs.Opening.{IsRoot};
 
+use crate::fresh::first_count;
 use crate::number::number_at;
 use crate::shape::Shape;
 use store_api::Page;
@@ -13,7 +14,7 @@ pub(crate) fn count_in(page: &Page, shape: Shape) -> Option<u32>
     ensures { MatchOption result (IsRoot shape.extents shape.extent_pages page.now → ⊥) (λ count. IsRoot shape.extents shape.extent_pages page.now × (count ≡ stated_in page.now) × (18 ≤ count) × (count ≤ 262289)) }
 {
     let count = number_at(page, 8);
-    let first = shape.first_count();
+    let first = first_count(shape.extents);
     if !page.starts_with(b"ROOT") || count < first {
         return None;
     }

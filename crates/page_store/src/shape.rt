@@ -1,9 +1,9 @@
 // How large a database may grow, and the page that states it.
 ghost use Rattle.std.specs.Prelude.{◌≡◌, IsTrue, MatchOption};
-ghost use Rattle.store_api.specs.StoreState.{zero_page};
-ghost use Rattle.page_store.specs.Shape.{IsBirth, birth_page, extents_in, extent_pages_in, first_count, is_extent_size, is_shape};
+ghost use Rattle.page_store.specs.Shape.{IsBirth, extents_in, extent_pages_in, is_extent_size, is_shape};
 
-use crate::number::{number_at, put_number};
+use crate::fresh::birth_page;
+use crate::number::number_at;
 use store_api::Page;
 
 /// How many extents a database may have, and how many pages each has.
@@ -12,15 +12,6 @@ pub(crate) struct Shape {
     pub extents: u32,
     pub extent_pages: u32,
     ghost within: { IsTrue (is_shape extents extent_pages) },
-}
-
-impl Shape {
-    /// How many pages a new database has: the root page, 16 table pages and the extent map.
-    pub fn first_count(self) -> u32
-        ensures { result ≡ first_count self.extents }
-    {
-        17 + self.extents.div_ceil(512)
-    }
 }
 
 /// What a birth page states, or nothing where the page isn't one.
@@ -53,23 +44,4 @@ fn is_extent_size(pages: u32) -> bool
     ensures { result ≡ is_extent_size pages }
 {
     pages == 2 || pages == 4 || pages == 8 || pages == 16 || pages == 32
-}
-
-/// The birth page that states these numbers.
-pub(crate) fn birth_page(extents: u32, extent_pages: u32) -> Page
-    ensures { result ≡ birth_page extents extent_pages }
-{
-    let mut page = blank_page();
-    page[..8].copy_from_slice(b"MDCTABLE");
-    put_number(&mut page, 8, extents);
-    put_number(&mut page, 12, extent_pages);
-    page
-}
-
-// A page of zeros.
-#[tactic(auto, unfolding(store_api::specs::StoreState::zero_page))]
-fn blank_page() -> Page
-    ensures { result ≡ zero_page }
-{
-    [0; 4096]
 }
