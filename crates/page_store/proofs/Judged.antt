@@ -52,9 +52,10 @@ fits (Some journal) count file counting same behind gate = record {
 behind_all : (journal : Option Journal) (count : ℕ) (file : List ℕ) → IsCounting journal file → count_of file ≡ count → (IsTrue (is_open file) → IsFitting file) → IsBehind journal count
 behind_all None count file counting same fitting = tt
 behind_all (Some journal) count file counting same fitting =
-    let fit = fitting counting.0 in
-    (omega (arith, fit.behind, counting.3, same),
-    subst (λ (n : ℕ). All (λ image. image.0 < n) journal.images) same (subst (λ (images : Numbered). All (λ image. image.0 < count_of file) images) (sym counting.2) fit.named))
+    let fit = fitting counting.0 in (
+      omega (arith, fit.behind, counting.3, same),
+      subst (λ (n : ℕ). All (λ image. image.0 < n) journal.images) same (subst (λ (images : Numbered). All (λ image. image.0 < count_of file) images) (sym counting.2) fit.named),
+    )
 
 -- a file that was read with a journal that fits and a page 0 of its form
 is_read : {bytes extents pages : ℕ} {journal : Option Journal} {root file : List ℕ} (count : ℕ) → WasRead bytes extents pages journal root file

@@ -82,9 +82,9 @@ module _ {D : Type 0} {file : D → Option File} {aside : D → Beside} {attache
       → Leaves file aside attaches is_attached clock moment (λ before image. StandsAs before.bytes image) old new
   keeps_then first second = leaves_then first second (λ before image is kept. kept)
       (λ before half image is_before is_half kept_first kept_second formed.
-          let one = kept_first formed in
-          let two = kept_second one.0 in
-          (two.0, two.1 ∙ one.1))
+      let one = kept_first formed in
+      let two = kept_second one.0 in
+      (two.0, two.1 ∙ one.1))
 
   -- a file that is told was told before
   pub told_before : {Kind : File → List ℕ → Type 0} {old new : D} → Leaves file aside attaches is_attached clock moment Kind old new
@@ -100,8 +100,8 @@ module _ {D : Type 0} {file : D → Option File} {aside : D → Beside} {attache
       → Leaves file aside attaches is_attached clock moment (λ before image. StandsAs before.bytes image) old new
   home_leaves images {old} {new} run sound synced counts = runs_leave run (λ after is. sound_image (file new) after (sound new) is)
       (λ before image is left formed.
-          let homeward = homeward_image images before image (synced before is) (counts before is) left in
-          (homeward.stands.formed, homeward.stands.pages))
+      let homeward = homeward_image images before image (synced before is) (counts before is) left in
+      (homeward.stands.formed, homeward.stands.pages))
 
   -- after they were written home
   pub homeward : (images : Numbered) {old new : D} → Runs file aside attaches is_attached clock moment IsWithin (torn_home images) old new
@@ -132,9 +132,9 @@ module _ {D : Type 0} {file : D → Option File} {aside : D → Beside} {attache
       → Leaves file aside attaches is_attached clock moment (λ before image. StandsAs before.bytes image) middle new
   close_leaves images {old} {middle} {new} first second sound synced counts holds = runs_leave second (λ after is. sound_image (file new) after (sound new) is)
       (λ half image is left formed.
-          let found = homeward images first sound synced counts half is in
-          let stands = closing_image images found.0 half image found.2 (holds half is) left in
-          (stands.formed, stands.pages))
+      let found = homeward images first sound synced counts half is in
+      let stands = closing_image images found.0 half image found.2 (holds half is) left in
+      (stands.formed, stands.pages))
 
   -- after it was closed
   pub close_rests : {T E : Type 0} (result : Result T E) (images : Numbered) {old middle new : D} → Runs file aside attaches is_attached clock moment IsWithin (torn_home images) old middle

@@ -45,6 +45,7 @@ count_limits extents pages used count limits le is =
 -- a page begins with these four bytes exactly if the test says so
 pub begins : (page four : List ℕ) (r : Bool) → length four ≡ 4 → r ≡ starts_with eqb page four → (r ≡ true → take 4 page ≡ four) × (take 4 page ≡ four → r ≡ true)
 begins page four r size is =
-    let tells = starts_is Decides-eqb page four r is in
-    (λ yes. ap (take 4) (tells.0 yes) ∙ take_at four (drop (length four) page) 4 size,
-    λ front. tells.1 (drop 4 page) (sym (take-append-drop 4 page) ∙ ap (λ xs. xs ++ drop 4 page) front))
+    let tells = starts_is Decides-eqb page four r is in (
+      λ yes. ap (take 4) (tells.0 yes) ∙ take_at four (drop (length four) page) 4 size,
+      λ front. tells.1 (drop 4 page) (sym (take-append-drop 4 page) ∙ ap (λ xs. xs ++ drop 4 page) front),
+    )

@@ -20,7 +20,8 @@ pub(crate) fn is_behind(journal: &Option<Journal>, count: u32) -> bool
 {
     match journal {
         None => true,
-        Some(journal) => u64::from(journal.start) >= 66 + u64::from(count) && are_below(&journal.images, count),
+        Some(journal) => u64::from(journal.start) >= 66 + u64::from(count)
+            && are_below(&journal.images, count),
     }
 }
 

@@ -13,7 +13,12 @@ use crate::shape::Shape;
 use store_api::{Damage, Page};
 
 /// The page count of a file of so many bytes, or why it can't be served.
-pub(crate) fn judge(end: u64, shape: Shape, journal: &Option<Journal>, root: &Page) -> Result<u32, OpenFault>
+pub(crate) fn judge(
+    end: u64,
+    shape: Shape,
+    journal: &Option<Journal>,
+    root: &Page,
+) -> Result<u32, OpenFault>
     ensures judged { (file : List ℕ) → WasRead end shape.extents shape.extent_pages journal.now root.now file → MatchResult result (λ count. IsServed file × (count_of file ≡ count)) (λ fault. Refuses fault file) }
     ensures limits { IfOk result (λ count. (18 ≤ count) × (count ≤ 262289)) }
     ensures unserved { IfErr result IsUnserved }

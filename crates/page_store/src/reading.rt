@@ -43,7 +43,10 @@ pub(crate) fn read_birth<D: Disk>(disk: &mut D, end: u64) -> Result<Option<Page>
 }
 
 /// Reads the journal, or nothing where its gate isn't open.
-pub(crate) fn read_journal<D: Disk>(alloc: Global, disk: &mut D) -> Result<Option<Journal>, ReplayFault>
+pub(crate) fn read_journal<D: Disk>(
+    alloc: Global,
+    disk: &mut D,
+) -> Result<Option<Journal>, ReplayFault>
     requires { IsTrue (D.is_attached disk.old) }
     ensures counting { IfOk result (λ journal. ForSome (D.file disk.old) (λ file. IsCounting journal file.bytes)) }
     ensures damaged { IfErr result (λ fault. IsDamaged fault → (fault ≡ ReplayFault.Damaged (record { page = 0; rule = 1 })) × ForSome (D.file disk.old) (λ file. IsTrue (is_open file.bytes) × ¬ IsJournal file.bytes)) }
@@ -63,7 +66,11 @@ pub(crate) fn read_journal<D: Disk>(alloc: Global, disk: &mut D) -> Result<Optio
 }
 
 /// Reads page 0, or nothing where the file ends within it.
-pub(crate) fn read_root<D: Disk>(disk: &mut D, end: u64, journal: &Option<Journal>) -> Result<Option<Page>, Failed>
+pub(crate) fn read_root<D: Disk>(
+    disk: &mut D,
+    end: u64,
+    journal: &Option<Journal>,
+) -> Result<Option<Page>, Failed>
     requires attached { IsTrue (D.is_attached disk.old) }
     requires end { ForSome (D.file disk.old) (λ file. end ≡ length file.bytes) }
     requires counting { ForSome (D.file disk.old) (λ file. IsCounting journal.now file.bytes) }

@@ -23,10 +23,10 @@ pub returns-in_err-journal-clause-refused : goal.returns-in_err-journal-clause-r
 returns-in_err-journal-clause-refused g c =
     let p = err_from_is_err_and c.from_residual-in_err-journal.result c.from_residual-in_err-journal.ensures.1 in
     rw (p.1, p.2) (λ file is.
-        let told1 = c.end_of.ensures.same ∙ is in
-        let told2 = c.read_birth.ensures.same ∙ told1 in
-        let made = rw c.in-Some.is at (c.in_ok-birth.ensures.birth file told1) in
-        replay_refused c.in_err-journal.field-0.0 _ _ c.in-Some.birth file.bytes made c.in-Some-shape_in.ensures (λ damaged. let broken = c.in_err-journal.ensures.damaged damaged in (broken.0, (broken.1 file told2).0, (broken.1 file told2).1)))
+    let told1 = c.end_of.ensures.same ∙ is in
+    let told2 = c.read_birth.ensures.same ∙ told1 in
+    let made = rw c.in-Some.is at (c.in_ok-birth.ensures.birth file told1) in
+    replay_refused c.in_err-journal.field-0.0 _ _ c.in-Some.birth file.bytes made c.in-Some-shape_in.ensures (λ damaged. let broken = c.in_err-journal.ensures.damaged damaged in (broken.0, (broken.1 file told2).0, (broken.1 file told2).1)))
 
 pub returns-in_err-journal-clause-runs : goal.returns-in_err-journal-clause-runs
 returns-in_err-journal-clause-runs g c = runs_on (runs_on c.end_of.ensures.runs c.read_birth.ensures.runs) c.read_journal.ensures.runs
