@@ -1,4 +1,4 @@
-ghost use Rattle.std.specs.Prelude.{◌≡◌, None, true, OnOk};
+ghost use Rattle.std.specs.Prelude.{◌≡◌, ◌≤◌, None, true, OnOk};
 ghost use Rattle.mdc_outside.specs.Moments.{HasCause};
 
 use crate::recovery::recover;
@@ -158,7 +158,9 @@ fn root_of(version: u8, count: u8) -> Page {
 }
 
 // Writes a journal of the root page and of page 19 behind 20 pages, and opens its gate.
-fn leave_journal(alloc: Global, disk: &mut Scratch, start: u32) -> Result<(), Fail> {
+fn leave_journal(alloc: Global, disk: &mut Scratch, start: u32) -> Result<(), Fail>
+    requires { 66 ≤ start }
+{
     let mut images = Images::new(alloc);
     images.push(0, &root_of(1, 20))?;
     images.push(19, &[7; 4096])?;
