@@ -5,7 +5,7 @@ use Rattle.byteorder.specs.Endian.{big_number}
 use Rattle.redo_journal.specs.Images.{Numbered}
 use Rattle.mdc_outside.specs.Disk.{File, all_synced}
 use Rattle.redo_journal.specs.Faults.{IsDamaged}
-use Rattle.redo_journal.specs.Layout.{file_page, is_open, start_of, journal_of, IsJournal}
+use Rattle.redo_journal.specs.Layout.{file_page, is_open, IsJournal}
 use Rattle.redo_journal.specs.declared.replaying.ReplayFault.{ReplayFault}
 use Rattle.redo_journal.specs.declared.replaying.ReplayFault.TheVariants as replay
 use Rattle.store_api.specs.StoreState.{stated_in}
@@ -15,7 +15,7 @@ use Rattle.page_store.specs.declared.recovery.Opened.{Opened}
 use Rattle.page_store.specs.Faults.{open_fault_of}
 use Rattle.page_store.specs.Shape.{IsBirth, extents_in, extent_pages_in}
 use Rattle.page_store.specs.Standing.{page_of, count_of, IsFitting, IsFormed}
-use Rattle.page_store.specs.Opening.{IsMade, IsRoot, IsRead, IsWhole, IsServed, IsAtRest, IsOther, Refuses, version_of}
+use Rattle.page_store.specs.Opening.{IsMade, IsRoot, IsRead, IsWhole, IsServed, IsAtRest, IsOther, Refuses}
 use Rattle.page_store.specs.Reading.{IsCounting, IsBehind, States, WasRead}
 
 -- page 0 as it was read, in the file

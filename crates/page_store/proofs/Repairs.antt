@@ -1,5 +1,5 @@
 -- What a crash leaves while a journal that counts is brought home.
-use Rattle.std.proofs.Common.{◌≡◌, ◌≤◌, ◌*◌, ◌+◌, ℕ, Bool, IsTrue, IsFalse, List, [], ◌∷◌, length, Option, Some, None, Result, Ok, Err, OnOk, IfSome, arith, refl, sym, ap, ◌∙◌, subst, inl, inr}
+use Rattle.std.proofs.Common.{◌≡◌, ℕ, Bool, IsTrue, IsFalse, List, [], ◌∷◌, length, Option, Some, None, Result, Ok, Err, OnOk, IfSome, arith, refl, sym, ap, ◌∙◌, subst, inl, inr}
 use Rattle.std.specs.Option.{option_map, ForSome}
 use Rattle.std.specs.List.{All}
 use Rattle.std.proofs.lemmas.List.FromFn.{length-map-range_with_len}

@@ -1,5 +1,5 @@
 -- The size of a database, and the counts that page 0 may state.
-use Rattle.std.proofs.Common.{◌≡◌, ◌≤◌, ◌<◌, ◌+◌, ◌-◌, ◌*◌, ◌/◌, ◌%◌, ℕ, IsTrue, List, [], ◌∷◌, ◌++◌, take, drop, length, arith, refl, sym, ap, ◌∙◌, Bool, true, false, eqb, length-append, length-drop}
+use Rattle.std.proofs.Common.{◌≡◌, ◌≤◌, ◌<◌, ◌+◌, ◌-◌, ◌*◌, ◌/◌, ◌%◌, ℕ, IsTrue, List, ◌++◌, take, drop, length, arith, sym, ap, ◌∙◌, Bool, true, eqb}
 use Rattle.std.specs.List.{starts_with}
 use Rattle.std.proofs.Math.Nat.{mul-le-mul_right, mul-div_cancel, mul-mod_left}
 use Rattle.std.proofs.lemmas.Bool.Decides.{Decides-eqb, nat_tests}

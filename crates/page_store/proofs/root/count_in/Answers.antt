@@ -1,5 +1,5 @@
 -- What the page states is a count of whole extents.
-use Rattle.std.proofs.Common.{refl, ◌≡◌, ◌≤◌, ◌*◌, ◌∙◌, ◌+◌, arith, sym, [], ◌∷◌}
+use Rattle.std.proofs.Common.{refl, ◌≡◌, ◌*◌, ◌∙◌, ◌+◌, arith, sym, [], ◌∷◌}
 use Rattle.store_api.specs.StoreState.{stated_in}
 use Rattle.page_store.specs.Shape.{first_count}
 use Rattle.page_store.proofs.Numbers.{stated_is}

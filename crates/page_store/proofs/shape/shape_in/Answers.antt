@@ -1,5 +1,5 @@
 -- A page that is a birth page states numbers within the limits, and is the birth page that states them.
-use Rattle.std.proofs.Common.{◌≡◌, IsTrue, true, not, refl, ap, ◌∙◌, sym, subst, List, ℕ}
+use Rattle.std.proofs.Common.{◌≡◌, true, not, refl, ap, ◌∙◌, sym}
 use Rattle.std.proofs.lemmas.Bool.Decides.{Decides-eqb}
 use Rattle.std.proofs.lemmas.Slice.Eq.{slice_eq-Decides}
 use Rattle.page_store.specs.Shape.{is_shape, birth_page, extents_in, extent_pages_in}
