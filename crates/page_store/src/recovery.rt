@@ -1,5 +1,5 @@
 // What a file that is opened stands for, and how a journal that counts is brought home.
-ghost use Rattle.std.specs.Prelude.{◌≡◌, ◌≢◌, ◌≤◌, ◌*◌, ℕ, List, IsTrue, IfOk, IfErr, OnOk, IsErrOf};
+ghost use Rattle.std.specs.Prelude.{◌≡◌, ◌≢◌, ◌≤◌, IsTrue, IfOk, IfErr, OnOk, IsErrOf};
 ghost use Rattle.std.specs.Option.{ForSome};
 ghost use Rattle.mdc_outside.specs.Disk.{all_synced};
 ghost use Rattle.mdc_outside.specs.Moments.{HasCause};
