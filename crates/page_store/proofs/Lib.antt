@@ -7,11 +7,16 @@ pub mod Desks
 pub mod FreshBytes
 pub mod FreshDatabase
 pub mod Imaged
+pub mod Journals
+pub mod Judged
 pub mod Kept
 pub mod KeptPages
 pub mod LaidOver
 pub mod Leaving
 pub mod Listed
 pub mod MakeCrashes
+pub mod Numbers
 pub mod Pages
 pub mod Recent
+pub mod Repairs
+pub mod Roots

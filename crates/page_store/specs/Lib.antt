@@ -4,10 +4,12 @@ pub mod ChangesView
 pub mod Commit
 pub mod Desk
 pub mod Empty
+pub mod Faults
 pub mod FileStore
 pub mod Fresh
 pub mod Leaving
 pub mod Opening
 pub mod PageMaps
+pub mod Reading
 pub mod Shape
 pub mod Standing

@@ -46,6 +46,11 @@ impl From<Memory> for OpenFault {
 }
 
 impl From<ReplayFault> for OpenFault {
+    ghost use Rattle.std.specs.Prelude.{◌≡◌};
+    ghost use Rattle.page_store.specs.Faults.{open_fault_of};
+
+    ghost from_gives = { λ fault e. e ≡ open_fault_of fault };
+
     fn from(fault: ReplayFault) -> Self {
         match fault {
             ReplayFault::Device => OpenFault::Device,

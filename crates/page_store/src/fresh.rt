@@ -9,7 +9,7 @@ use redo_journal::zeros;
 use store_api::Page;
 
 // The version of the format.
-const VERSION: u32 = 1;
+pub(crate) const VERSION: u32 = 1;
 
 // How many extents an extent map's page holds.
 const MAPPED: u32 = 512;

@@ -10,9 +10,16 @@ mod desk;
 mod fault;
 mod file_store;
 mod fresh;
+mod journal;
+mod judging;
 mod making;
 mod page_cache;
 mod write_through;
+mod number;
+mod reading;
+mod recovery;
+mod root;
+mod shape;
 
 pub use fault::OpenFault;
 pub use file_store::FileStore;

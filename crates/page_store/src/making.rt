@@ -16,12 +16,12 @@ use mdc_outside::{Disk, Failed};
 use redo_journal::{PAGE_BYTES, end_of, fill, put, settle};
 
 // The made byte of a whole file.
-const MADE: u8 = 0x4d;
+pub(crate) const MADE: u8 = 0x4d;
 
 const UNMADE: u8 = 0;
 
 // The file page of the root page.
-const ROOT: u64 = 66;
+pub(crate) const ROOT: u64 = 66;
 
 // How many pages a log has.
 const LOG_PAGES: u32 = 64;

@@ -1,11 +1,14 @@
-ghost use Rattle.std.specs.Prelude.{◌≡◌, None, true, OnOk};
+ghost use Rattle.std.specs.Prelude.{◌≡◌, ◌≤◌, None, true, OnOk};
 ghost use Rattle.mdc_outside.specs.Moments.{HasCause};
 
+use crate::recovery::recover;
 use crate::{OpenFault, make};
 use mdc_outside::{Disk, Failed};
+use redo_journal::{Images, open_gate, write_journal};
 use std::alloc::Global;
 use std::io::{self, Cursor, Read, Seek, SeekFrom, Write};
 use std::test::Fail;
+use store_api::{Damage, Page};
 
 // A disk over bytes in memory, which tells nothing.
 #[derive(Drop)]
@@ -136,5 +139,86 @@ fn a_database_is_made_once(rt: HostRuntime) -> Result<(), Fail> {
     let mut disk = blank(rt.alloc());
     assert_eq!(rt; make_small(&mut disk), Ok(()));
     assert_eq!(rt; make_small(&mut disk), Err(OpenFault::Exists));
+    Ok(())
+}
+
+// How large a recovered database may grow, and how many pages it has.
+fn recovered(alloc: Global, disk: &mut Scratch) -> Result<(u32, u32, u32), OpenFault> {
+    let opened = recover(alloc, disk)?;
+    Ok((opened.extents, opened.extent_pages, opened.count))
+}
+
+// A root page that states so many pages.
+fn root_of(version: u8, count: u8) -> Page {
+    let mut page = [0; 4096];
+    page[..4].copy_from_slice(b"ROOT");
+    page[7] = version;
+    page[11] = count;
+    page
+}
+
+// Writes a journal of the root page and of page 19 behind 20 pages, and opens its gate.
+fn leave_journal(alloc: Global, disk: &mut Scratch, start: u32) -> Result<(), Fail>
+    requires { 66 ≤ start }
+{
+    let mut images = Images::new(alloc);
+    images.push(0, &root_of(1, 20))?;
+    images.push(19, &[7; 4096])?;
+    write_journal(disk, start, &images)?;
+    open_gate(disk)?;
+    Ok(())
+}
+
+#[test]
+fn a_made_database_is_recovered(rt: HostRuntime) -> Result<(), Fail> {
+    let mut disk = blank(rt.alloc());
+    assert_eq!(rt; recovered(rt.alloc(), &mut disk), Err(OpenFault::Unmade));
+    assert_eq!(rt; make_small(&mut disk), Ok(()));
+    assert_eq!(rt; recovered(rt.alloc(), &mut disk), Ok((16, 2, 18)));
+    Ok(())
+}
+
+#[test]
+fn a_journal_is_brought_home(rt: HostRuntime) -> Result<(), Fail> {
+    let mut disk = blank(rt.alloc());
+    assert_eq!(rt; make_small(&mut disk), Ok(()));
+    leave_journal(rt.alloc(), &mut disk, 86)?;
+    assert_eq!(rt; recovered(rt.alloc(), &mut disk), Ok((16, 2, 20)));
+    assert_eq!(rt; bytes_at(&mut disk, 512)?, [0; 16]);
+    assert_eq!(rt; bytes_at(&mut disk, 85 * 4096)?, [7; 16]);
+    Ok(())
+}
+
+#[test]
+fn a_journal_within_the_pages_is_refused(rt: HostRuntime) -> Result<(), Fail> {
+    let mut disk = blank(rt.alloc());
+    assert_eq!(rt; make_small(&mut disk), Ok(()));
+    leave_journal(rt.alloc(), &mut disk, 85)?;
+    let damage = Damage { page: 0, rule: 1 };
+    assert_eq!(rt;
+        recovered(rt.alloc(), &mut disk),
+        Err(OpenFault::Damaged(damage))
+    );
+    assert_eq!(rt; bytes_at(&mut disk, 512)?[0], 0x4f);
+    Ok(())
+}
+
+#[test]
+fn each_refusal_has_its_cause(rt: HostRuntime) -> Result<(), Fail> {
+    let mut disk = blank(rt.alloc());
+    assert_eq!(rt; make_small(&mut disk), Ok(()));
+    disk.write(66 * 4096, &root_of(2, 18))?;
+    assert_eq!(rt;
+        recovered(rt.alloc(), &mut disk),
+        Err(OpenFault::Version(2))
+    );
+    disk.write(66 * 4096, &root_of(1, 20))?;
+    let damage = Damage { page: 18, rule: 1 };
+    assert_eq!(rt;
+        recovered(rt.alloc(), &mut disk),
+        Err(OpenFault::Damaged(damage))
+    );
+    disk.write(4096, b"m")?;
+    assert_eq!(rt; recovered(rt.alloc(), &mut disk), Err(OpenFault::NotMdc));
     Ok(())
 }

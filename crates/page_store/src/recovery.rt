@@ -1,0 +1,114 @@
+// What a file that is opened stands for, and how a journal that counts is brought home.
+ghost use Rattle.std.specs.Prelude.{◌≡◌, ◌≢◌, ◌≤◌, IsTrue, IfOk, IfErr, OnOk, IsErrOf};
+ghost use Rattle.std.specs.Option.{ForSome};
+ghost use Rattle.mdc_outside.specs.Disk.{all_synced};
+ghost use Rattle.mdc_outside.specs.Moments.{HasCause};
+ghost use Rattle.mdc_outside.specs.Outside.{Rose};
+ghost use Rattle.redo_journal.specs.Layout.{is_open, journal_of};
+ghost use Rattle.redo_journal.specs.Runs.{Runs, IsCovered};
+ghost use Rattle.page_store.specs.Leaving.{Leaves};
+ghost use Rattle.page_store.specs.Opening.{IsAtRest, IsServed, Refuses, StandsAs};
+ghost use Rattle.page_store.specs.Reading.{ComesToRest, IsCounting, States};
+ghost use Rattle.page_store.specs.Shape.{is_shape};
+ghost use Rattle.page_store.specs.Standing.{IsFormed};
+
+use crate::OpenFault;
+use crate::journal::Journal;
+use crate::judging::{damaged, judge};
+use crate::reading::{read_birth, read_journal, read_root};
+use crate::shape::shape_in;
+use mdc_outside::{Disk, Failed};
+use redo_journal::{Images, close_gate, end_of, home};
+use std::alloc::Global;
+
+/// What a file that was opened is: how many extents it may have, how many pages each has, and how many pages there are.
+#[derive(Clone, Copy, Debug)]
+pub(crate) struct Opened {
+    pub extents: u32,
+    pub extent_pages: u32,
+    pub count: u32,
+}
+
+// A file that can be served, and its journal where one counts.
+#[derive(Drop)]
+struct Found {
+    opened: Opened,
+    journal: Option<Journal>,
+}
+
+/// Finds what a file stands for, and brings it to rest: a journal that counts is written home and its gate closed. The
+/// file then stands for the pages that it stood for before, and a crash at any moment leaves a file that does.
+///
+/// It answers `Unmade`, `NotMdc`, `Damaged` or `Version` for what is wrong with the file, in this order of asking but
+/// for damage, which comes before the version, and `Memory` where the images of the journal find no room. The file is
+/// then as it was. It answers `Device` where the disk failed.
+pub(crate) fn recover<D: Disk>(alloc: Global, disk: &mut D) -> Result<Opened, OpenFault>
+    requires attached { IsTrue (D.is_attached disk.old) }
+    requires synced { ForSome (D.file disk.old) (λ file. file.since ≡ all_synced file.bytes) }
+    ensures served { IfOk result (λ opened. ForSome (D.file disk.old) (λ file. IsServed file.bytes)) }
+    ensures at_rest { IfOk result (λ opened. ForSome (D.file disk.new) (IsAtRest opened.extents opened.extent_pages opened.count)) }
+    ensures limits { IfOk result (λ opened. IsTrue (is_shape opened.extents opened.extent_pages) × (18 ≤ opened.count) × (opened.count ≤ 262289)) }
+    ensures refused { IfErr result (λ fault. ForSome (D.file disk.old) (λ file. Refuses fault file.bytes)) }
+    ensures untouched { IfErr result (λ fault. fault ≢ OpenFault.Device → D.file disk.new ≡ D.file disk.old) }
+    ensures never { IsErrOf result OpenFault.Exists → ⊥ }
+    ensures device { IsErrOf result OpenFault.Device → Rose (D.disk_faults disk.old) (D.disk_faults disk.new) }
+    ensures later { D.disk_faults disk.old ≤ D.disk_faults disk.new }
+    ensures leaves { Leaves D.file D.beside D.attaches D.is_attached D.clock D.moment (λ before image. StandsAs before.bytes image) disk.old disk.new }
+{
+    let found = inspect(alloc, disk)?;
+    let opened = found.opened;
+    let Some(journal) = found.journal else {
+        return Ok(opened);
+    };
+    repair(disk, &journal.images)?;
+    Ok(opened)
+}
+
+// Reads what the file stands for, and judges it.
+fn inspect<D: Disk>(alloc: Global, disk: &mut D) -> Result<Found, OpenFault>
+    requires { IsTrue (D.is_attached disk.old) }
+    ensures served { IfOk result (λ found. ForSome (D.file disk.old) (λ file. IsServed file.bytes × IsCounting found.journal file.bytes × States found.opened file.bytes)) }
+    ensures limits { IfOk result (λ found. IsTrue (is_shape found.opened.extents found.opened.extent_pages) × (18 ≤ found.opened.count) × (found.opened.count ≤ 262289)) }
+    ensures refused { IfErr result (λ fault. ForSome (D.file disk.old) (λ file. Refuses fault file.bytes)) }
+    ensures never { IsErrOf result OpenFault.Exists → ⊥ }
+    ensures device { IsErrOf result OpenFault.Device → Rose (D.disk_faults disk.old) (D.disk_faults disk.new) }
+    ensures same { D.file disk.new ≡ D.file disk.old }
+    ensures runs { Runs D.file D.beside D.attaches D.is_attached D.clock D.moment IsCovered (λ since. since) disk.old disk.new }
+    ensures later { D.disk_faults disk.old ≤ D.disk_faults disk.new }
+{
+    let end = end_of(disk)?;
+    let Some(birth) = read_birth(disk, end)? else {
+        return Err(OpenFault::Unmade);
+    };
+    let Some(shape) = shape_in(&birth) else {
+        return Err(OpenFault::NotMdc);
+    };
+    let journal = read_journal(alloc, disk)?;
+    let Some(root) = read_root(disk, end, &journal)? else {
+        return Err(damaged(0));
+    };
+    match judge(end, shape, &journal, &root) {
+        Ok(count) => {
+            let opened = Opened {
+                extents: shape.extents,
+                extent_pages: shape.extent_pages,
+                count,
+            };
+            Ok(Found { opened, journal })
+        }
+        Err(fault) => Err(fault),
+    }
+}
+
+// Writes the images of a journal that counts home, and then closes its gate.
+fn repair<D: Disk>(disk: &mut D, images: &Images) -> Result<(), Failed>
+    requires attached { IsTrue (D.is_attached disk.old) }
+    requires synced { ForSome (D.file disk.old) (λ file. file.since ≡ all_synced file.bytes) }
+    requires counts { ForSome (D.file disk.old) (λ file. IsFormed file.bytes × IsTrue (is_open file.bytes) × (images.now ≡ journal_of file.bytes)) }
+    ensures at_rest { OnOk result (ComesToRest (D.file disk.old) (D.file disk.new)) }
+    ensures leaves { Leaves D.file D.beside D.attaches D.is_attached D.clock D.moment (λ before image. StandsAs before.bytes image) disk.old disk.new }
+    ensures cause { HasCause result (D.disk_faults disk.old) (D.disk_faults disk.new) }
+{
+    home(disk, images)?;
+    close_gate(disk)
+}

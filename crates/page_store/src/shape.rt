@@ -1,0 +1,47 @@
+// How large a database may grow, and the page that states it.
+ghost use Rattle.std.specs.Prelude.{◌≡◌, IsTrue, MatchOption};
+ghost use Rattle.page_store.specs.Shape.{IsBirth, extents_in, extent_pages_in, is_extent_size, is_shape};
+
+use crate::fresh::birth_page;
+use crate::number::number_at;
+use store_api::Page;
+
+/// How many extents a database may have, and how many pages each has.
+#[derive(Clone, Copy, Debug)]
+pub(crate) struct Shape {
+    pub extents: u32,
+    pub extent_pages: u32,
+    ghost within: { IsTrue (is_shape extents extent_pages) },
+}
+
+/// What a birth page states, or nothing where the page isn't one.
+pub(crate) fn shape_in(page: &Page) -> Option<Shape>
+    ensures { MatchOption result (IsBirth page.now → ⊥) (λ shape. IsBirth page.now × (shape.extents ≡ extents_in page.now) × (shape.extent_pages ≡ extent_pages_in page.now)) }
+{
+    let extents = number_at(page, 8);
+    let extent_pages = number_at(page, 12);
+    if !is_shape(extents, extent_pages) || *page != birth_page(extents, extent_pages) {
+        return None;
+    }
+    Some(Shape {
+        extents,
+        extent_pages,
+    })
+}
+
+// Whether the numbers are within the limits.
+fn is_shape(extents: u32, extent_pages: u32) -> bool
+    ensures { result ≡ is_shape extents extent_pages }
+{
+    extents >= 4
+        && extents <= 65536
+        && is_extent_size(extent_pages)
+        && u64::from(extents) * u64::from(extent_pages) <= 262_144
+}
+
+// Whether an extent may have so many pages.
+fn is_extent_size(pages: u32) -> bool
+    ensures { result ≡ is_extent_size pages }
+{
+    pages == 2 || pages == 4 || pages == 8 || pages == 16 || pages == 32
+}
