@@ -17,6 +17,7 @@ pub mod Listed
 pub mod MakeCrashes
 pub mod Numbers
 pub mod Pages
+pub mod Passing
 pub mod Recent
 pub mod Repairs
 pub mod Roots
