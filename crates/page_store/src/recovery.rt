@@ -39,9 +39,9 @@ struct Found {
 /// Finds what a file stands for, and brings it to rest: a journal that counts is written home and its gate closed. The
 /// file then stands for the pages that it stood for before, and a crash at any moment leaves a file that does.
 ///
-/// It answers `Unmade`, `NotMdc`, `Damaged` or `Version` for what is wrong with the file, in this order of asking but
-/// for damage, which comes before the version, and `Memory` where the images of the journal find no room. The file is
-/// then as it was. It answers `Device` where the disk failed.
+/// It answers the first of these that the file is: `Unmade`, `NotMdc`, `Damaged` or of another `Version`. It answers
+/// `Memory` where the images of the journal find no room. The file is then as it was. It answers `Device` where the disk
+/// failed; the file then still stands for what it stood for.
 pub(crate) fn recover<D: Disk>(alloc: Global, disk: &mut D) -> Result<Opened, OpenFault>
     requires attached { IsTrue (D.is_attached disk.old) }
     requires synced { ForSome (D.file disk.old) (λ file. file.since ≡ all_synced file.bytes) }
