@@ -1,5 +1,5 @@
 -- How the moments of a host are those of the store that owns it.
-use Rattle.std.proofs.Common.{◌≡◌, ◌⊎◌, ◌≤◌, ℕ, Bool, List, [], Option, Some, None, IfSome, MatchBool, is_some, inl, inr, arith, refl, sym, ap, subst, ◌∙◌}
+use Rattle.std.proofs.Common.{◌≡◌, ◌⊎◌, ◌≤◌, ℕ, Bool, List, [], false, Option, Some, None, IfSome, MatchBool, is_some, inl, inr, arith, refl, sym, ap, subst, ◌∙◌}
 use Rattle.std.proofs.Common.{◌↔◌}
 use Rattle.std.specs.Option.{ForSome}
 use Rattle.store_api.specs.StoreState.{StoreState}
@@ -7,12 +7,12 @@ use Rattle.store_api.specs.Moments.{Outcomes, OnlyBase, AtRest, Passes}
 use Rattle.mdc_outside.specs.Disk.{File, IsImage, all_synced}
 use Rattle.mdc_outside.specs.Moments.{Beside, IsMoment, WhereTold}
 use Rattle.page_store.specs.declared.desk.Desk.{Desk}
-use Rattle.page_store.specs.Standing.{pages_of, page_of, count_of, Reopens, listed}
+use Rattle.page_store.specs.Standing.{pages_of, page_of, count_of, IsFormed, Reopens, listed}
 use Rattle.redo_journal.specs.Layout.{home_page}
 use Rattle.page_store.specs.Leaving.{Leaves}
 use Rattle.page_store.specs.Desk.{IsKept, state_of, base_of, base_in}
 use Rattle.page_store.specs.FileStore.{Held, left_of}
-use Rattle.page_store.proofs.Leaving.{now_at}
+use Rattle.page_store.proofs.Leaving.{nothing_said}
 use Rattle.page_store.proofs.Listed.{listed_same}
 use Rattle.page_store.proofs.Pages.{page_of-closed}
 use Rattle.page_store.proofs.Crashes.{only_itself}
@@ -22,6 +22,36 @@ use Rattle.page_store.proofs.Calls.{one_file, left_told}
 if_said : (tape : Option (List ℕ)) (said : List ℕ) → tape ≡ Some said → IfSome tape (λ bytes. said ≡ bytes)
 if_said None said is = absurd (cc)
 if_said (Some bytes) said is = cc
+
+-- what a crash leaves now is what the file and the tape tell
+told_now : (told : Option File) (tape : Option (List ℕ)) (file : File) (said : List ℕ) (now : List ℕ → List ℕ → Type 0) → told ≡ Some file → tape ≡ Some said
+    → WhereTold told tape (λ f s. (image heard : List ℕ) → now image heard ↔ IsMoment f.since s [] image heard)
+    → (image heard : List ℕ) → now image heard → IsMoment file.since said [] image heard
+told_now None tape file said now is heard_is only image heard left = absurd (cc)
+told_now (Some f) None file said now is heard_is only image heard left = absurd (cc)
+told_now (Some f) (Some s) file said now is heard_is only image heard left =
+    let same : f ≡ file = cc in
+    let same_said : s ≡ said = cc in
+    subst (λ (g : File). IsMoment g.since said [] image heard) same (subst (λ xs. IsMoment f.since xs [] image heard) same_said ((only image heard).0 left))
+
+-- a file at rest reopens to the base
+pub kept_reopens : (told : Option File) (desk : Desk) (file : File) (image : List ℕ) (pages : Option (List (List ℕ))) → IsKept desk told → desk.halt ≡ None → told ≡ Some file
+    → IsImage file.since image → Reopens image pages → pages ≡ Some (base_of told desk)
+kept_reopens told desk file image pages kept going is left reopens =
+    let rest = kept.at_rest file is in
+    let itself : image ≡ file.bytes = only_itself file.bytes image (subst (λ since. IsImage since image) rest.synced left) in
+    let base : pages_of file.bytes ≡ base_of told desk =
+    ap (λ n. listed n (page_of file.bytes)) rest.states_pages
+    ∙ (listed_same desk.base (page_of file.bytes) (home_page file.bytes) (λ p lt. page_of-closed file.bytes p rest.closed)
+    ∙ (ap (λ halt. base_in halt desk.base file.bytes) (sym going) ∙ ap (λ t. base_of t desk) (sym is))) in
+    go pages (subst (λ xs. Reopens xs pages) itself reopens) base rest.formed where
+      go : (pages : Option (List (List ℕ))) → Reopens file.bytes pages → pages_of file.bytes ≡ base_of told desk → IsFormed file.bytes → pages ≡ Some (base_of told desk)
+      go None none base formed = absurd (none formed)
+      go (Some all) some base formed = ap (λ ps. Some ps) (some.1 ∙ base)
+
+-- where no commit has failed, the base alone is left between two calls
+pub rests_with_base : (state : StoreState) (pages : Option (List (List ℕ))) (heard : List ℕ) → state.ended ≡ false → OnlyBase state pages heard → AtRest state pages heard
+rests_with_base state pages heard going only = rw going only
 
 module _ {H : Type 0} {file : H → Option File} {aside : H → Beside} {attaches : H → Option (List (List ℕ × Bool))} {is_attached : H → Bool} {clock : H → ℕ} {moment : H → ℕ → List ℕ → List ℕ → Type 0} where
   -- time goes on over a call of the store as over its calls of the host
@@ -57,6 +87,21 @@ module _ {H : Type 0} {file : H → Option File} {aside : H → Beside} {attache
         let tape : (aside old.host).tape ≡ Some left.2 = ap (λ b. b.tape) (sym leaves.beside) ∙ left.3 in
         (left.0, left.1, left.2, left.3, left.4, (leaves.crash before.0 left.2 before.1 tape).adds t left.4 heard early left.5, left.6);
     at_rest = λ pages heard left.
-        let now = now_at (file new.host) (aside new.host).tape left.0 left.2 left.1 left.3 only_now left.4 heard left.5 in
-        ?;
+        let now = told_now (file new.host) (aside new.host).tape left.0 left.2 (moment new.host (clock new.host)) left.1 left.3 only_now left.4 heard left.5 in
+        let said : heard ≡ left.2 = nothing_said now.said.0 now.said.1 left.2 heard now.said.2 now.said.3 in
+        subst (λ (bytes : List ℕ). AtRest (state_of (file new.host) (aside new.host).tape (attaches new.host) new.desk) pages bytes) (sym said) (rests left.0 left.2 left.4 pages left.1 left.3 now.left left.6);
   }
+
+  -- a call that tears nothing of a file at rest leaves the base alone
+  pub keeps_base : (old new : Held H)
+      → Leaves file aside attaches is_attached clock moment (λ before image. IsImage before.since image) old.host new.host
+      → WhereTold (file new.host) (aside new.host).tape (λ f said. (image tape : List ℕ) → moment new.host (clock new.host) image tape ↔ IsMoment f.since said [] image tape)
+      → IsKept old.desk (file old.host) → old.desk.halt ≡ None → IsKept new.desk (file new.host) → new.desk.halt ≡ None
+      → Passes (λ (s : Held H). state_of (file s.host) (aside s.host).tape (attaches s.host) s.desk) (λ s. clock s.host) (λ s. left_of (file s.host) (aside s.host).tape (moment s.host))
+      (OnlyBase (state_of (file old.host) (aside old.host).tape (attaches old.host) old.desk)) old new
+  keeps_base old new leaves only_now kept going kept_now going_now =
+      passes (OnlyBase (state_of (file old.host) (aside old.host).tape (attaches old.host) old.desk)) old new leaves only_now
+      (λ before said image pages is tape left reopens. (kept_reopens (file old.host) old.desk before image pages kept going is left reopens, if_said (aside old.host).tape said tape))
+      (λ after said image pages is tape left reopens.
+      rests_with_base (state_of (file new.host) (aside new.host).tape (attaches new.host) new.desk) pages said (ap (λ halt. is_some halt) going_now)
+      (kept_reopens (file new.host) new.desk after image pages kept_now going_now is left reopens, if_said (aside new.host).tape said tape))

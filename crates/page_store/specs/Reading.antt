@@ -34,8 +34,3 @@ pub record States (opened : Opened) (file : List ℕ) : Type 0 where
   pub extents : opened.extents ≡ extents_in (file_page file 1)
   pub extent_pages : opened.extent_pages ≡ extent_pages_in (file_page file 1)
   pub count : opened.count ≡ count_of file
-
--- where both are told, the file is at rest, and states what it stated before
-pub record ComesToRest (old new : Option File) : Type 0 where
-  pub holds : (before after : File) → old ≡ Some before → new ≡ Some after
-      → IsAtRest (extents_in (file_page before.bytes 1)) (extent_pages_in (file_page before.bytes 1)) (count_of before.bytes) after

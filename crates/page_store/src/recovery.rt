@@ -1,24 +1,22 @@
 // What a file that is opened stands for, and how a journal that counts is brought home.
-ghost use Rattle.std.specs.Prelude.{◌≡◌, ◌≢◌, ◌≤◌, IsTrue, IfOk, IfErr, OnOk, IsErrOf};
+ghost use Rattle.std.specs.Prelude.{◌≡◌, ◌≢◌, ◌≤◌, IsTrue, IfOk, IfErr, IsErrOf};
 ghost use Rattle.std.specs.Option.{ForSome};
 ghost use Rattle.mdc_outside.specs.Disk.{all_synced};
-ghost use Rattle.mdc_outside.specs.Moments.{HasCause};
 ghost use Rattle.mdc_outside.specs.Outside.{Rose};
-ghost use Rattle.redo_journal.specs.Layout.{is_open, journal_of};
 ghost use Rattle.redo_journal.specs.Runs.{Runs, IsCovered};
 ghost use Rattle.page_store.specs.Leaving.{Leaves};
 ghost use Rattle.page_store.specs.Opening.{IsAtRest, IsServed, Refuses, StandsAs};
-ghost use Rattle.page_store.specs.Reading.{ComesToRest, IsCounting, States};
+ghost use Rattle.page_store.specs.Reading.{IsCounting, States};
 ghost use Rattle.page_store.specs.Shape.{is_shape};
-ghost use Rattle.page_store.specs.Standing.{IsFormed};
 
 use crate::OpenFault;
 use crate::journal::Journal;
 use crate::judging::{damaged, judge};
 use crate::reading::{read_birth, read_journal, read_root};
 use crate::shape::shape_in;
-use mdc_outside::{Disk, Failed};
-use redo_journal::{Images, close_gate, end_of, home};
+use crate::write_through::bring_home;
+use mdc_outside::Disk;
+use redo_journal::end_of;
 use std::alloc::Global;
 
 /// What a file that was opened is: how many extents it may have, how many pages each has, and how many pages there are.
@@ -60,7 +58,7 @@ pub(crate) fn recover<D: Disk>(alloc: Global, disk: &mut D) -> Result<Opened, Op
     let Some(journal) = found.journal else {
         return Ok(opened);
     };
-    repair(disk, &journal.images)?;
+    bring_home(disk, &journal.images)?;
     Ok(opened)
 }
 
@@ -98,17 +96,4 @@ fn inspect<D: Disk>(alloc: Global, disk: &mut D) -> Result<Found, OpenFault>
         }
         Err(fault) => Err(fault),
     }
-}
-
-// Writes the images of a journal that counts home, and then closes its gate.
-fn repair<D: Disk>(disk: &mut D, images: &Images) -> Result<(), Failed>
-    requires attached { IsTrue (D.is_attached disk.old) }
-    requires synced { ForSome (D.file disk.old) (λ file. file.since ≡ all_synced file.bytes) }
-    requires counts { ForSome (D.file disk.old) (λ file. IsFormed file.bytes × IsTrue (is_open file.bytes) × (images.now ≡ journal_of file.bytes)) }
-    ensures at_rest { OnOk result (ComesToRest (D.file disk.old) (D.file disk.new)) }
-    ensures leaves { Leaves D.file D.beside D.attaches D.is_attached D.clock D.moment (λ before image. StandsAs before.bytes image) disk.old disk.new }
-    ensures cause { HasCause result (D.disk_faults disk.old) (D.disk_faults disk.new) }
-{
-    home(disk, images)?;
-    close_gate(disk)
 }

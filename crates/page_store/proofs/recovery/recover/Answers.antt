@@ -1,14 +1,18 @@
 -- Where no journal counts, the file rests as it was found; else it rests after the repair, and stands for the same pages.
 use Rattle.std.proofs.Common.{ap, sym, ◌∙◌}
 use Rattle.page_store.proofs.Judged.{found_at_rest, rests_as_found, served_formed}
-use Rattle.page_store.proofs.Repairs.{keeps_then, looked_leaves, told_before}
+use Rattle.page_store.proofs.Repairs.{home_keeps, home_rests, keeps_then, looked_leaves, told_before}
 use Rattle.page_store.proofs.recovery.recover.Goals as goal
 
-pub repair-requires-clause-counts : goal.repair-requires-clause-counts
-repair-requires-clause-counts g c = λ file is.
-    let served = c.in_ok-found.ensures.served file (sym c.inspect.ensures.same ∙ is) in
+pub bring_home-requires-clause-counts : goal.bring_home-requires-clause-counts
+bring_home-requires-clause-counts g c = λ file is.
+    let told = sym c.inspect.ensures.same ∙ is in
+    let served = c.in_ok-found.ensures.served file told in
     let counting = rw c.in-Some.is at served.1 in
-    (served_formed file.bytes served.0, counting.0, ap (λ journal. journal.images) c.in-Some.journal-is ∙ counting.2)
+    record { synced = c.requires.synced file told; gate = counting.0; journal = sym (ap (λ journal. journal.images) c.in-Some.journal-is ∙ counting.2) }
+
+pub bring_home-requires-clause-formed : goal.bring_home-requires-clause-formed
+bring_home-requires-clause-formed g c = λ file is. served_formed file.bytes (c.in_ok-found.ensures.served file (sym c.inspect.ensures.same ∙ is)).0
 
 pub returns-in_err-found-clause-leaves : goal.returns-in_err-found-clause-leaves
 returns-in_err-found-clause-leaves g c = looked_leaves c.inspect.ensures.runs c.inspect.ensures.same c.requires.synced
@@ -25,17 +29,17 @@ returns-in_default-clause-at_rest g c = λ file is.
 pub returns-in_default-clause-leaves : goal.returns-in_default-clause-leaves
 returns-in_default-clause-leaves g c = looked_leaves c.inspect.ensures.runs c.inspect.ensures.same c.requires.synced
 
-pub returns-in_err-repair-clause-leaves : goal.returns-in_err-repair-clause-leaves
-returns-in_err-repair-clause-leaves g c = keeps_then (looked_leaves c.inspect.ensures.runs c.inspect.ensures.same c.requires.synced) c.repair.ensures.leaves
+pub returns-in_err-bring_home-clause-leaves : goal.returns-in_err-bring_home-clause-leaves
+returns-in_err-bring_home-clause-leaves g c = keeps_then (looked_leaves c.inspect.ensures.runs c.inspect.ensures.same c.requires.synced) (home_keeps c.bring_home.ensures.leaves)
 
 pub returns-clause-served : goal.returns-clause-served
 returns-clause-served g c = λ file is. (c.in_ok-found.ensures.served file is).0
 
 pub returns-clause-at_rest : goal.returns-clause-at_rest
 returns-clause-at_rest g c = λ after is.
-    let before = told_before c.repair.ensures.leaves after is in
+    let before = told_before c.bring_home.ensures.leaves after is in
     let served = c.in_ok-found.ensures.served before.0 (sym c.inspect.ensures.same ∙ before.1) in
-    rests_as_found c.in_ok-found.found.opened before.0.bytes after served.2 (c.in_ok-repair.ensures.at_rest.holds before.0 after before.1 is)
+    rests_as_found c.in_ok-found.found.opened before.0.bytes after served.2 (home_rests c.bring_home.ensures.leaves c.in_ok-bring_home.ensures.closed before.0 after before.1 is)
 
 pub returns-clause-leaves : goal.returns-clause-leaves
-returns-clause-leaves g c = keeps_then (looked_leaves c.inspect.ensures.runs c.inspect.ensures.same c.requires.synced) c.repair.ensures.leaves
+returns-clause-leaves g c = keeps_then (looked_leaves c.inspect.ensures.runs c.inspect.ensures.same c.requires.synced) (home_keeps c.bring_home.ensures.leaves)
