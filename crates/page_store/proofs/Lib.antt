@@ -19,5 +19,6 @@ pub mod Numbers
 pub mod Pages
 pub mod Passing
 pub mod Recent
+pub mod Wholes
 pub mod Repairs
 pub mod Roots

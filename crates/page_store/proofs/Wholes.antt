@@ -1,0 +1,48 @@
+-- What a store in a file knows of its desk and its host.
+use Rattle.std.proofs.Common.{◌≡◌, ◌≤◌, ◌+◌, ℕ, Bool, false, IsTrue, is_some, List, [], length, replicate, Result, Ok, Err, OnOk, OnErr, Option, Some, None, arith, refl, sym, ap, ◌∙◌}
+use Rattle.std.proofs.lemmas.List.{length-replicate}
+use Rattle.mdc_outside.specs.Disk.{File}
+use Rattle.page_store.specs.declared.desk.Desk.{Desk}
+use Rattle.page_store.specs.Changes.{Overlay}
+use Rattle.page_store.specs.Desk.{IsKept, work_of, base_of, base_in}
+use Rattle.page_store.specs.FileStore.{Held, IsWhole}
+use Rattle.page_store.proofs.Desks.{length-base_in}
+use Rattle.page_store.proofs.LaidOver.{length-laid_over}
+
+-- where none is there
+pub is_none : {X : Type 0} (x : Option X) → is_some x ≡ false → x ≡ None
+is_none None none = refl
+is_none (Some x) none = absurd (cc)
+
+-- no commit has failed, by what the store is seen as
+pub still_going : {H : Type 0} (host : H) (desk : Desk) (held : Held H) → record { host = host; desk = desk } ≡ held → is_some held.desk.halt ≡ false → desk.halt ≡ None
+still_going host desk held is going = is_none desk.halt (ap (λ h. is_some h.desk.halt) is ∙ going)
+
+-- how many pages the work has
+pub length-work_of : (told : Option File) (desk : Desk) (changes : Overlay) → length (work_of told desk changes) ≡ length changes
+length-work_of None desk changes = length-replicate {A = List ℕ} (length changes) []
+length-work_of (Some file) desk changes = length-laid_over changes (base_in desk.halt desk.base file.bytes)
+
+-- how many pages the base has
+pub length-base_of : (told : Option File) (desk : Desk) → desk.halt ≡ None → length (base_of told desk) ≡ desk.base
+length-base_of None desk going = length-replicate {A = List ℕ} desk.base []
+length-base_of (Some file) desk going = length-base_in desk.halt desk.base file.bytes going
+
+-- how many pages the work has, by what the store is seen as
+pub held_pages : {H : Type 0} (file : H → Option File) (host : H) (desk : Desk) (held : Held H) → record { host = host; desk = desk } ≡ held
+    → length (work_of (file held.host) held.desk held.desk.changes.now) ≡ length desk.changes.now
+held_pages file host desk held is = length-work_of (file held.host) held.desk held.desk.changes.now ∙ sym (ap (λ h. length h.desk.changes.now) is)
+
+-- the store is whole again
+pub whole_again : (is_attached : Bool) (told : Option File) (desk : Desk) → IsTrue is_attached → IsKept desk told → IsWhole is_attached told desk
+whole_again is_attached told desk attached kept = record { attached = attached; kept = λ going. kept }
+
+-- what follows from a fact where a call succeeds
+pub on_ok : {T E : Type 0} (result : Result T E) {P Q : Type 0} → (P → Q) → OnOk result P → OnOk result Q
+on_ok (Ok x) follows fact = follows fact
+on_ok (Err e) follows fact = fact
+
+-- what follows from a fact where a call fails
+pub on_err : {T E : Type 0} (result : Result T E) {P Q : Type 0} → (P → Q) → OnErr result P → OnErr result Q
+on_err (Ok x) follows fact = fact
+on_err (Err e) follows fact = follows fact

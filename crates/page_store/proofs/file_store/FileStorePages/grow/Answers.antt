@@ -1,0 +1,26 @@
+use Rattle.std.proofs.Common.{arith, sym, ◌∙◌}
+use Rattle.page_store.proofs.Calls.{sound_image}
+use Rattle.page_store.proofs.Passing.{stays}
+use Rattle.page_store.proofs.Wholes.{still_going, held_pages, whole_again, on_ok, on_err}
+use Rattle.page_store.proofs.file_store.FileStorePages.grow.Goals as goal
+
+pub grow-requires : goal.grow-requires
+grow-requires g c = omega (arith, c.requires.room, held_pages g.H.Disk.file c.self.inside.host c.self.inside.desk c.args.self.now c.self.view_is)
+
+pub invariant_of-self : goal.invariant_of-self
+invariant_of-self g c =
+    let going = still_going c.self.inside.host c.self.inside.desk c.args.self.now c.self.view_is c.requires.going in
+    whole_again _ _ c.grow.new.self c.self.invariant.attached (c.grow.ensures.kept _ (c.self.invariant.kept going))
+
+pub returns-clause-ok : goal.returns-clause-ok
+returns-clause-ok g c =
+    let going = still_going c.self.inside.host c.self.inside.desk c.args.self.now c.self.view_is c.requires.going in
+    rw (← c.self.view_is) (c.grow.ensures.does _ (c.self.invariant.kept going) going _ _)
+
+pub returns-clause-time : goal.returns-clause-time
+returns-clause-time g c =
+    let going = still_going c.self.inside.host c.self.inside.desk c.args.self.now c.self.view_is c.requires.going in
+    let kept = c.self.invariant.kept going in
+    rw (← c.self.view_is) (stays {aside = g.H.Disk.beside} {is_attached = g.H.Disk.is_attached} c.self.inside.host c.self.inside.desk c.grow.new.self
+    (λ f is. sound_image _ f (g.met.H.Disk.sound c.self.inside.host) is) (g.met.H.Disk.only_now c.self.inside.host) (g.met.H.Disk.earlier c.self.inside.host)
+    kept going (c.grow.ensures.kept _ kept) c.grow.ensures.halt)
