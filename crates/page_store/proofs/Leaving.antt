@@ -1,7 +1,7 @@
 -- Runs of calls by the kind of image that a crash within them leaves.
-use Rattle.std.proofs.Common.{◌≡◌, ◌⊎◌, ◌≤◌, ℕ, Bool, List, [], ◌∷◌, ◌++◌, Option, Some, inl, inr, arith, ap, ◌∙◌, append-nil}
+use Rattle.std.proofs.Common.{◌≡◌, ◌⊎◌, ◌↔◌, ◌≤◌, ℕ, Bool, List, [], ◌∷◌, ◌++◌, Option, Some, None, subst, inl, inr, arith, refl, ap, ◌∙◌, append-nil}
 use Rattle.mdc_outside.specs.Disk.{File, Since, IsImage}
-use Rattle.mdc_outside.specs.Moments.{Beside}
+use Rattle.mdc_outside.specs.Moments.{Beside, IsMoment, WhereTold}
 use Rattle.redo_journal.specs.Runs.{Runs, IsWithin}
 use Rattle.page_store.specs.Leaving.{Leaves, LeavesOnly}
 
@@ -107,3 +107,37 @@ module _ {D : Type 0} {file : D → Option File} {aside : D → Beside} {attache
     listed = leaves.listed;
     beside = leaves.beside;
   }
+
+  -- Where nothing is called, a crash leaves an image of the file.
+  pub leaves_itself : {Kind : File → List ℕ → Type 0} {disk : D}
+      → ((before : File) → file disk ≡ Some before → IsImage before.since before.bytes)
+      → WhereTold (file disk) (aside disk).tape (λ before said. (image tape : List ℕ) → moment disk (clock disk) image tape ↔ IsMoment before.since said [] image tape)
+      → ((s t : ℕ) (image tape : List ℕ) → s ≤ t → t ≤ clock disk → moment disk t image tape → moment disk s image tape)
+      → ((before : File) (image : List ℕ) → file disk ≡ Some before → IsImage before.since image → Kind before image)
+      → Leaves file aside attaches is_attached clock moment Kind disk disk
+  leaves_itself {Kind} {disk} as_read only_now earlier kind = record {
+    untold = λ none. none;
+    told = λ before is. (before, is, kind before before.bytes is (as_read before is), λ image left. kind before image is left);
+    crash = λ before said is tape. record {
+      since_call = λ image taken left.
+          let now = now_at (file disk) (aside disk).tape before said is tape only_now image taken left in
+          (kind before image is now.left, nothing_said now.said.0 now.said.1 said taken now.said.2 now.said.3);
+      nothing_else = λ t image taken early left. inl left;
+      keeps = λ t image taken early left. left;
+      adds = λ t image taken early left. earlier t (clock disk) image taken early (omega arith) left;
+    };
+    later = omega arith;
+    attached = refl;
+    listed = refl;
+    beside = refl;
+  } where
+    now_at : (told : Option File) (said : Option (List ℕ)) (before : File) (spoken : List ℕ) → told ≡ Some before → said ≡ Some spoken
+        → WhereTold told said (λ before said. (image tape : List ℕ) → moment disk (clock disk) image tape ↔ IsMoment before.since said [] image tape)
+        → (image tape : List ℕ) → moment disk (clock disk) image tape → IsMoment before.since spoken [] image tape
+    now_at None said before spoken is tape only image taken left = absurd (cc)
+    now_at (Some f) None before spoken is tape only image taken left = absurd (cc)
+    now_at (Some f) (Some s) before spoken is tape only image taken left =
+        let same : f ≡ before = cc in
+        let same_said : s ≡ spoken = cc in
+        let now = (only image taken).0 left in
+        subst (λ (g : File). IsMoment g.since spoken [] image taken) same (subst (λ xs. IsMoment f.since xs [] image taken) same_said now)

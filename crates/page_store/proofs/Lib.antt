@@ -1,6 +1,7 @@
 pub mod Cached
 pub mod Calls
 pub mod Committing
+pub mod Commits
 pub mod Crashes
 pub mod Deciding
 pub mod FreshBytes

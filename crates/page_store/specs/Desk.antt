@@ -53,10 +53,11 @@ state_of told tape attaches desk = record {
   attached = attaches;
 }
 
--- The images are those that make the work, whose page 0 states how many pages it has.
+-- The images are those that make the work, whose page 0 states how many pages it has, and no mark is open.
 pub record IsPrepared (desk : Desk) (told : Option File) (images : Numbered) : Type 0 where
   pub holds : HoldsBelow (length desk.changes.now) (image_in desk.base desk.changes.now) images
   pub counted : ForSome told (λ file. stated_count (laid_over desk.changes.now (listed desk.base (home_page file.bytes))) ≡ length desk.changes.now)
+  pub unmarked : desk.changes.marked ≡ None
 
 -- a count of pages between that of the base and the greatest that there may be
 abbrev pub IsCount : ℕ → ℕ → Type 0

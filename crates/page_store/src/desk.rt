@@ -12,7 +12,7 @@ ghost use Rattle.page_store.specs.Desk.{IsKept, IsPlaced, Does, StandsForEither,
 
 use crate::changes::Changes;
 use crate::page_cache::PageCache;
-use crate::write_through::{Halt, write_through};
+use crate::write_through::{Halt, write_any};
 use mdc_outside::Disk;
 use mdc_values::Memory;
 use redo_journal::Images;
@@ -220,7 +220,8 @@ impl Desk {
 
     /// Makes the work ready for `commit`, and takes the memory that it needs.
     pub(crate) fn prepare(&mut self) -> Result<(), PageFault>
-        requires { self.old.base ≤ length self.old.changes.now }
+        requires more { self.old.base ≤ length self.old.changes.now }
+        requires unmarked { self.old.changes.marked ≡ None }
         ensures ok { OnOk result ((told : Option File) → Does Prepares told self.old told self.new) }
         ensures err { OnErr result ((told : Option File) → Does LosesReadiness told self.old told self.new) }
         ensures memory { IsErrOf result PageFault.Device → ⊥ }
@@ -262,13 +263,11 @@ impl Desk {
             unreachable!();
         };
         let count = self.changes.count();
-        if images.len() > 0 {
-            if let Err(halt) = write_through(disk, FIRST + count, &images) {
-                self.halt = Some(halt);
-                return Err(DeviceFault);
-            }
-            self.cache.renew(&images);
+        if let Err(halt) = write_any(disk, FIRST + count, &images) {
+            self.halt = Some(halt);
+            return Err(DeviceFault);
         }
+        self.cache.renew(&images);
         self.base = count;
         self.changes.clear(count);
         Ok(())
