@@ -12,6 +12,7 @@ use Rattle.redo_journal.proofs.Rising.{All-rest}
 use Rattle.page_store.specs.Standing.{listed, image_of, page_of, count_of, pages_of, IsFormed}
 use Rattle.page_store.specs.Changes.{Overlay, laid_over, image_in, HoldsBelow}
 use Rattle.page_store.specs.Opening.{IsAtRest}
+use Rattle.page_store.specs.Shape.{extents_in, extent_pages_in}
 use Rattle.page_store.specs.Commit.{Both, Stands, IsReadyFor, IsClosed, IsCommitted, StandsEither, HomeStays, count_with, pages_with}
 use Rattle.page_store.proofs.Listed.{length-listed, page_at-listed, listed_same}
 use Rattle.page_store.proofs.LaidOver.{listed-laid_over}
@@ -114,3 +115,34 @@ ready_for extents extent_pages base now images file rest some more holds made = 
   named = subst (λ n. All (λ (image : ℕ × List ℕ). image.0 < n) images) (sym made.count) holds.below;
   grown = λ p low lt. subst IsSome (sym (holds.found p (omega (arith, made.count)))) (grown_image base now p (omega (arith, rest.states_pages)));
 }
+
+-- After a commit the file is at rest, and has as many pages as the work.
+pub rest_after : (extents extent_pages base : ℕ) (now : Overlay) (images : Numbered) (before after : File) → IsAtRest extents extent_pages base before
+    → IsMade base now images before.bytes → IsCommitted images before after → IsAtRest extents extent_pages (length now) after
+rest_after extents extent_pages base now images before after rest made committed =
+    let size : length (pages_of after.bytes) ≡ length (pages_with images before.bytes) = ap length committed.1.pages in
+    record {
+      synced = committed.0.synced;
+      closed = committed.0.closed;
+      formed = committed.1.formed;
+      states_pages = omega (arith, size, length-listed (count_of after.bytes) (page_of after.bytes), length-listed (count_with images before.bytes) (λ p. unwrap_or (image_of images p) (home_page before.bytes p)), made.count);
+      states_extents = ap extents_in committed.1.birth ∙ rest.states_extents;
+      states_extent_pages = ap extent_pages_in committed.1.birth ∙ rest.states_extent_pages;
+    }
+
+-- its home pages are the work
+pub work_after : (extents extent_pages base : ℕ) (now : Overlay) (images : Numbered) (before after : File) → IsAtRest extents extent_pages base before
+    → IsMade base now images before.bytes → IsCommitted images before after → listed (length now) (home_page after.bytes) ≡ laid_over now (listed base (home_page before.bytes))
+work_after extents extent_pages base now images before after rest made committed =
+    sym (pages_at_rest extents extent_pages (length now) after (rest_after extents extent_pages base now images before after rest made committed))
+    ∙ (committed.1.pages ∙ made.pages)
+
+-- each home page is its image, or else as it was
+pub home_after : (extents extent_pages base : ℕ) (now : Overlay) (images : Numbered) (before after : File) → IsAtRest extents extent_pages base before
+    → IsMade base now images before.bytes → IsCommitted images before after
+    → (p : ℕ) → p < length now → home_page after.bytes p ≡ unwrap_or (image_of images p) (home_page before.bytes p)
+home_after extents extent_pages base now images before after rest made committed p lt =
+    let pages : listed (length now) (home_page after.bytes) ≡ pages_with images before.bytes =
+    work_after extents extent_pages base now images before after rest made committed ∙ sym made.pages in
+    sym (page_at-listed (length now) (home_page after.bytes) p lt)
+    ∙ (ap (λ all. page_at all p) pages ∙ page_at-listed (count_with images before.bytes) (λ q. unwrap_or (image_of images q) (home_page before.bytes q)) p (omega (arith, made.count)))

@@ -3,6 +3,7 @@ pub mod Calls
 pub mod Committing
 pub mod Commits
 pub mod Crashes
+pub mod DeskCommits
 pub mod Deciding
 pub mod FreshBytes
 pub mod FreshDatabase
