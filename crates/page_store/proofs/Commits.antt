@@ -1,19 +1,19 @@
 -- What a commit makes of what a store has in memory.
-use Rattle.std.proofs.Common.{◌≡◌, ◌⊎◌, ◌≤◌, ◌<◌, ◌+◌, ◌*◌, ℕ, Bool, true, leb, IsTrue, IsFalse, IsSome, List, [], ◌∷◌, length, get_or, Option, Some, None, unwrap_or, arith, sym, ap, subst, ◌∙◌, inl, inr, refl}
+use Rattle.std.proofs.Common.{◌≡◌, ◌≤◌, ◌<◌, ◌+◌, ℕ, true, leb, IsFalse, IsSome, List, [], ◌∷◌, length, get_or, Option, Some, None, unwrap_or, arith, sym, ap, subst, ◌∙◌, inl, inr, refl}
 use Rattle.std.proofs.lemmas.Bool.{cases_lt}
 use Rattle.std.proofs.lemmas.Bool.Decides.{nat_tests}
 use Rattle.std.specs.Option.{ForSome, option_or}
 use Rattle.std.specs.List.{All}
 use Rattle.store_api.specs.StoreState.{stated_in, stated_count, page_at, zero_page}
-use Rattle.mdc_outside.specs.Disk.{File, IsImage, all_synced}
+use Rattle.mdc_outside.specs.Disk.{File, IsImage}
 use Rattle.redo_journal.specs.Images.{Numbered, AreRising}
-use Rattle.redo_journal.specs.Layout.{file_page, home_page, is_open}
+use Rattle.redo_journal.specs.Layout.{home_page, is_open}
 use Rattle.redo_journal.proofs.Rising.{All-rest}
 use Rattle.page_store.specs.Standing.{listed, image_of, page_of, count_of, pages_of, IsFormed}
 use Rattle.page_store.specs.Changes.{Overlay, laid_over, image_in, HoldsBelow}
 use Rattle.page_store.specs.Opening.{IsAtRest}
 use Rattle.page_store.specs.Shape.{extents_in, extent_pages_in}
-use Rattle.page_store.specs.Commit.{Both, Stands, IsReadyFor, IsClosed, IsCommitted, StandsEither, HomeStays, count_with, pages_with}
+use Rattle.page_store.specs.Commit.{Both, Stands, IsReadyFor, IsCommitted, StandsEither, count_with, pages_with}
 use Rattle.page_store.proofs.Listed.{length-listed, page_at-listed, listed_same}
 use Rattle.page_store.proofs.LaidOver.{listed-laid_over}
 use Rattle.page_store.proofs.Pages.{page_of-closed, pages_again}

@@ -1,5 +1,5 @@
 -- What a store has in memory, through a commit.
-use Rattle.std.proofs.Common.{◌≡◌, ◌⊎◌, ◌≤◌, ◌<◌, ◌+◌, ℕ, Bool, true, false, List, [], length, replicate, Option, Some, None, Result, Err, IsErrOf, arith, sym, ap, subst, ◌∙◌, inl, inr, refl}
+use Rattle.std.proofs.Common.{◌≡◌, ◌⊎◌, ◌+◌, ℕ, Bool, true, false, List, [], length, replicate, Option, Some, None, Result, Err, IsErrOf, arith, sym, ap, subst, ◌∙◌, inl, inr, refl}
 use Rattle.std.specs.Option.{ForSome, option_map, is_some}
 use Rattle.std.proofs.lemmas.List.{length-replicate}
 use Rattle.store_api.specs.StoreState.{StoreState}
@@ -12,16 +12,16 @@ use Rattle.page_store.specs.declared.desk.Desk.{Desk}
 use Rattle.page_store.specs.declared.write_through.Halt.{Halt}
 use Rattle.page_store.specs.declared.write_through.Halt.TheVariants.{BeforeHome, BehindGate}
 use Rattle.page_store.specs.Leaving.{Leaves}
-use Rattle.page_store.specs.Standing.{listed, count_of, pages_of, IsFormed}
-use Rattle.page_store.specs.Changes.{Overlay, Changed, laid_over, unchanged}
-use Rattle.page_store.specs.Cached.{AreHome, renewed}
-use Rattle.page_store.specs.Commit.{Both, Stands, IsReadyFor, IsCommitted, StandsEither, HomeStays, RestsWith, pages_with}
+use Rattle.page_store.specs.Standing.{listed, pages_of}
+use Rattle.page_store.specs.Changes.{Changed, laid_over, unchanged}
+use Rattle.page_store.specs.Cached.{renewed}
+use Rattle.page_store.specs.Commit.{Both, IsReadyFor, IsCommitted, StandsEither, HomeStays, RestsWith, pages_with}
 use Rattle.page_store.specs.Desk.{IsKept, IsPrepared, Does, StandsForEither, RestsEither, base_in, base_of, work_of, state_of}
 use Rattle.page_store.proofs.Calls.{one_file, left_told}
 use Rattle.page_store.proofs.Cached.{renewed_home}
 use Rattle.page_store.proofs.Commits.{IsMade, made_by, ready_for, pages_at_rest, rest_after, work_after, home_after}
 use Rattle.page_store.proofs.LaidOver.{laid_over-again, laid_over-unchanged, length-laid_over}
-use Rattle.page_store.proofs.Listed.{length-listed, listed_same}
+use Rattle.page_store.proofs.Listed.{listed_same}
 
 -- the desk once its work is the base
 abbrev pub settled : Numbered → Desk → Desk
@@ -87,16 +87,20 @@ same_state : (s : StoreState) (told_a told_b : Bool) (base_a base_b work_a work_
 same_state s told_a told_b base_a base_b work_a work_b marked_a marked_b told base work marked = cc
 
 -- a desk whose parts are as after a commit
-pub settled_as : (images : Numbered) (desk : Desk) (count : ℕ) (changes : Changed) (cache : Numbered) (ready : Option Numbered) → count ≡ length desk.changes.now
-    → changes ≡ record { now = unchanged count; marked = None; kept = 0 } → cache ≡ renewed images desk.cache → ready ≡ None
-    → settled images desk ≡ record desk { base = count; changes = changes; cache = cache; hand = None; images = ready }
-settled_as images desk count changes cache ready is_count is_changes is_cache none = rw (is_changes, is_cache, none, is_count) refl
+pub settled_as : (images : Numbered) (desk : Desk) (count : ℕ) (changes : Changed) (cache : Numbered) (left : Option Numbered) → count ≡ length desk.changes.now
+    → changes ≡ record { now = unchanged count; marked = None; kept = 0 } → cache ≡ renewed images desk.cache → left ≡ None
+    → settled images desk ≡ record desk { base = count; changes = changes; cache = cache; hand = None; images = left }
+settled_as images desk count changes cache left is_count is_changes is_cache none = rw (is_changes, is_cache, none, is_count) refl
 
 -- a desk whose parts are as after a commit that failed
-pub halted_as : (halt : Halt) (desk : Desk) (ready : Option Numbered) → ready ≡ None → halted halt desk ≡ record desk { hand = None; images = ready; halt = Some halt }
-halted_as halt desk ready none = rw none refl
+pub halted_as : (halt : Halt) (desk : Desk) (left : Option Numbered) → left ≡ None → halted halt desk ≡ record desk { hand = None; images = left; halt = Some halt }
+halted_as halt desk left none = rw none refl
 
-module _ (desk : Desk) (told : Option File) (images : Numbered) (kept : IsKept desk told) (going : desk.halt ≡ None) (prepared : IsPrepared desk told images) where
+module _ (desk : Desk) (told : Option File) (images : Numbered) (kept : IsKept desk told) (going : desk.halt ≡ None) (ready : desk.images ≡ Some images) where
+  -- the images are those of the work
+  prepared : IsPrepared desk told images
+  prepared = kept.ready images ready
+
   -- what the images make is the work
   made : (file : File) → told ≡ Some file → IsMade desk.base desk.changes.now images file.bytes
   made file is = made_by desk.base desk.changes.now images file.bytes (omega (arith, kept.some, kept.count.0)) prepared.holds (prepared.counted file is)

@@ -19,7 +19,7 @@ pub(crate) enum Halt {
     BehindGate,
 }
 
-/// Writes images into the file as `write_through` does, if there are any. It takes no memory.
+/// Writes images into the file, if there are any, by way of a journal that starts at this file page. It takes no memory.
 pub(crate) fn write_any<D: Disk>(disk: &mut D, start: u32, images: &Images) -> Result<(), Halt>
     requires attached { IsTrue (D.is_attached disk.old) }
     requires ready { ForSome (D.file disk.old) (IsReadyFor start images.now) }
@@ -37,12 +37,8 @@ pub(crate) fn write_any<D: Disk>(disk: &mut D, start: u32, images: &Images) -> R
     write_through(disk, start, images)
 }
 
-// Writes images into the file by way of a journal that starts at this file page. It takes no memory.
-fn write_through<D: Disk>(
-    disk: &mut D,
-    start: u32,
-    images: &Images,
-) -> Result<(), Halt>
+// Writes images into the file by way of a journal, also where there are none.
+fn write_through<D: Disk>(disk: &mut D, start: u32, images: &Images) -> Result<(), Halt>
     requires attached { IsTrue (D.is_attached disk.old) }
     requires ready { ForSome (D.file disk.old) (IsReadyFor start images.now) }
     requires behind_gates { 66 ≤ start }
