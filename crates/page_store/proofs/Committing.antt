@@ -20,7 +20,7 @@ home_written bytes image start n whole behind left p named =
     same_part (4096 * (66 + p)) 4096 image bytes (omega (arith, kept.0)) (λ i low high lt. kept.1 i lt (omega arith) (inr (omega arith)))
 
 -- an image takes the place of any page
-unwrap_or-some : (image : Option (List ℕ)) (x y : List ℕ) → IsSome image → unwrap_or image x ≡ unwrap_or image y
+pub unwrap_or-some : (image : Option (List ℕ)) (x y : List ℕ) → IsSome image → unwrap_or image x ≡ unwrap_or image y
 unwrap_or-some None x y some = absurd (cc)
 unwrap_or-some (Some page) x y some = refl
 

@@ -14,7 +14,7 @@ use Rattle.page_store.specs.declared.write_through.Halt.{Halt}
 use Rattle.page_store.specs.Standing.{listed}
 use Rattle.page_store.specs.Changes.{Overlay, Changed, unchanged, changed_in, laid_over, image_in}
 use Rattle.page_store.specs.Cached.{AreHome, Leads}
-use Rattle.page_store.specs.Desk.{IsKept, IsPrepared, Does, base_in, base_of, work_of, page_in, written_in}
+use Rattle.page_store.specs.Desk.{IsKept, IsPrepared, Does, DoesOnOk, base_in, base_of, work_of, page_in, written_in}
 use Rattle.page_store.proofs.Listed.{length-listed, page_at-listed}
 use Rattle.page_store.proofs.LaidOver.{length-laid_over, laid_over-set, laid_over-grown, laid_over-unchanged, laid_over-at, differing-laid_over}
 
@@ -131,7 +131,7 @@ kept_with told desk hand cache kept clean there = record {
   count = kept.count;
   marked = kept.marked;
   hand = there;
-  ready = λ images is. let ready = kept.ready images is in record { holds = ready.holds; counted = ready.counted };
+  ready = λ images is. let ready = kept.ready images is in record { unmarked = ready.unmarked; holds = ready.holds; counted = ready.counted };
 }
 
 -- a page of the base came to hand that is the page of the work
@@ -163,7 +163,7 @@ rolls_back (Some file) desk changes going is tape attaches = let back = unchange
 -- the same where the call succeeds
 pub fetches_on_ok : {T E : Type 0} (result : Result T E) (told now : Option File) (desk new : Desk) (p : ℕ)
     → (IsTrue (is_some told) → page_at (base_of told desk) p ≡ page_at (work_of told desk desk.changes.now) p)
-    → OnOk result (Does (FetchesCommitted p) told desk now new) → OnOk result (Does (Fetches p) told desk now new)
+    → DoesOnOk result (FetchesCommitted p) told desk now new → DoesOnOk result (Fetches p) told desk now new
 fetches_on_ok (Ok done) told now desk new p same does = brings_shown told now desk new p same does
 fetches_on_ok (Err e) told now desk new p same does = does
 

@@ -51,6 +51,14 @@ pub laid_over-unchanged : (pages : List (List ℕ)) → laid_over (unchanged (le
 laid_over-unchanged [] = refl
 laid_over-unchanged (page ∷ pages) = ap (λ rest. page ∷ rest) (laid_over-unchanged pages)
 
+-- changes that are laid over once more change nothing
+pub laid_over-again : (changes : Overlay) (pages : List (List ℕ)) → laid_over changes (laid_over changes pages) ≡ laid_over changes pages
+laid_over-again [] pages = refl
+laid_over-again (None ∷ changes) [] = ap (λ rest. zero_page ∷ rest) (laid_over-again changes [])
+laid_over-again (None ∷ changes) (page ∷ pages) = ap (λ rest. page ∷ rest) (laid_over-again changes pages)
+laid_over-again (Some new ∷ changes) [] = ap (λ rest. new ∷ rest) (laid_over-again changes [])
+laid_over-again (Some new ∷ changes) (page ∷ pages) = ap (λ rest. new ∷ rest) (laid_over-again changes pages)
+
 -- a page counts once at most
 one_at_most : (same : Bool) → cond same 0 1 ≤ 1
 one_at_most true = omega arith

@@ -1,5 +1,5 @@
 -- Runs of calls by the kind of image that a crash within them leaves.
-use Rattle.std.proofs.Common.{◌≡◌, ◌⊎◌, ◌↔◌, ◌≤◌, ℕ, Bool, List, [], ◌∷◌, ◌++◌, Option, Some, None, subst, inl, inr, arith, refl, ap, ◌∙◌, append-nil}
+use Rattle.std.proofs.Common.{◌≡◌, ◌↔◌, ◌≤◌, ℕ, Bool, List, [], ◌∷◌, ◌++◌, Option, Some, None, subst, inl, inr, arith, refl, ap, ◌∙◌, append-nil}
 use Rattle.mdc_outside.specs.Disk.{File, Since, IsImage}
 use Rattle.mdc_outside.specs.Moments.{Beside, IsMoment, WhereTold}
 use Rattle.redo_journal.specs.Runs.{Runs, IsWithin}

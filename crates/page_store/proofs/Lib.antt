@@ -1,7 +1,9 @@
 pub mod Cached
 pub mod Calls
 pub mod Committing
+pub mod Commits
 pub mod Crashes
+pub mod DeskCommits
 pub mod Deciding
 pub mod Desks
 pub mod FreshBytes

@@ -106,15 +106,15 @@ module _ {H : Type 0} {file : H → Option File} {aside : H → Beside} {attache
       rests_with_base (state_of (file new.host) (aside new.host).tape (attaches new.host) new.desk) pages said (ap (λ halt. is_some halt) going_now)
       (kept_reopens (file new.host) new.desk after image pages kept_now going_now is left reopens, if_said (aside new.host).tape said tape))
 
-  -- the same of a call that makes no call of the host
-  pub stays : (host : H) (desk new : Desk)
-      → ((before : File) → file host ≡ Some before → IsImage before.since before.bytes)
-      → WhereTold (file host) (aside host).tape (λ f said. (image tape : List ℕ) → moment host (clock host) image tape ↔ IsMoment f.since said [] image tape)
-      → ((s t : ℕ) (image tape : List ℕ) → s ≤ t → t ≤ clock host → moment host t image tape → moment host s image tape)
-      → IsKept desk (file host) → desk.halt ≡ None → IsKept new (file host) → new.halt ≡ desk.halt
-      → Passes (λ (s : Held H). state_of (file s.host) (aside s.host).tape (attaches s.host) s.desk) (λ s. clock s.host) (λ s. left_of (file s.host) (aside s.host).tape (moment s.host))
-      (OnlyBase (state_of (file host) (aside host).tape (attaches host) desk)) (record { host = host; desk = desk }) (record { host = host; desk = new })
-  stays host desk new as_read only_now earlier kept going kept_now halt =
-      keeps_base (record { host = host; desk = desk }) (record { host = host; desk = new })
-      (leaves_itself {file = file} {aside = aside} {attaches = attaches} {is_attached = is_attached} {clock = clock} {moment = moment} as_read only_now earlier (λ before image is left. left))
-      only_now kept going kept_now (halt ∙ going)
+-- the same of a call that makes no call of the host
+pub stays : {H : Type 0} (file : H → Option File) (aside : H → Beside) (attaches : H → Option (List (List ℕ × Bool))) (is_attached : H → Bool) (clock : H → ℕ) (moment : H → ℕ → List ℕ → List ℕ → Type 0) (host : H) (desk new : Desk)
+    → ((before : File) → file host ≡ Some before → IsImage before.since before.bytes)
+    → WhereTold (file host) (aside host).tape (λ f said. (image tape : List ℕ) → moment host (clock host) image tape ↔ IsMoment f.since said [] image tape)
+    → ((s t : ℕ) (image tape : List ℕ) → s ≤ t → t ≤ clock host → moment host t image tape → moment host s image tape)
+    → IsKept desk (file host) → desk.halt ≡ None → IsKept new (file host) → new.halt ≡ desk.halt
+    → Passes (λ (s : Held H). state_of (file s.host) (aside s.host).tape (attaches s.host) s.desk) (λ s. clock s.host) (λ s. left_of (file s.host) (aside s.host).tape (moment s.host))
+    (OnlyBase (state_of (file host) (aside host).tape (attaches host) desk)) (record { host = host; desk = desk }) (record { host = host; desk = new })
+stays {H} file aside attaches is_attached clock moment host desk new as_read only_now earlier kept going kept_now halt =
+    keeps_base {file = file} {aside = aside} {attaches = attaches} {is_attached = is_attached} {clock = clock} {moment = moment} (record { host = host; desk = desk }) (record { host = host; desk = new })
+    (leaves_itself {file = file} {aside = aside} {attaches = attaches} {is_attached = is_attached} {clock = clock} {moment = moment} as_read only_now earlier (λ before image is left. left))
+    only_now kept going kept_now (halt ∙ going)

@@ -1,5 +1,5 @@
 -- What a store in a file knows of its desk and its host.
-use Rattle.std.proofs.Common.{◌≡◌, ◌≤◌, ◌+◌, ℕ, Bool, false, IsTrue, is_some, List, [], length, replicate, Result, Ok, Err, OnOk, OnErr, Option, Some, None, arith, refl, sym, ap, ◌∙◌}
+use Rattle.std.proofs.Common.{◌≡◌, ◌≤◌, ◌+◌, ℕ, Bool, false, IsTrue, is_some, List, [], length, replicate, Option, Some, None, arith, refl, sym, ap, ◌∙◌}
 use Rattle.std.proofs.lemmas.List.{length-replicate}
 use Rattle.mdc_outside.specs.Disk.{File}
 use Rattle.page_store.specs.declared.desk.Desk.{Desk}
@@ -36,13 +36,3 @@ held_pages file host desk held is = length-work_of (file held.host) held.desk he
 -- the store is whole again
 pub whole_again : (is_attached : Bool) (told : Option File) (desk : Desk) → IsTrue is_attached → IsKept desk told → IsWhole is_attached told desk
 whole_again is_attached told desk attached kept = record { attached = attached; kept = λ going. kept }
-
--- what follows from a fact where a call succeeds
-pub on_ok : {T E : Type 0} (result : Result T E) {P Q : Type 0} → (P → Q) → OnOk result P → OnOk result Q
-on_ok (Ok x) follows fact = follows fact
-on_ok (Err e) follows fact = fact
-
--- what follows from a fact where a call fails
-pub on_err : {T E : Type 0} (result : Result T E) {P Q : Type 0} → (P → Q) → OnErr result P → OnErr result Q
-on_err (Ok x) follows fact = fact
-on_err (Err e) follows fact = follows fact

@@ -1,5 +1,5 @@
 -- What a store has in memory beside its file, and what the two together are seen as.
-use Rattle.std.specs.Prelude.{◌≡◌, ◌⊎◌, ◌≤◌, ◌<◌, ◌+◌, ◌-◌, min, ℕ, Bool, false, IsSome, is_some, List, [], length, map, replicate, slice_get, slice_index_or, Option, Some, None}
+use Rattle.std.specs.Prelude.{◌≡◌, ◌⊎◌, ◌≤◌, ◌<◌, ◌+◌, ◌-◌, min, ℕ, Bool, false, IsSome, is_some, List, [], length, map, replicate, slice_get, slice_index_or, Option, Some, None, Result, OnOk, OnErr}
 use Rattle.std.specs.Option.{ForSome, option_map}
 use Rattle.store_api.specs.StoreState.{StoreState, stated_count, zero_page}
 use Rattle.mdc_outside.specs.Disk.{File, IsImage}
@@ -53,10 +53,11 @@ state_of told tape attaches desk = record {
   attached = attaches;
 }
 
--- The images are those that make the work, whose page 0 states how many pages it has.
+-- The images are those that make the work, whose page 0 states how many pages it has, and no mark is open.
 pub record IsPrepared (desk : Desk) (told : Option File) (images : Numbered) : Type 0 where
   pub holds : HoldsBelow (length desk.changes.now) (image_in desk.base desk.changes.now) images
   pub counted : ForSome told (λ file. stated_count (laid_over desk.changes.now (listed desk.base (home_page file.bytes))) ≡ length desk.changes.now)
+  pub unmarked : desk.changes.marked ≡ None
 
 -- a number between two
 abbrev pub IsBetween : ℕ → ℕ → ℕ → Type 0
@@ -95,3 +96,13 @@ written_in desk = min (desk.changes.kept + (length desk.changes.now - desk.base)
 abbrev pub Does : (StoreState → StoreState → Type 0) → Option File → Desk → Option File → Desk → Type 0
 Does step before old after new =
     (tape : Option (List ℕ)) (attaches : Option (List (List ℕ × Bool))) → step (state_of before tape attaches old) (state_of after tape attaches new)
+
+-- the same where a call succeeds
+abbrev pub DoesOnOk : {T E : Type 0} → Result T E → (StoreState → StoreState → Type 0) → Option File → Desk → Option File → Desk → Type 0
+DoesOnOk result step before old after new =
+    (tape : Option (List ℕ)) (attaches : Option (List (List ℕ × Bool))) → OnOk result (step (state_of before tape attaches old) (state_of after tape attaches new))
+
+-- the same where it fails
+abbrev pub DoesOnErr : {T E : Type 0} → Result T E → (StoreState → StoreState → Type 0) → Option File → Desk → Option File → Desk → Type 0
+DoesOnErr result step before old after new =
+    (tape : Option (List ℕ)) (attaches : Option (List (List ℕ × Bool))) → OnErr result (step (state_of before tape attaches old) (state_of after tape attaches new))

@@ -8,11 +8,11 @@ ghost use Rattle.redo_journal.specs.Runs.{Runs, IsCovered};
 ghost use Rattle.store_api.specs.Calls.{Fetches, FetchesCommitted, LosesHand, LosesReadiness, Writes, Grows, Marks, Keeps, Undoes, Prepares, Commits, Ends, RollsBack};
 ghost use Rattle.store_api.specs.StoreState.{stated_count, zero_page, differing};
 ghost use Rattle.page_store.specs.Leaving.{Leaves};
-ghost use Rattle.page_store.specs.Desk.{IsKept, IsPlaced, Does, StandsForEither, RestsEither, page_in, base_of, work_of, written_in};
+ghost use Rattle.page_store.specs.Desk.{IsKept, IsPlaced, Does, DoesOnOk, DoesOnErr, StandsForEither, RestsEither, page_in, base_of, work_of, written_in};
 
 use crate::changes::Changes;
 use crate::page_cache::PageCache;
-use crate::write_through::{Halt, write_through};
+use crate::write_through::{Halt, write_any};
 use mdc_outside::Disk;
 use mdc_values::Memory;
 use redo_journal::Images;
@@ -56,8 +56,8 @@ impl Desk {
         requires going { self.old.halt ≡ None }
         requires kept { IsKept self.old (D.file disk.old) }
         requires within { p < length self.old.changes.now }
-        ensures ok { OnOk result (Does (Fetches p) (D.file disk.old) self.old (D.file disk.new) self.new) }
-        ensures err { OnErr result (Does LosesHand (D.file disk.old) self.old (D.file disk.new) self.new) }
+        ensures ok { DoesOnOk result (Fetches p) (D.file disk.old) self.old (D.file disk.new) self.new }
+        ensures err { DoesOnErr result LosesHand (D.file disk.old) self.old (D.file disk.new) self.new }
         ensures device { IsErrOf result PageFault.Device → Rose (D.disk_faults disk.old) (D.disk_faults disk.new) }
         ensures changes { self.new.changes ≡ self.old.changes }
         ensures base { self.new.base ≡ self.old.base }
@@ -82,8 +82,8 @@ impl Desk {
         requires going { self.old.halt ≡ None }
         requires kept { IsKept self.old (D.file disk.old) }
         requires within { p < self.old.base }
-        ensures ok { OnOk result (Does (FetchesCommitted p) (D.file disk.old) self.old (D.file disk.new) self.new) }
-        ensures err { OnErr result (Does LosesHand (D.file disk.old) self.old (D.file disk.new) self.new) }
+        ensures ok { DoesOnOk result (FetchesCommitted p) (D.file disk.old) self.old (D.file disk.new) self.new }
+        ensures err { DoesOnErr result LosesHand (D.file disk.old) self.old (D.file disk.new) self.new }
         ensures device { IsErrOf result PageFault.Device → Rose (D.disk_faults disk.old) (D.disk_faults disk.new) }
         ensures changes { self.new.changes ≡ self.old.changes }
         ensures base { self.new.base ≡ self.old.base }
@@ -129,8 +129,8 @@ impl Desk {
     /// Writes over a page of the work.
     pub(crate) fn write(&mut self, p: u32, bytes: &Page) -> Result<(), PageFault>
         requires { p < length self.old.changes.now }
-        ensures ok { OnOk result ((told : Option File) → IsKept self.old told → Does (Writes p bytes.now) told self.old told self.new) }
-        ensures err { OnErr result ((told : Option File) → Does LosesReadiness told self.old told self.new) }
+        ensures ok { (told : Option File) → IsKept self.old told → DoesOnOk result (Writes p bytes.now) told self.old told self.new }
+        ensures err { (told : Option File) → DoesOnErr result LosesReadiness told self.old told self.new }
         ensures memory { IsErrOf result PageFault.Device → ⊥ }
         ensures halt { self.new.halt ≡ self.old.halt }
         ensures kept { (told : Option File) → IsKept self.old told → IsKept self.new told }
@@ -220,9 +220,10 @@ impl Desk {
 
     /// Makes the work ready for `commit`, and takes the memory that it needs.
     pub(crate) fn prepare(&mut self) -> Result<(), PageFault>
-        requires { self.old.base ≤ length self.old.changes.now }
-        ensures ok { OnOk result ((told : Option File) → Does Prepares told self.old told self.new) }
-        ensures err { OnErr result ((told : Option File) → Does LosesReadiness told self.old told self.new) }
+        requires more { self.old.base ≤ length self.old.changes.now }
+        requires unmarked { self.old.changes.marked ≡ None }
+        ensures ok { (told : Option File) → DoesOnOk result Prepares told self.old told self.new }
+        ensures err { (told : Option File) → DoesOnErr result LosesReadiness told self.old told self.new }
         ensures memory { IsErrOf result PageFault.Device → ⊥ }
         ensures halt { self.new.halt ≡ self.old.halt }
         ensures kept { (told : Option File) → IsKept self.old told
@@ -247,8 +248,8 @@ impl Desk {
         requires going { self.old.halt ≡ None }
         requires kept { IsKept self.old (D.file disk.old) }
         requires prepared { IsSome self.old.images }
-        ensures ok { OnOk result (Does Commits (D.file disk.old) self.old (D.file disk.new) self.new) }
-        ensures err { OnErr result (Does Ends (D.file disk.old) self.old (D.file disk.new) self.new) }
+        ensures ok { DoesOnOk result Commits (D.file disk.old) self.old (D.file disk.new) self.new }
+        ensures err { DoesOnErr result Ends (D.file disk.old) self.old (D.file disk.new) self.new }
         ensures rests { OnErr result (ForSome (D.file disk.new) (RestsEither self.new)) }
         ensures going_on { OnOk result (self.new.halt ≡ None) }
         ensures halted { OnErr result (IsSome self.new.halt) }
@@ -262,13 +263,11 @@ impl Desk {
             unreachable!();
         };
         let count = self.changes.count();
-        if images.len() > 0 {
-            if let Err(halt) = write_through(disk, FIRST + count, &images) {
-                self.halt = Some(halt);
-                return Err(DeviceFault);
-            }
-            self.cache.renew(&images);
+        if let Err(halt) = write_any(disk, FIRST + count, &images) {
+            self.halt = Some(halt);
+            return Err(DeviceFault);
         }
+        self.cache.renew(&images);
         self.base = count;
         self.changes.clear(count);
         Ok(())

@@ -1,6 +1,7 @@
 // The calls by which images reach the file, whole or not at all.
 ghost use Rattle.std.specs.Prelude.{◌≡◌, ◌≤◌, ◌<◌, IsTrue, length, OnOk, IsErrOf, IsErr};
 ghost use Rattle.std.specs.Option.{ForSome};
+ghost use Rattle.std.specs.List.{All};
 ghost use Rattle.mdc_outside.specs.Moments.{HasCause};
 ghost use Rattle.page_store.specs.Leaving.{Leaves};
 ghost use Rattle.page_store.specs.Commit.{Both, IsReadyFor, IsCounting, IsClosed, IsCommitted, IsJournaled, Stands, StandsStill, StandsEither, HomeStays, RestsWith, pages_with};
@@ -18,12 +19,26 @@ pub(crate) enum Halt {
     BehindGate,
 }
 
-/// Writes images into the file by way of a journal that starts at this file page. It takes no memory.
-pub(crate) fn write_through<D: Disk>(
-    disk: &mut D,
-    start: u32,
-    images: &Images,
-) -> Result<(), Halt>
+/// Writes images into the file, if there are any, by way of a journal that starts at this file page. It takes no memory.
+pub(crate) fn write_any<D: Disk>(disk: &mut D, start: u32, images: &Images) -> Result<(), Halt>
+    requires attached { IsTrue (D.is_attached disk.old) }
+    requires ready { ForSome (D.file disk.old) (IsReadyFor start images.now) }
+    requires behind_gates { 66 ≤ start }
+    requires named { All (λ image. image.0 < start) images.now }
+    ensures committed { OnOk result (Both (D.file disk.old) (D.file disk.new) (IsCommitted images.now)) }
+    ensures stays { IsErrOf result Halt.BeforeHome → Both (D.file disk.old) (D.file disk.new) (λ before after. HomeStays before.bytes after.bytes) }
+    ensures counts { IsErrOf result Halt.BehindGate → Both (D.file disk.old) (D.file disk.new) (RestsWith images.now) }
+    ensures leaves { Leaves D.file D.beside D.attaches D.is_attached D.clock D.moment (StandsEither images.now) disk.old disk.new }
+    ensures cause { HasCause result (D.disk_faults disk.old) (D.disk_faults disk.new) }
+{
+    if images.len() == 0 {
+        return Ok(());
+    }
+    write_through(disk, start, images)
+}
+
+// Writes images into the file by way of a journal, also where there are none.
+fn write_through<D: Disk>(disk: &mut D, start: u32, images: &Images) -> Result<(), Halt>
     requires attached { IsTrue (D.is_attached disk.old) }
     requires ready { ForSome (D.file disk.old) (IsReadyFor start images.now) }
     requires behind_gates { 66 ≤ start }

@@ -1,7 +1,7 @@
 use Rattle.std.proofs.Common.{arith, sym, ◌∙◌}
 use Rattle.page_store.proofs.Calls.{sound_image}
 use Rattle.page_store.proofs.Passing.{stays}
-use Rattle.page_store.proofs.Wholes.{still_going, held_pages, whole_again, on_ok, on_err}
+use Rattle.page_store.proofs.Wholes.{still_going, held_pages, whole_again}
 use Rattle.page_store.proofs.file_store.FileStorePages.grow.Goals as goal
 
 pub grow-requires : goal.grow-requires
@@ -21,6 +21,6 @@ pub returns-clause-time : goal.returns-clause-time
 returns-clause-time g c =
     let going = still_going c.self.inside.host c.self.inside.desk c.args.self.now c.self.view_is c.requires.going in
     let kept = c.self.invariant.kept going in
-    rw (← c.self.view_is) (stays {aside = g.H.Disk.beside} {is_attached = g.H.Disk.is_attached} c.self.inside.host c.self.inside.desk c.grow.new.self
+    rw (← c.self.view_is) (stays g.H.Disk.file g.H.Disk.beside g.H.Disk.attaches g.H.Disk.is_attached g.H.Disk.clock g.H.Disk.moment c.self.inside.host c.self.inside.desk c.grow.new.self
     (λ f is. sound_image _ f (g.met.H.Disk.sound c.self.inside.host) is) (g.met.H.Disk.only_now c.self.inside.host) (g.met.H.Disk.earlier c.self.inside.host)
     kept going (c.grow.ensures.kept _ kept) c.grow.ensures.halt)

@@ -1,7 +1,7 @@
 use Rattle.std.proofs.Common.{arith, sym, ◌∙◌}
 use Rattle.page_store.proofs.Calls.{sound_image}
 use Rattle.page_store.proofs.Passing.{stays}
-use Rattle.page_store.proofs.Wholes.{still_going, held_pages, whole_again, on_ok, on_err}
+use Rattle.page_store.proofs.Wholes.{still_going, held_pages, whole_again}
 use Rattle.page_store.proofs.file_store.FileStorePages.write.Goals as goal
 
 pub write-requires : goal.write-requires
@@ -15,17 +15,17 @@ invariant_of-self g c =
 pub returns-clause-ok : goal.returns-clause-ok
 returns-clause-ok g c =
     let going = still_going c.self.inside.host c.self.inside.desk c.args.self.now c.self.view_is c.requires.going in
-    rw (← c.self.view_is) (on_ok c.write.result (λ does. does _ (c.self.invariant.kept going) _ _) c.write.ensures.ok)
+    rw (← c.self.view_is) (c.write.ensures.ok _ (c.self.invariant.kept going) _ _)
 
 pub returns-clause-err : goal.returns-clause-err
 returns-clause-err g c =
     let going = still_going c.self.inside.host c.self.inside.desk c.args.self.now c.self.view_is c.requires.going in
-    rw (← c.self.view_is) (on_err c.write.result (λ does. does _ _ _) c.write.ensures.err)
+    rw (← c.self.view_is) (c.write.ensures.err _ _ _)
 
 pub returns-clause-time : goal.returns-clause-time
 returns-clause-time g c =
     let going = still_going c.self.inside.host c.self.inside.desk c.args.self.now c.self.view_is c.requires.going in
     let kept = c.self.invariant.kept going in
-    rw (← c.self.view_is) (stays {aside = g.H.Disk.beside} {is_attached = g.H.Disk.is_attached} c.self.inside.host c.self.inside.desk c.write.new.self
+    rw (← c.self.view_is) (stays g.H.Disk.file g.H.Disk.beside g.H.Disk.attaches g.H.Disk.is_attached g.H.Disk.clock g.H.Disk.moment c.self.inside.host c.self.inside.desk c.write.new.self
     (λ f is. sound_image _ f (g.met.H.Disk.sound c.self.inside.host) is) (g.met.H.Disk.only_now c.self.inside.host) (g.met.H.Disk.earlier c.self.inside.host)
     kept going (c.write.ensures.kept _ kept) c.write.ensures.halt)
