@@ -3,7 +3,7 @@ use Rattle.std.proofs.Common.{◌≡◌, ◌≤◌, ◌<◌, ◌+◌, ℕ, Bool,
 use Rattle.std.proofs.lemmas.List.{length-replicate, length-take, drop_all, take_more, drop_more, drop-append-le, append-nil}
 use Rattle.mdc_outside.specs.Disk.{Since, IsImage, AreBytes, file_at_first, all_synced, torn}
 use Rattle.mdc_outside.specs.Replay.{Past, State, state_of, fresh, replay, step, at_first, may_leave, since_within, piece_within}
-use Rattle.mdc_outside.specs.Aftermath.{filled, torn_bytes, torn_by, bytes_after, tape_after, since_all, EndsSynced, PutsNothing, MayBeLeft}
+use Rattle.mdc_outside.specs.Aftermath.{filled, torn_bytes, torn_by, bytes_after, tape_after, since_all, EndsSynced, PutsNothing, MayBeLeft, IsLeft, IsLeftWithin}
 use Rattle.mdc_outside.specs.Contents.{contents_of}
 use Rattle.mdc_outside.specs.ReplayLaws.{image-overwritten, image-synced}
 use Rattle.mdc_outside.specs.declared.call.Event.{Event}
@@ -89,6 +89,10 @@ left-after fill first before since synced nothing state bytes all =
     rw (replay-append state before since, nothing (replay state before), since_now)
     (image-torn_all fill since (all_synced (fold bytes_after first before)) (fold bytes_after first before) (image-synced (fold bytes_after first before)))
 
+-- what the crash leaves, it may leave
+pub allowed-left : (fill : Option ℕ) (first : List ℕ) (entries : List Entry) (bytes : List ℕ) → IsLeft fill first entries bytes → MayBeLeft first entries bytes
+allowed-left fill first entries bytes left = rw (left.all, left.torn) (left-after fill first left.before left.since left.synced left.nothing)
+
 -- one more call behind those since a sync
 pub since_all-grown : (since : Since) (entries : List Entry) (entry : Entry) → since_all since (entries ++ entry ∷ []) ≡ since_within entry.event (since_all since entries)
 since_all-grown since [] entry = refl
@@ -161,3 +165,9 @@ after-moment (Ok host) past n bytes tape is same may =
     let said : (state_of host).tape ≡ tape = ap (λ past. (state_of past).tape) is in
     rw (image, said) may
 after-moment (Err e) past n bytes tape is same may = tt
+
+-- the file of the host that is left has these bytes
+pub after-bytes : {E : Type 0} (result : Result Past E) (fill : Option ℕ) (call : ℕ) (past : Past) (bytes tape : List ℕ) → IfOk result (λ host. host ≡ fresh host.first tape) → IfOk result (λ host. (file_at_first host.first).bytes ≡ bytes)
+    → IsLeftWithin fill call past bytes → IfOk result (λ host. IsLeftWithin fill call past (state_of host).file.bytes)
+after-bytes (Ok host) fill call past bytes tape is same left = rw (ap (λ past. (state_of past).file.bytes) is ∙ same) left
+after-bytes (Err e) fill call past bytes tape is same left = tt

@@ -1,6 +1,6 @@
 // What a crash in the midst of recorded calls leaves.
 ghost use Rattle.std.specs.Prelude.{◌≡◌, ◌≤◌, ℕ, true, length, take, drop, fold, ◌∷◌, [], IsTrue, IsFalse, IfOk, OnOk};
-ghost use Rattle.mdc_outside.specs.Aftermath.{filled, torn_by, torn_bytes, bytes_after, tape_after, EndsSynced, PutsNothing, MayBeLeft};
+ghost use Rattle.mdc_outside.specs.Aftermath.{filled, torn_by, torn_bytes, bytes_after, tape_after, EndsSynced, PutsNothing, MayBeLeft, IsLeft};
 ghost use Rattle.mdc_outside.specs.declared.call.Event.TheVariants.{Sync};
 
 use crate::call::{Entry, Event};
@@ -15,7 +15,8 @@ pub fn left_after(
     calls: &[Entry],
     fill: Option<u8>,
 ) -> Result<Vec<u8>, AllocError>
-    ensures { IfOk result (λ bytes. MayBeLeft first.now calls.now bytes.items) }
+    ensures left { IfOk result (λ bytes. IsLeft fill first.now calls.now bytes.items) }
+    ensures allowed { IfOk result (λ bytes. MayBeLeft first.now calls.now bytes.items) }
 {
     let (before, since) = calls.split_at(synced_calls(calls));
     let mut bytes = first.to_vec(alloc)?;

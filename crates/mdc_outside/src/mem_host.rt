@@ -49,6 +49,7 @@ impl MemHost {
     ghost use Rattle.mdc_outside.specs.Moments.{HasCause, WhereTold};
     ghost use Rattle.mdc_outside.specs.Calls.{call_of};
     ghost use Rattle.mdc_outside.specs.Disk.{file_at_first, AreBytes};
+    ghost use Rattle.mdc_outside.specs.Aftermath.{IsLeftWithin};
     ghost use Rattle.mdc_outside.specs.Replay.{state_of, state_before, fresh, with_disk_faults, with_file, IsQuiet, IsRecorded, IsAnswered, IsSaid};
     ghost use Rattle.mdc_outside.specs.declared.call.Event.TheVariants.{Attach, Len, Read, Write, Sync, Say};
 
@@ -104,6 +105,7 @@ impl MemHost {
         requires last { call ≤ ⟦<MemHost as Disk>⟧.clock self.now }
         ensures fresh { IfOk result (λ host. host ≡ fresh host.first host.heard) }
         ensures tape { IfOk result (λ host. host.heard ≡ (state_before call self.now).tape) }
+        ensures bytes { IfOk result (λ host. IsLeftWithin fill call self.now (state_of host).file.bytes) }
         ensures moment { IfOk result (λ host. WhereTold (⟦<MemHost as Disk>⟧.file host) (⟦<MemHost as Disk>⟧.beside host).tape
             (λ file tape. ⟦<MemHost as Disk>⟧.moment self.now (call - 1) file.bytes tape)) }
     {
