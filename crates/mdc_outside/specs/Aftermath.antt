@@ -1,5 +1,5 @@
 -- What a crash in the midst of recorded calls leaves.
-use Rattle.std.specs.Prelude.{◌≡◌, ◌-◌, ℕ, List, [], ◌∷◌, ◌++◌, Option, Some, None, length, take, fold, replicate, slice_get, if◌then◌else◌}
+use Rattle.std.specs.Prelude.{◌≡◌, ◌-◌, ℕ, Bool, true, false, List, [], ◌∷◌, ◌++◌, Option, Some, None, length, take, fold, replicate, slice_get, if◌then◌else◌}
 use Rattle.mdc_outside.specs.Disk.{Since, IsImage, all_synced, file_at_first, overwritten}
 use Rattle.mdc_outside.specs.Replay.{Past, State, replay, since_within}
 use Rattle.mdc_outside.specs.declared.call.Event.{Event}
@@ -40,6 +40,19 @@ said_bytes tape (Say piece) = tape ++ piece
 -- the tape after a recorded call
 abbrev pub tape_after : List ℕ → Entry → List ℕ
 tape_after tape entry = if entry.done then said_bytes tape entry.event else tape
+
+-- whether a call makes the file where there is none: a write does so even if it fails
+abbrev pub makes_file_by : Event → Bool → Bool
+makes_file_by (Attach path make) done = done
+makes_file_by Len done = false
+makes_file_by (Read at) done = false
+makes_file_by (Write at piece) done = true
+makes_file_by Sync done = false
+makes_file_by (Say piece) done = false
+
+-- the same of a recorded call
+abbrev pub makes_file : Entry → Bool
+makes_file entry = makes_file_by entry.event entry.done
 
 -- what a crash may leave after these calls, if none of them were a sync
 abbrev pub since_all : Since → List Entry → Since

@@ -1,6 +1,7 @@
 // What a crash in the midst of recorded calls leaves.
-ghost use Rattle.std.specs.Prelude.{◌≡◌, ◌≤◌, ℕ, true, length, take, drop, fold, ◌∷◌, [], IsTrue, IsFalse, IfOk, OnOk};
-ghost use Rattle.mdc_outside.specs.Aftermath.{filled, torn_by, torn_bytes, bytes_after, tape_after, EndsSynced, PutsNothing, MayBeLeft, IsLeft};
+ghost use Rattle.std.specs.Prelude.{◌≡◌, ◌≤◌, ◌||◌, ℕ, true, length, take, drop, fold, ◌∷◌, [], IsTrue, IsFalse, IfOk, OnOk};
+ghost use Rattle.std.specs.List.{list_any};
+ghost use Rattle.mdc_outside.specs.Aftermath.{filled, torn_by, torn_bytes, bytes_after, tape_after, EndsSynced, PutsNothing, MayBeLeft, IsLeft, makes_file};
 ghost use Rattle.mdc_outside.specs.declared.call.Event.TheVariants.{Sync};
 
 use crate::call::{Entry, Event};
@@ -60,6 +61,20 @@ pub fn said_after(alloc: Global, heard: &[u8], calls: &[Entry]) -> Result<Vec<u8
         }
     }
     Ok(tape)
+}
+
+/// Whether the file is there after these calls.
+pub fn is_there_after(was_there: bool, calls: &[Entry]) -> bool
+    ensures { result ≡ (was_there || list_any makes_file calls.now) }
+{
+    was_there || is_made(calls)
+}
+
+// Whether one of the calls makes the file.
+fn is_made(calls: &[Entry]) -> bool
+    ensures { result ≡ list_any makes_file calls.now }
+{
+    calls.iter().any(|entry| entry.makes_file())
 }
 
 // How many of the calls there are up to the last sync that was done.
