@@ -1,14 +1,14 @@
 -- What a commit leaves, step by step.
-use Rattle.std.proofs.Common.{◌≡◌, ◌⊎◌, ◌≤◌, ◌<◌, ◌+◌, ◌*◌, ℕ, IsTrue, IsFalse, IsSome, List, length, Option, Some, None, unwrap_or, min, arith, sym, ap, subst, ◌∙◌, inl, inr, refl}
-use Rattle.std.proofs.lemmas.Bool.{cases_lt, cases_Bool, both_ways}
+use Rattle.std.proofs.Common.{◌≡◌, ◌≤◌, ◌<◌, ◌+◌, ◌*◌, ℕ, IsTrue, IsFalse, IsSome, List, length, Option, Some, None, unwrap_or, arith, sym, ap, subst, ◌∙◌, inl, inr, refl}
+use Rattle.std.proofs.lemmas.Bool.{cases_lt, both_ways}
 use Rattle.std.specs.List.{All}
 use Rattle.store_api.specs.StoreState.{stated_in}
 use Rattle.mdc_outside.specs.Disk.{File, IsImage, all_synced, torn}
 use Rattle.redo_journal.specs.Images.{Numbered, AreRising}
-use Rattle.redo_journal.specs.Layout.{file_page, home_page, is_open, start_of, journal_of, index_pages, torn_journal, HoldsJournal}
-use Rattle.page_store.specs.Standing.{listed, image_of, page_of, count_of, pages_of, IsFormed}
+use Rattle.redo_journal.specs.Layout.{file_page, home_page, is_open, start_of, journal_of, torn_journal, HoldsJournal}
+use Rattle.page_store.specs.Standing.{listed, image_of, count_of, pages_of}
 use Rattle.page_store.specs.Commit.{Stands, AreFitting, IsReadyFor, IsJournaled, HomeStays, count_with, pages_with}
-use Rattle.page_store.proofs.Listed.{listed_same, length-listed}
+use Rattle.page_store.proofs.Listed.{listed_same}
 use Rattle.page_store.proofs.Kept.{same_part, journal_left, same_but_gate}
 use Rattle.page_store.proofs.Crashes.{while_written, while_opened}
 
@@ -75,12 +75,12 @@ journaled_opened start images before half image rising ready closed journaled st
     let stays : HomeStays before.bytes image = λ p lt. same.home p ∙ journaled.stays p lt in
     elim (while_opened half.bytes image start images stands.formed closed holds.starts holds.images fitting torn_gate) [
       | inl shut ↦ (
-          record {
-            stands = inl (stands_through before.bytes half.bytes image (pages_of before.bytes) stands.birth (stands_same half.bytes image (pages_of half.bytes) (pages_of before.bytes) stands.pages shut.1));
-            stays = stays;
-          },
-          λ opened. absurd (both_ways (is_open image) shut.0 opened),
-        )
+        record {
+          stands = inl (stands_through before.bytes half.bytes image (pages_of before.bytes) stands.birth (stands_same half.bytes image (pages_of half.bytes) (pages_of before.bytes) stands.pages shut.1));
+          stays = stays;
+        },
+        λ opened. absurd (both_ways (is_open image) shut.0 opened),
+      )
       | inr opened ↦ (let whole = stands_through before.bytes half.bytes image (pages_with images before.bytes) stands.birth
           (stands_same half.bytes image (pages_with images half.bytes) (pages_with images before.bytes) with_images.1 opened.2) in
           (record { stands = inr whole; stays = stays }, λ gate. (opened.1, whole)))

@@ -21,6 +21,7 @@ pub mod Numbers
 pub mod Pages
 pub mod Passing
 pub mod Recent
+pub mod Telling
 pub mod Wholes
 pub mod Repairs
 pub mod Roots
