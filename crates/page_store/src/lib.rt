@@ -16,6 +16,7 @@ mod making;
 mod page_cache;
 mod write_through;
 mod number;
+mod opening;
 mod reading;
 mod recovery;
 mod root;
@@ -24,6 +25,7 @@ mod shape;
 pub use fault::OpenFault;
 pub use file_store::FileStore;
 pub use making::make;
+pub use opening::Unopened;
 
 #[cfg(test)]
 mod tests;
