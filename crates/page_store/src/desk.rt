@@ -8,7 +8,7 @@ ghost use Rattle.redo_journal.specs.Runs.{Runs, IsCovered};
 ghost use Rattle.store_api.specs.Calls.{Fetches, FetchesCommitted, LosesHand, LosesReadiness, Writes, Grows, Marks, Keeps, Undoes, Prepares, Commits, Ends, RollsBack};
 ghost use Rattle.store_api.specs.StoreState.{stated_count, zero_page, differing};
 ghost use Rattle.page_store.specs.Leaving.{Leaves};
-ghost use Rattle.page_store.specs.Shape.{is_shape};
+ghost use Rattle.page_store.specs.Desk.{IsKept, IsPlaced, Does, DoesOnOk, DoesOnErr, StandsForEither, RestsEither, page_in, base_of, work_of, written_in};
 
 use crate::changes::Changes;
 use crate::page_cache::PageCache;
@@ -47,12 +47,9 @@ pub(crate) struct Desk {
     pub(crate) hand: Option<Hand>,
     pub(crate) images: Option<Images>,
     pub(crate) halt: Option<Halt>,
-    ghost shape: { IsTrue (is_shape extents extent_pages) },
 }
 
 impl Desk {
-    ghost use Rattle.page_store.specs.Desk.{IsKept, IsPlaced, Does, DoesOnOk, DoesOnErr, StandsForEither, RestsEither, page_in, base_of, work_of, written_in};
-
     /// Brings a page of the work to hand.
     pub(crate) fn fetch<D: Disk>(&mut self, disk: &mut D, p: u32) -> Result<(), PageFault>
         requires attached { IsTrue (D.is_attached disk.old) }
