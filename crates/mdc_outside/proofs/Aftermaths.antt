@@ -1,15 +1,16 @@
 -- What a crash in the midst of recorded calls leaves is one of their moments.
-use Rattle.std.proofs.Common.{◌≡◌, ◌≤◌, ◌<◌, ◌+◌, ℕ, Bool, true, false, List, [], ◌∷◌, ◌++◌, Option, Some, None, Result, Ok, Err, IfOk, take, drop, length, get_or, fold, arith, refl, sym, ap, ◌∙◌, inl}
+use Rattle.std.proofs.Common.{◌≡◌, ◌≤◌, ◌<◌, ◌+◌, ℕ, Bool, true, false, List, [], ◌∷◌, ◌++◌, ◌||◌, Option, Some, None, Result, Ok, Err, IfOk, IsTrue, IsFalse, is_some, subst, take, drop, length, get_or, fold, arith, refl, sym, ap, ◌∙◌, inl}
+use Rattle.std.specs.List.{list_any}
 use Rattle.std.proofs.lemmas.List.{length-replicate, length-take, drop_all, take_more, drop_more, drop-append-le, append-nil}
 use Rattle.mdc_outside.specs.Disk.{Since, IsImage, AreBytes, file_at_first, all_synced, torn}
 use Rattle.mdc_outside.specs.Replay.{Past, State, state_of, fresh, replay, step, at_first, may_leave, since_within, piece_within}
-use Rattle.mdc_outside.specs.Aftermath.{filled, torn_bytes, torn_by, bytes_after, tape_after, since_all, EndsSynced, PutsNothing, MayBeLeft}
+use Rattle.mdc_outside.specs.Aftermath.{filled, torn_bytes, torn_by, bytes_after, tape_after, since_all, EndsSynced, PutsNothing, MayBeLeft, IsLeft, IsLeftWithin, makes_file}
 use Rattle.mdc_outside.specs.Contents.{contents_of}
 use Rattle.mdc_outside.specs.ReplayLaws.{image-overwritten, image-synced}
 use Rattle.mdc_outside.specs.declared.call.Event.{Event}
 use Rattle.mdc_outside.specs.declared.call.Event.TheVariants.{Attach, Len, Read, Write, Sync, Say}
 use Rattle.mdc_outside.specs.declared.call.Entry.{Entry}
-use Rattle.mdc_outside.proofs.Replaying.{replay-grown}
+use Rattle.mdc_outside.proofs.Replaying.{replay-grown, or-true, or-false}
 
 -- a range holds as many bytes as were written
 length-filled : (fill : Option ℕ) (piece : List ℕ) → length (filled fill piece) ≡ length piece
@@ -80,6 +81,38 @@ tape-replay state [] = refl
 tape-replay state (entry ∷ entries) =
     tape-replay (step entry state) entries ∙ ap (λ tape. fold tape_after tape entries) (tape-step entry.event entry.done state)
 
+-- whether the file is there after one call
+there-step : (event : Event) (done : Bool) (state : State) → (step (record { event = event; done = done }) state).file.is_there ≡ state.file.is_there || makes_file (record { event = event; done = done })
+there-step (Attach path make) true state = sym (or-true state.file.is_there)
+there-step (Attach path make) false state = sym (or-false state.file.is_there)
+there-step Len true state = sym (or-false state.file.is_there)
+there-step Len false state = sym (or-false state.file.is_there)
+there-step (Read at) true state = sym (or-false state.file.is_there)
+there-step (Read at) false state = sym (or-false state.file.is_there)
+there-step (Write at piece) true state = sym (or-true state.file.is_there)
+there-step (Write at piece) false state = sym (or-true state.file.is_there)
+there-step Sync true state = sym (or-false state.file.is_there)
+there-step Sync false state = sym (or-false state.file.is_there)
+there-step (Say piece) true state = sym (or-false state.file.is_there)
+there-step (Say piece) false state = sym (or-false state.file.is_there)
+
+-- whether it is there after one of two
+or-assoc : (a b c : Bool) → (a || b) || c ≡ a || (b || c)
+or-assoc true b c = refl
+or-assoc false b c = refl
+
+-- whether the file is there after the calls
+pub there-replay : (state : State) (entries : List Entry) → (replay state entries).file.is_there ≡ state.file.is_there || list_any makes_file entries
+there-replay state [] = sym (or-false state.file.is_there)
+there-replay state (entry ∷ entries) =
+    there-replay (step entry state) entries
+    ∙ (ap (λ there. there || list_any makes_file entries) (there-step entry.event entry.done state) ∙ or-assoc state.file.is_there (makes_file entry) (list_any makes_file entries))
+
+-- the file that a host begins with is there if it has one
+pub first-there : (first : Option (List ℕ)) → (file_at_first first).is_there ≡ is_some first
+first-there None = refl
+first-there (Some bytes) = refl
+
 -- what is torn since a sync may be left
 pub left-after : (fill : Option ℕ) (first : List ℕ) (before since : List Entry) → EndsSynced before → PutsNothing since
     → MayBeLeft first (before ++ since) (fold (torn_by fill) (fold bytes_after first before) since)
@@ -88,6 +121,10 @@ left-after fill first before since synced nothing state bytes all =
     let since_now : (replay state before).file.since ≡ all_synced (fold bytes_after first before) = synced state (all ∙ ap all_synced (sym bytes)) ∙ ap all_synced bytes_now in
     rw (replay-append state before since, nothing (replay state before), since_now)
     (image-torn_all fill since (all_synced (fold bytes_after first before)) (fold bytes_after first before) (image-synced (fold bytes_after first before)))
+
+-- what the crash leaves, it may leave
+pub allowed-left : (fill : Option ℕ) (first : List ℕ) (entries : List Entry) (bytes : List ℕ) → IsLeft fill first entries bytes → MayBeLeft first entries bytes
+allowed-left fill first entries bytes left = rw (left.all, left.torn) (left-after fill first left.before left.since left.synced left.nothing)
 
 -- one more call behind those since a sync
 pub since_all-grown : (since : Since) (entries : List Entry) (entry : Entry) → since_all since (entries ++ entry ∷ []) ≡ since_within entry.event (since_all since entries)
@@ -161,3 +198,24 @@ after-moment (Ok host) past n bytes tape is same may =
     let said : (state_of host).tape ≡ tape = ap (λ past. (state_of past).tape) is in
     rw (image, said) may
 after-moment (Err e) past n bytes tape is same may = tt
+
+-- the file that was there is there in the host that is left
+pub after-there : {E : Type 0} (result : Result Past E) (before there : Bool) (tape : List ℕ) → IfOk result (λ host. host ≡ fresh host.first tape) → IfOk result (λ host. IsTrue there → IsTrue (file_at_first host.first).is_there)
+    → before ≡ there → IfOk result (λ host. IsTrue before → IsTrue (state_of host).file.is_there)
+after-there (Ok host) before there tape is same e = λ was. rw (ap (λ past. (state_of past).file.is_there) is) (same (subst IsTrue e was))
+after-there (Err e) before there tape is same _ = tt
+
+-- one that wasn't there and has no bytes isn't there
+pub after-absent : {E : Type 0} (result : Result Past E) (before there : Bool) (bytes tape : List ℕ) → IfOk result (λ host. host ≡ fresh host.first tape) → IfOk result (λ host. (file_at_first host.first).bytes ≡ bytes)
+    → IfOk result (λ host. IsFalse there → bytes ≡ [] → IsFalse (file_at_first host.first).is_there)
+    → before ≡ there → IfOk result (λ host. IsFalse before → (state_of host).file.bytes ≡ [] → IsFalse (state_of host).file.is_there)
+after-absent (Ok host) before there bytes tape is has same e = λ was none.
+    let image : (state_of host).file.bytes ≡ bytes = ap (λ past. (state_of past).file.bytes) is ∙ has in
+    rw (ap (λ past. (state_of past).file.is_there) is) (same (subst IsFalse e was) (sym image ∙ none))
+after-absent (Err e) before there bytes tape is has same _ = tt
+
+-- the file of the host that is left has these bytes
+pub after-bytes : {E : Type 0} (result : Result Past E) (fill : Option ℕ) (call : ℕ) (past : Past) (bytes tape : List ℕ) → IfOk result (λ host. host ≡ fresh host.first tape) → IfOk result (λ host. (file_at_first host.first).bytes ≡ bytes)
+    → IsLeftWithin fill call past bytes → IfOk result (λ host. IsLeftWithin fill call past (state_of host).file.bytes)
+after-bytes (Ok host) fill call past bytes tape is same left = rw (ap (λ past. (state_of past).file.bytes) is ∙ same) left
+after-bytes (Err e) fill call past bytes tape is same left = tt

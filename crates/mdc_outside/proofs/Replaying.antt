@@ -49,12 +49,12 @@ elapses-nothing past = record {
 }
 
 -- with a true one it is true
-or-true : (b : Bool) → b || true ≡ true
+pub or-true : (b : Bool) → b || true ≡ true
 or-true true = refl
 or-true false = refl
 
 -- with a false one it stays
-or-false : (b : Bool) → b || false ≡ b
+pub or-false : (b : Bool) → b || false ≡ b
 or-false true = refl
 or-false false = refl
 

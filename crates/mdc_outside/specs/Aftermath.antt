@@ -1,7 +1,7 @@
 -- What a crash in the midst of recorded calls leaves.
-use Rattle.std.specs.Prelude.{◌≡◌, ℕ, List, [], ◌∷◌, ◌++◌, Option, Some, None, length, replicate, if◌then◌else◌}
-use Rattle.mdc_outside.specs.Disk.{Since, IsImage, all_synced, overwritten}
-use Rattle.mdc_outside.specs.Replay.{State, replay, since_within}
+use Rattle.std.specs.Prelude.{◌≡◌, ◌-◌, ℕ, Bool, true, false, List, [], ◌∷◌, ◌++◌, Option, Some, None, length, take, fold, replicate, slice_get, if◌then◌else◌}
+use Rattle.mdc_outside.specs.Disk.{Since, IsImage, all_synced, file_at_first, overwritten}
+use Rattle.mdc_outside.specs.Replay.{Past, State, replay, since_within}
 use Rattle.mdc_outside.specs.declared.call.Event.{Event}
 use Rattle.mdc_outside.specs.declared.call.Event.TheVariants.{Attach, Len, Read, Write, Sync, Say}
 use Rattle.mdc_outside.specs.declared.call.Entry.{Entry}
@@ -41,6 +41,19 @@ said_bytes tape (Say piece) = tape ++ piece
 abbrev pub tape_after : List ℕ → Entry → List ℕ
 tape_after tape entry = if entry.done then said_bytes tape entry.event else tape
 
+-- whether a call makes the file where there is none: a write does so even if it fails
+abbrev pub makes_file_by : Event → Bool → Bool
+makes_file_by (Attach path make) done = done
+makes_file_by Len done = false
+makes_file_by (Read at) done = false
+makes_file_by (Write at piece) done = true
+makes_file_by Sync done = false
+makes_file_by (Say piece) done = false
+
+-- the same of a recorded call
+abbrev pub makes_file : Entry → Bool
+makes_file entry = makes_file_by entry.event entry.done
+
 -- what a crash may leave after these calls, if none of them were a sync
 abbrev pub since_all : Since → List Entry → Since
 since_all since [] = since
@@ -57,3 +70,20 @@ PutsNothing entries = (state : State) → (replay state entries).file.since ≡ 
 -- a crash after these calls may leave the bytes, if the first ones were on the disk before
 abbrev pub MayBeLeft : List ℕ → List Entry → List ℕ → Type 0
 MayBeLeft first entries bytes = (state : State) → state.file.bytes ≡ first → state.file.since ≡ all_synced first → IsImage (replay state entries).file.since bytes
+
+-- What a crash after these calls leaves: what was written up to a sync, and in the ranges written since what each holds.
+pub record IsLeft (fill : Option ℕ) (first : List ℕ) (entries : List Entry) (bytes : List ℕ) : Type 0 where
+  pub before : List Entry
+  pub since : List Entry
+  pub all : entries ≡ before ++ since
+  pub synced : EndsSynced before
+  pub nothing : PutsNothing since
+  pub torn : bytes ≡ fold (torn_by fill) (fold bytes_after first before) since
+
+-- What a crash within the call of this number leaves: what the calls before it leave, and in its range what that holds.
+pub record IsLeftWithin (fill : Option ℕ) (call : ℕ) (past : Past) (bytes : List ℕ) : Type 0 where
+  pub left : List ℕ
+  pub entry : Entry
+  pub is : slice_get past.entries (call - 1) ≡ Some entry
+  pub before : IsLeft fill (file_at_first past.first).bytes (take (call - 1) past.entries) left
+  pub torn : bytes ≡ torn_bytes fill left entry.event

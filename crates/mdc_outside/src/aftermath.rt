@@ -1,6 +1,7 @@
 // What a crash in the midst of recorded calls leaves.
-ghost use Rattle.std.specs.Prelude.{◌≡◌, ◌≤◌, ℕ, true, length, take, drop, fold, ◌∷◌, [], IsTrue, IsFalse, IfOk, OnOk};
-ghost use Rattle.mdc_outside.specs.Aftermath.{filled, torn_by, torn_bytes, bytes_after, tape_after, EndsSynced, PutsNothing, MayBeLeft};
+ghost use Rattle.std.specs.Prelude.{◌≡◌, ◌≤◌, ◌||◌, ℕ, true, length, take, drop, fold, ◌∷◌, [], IsTrue, IsFalse, IfOk, OnOk};
+ghost use Rattle.std.specs.List.{list_any};
+ghost use Rattle.mdc_outside.specs.Aftermath.{filled, torn_by, torn_bytes, bytes_after, tape_after, EndsSynced, PutsNothing, MayBeLeft, IsLeft, makes_file};
 ghost use Rattle.mdc_outside.specs.declared.call.Event.TheVariants.{Sync};
 
 use crate::call::{Entry, Event};
@@ -15,7 +16,8 @@ pub fn left_after(
     calls: &[Entry],
     fill: Option<u8>,
 ) -> Result<Vec<u8>, AllocError>
-    ensures { IfOk result (λ bytes. MayBeLeft first.now calls.now bytes.items) }
+    ensures left { IfOk result (λ bytes. IsLeft fill first.now calls.now bytes.items) }
+    ensures allowed { IfOk result (λ bytes. MayBeLeft first.now calls.now bytes.items) }
 {
     let (before, since) = calls.split_at(synced_calls(calls));
     let mut bytes = first.to_vec(alloc)?;
@@ -59,6 +61,20 @@ pub fn said_after(alloc: Global, heard: &[u8], calls: &[Entry]) -> Result<Vec<u8
         }
     }
     Ok(tape)
+}
+
+/// Whether the file is there after these calls.
+pub fn is_there_after(was_there: bool, calls: &[Entry]) -> bool
+    ensures { result ≡ (was_there || list_any makes_file calls.now) }
+{
+    was_there || is_made(calls)
+}
+
+// Whether one of the calls makes the file.
+fn is_made(calls: &[Entry]) -> bool
+    ensures { result ≡ list_any makes_file calls.now }
+{
+    calls.iter().any(|entry| entry.makes_file())
 }
 
 // How many of the calls there are up to the last sync that was done.

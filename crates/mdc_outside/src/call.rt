@@ -33,6 +33,7 @@ pub struct Entry {
 }
 
 impl Entry {
+    ghost use Rattle.mdc_outside.specs.Aftermath.{makes_file};
     ghost use Rattle.mdc_outside.specs.Calls.{call_of};
 
     // The call, with its place in the file.
@@ -49,8 +50,14 @@ impl Entry {
         }
     }
 
-    // Whether an attach was done.
-    pub fn is_attach(&self) -> bool {
-        self.done && matches!(self.event, Event::Attach(_, _))
+    // Whether it makes the file where there is none: a write does so even if it fails.
+    pub fn makes_file(&self) -> bool
+        ensures { result ≡ makes_file self.now }
+    {
+        match &self.event {
+            Event::Attach(_, _) => self.done,
+            Event::Write(_, _) => true,
+            Event::Len | Event::Read(_) | Event::Sync | Event::Say(_) => false,
+        }
     }
 }

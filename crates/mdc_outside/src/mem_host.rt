@@ -1,5 +1,5 @@
 // A host in memory, for tests.
-ghost use Rattle.std.specs.Prelude.{◌≡◌, ◌≢◌, ◌≤◌, ◌-◌, slice_get, ◌++◌, ◌∷◌, [], true, false, Ok, Some, length, IsTrue, IfOk, OnOk, OnErr, vec_items};
+ghost use Rattle.std.specs.Prelude.{◌≡◌, ◌≢◌, ◌≤◌, ◌-◌, slice_get, ◌++◌, ◌∷◌, [], true, false, Ok, Some, length, IsTrue, IsFalse, IfOk, OnOk, OnErr, vec_items};
 ghost use Rattle.std.specs.Option.{option_map};
 
 use crate::call::{Call, Entry, Event};
@@ -49,6 +49,7 @@ impl MemHost {
     ghost use Rattle.mdc_outside.specs.Moments.{HasCause, WhereTold};
     ghost use Rattle.mdc_outside.specs.Calls.{call_of};
     ghost use Rattle.mdc_outside.specs.Disk.{file_at_first, AreBytes};
+    ghost use Rattle.mdc_outside.specs.Aftermath.{IsLeftWithin};
     ghost use Rattle.mdc_outside.specs.Replay.{state_of, state_before, fresh, with_disk_faults, with_file, IsQuiet, IsRecorded, IsAnswered, IsSaid};
     ghost use Rattle.mdc_outside.specs.declared.call.Event.TheVariants.{Attach, Len, Read, Write, Sync, Say};
 
@@ -98,12 +99,16 @@ impl MemHost {
 
     /// A host as a crash within the recorded call of this number leaves it. Its file has the greatest length since the
     /// last sync that succeeded, the call itself counted, and what was written since holds the fill, or what was
-    /// written. Its tape is the one before the call. No file is attached to it.
+    /// written. It is there if it was before the call, or has bytes. Its tape is the one before the call. No file is
+    /// attached to it.
     pub fn after(&self, alloc: Global, call: u64, fill: Option<u8>) -> Result<MemHost, Memory>
         requires first { 1 ≤ call }
         requires last { call ≤ ⟦<MemHost as Disk>⟧.clock self.now }
         ensures fresh { IfOk result (λ host. host ≡ fresh host.first host.heard) }
         ensures tape { IfOk result (λ host. host.heard ≡ (state_before call self.now).tape) }
+        ensures there { IfOk result (λ host. IsTrue (state_before call self.now).file.is_there → IsTrue (state_of host).file.is_there) }
+        ensures absent { IfOk result (λ host. IsFalse (state_before call self.now).file.is_there → (state_of host).file.bytes ≡ [] → IsFalse (state_of host).file.is_there) }
+        ensures bytes { IfOk result (λ host. IsLeftWithin fill call self.now (state_of host).file.bytes) }
         ensures moment { IfOk result (λ host. WhereTold (⟦<MemHost as Disk>⟧.file host) (⟦<MemHost as Disk>⟧.beside host).tape
             (λ file tape. ⟦<MemHost as Disk>⟧.moment self.now (call - 1) file.bytes tape)) }
     {
@@ -113,7 +118,7 @@ impl MemHost {
         let mut bytes = aftermath::left_after(alloc, first, before, fill)?;
         aftermath::tear(alloc, &mut bytes, &self.entries[n].event, fill)?;
         let tape = aftermath::said_after(alloc, self.heard.bytes(), before)?;
-        let was_there = self.first.is_some() || before.iter().any(|entry| entry.is_attach());
+        let was_there = aftermath::is_there_after(self.first.is_some(), before);
         MemHost::resume(alloc, bytes, tape, was_there)
     }
 
@@ -127,6 +132,8 @@ impl MemHost {
         ensures fresh { IfOk result (λ host. host ≡ fresh host.first tape.items) }
         ensures bytes { IfOk result (λ host. (file_at_first host.first).bytes ≡ bytes.items) }
         ensures range { AreBytes bytes.items }
+        ensures there { IfOk result (λ host. IsTrue was_there → IsTrue (file_at_first host.first).is_there) }
+        ensures absent { IfOk result (λ host. IsFalse was_there → bytes.items ≡ [] → IsFalse (file_at_first host.first).is_there) }
     {
         let heard = Chars::of(alloc, &tape)?;
         let is_there = was_there || !bytes.is_empty();

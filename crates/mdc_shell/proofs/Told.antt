@@ -6,14 +6,16 @@ use Rattle.sql_reader.specs.Progress.{Took}
 
 -- one piece on the tape, and then another
 pub takes_more : (tape mid new : Option (List ℕ)) (said more : List ℕ) → Takes tape said mid → Takes mid more new → Takes tape (said ++ more) new
-takes_more None mid new said more first second = tt
+takes_more None mid new said more first second =
+    let P : Option (List ℕ) → Type 0 = λ t. Takes t more new in
+    subst P first second
 takes_more (Some tape) mid new said more first second =
     let P : Option (List ℕ) → Type 0 = λ t. Takes t more new in
     subst P first second ∙ ap Some (append_assoc tape said more)
 
 -- nothing said leaves the tape as it was
 pub takes_nothing : (tape : Option (List ℕ)) → Takes tape [] tape
-takes_nothing None = tt
+takes_nothing None = refl
 takes_nothing (Some tape) = ap Some (sym (append-nil tape))
 
 -- one piece taken, and then another

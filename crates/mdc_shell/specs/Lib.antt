@@ -1,4 +1,5 @@
 pub mod Engine
+pub mod Key
 pub mod Place
 pub mod Reader
 pub mod Run

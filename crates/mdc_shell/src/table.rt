@@ -1,10 +1,11 @@
 // A table: what it is made of, and its rows by cell, which it shows in order of insertion.
-ghost use Rattle.std.specs.Prelude.{◌≡◌, ◌==◌, [], ◌∷◌, ◌++◌, length, flat_map, map, IfOk, OnOk, MatchResult, Ok, Err};
+ghost use Rattle.std.specs.Prelude.{◌≡◌, ◌==◌, [], ◌∷◌, ◌++◌, length, slice_get, flat_map, map, IfOk, OnOk, MatchResult, Ok, Err};
 ghost use Rattle.std.specs.List.{list_all};
 ghost use Rattle.std.specs.Str.{bytes_eq};
 ghost use Rattle.mdc_values.specs.Value.{printed};
 ghost use Rattle.mdc_ast.specs.Step.{line, lines_of, with_rows};
 ghost use Rattle.mdc_shell.specs.Engine.{inserted_into};
+ghost use Rattle.mdc_shell.specs.Key.{key_of, number_of};
 
 use crate::cells::{Cells, Place};
 use crate::definition::is_same;
@@ -142,14 +143,24 @@ impl Table {
 }
 
 // The values of the dimension columns: rows with the same ones are in the same cell.
-fn key_of(alloc: Global, dimensions: &[List<usize>], values: &[Value]) -> Result<Vec<i64>, Memory> {
+fn key_of(alloc: Global, dimensions: &[List<usize>], values: &[Value]) -> Result<Vec<i64>, Memory>
+    ensures { IfOk result (λ key. key.items ≡ key_of dimensions.now values.now) }
+{
     let mut key = Vec::with_capacity(alloc, dimensions.len())?;
     for dimension in dimensions {
         for place in dimension.as_slice() {
-            if let Some(Value::Int(number)) = values.get(*place) {
-                key.push(*number)?;
-            }
+            push_number(values, *place, &mut key)?;
         }
     }
     Ok(key)
+}
+
+// Appends the number in a column, where the row has one.
+fn push_number(values: &[Value], place: usize, key: &mut Vec<i64>) -> Result<(), Memory>
+    ensures { OnOk result (key.new.items ≡ key.old.items ++ number_of (slice_get values.now place)) }
+{
+    match values.get(place) {
+        Some(Value::Int(number)) => Ok(key.push(*number)?),
+        None => Ok(()),
+    }
 }

@@ -1,16 +1,16 @@
 -- How the moments of a host are those of the store that owns it.
-use Rattle.std.proofs.Common.{◌≡◌, ◌⊎◌, ◌≤◌, ℕ, Bool, List, [], false, Option, Some, None, IfSome, MatchBool, is_some, inl, inr, arith, refl, sym, ap, subst, ◌∙◌}
+use Rattle.std.proofs.Common.{◌≡◌, ◌⊎◌, ◌≤◌, ℕ, Bool, List, [], true, false, IsSome, Option, Some, None, Result, Ok, Err, OnOk, OnErr, IfSome, MatchBool, is_some, inl, inr, arith, refl, sym, ap, subst, ◌∙◌}
 use Rattle.std.proofs.Common.{◌↔◌}
 use Rattle.std.specs.Option.{ForSome}
 use Rattle.store_api.specs.StoreState.{StoreState}
-use Rattle.store_api.specs.Moments.{Outcomes, OnlyBase, AtRest, Passes}
+use Rattle.store_api.specs.Moments.{Outcomes, OnlyBase, BaseOrWork, AtRest, Passes}
 use Rattle.mdc_outside.specs.Disk.{File, IsImage, all_synced}
 use Rattle.mdc_outside.specs.Moments.{Beside, IsMoment, WhereTold}
 use Rattle.page_store.specs.declared.desk.Desk.{Desk}
 use Rattle.page_store.specs.Standing.{pages_of, page_of, count_of, IsFormed, Reopens, listed}
 use Rattle.redo_journal.specs.Layout.{home_page}
 use Rattle.page_store.specs.Leaving.{Leaves}
-use Rattle.page_store.specs.Desk.{IsKept, state_of, base_of, base_in}
+use Rattle.page_store.specs.Desk.{IsKept, StandsForEither, RestsEither, state_of, base_of, base_in, work_of}
 use Rattle.page_store.specs.FileStore.{Held, left_of}
 use Rattle.page_store.proofs.Leaving.{nothing_said, leaves_itself}
 use Rattle.page_store.proofs.Listed.{listed_same}
@@ -19,7 +19,7 @@ use Rattle.page_store.proofs.Crashes.{only_itself}
 use Rattle.page_store.proofs.Calls.{one_file, left_told}
 
 -- the bytes told are those of the tape
-if_said : (tape : Option (List ℕ)) (said : List ℕ) → tape ≡ Some said → IfSome tape (λ bytes. said ≡ bytes)
+pub if_said : (tape : Option (List ℕ)) (said : List ℕ) → tape ≡ Some said → IfSome tape (λ bytes. said ≡ bytes)
 if_said None said is = absurd (cc)
 if_said (Some bytes) said is = cc
 
@@ -49,9 +49,34 @@ kept_reopens told desk file image pages kept going is left reopens =
       go None none base formed = absurd (none formed)
       go (Some all) some base formed = ap (λ ps. Some ps) (some.1 ∙ base)
 
+-- an image of the base or of the work reopens to it
+pub either_reopens : (told : Option File) (desk : Desk) (file : File) (image : List ℕ) (pages : Option (List (List ℕ))) → told ≡ Some file
+    → StandsForEither desk file image → Reopens image pages → (pages ≡ Some (base_of told desk)) ⊎ (pages ≡ Some (work_of told desk desk.changes.now))
+either_reopens told desk file image None is stands reopens = absurd (reopens stands.0)
+either_reopens told desk file image (Some all) is stands reopens = elim stands.1 [
+  | inl base ↦ inl (ap (λ ps. Some ps) (reopens.1 ∙ (base ∙ ap (λ t. base_of t desk) (sym is))))
+  | inr work ↦ inr (ap (λ ps. Some ps) (reopens.1 ∙ (work ∙ ap (λ t. work_of t desk desk.changes.now) (sym is))))
+]
+
+-- where a commit has failed, the base or the work is left
+pub rests_with_either : (state : StoreState) (pages : Option (List (List ℕ))) (heard : List ℕ) → state.ended ≡ true → BaseOrWork state pages heard → AtRest state pages heard
+rests_with_either state pages heard ended either = rw ended either
+
 -- where no commit has failed, the base alone is left between two calls
 pub rests_with_base : (state : StoreState) (pages : Option (List (List ℕ))) (heard : List ℕ) → state.ended ≡ false → OnlyBase state pages heard → AtRest state pages heard
 rests_with_base state pages heard going only = rw going only
+
+-- what is left after a commit, done or failed
+pub commit_rests : {T E : Type 0} (result : Result T E) (told : Option File) (tape : Option (List ℕ)) (attaches : Option (List (List ℕ × Bool))) (desk : Desk)
+    → OnOk result (desk.halt ≡ None) → OnOk result (IsKept desk told) → OnErr result (IsSome desk.halt) → OnErr result (ForSome told (RestsEither desk))
+    → (after : File) (said image : List ℕ) (pages : Option (List (List ℕ))) → told ≡ Some after → tape ≡ Some said → IsImage after.since image → Reopens image pages
+    → AtRest (state_of told tape attaches desk) pages said
+commit_rests (Ok done) told tape attaches desk going kept halted rests after said image pages is heard left reopens =
+    rests_with_base (state_of told tape attaches desk) pages said (ap (λ halt. is_some halt) going)
+    (kept_reopens told desk after image pages kept going is left reopens, if_said tape said heard)
+commit_rests (Err e) told tape attaches desk going kept halted rests after said image pages is heard left reopens =
+    rests_with_either (state_of told tape attaches desk) pages said halted
+    (either_reopens told desk after image pages is (rests after is image left) reopens, if_said tape said heard)
 
 module _ {H : Type 0} {file : H → Option File} {aside : H → Beside} {attaches : H → Option (List (List ℕ × Bool))} {is_attached : H → Bool} {clock : H → ℕ} {moment : H → ℕ → List ℕ → List ℕ → Type 0} where
   -- time goes on over a call of the store as over its calls of the host

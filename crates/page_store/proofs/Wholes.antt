@@ -1,5 +1,7 @@
 -- What a store in a file knows of its desk and its host.
-use Rattle.std.proofs.Common.{◌≡◌, ◌≤◌, ◌+◌, ℕ, Bool, false, IsTrue, is_some, List, [], length, replicate, Option, Some, None, arith, refl, sym, ap, ◌∙◌}
+use Rattle.std.proofs.Common.{◌≡◌, ◌≤◌, ◌+◌, ℕ, Bool, false, IsTrue, is_some, List, [], length, replicate, Option, Some, None, arith, refl, sym, ap, subst, ◌∙◌}
+use Rattle.std.specs.Option.{ForSome}
+use Rattle.store_api.specs.StoreState.{stated_count}
 use Rattle.std.proofs.lemmas.List.{length-replicate}
 use Rattle.mdc_outside.specs.Disk.{File}
 use Rattle.page_store.specs.declared.desk.Desk.{Desk}
@@ -36,3 +38,12 @@ held_pages file host desk held is = length-work_of (file held.host) held.desk he
 -- the store is whole again
 pub whole_again : (is_attached : Bool) (told : Option File) (desk : Desk) → IsTrue is_attached → IsKept desk told → IsWhole is_attached told desk
 whole_again is_attached told desk attached kept = record { attached = attached; kept = λ going. kept }
+
+-- where pages are told, page 0 states how many there are
+pub counted_there : {H : Type 0} (file : H → Option File) (host : H) (desk : Desk) (held : Held H) → record { host = host; desk = desk } ≡ held
+    → (IsTrue (is_some (file held.host)) → stated_count (work_of (file held.host) held.desk held.desk.changes.now) ≡ length (work_of (file held.host) held.desk held.desk.changes.now))
+    → ForSome (file host) (λ f. stated_count (work_of (file host) desk desk.changes.now) ≡ length desk.changes.now)
+counted_there {H} file host desk held is counted f told =
+    let here : IsTrue (is_some (file host)) → stated_count (work_of (file host) desk desk.changes.now) ≡ length (work_of (file host) desk desk.changes.now) =
+    subst (λ (h : Held H). IsTrue (is_some (file h.host)) → stated_count (work_of (file h.host) h.desk h.desk.changes.now) ≡ length (work_of (file h.host) h.desk h.desk.changes.now)) (sym is) counted in
+    here (ap is_some told) ∙ length-work_of (file host) desk desk.changes.now

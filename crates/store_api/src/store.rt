@@ -10,6 +10,7 @@ use crate::{DeviceFault, Mute, PageFault, Pages};
 pub trait Store: Pages {
     /// In how many pages the work and the base differ, or may differ.
     fn written(&self) -> u32
+        requires { (Self.state self.now).ended ≡ false }
         ensures value { result ≡ Self.written self.now }
         ensures enough { differing (Self.state self.now).base (Self.state self.now).work ≤ result };
 

@@ -1,10 +1,12 @@
-use Rattle.std.proofs.Common.{◌≡◌, ◌≤◌, ◌-◌, ◌∙◌, List, subst, sym, ap, arith, fold, take, None, length, get_or}
-use Rattle.mdc_outside.specs.Disk.{IsImage, all_synced}
+use Rattle.std.proofs.Common.{◌≡◌, ◌≤◌, ◌-◌, ◌∙◌, ◌||◌, is_some, ℕ, List, refl, subst, sym, ap, arith, fold, take, None, length, get_or}
+use Rattle.std.proofs.lemmas.Option.{slice_get_read}
+use Rattle.std.specs.List.{list_any}
+use Rattle.mdc_outside.specs.Disk.{IsImage, all_synced, file_at_first}
 use Rattle.mdc_outside.specs.declared.call.Entry.{Entry}
 use Rattle.mdc_outside.specs.Contents.{contents_of}
 use Rattle.mdc_outside.specs.Replay.{replay, at_first, since_within}
-use Rattle.mdc_outside.specs.Aftermath.{tape_after, torn_bytes, MayBeLeft}
-use Rattle.mdc_outside.proofs.Aftermaths.{tape-replay, after-tape, after-moment, first-bytes, first-since, image-torn_bytes, moment-within}
+use Rattle.mdc_outside.specs.Aftermath.{tape_after, makes_file, torn_bytes, MayBeLeft, IsLeft, IsLeftWithin}
+use Rattle.mdc_outside.proofs.Aftermaths.{tape-replay, after-tape, there-replay, first-there, after-there, after-absent, after-bytes, after-moment, first-bytes, first-since, image-torn_bytes, moment-within}
 use Rattle.mdc_outside.proofs.mem_host.MemHost.after.Goals as goal
 
 -- the tape that was said before the call
@@ -20,13 +22,49 @@ said-before c =
 pub returns-clause-tape : goal.returns-clause-tape
 returns-clause-tape c = after-tape c.resume.result c.in_ok-tape.tape.items _ c.resume.ensures.fresh (said-before c)
 
+-- whether the file was there before the call
+there-before : (c : goal.After-resume) → (replay (at_first c.args.self.now.first c.args.self.now.heard) (take (c.args.call - 1) c.args.self.now.entries)).file.is_there ≡ c.is_there_after-was_there.result
+there-before c =
+    let past = c.args.self.now in
+    let n = c.args.call - 1 in
+    let before : c.split_at.result.0.now ≡ take n past.entries = c.split_at.ensures.front ∙ (ap (take n) c.deref.ensures.value ∙ ap (λ past. take n past.entries) c.self.view_is) in
+    let some : c.is_some.result ≡ is_some past.first = c.is_some.ensures ∙ ap (λ past. is_some past.first) c.self.view_is in
+    there-replay (at_first past.first past.heard) (take n past.entries)
+    ∙ (ap (λ there. there || list_any makes_file (take n past.entries)) (first-there past.first ∙ sym some)
+    ∙ (ap (λ calls. c.is_some.result || list_any makes_file calls) (sym before) ∙ sym c.is_there_after-was_there.ensures))
+
+pub returns-clause-there : goal.returns-clause-there
+returns-clause-there c = after-there c.resume.result _ c.is_there_after-was_there.result c.in_ok-tape.tape.items c.resume.ensures.fresh c.resume.ensures.there (there-before c)
+
+pub returns-clause-absent : goal.returns-clause-absent
+returns-clause-absent c = after-absent c.resume.result _ c.is_there_after-was_there.result c.tear.new.bytes.items c.in_ok-tape.tape.items c.resume.ensures.fresh c.resume.ensures.bytes c.resume.ensures.absent (there-before c)
+
+pub returns-clause-bytes : goal.returns-clause-bytes
+returns-clause-bytes c =
+    let past = c.args.self.now in
+    let n = c.args.call - 1 in
+    let before : c.split_at.result.0.now ≡ take n past.entries = c.split_at.ensures.front ∙ (ap (take n) c.deref.ensures.value ∙ ap (λ past. take n past.entries) c.self.view_is) in
+    let first : c.bytes_of-first.result.now ≡ (file_at_first past.first).bytes = c.bytes_of-first.ensures ∙ (ap (λ past. contents_of past.first None) c.self.view_is ∙ sym (first-bytes past.first)) in
+    let entry : c.index.result.now ≡ get_or past.entries n c.index.result.now = c.index.ensures ∙ ap (λ past. get_or past.entries n c.index.result.now) c.self.view_is in
+    let last : c.args.call ≤ length past.entries = c.requires.last in
+    let P : List ℕ → Type 0 = λ first. IsLeft c.args.fill first c.split_at.result.0.now c.in_ok-bytes.bytes.items in
+    let Q : List Entry → Type 0 = λ calls. IsLeft c.args.fill (file_at_first past.first).bytes calls c.in_ok-bytes.bytes.items in
+    let within : IsLeftWithin c.args.fill c.args.call past c.tear.new.bytes.items = record {
+      left = c.in_ok-bytes.bytes.items;
+      entry = c.index.result.now;
+      is = slice_get_read past.entries (length past.entries) n c.index.result.now refl (omega arith) entry;
+      before = subst Q before (subst P first c.in_ok-bytes.ensures.left);
+      torn = c.in_ok-tear.ensures;
+    } in
+    after-bytes c.resume.result c.args.fill c.args.call past c.tear.new.bytes.items c.in_ok-tape.tape.items c.resume.ensures.fresh c.resume.ensures.bytes within
+
 pub returns-clause-moment : goal.returns-clause-moment
 returns-clause-moment c =
     let past = c.args.self.now in
     let n = c.args.call - 1 in
     let before : c.split_at.result.0.now ≡ take n past.entries = c.split_at.ensures.front ∙ (ap (take n) c.deref.ensures.value ∙ ap (λ past. take n past.entries) c.self.view_is) in
     let first : c.bytes_of-first.result.now ≡ contents_of past.first None = c.bytes_of-first.ensures ∙ ap (λ past. contents_of past.first None) c.self.view_is in
-    let left : MayBeLeft c.bytes_of-first.result.now c.split_at.result.0.now c.in_ok-bytes.bytes.items = c.in_ok-bytes.ensures in
+    let left : MayBeLeft c.bytes_of-first.result.now c.split_at.result.0.now c.in_ok-bytes.bytes.items = c.in_ok-bytes.ensures.allowed in
     let torn : c.tear.new.bytes.items ≡ torn_bytes c.args.fill c.in_ok-bytes.bytes.items c.index.result.now.event = c.in_ok-tear.ensures in
     let entry : c.index.result.now ≡ get_or past.entries n c.index.result.now = c.index.ensures ∙ ap (λ past. get_or past.entries n c.index.result.now) c.self.view_is in
     let last : c.args.call ≤ length past.entries = c.requires.last in

@@ -1,13 +1,13 @@
 use Rattle.std.proofs.Common.{arith, sym, ◌∙◌}
 use Rattle.page_store.proofs.Calls.{sound_image}
 use Rattle.page_store.proofs.Passing.{stays}
-use Rattle.page_store.proofs.Wholes.{still_going, held_pages, whole_again}
+use Rattle.page_store.proofs.Wholes.{still_going, held_pages, whole_again, counted_there}
 use Rattle.page_store.proofs.file_store.FileStoreStore.prepare.Goals as goal
 
 pub invariant_of-self : goal.invariant_of-self
 invariant_of-self g c =
     let going = still_going c.self.inside.host c.self.inside.desk c.args.self.now c.self.view_is c.requires.going in
-    whole_again _ _ c.prepare.new.self c.self.invariant.attached (c.prepare.ensures.kept _ (c.self.invariant.kept going) (counted_there c.self.inside.host) going)
+    whole_again _ _ c.prepare.new.self c.self.invariant.attached (c.prepare.ensures.kept _ (c.self.invariant.kept going) (counted_there g.H.Disk.file c.self.inside.host c.self.inside.desk c.args.self.now c.self.view_is c.requires.counted) going)
 
 pub returns-clause-ok : goal.returns-clause-ok
 returns-clause-ok g c =
@@ -25,4 +25,4 @@ returns-clause-time g c =
     let kept = c.self.invariant.kept going in
     rw (← c.self.view_is) (stays g.H.Disk.file g.H.Disk.beside g.H.Disk.attaches g.H.Disk.is_attached g.H.Disk.clock g.H.Disk.moment c.self.inside.host c.self.inside.desk c.prepare.new.self
     (λ f is. sound_image _ f (g.met.H.Disk.sound c.self.inside.host) is) (g.met.H.Disk.only_now c.self.inside.host) (g.met.H.Disk.earlier c.self.inside.host)
-    kept going (c.prepare.ensures.kept _ kept (counted_there c.self.inside.host) going) c.prepare.ensures.halt)
+    kept going (c.prepare.ensures.kept _ kept (counted_there g.H.Disk.file c.self.inside.host c.self.inside.desk c.args.self.now c.self.view_is c.requires.counted) going) c.prepare.ensures.halt)

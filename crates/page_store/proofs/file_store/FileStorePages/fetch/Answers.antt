@@ -1,0 +1,23 @@
+use Rattle.std.proofs.Common.{arith, sym, ◌∙◌}
+use Rattle.redo_journal.proofs.Composing.{runs_within}
+use Rattle.page_store.proofs.Leaving.{runs_leave}
+use Rattle.page_store.proofs.Calls.{sound_image}
+use Rattle.page_store.proofs.Passing.{keeps_base}
+use Rattle.page_store.proofs.Wholes.{still_going, held_pages, length-base_of}
+use Rattle.page_store.proofs.file_store.FileStorePages.fetch.Goals as goal
+
+pub fetch-requires-clause-within : goal.fetch-requires-clause-within
+fetch-requires-clause-within g c = omega (arith, c.requires.within, held_pages g.H.Disk.file c.self.inside.host c.self.inside.desk c.args.self.now c.self.view_is)
+
+pub returns-clause-ok : goal.returns-clause-ok
+returns-clause-ok g c = rw (← c.self.view_is, c.fetch.ensures.runs.beside, c.fetch.ensures.runs.listed) (c.fetch.ensures.ok _ _)
+
+pub returns-clause-err : goal.returns-clause-err
+returns-clause-err g c = rw (← c.self.view_is, c.fetch.ensures.runs.beside, c.fetch.ensures.runs.listed) (c.fetch.ensures.err _ _)
+
+pub returns-clause-time : goal.returns-clause-time
+returns-clause-time g c =
+    let going = still_going c.self.inside.host c.self.inside.desk c.args.self.now c.self.view_is c.requires.going in
+    rw (← c.self.view_is) (keeps_base (record { host = c.self.inside.host; desk = c.self.inside.desk }) (record { host = c.fetch.new.disk; desk = c.fetch.new.self })
+    (runs_leave (runs_within c.fetch.ensures.runs) (λ f is. sound_image _ f (g.met.H.Disk.sound c.fetch.new.disk) is) (λ before image is left. left))
+    (g.met.H.Disk.only_now c.fetch.new.disk) (c.self.invariant.kept going) going c.fetch.ensures.still_kept c.fetch.ensures.going_on)

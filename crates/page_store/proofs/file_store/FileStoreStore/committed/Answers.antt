@@ -1,0 +1,26 @@
+use Rattle.std.proofs.Common.{arith, sym, ◌∙◌}
+use Rattle.redo_journal.proofs.Composing.{runs_within}
+use Rattle.page_store.proofs.Leaving.{runs_leave}
+use Rattle.page_store.proofs.Calls.{sound_image}
+use Rattle.page_store.proofs.Passing.{keeps_base}
+use Rattle.page_store.proofs.Wholes.{still_going, held_pages, length-base_of}
+use Rattle.page_store.proofs.file_store.FileStoreStore.committed.Goals as goal
+
+pub committed-requires-clause-within : goal.committed-requires-clause-within
+committed-requires-clause-within g c =
+    let going = still_going c.self.inside.host c.self.inside.desk c.args.self.now c.self.view_is c.requires.going in
+    let within = rw (← c.self.view_is) at c.requires.within in
+    omega (arith, within, length-base_of (g.H.Disk.file c.self.inside.host) c.self.inside.desk going)
+
+pub returns-clause-ok : goal.returns-clause-ok
+returns-clause-ok g c = rw (← c.self.view_is, c.committed.ensures.runs.beside, c.committed.ensures.runs.listed) (c.committed.ensures.ok _ _)
+
+pub returns-clause-err : goal.returns-clause-err
+returns-clause-err g c = rw (← c.self.view_is, c.committed.ensures.runs.beside, c.committed.ensures.runs.listed) (c.committed.ensures.err _ _)
+
+pub returns-clause-time : goal.returns-clause-time
+returns-clause-time g c =
+    let going = still_going c.self.inside.host c.self.inside.desk c.args.self.now c.self.view_is c.requires.going in
+    rw (← c.self.view_is) (keeps_base (record { host = c.self.inside.host; desk = c.self.inside.desk }) (record { host = c.committed.new.disk; desk = c.committed.new.self })
+    (runs_leave (runs_within c.committed.ensures.runs) (λ f is. sound_image _ f (g.met.H.Disk.sound c.committed.new.disk) is) (λ before image is left. left))
+    (g.met.H.Disk.only_now c.committed.new.disk) (c.self.invariant.kept going) going c.committed.ensures.still_kept c.committed.ensures.going_on)
