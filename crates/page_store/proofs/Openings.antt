@@ -74,22 +74,22 @@ module _ {D : Type 0} {file : D → Option File} {aside : D → Beside} {attache
 
   -- the file that was served stands for what it rests with
   pub served_base : {old new : D} (desk : Desk) → Opens file aside attaches is_attached clock moment old new
-      → ForSome (file new) (IsAtRest desk.extents desk.extent_pages desk.base) → desk.halt ≡ None
+      → ForSome (file new) (IsAtRest desk.shape.extents desk.shape.extent_pages desk.base) → desk.halt ≡ None
       → (before : File) → file old ≡ Some before → IsServed before.bytes → base_of (file new) desk ≡ pages_of before.bytes
   served_base desk opened rests going before is served =
       let after = opened.told before is in
       let stands = after.2 (served_formed before.bytes served) in
       ap (λ told. base_of told desk) after.1
       ∙ (ap (λ halt. base_in halt desk.base after.0.bytes) going
-      ∙ (sym (pages_at_rest desk.extents desk.extent_pages desk.base after.0 (rests after.0 after.1)) ∙ stands.1))
+      ∙ (sym (pages_at_rest desk.shape.extents desk.shape.extent_pages desk.base after.0 (rests after.0 after.1)) ∙ stands.1))
 
 -- the desk has the numbers that the file rests with
-pub rests_with : {told : Option File} {extents extent_pages count : ℕ} (desk : Desk) → desk.extents ≡ extents → desk.extent_pages ≡ extent_pages → desk.base ≡ count
-    → ForSome told (IsAtRest extents extent_pages count) → ForSome told (IsAtRest desk.extents desk.extent_pages desk.base)
+pub rests_with : {told : Option File} {extents extent_pages count : ℕ} (desk : Desk) → desk.shape.extents ≡ extents → desk.shape.extent_pages ≡ extent_pages → desk.base ≡ count
+    → ForSome told (IsAtRest extents extent_pages count) → ForSome told (IsAtRest desk.shape.extents desk.shape.extent_pages desk.base)
 rests_with desk extents pages base rests = λ file is. rw (extents, pages, base) (rests file is)
 
 -- an empty desk fits a file at rest
-pub empty_kept : (told : Option File) (desk : Desk) → IsEmptyDesk desk → ForSome told (IsAtRest desk.extents desk.extent_pages desk.base)
+pub empty_kept : (told : Option File) (desk : Desk) → IsEmptyDesk desk → ForSome told (IsAtRest desk.shape.extents desk.shape.extent_pages desk.base)
     → 18 ≤ desk.base → desk.base ≤ 262289 → IsKept desk told
 empty_kept told desk empty rests some few =
     let size : length desk.changes.now ≡ desk.base = ap (λ changes. length changes.now) empty.changes ∙ length-replicate desk.base None in

@@ -13,6 +13,7 @@ use crate::changes::Changes;
 use crate::desk::Desk;
 use crate::page_cache::PageCache;
 use crate::recovery::{Opened, recover};
+use crate::shape::Shape;
 use crate::{FileStore, OpenFault};
 use mdc_outside::{Disk, Host};
 use redo_journal::settle;
@@ -64,10 +65,10 @@ impl<H: Host> FileStore<H> {
 
     /// How many extents the database may have, and how many pages each has.
     pub fn shape(&self) -> (u32, u32)
-        ensures parts { result ≡ (self.now.desk.extents, self.now.desk.extent_pages) }
+        ensures parts { result ≡ (self.now.desk.shape.extents, self.now.desk.shape.extent_pages) }
         ensures limits { IsTrue (is_shape result.0 result.1) }
     {
-        (self.desk.extents, self.desk.extent_pages)
+        (self.desk.shape.extents, self.desk.shape.extent_pages)
     }
 
     /// Gives the host back. It makes no call of the disk and takes no memory. It may follow a fault of any call.
@@ -106,14 +107,16 @@ fn desk_of(alloc: Global, opened: Opened, cache: PageCache) -> Desk
     requires shape { IsTrue (is_shape opened.extents opened.extent_pages) }
     requires clean { cache ≡ [] }
     ensures empty { IsEmptyDesk result }
-    ensures extents { result.extents ≡ opened.extents }
-    ensures extent_pages { result.extent_pages ≡ opened.extent_pages }
+    ensures extents { result.shape.extents ≡ opened.extents }
+    ensures extent_pages { result.shape.extent_pages ≡ opened.extent_pages }
     ensures base { result.base ≡ opened.count }
 {
     Desk {
         alloc,
-        extents: opened.extents,
-        extent_pages: opened.extent_pages,
+        shape: Shape {
+            extents: opened.extents,
+            extent_pages: opened.extent_pages,
+        },
         base: opened.count,
         changes: Changes::new(alloc, opened.count),
         cache,
