@@ -132,14 +132,14 @@ module _ {D : Type 0} {file : D → Option File} {aside : D → Beside} {attache
       let Gate : File → List ℕ → Type 0 = λ half image. (before : File) → file old ≡ Some before → StandsStill before image in
       let gate : Leaves file aside attaches is_attached clock moment Gate middle new =
       runs_leave second as_read (λ half image is_half left before is.
-          let kept = home.told before is in
-          let same : kept.0 ≡ half = one_file kept.1 is_half in
-          let stands = subst (λ (f : File). IsTrue (is_open f.bytes) × (journal_of f.bytes ≡ images) × StandsStill before f.bytes) same kept.2 in
-          let at_home = holds half is_half in
-          let torn_gate : IsImage (torn 512 1 (all_synced half.bytes)) image = subst (λ since. IsImage (torn 512 1 since) image) at_home.settled left in
-          let in_place : All (λ listed. home_page half.bytes listed.0 ≡ listed.1) (journal_of half.bytes) = subst (λ (xs : Numbered). All (λ listed. home_page half.bytes listed.0 ≡ listed.1) xs) (sym stands.1) at_home.home in
-          stands_through before.bytes half.bytes image (pages_of before.bytes) stands.2.birth
-          (stands_same half.bytes image (pages_of half.bytes) (pages_of before.bytes) stands.2.pages (while_closed half.bytes image stands.2.formed stands.0 in_place torn_gate))) in
+      let kept = home.told before is in
+      let same : kept.0 ≡ half = one_file kept.1 is_half in
+      let stands = subst (λ (f : File). IsTrue (is_open f.bytes) × (journal_of f.bytes ≡ images) × StandsStill before f.bytes) same kept.2 in
+      let at_home = holds half is_half in
+      let torn_gate : IsImage (torn 512 1 (all_synced half.bytes)) image = subst (λ since. IsImage (torn 512 1 since) image) at_home.settled left in
+      let in_place : All (λ listed. home_page half.bytes listed.0 ≡ listed.1) (journal_of half.bytes) = subst (λ (xs : Numbered). All (λ listed. home_page half.bytes listed.0 ≡ listed.1) xs) (sym stands.1) at_home.home in
+      stands_through before.bytes half.bytes image (pages_of before.bytes) stands.2.birth
+      (stands_same half.bytes image (pages_of half.bytes) (pages_of before.bytes) stands.2.pages (while_closed half.bytes image stands.2.formed stands.0 in_place torn_gate))) in
       leaves_then home gate (λ before image is stands. stands.2) (λ before half image is is_half stands closed. closed before is)
 
   -- a file that counts and is formed can have its gate closed

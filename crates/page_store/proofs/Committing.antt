@@ -75,12 +75,12 @@ journaled_opened start images before half image rising ready closed journaled st
     let stays : HomeStays before.bytes image = λ p lt. same.home p ∙ journaled.stays p lt in
     elim (while_opened half.bytes image start images stands.formed closed holds.starts holds.images fitting torn_gate) [
       | inl shut ↦ (
-          record {
-            stands = inl (stands_through before.bytes half.bytes image (pages_of before.bytes) stands.birth (stands_same half.bytes image (pages_of half.bytes) (pages_of before.bytes) stands.pages shut.1));
-            stays = stays;
-          },
-          λ opened. absurd (both_ways (is_open image) shut.0 opened),
-        )
+        record {
+          stands = inl (stands_through before.bytes half.bytes image (pages_of before.bytes) stands.birth (stands_same half.bytes image (pages_of half.bytes) (pages_of before.bytes) stands.pages shut.1));
+          stays = stays;
+        },
+        λ opened. absurd (both_ways (is_open image) shut.0 opened),
+      )
       | inr opened ↦ (let whole = stands_through before.bytes half.bytes image (pages_with images before.bytes) stands.birth
           (stands_same half.bytes image (pages_with images half.bytes) (pages_with images before.bytes) with_images.1 opened.2) in
           (record { stands = inr whole; stays = stays }, λ gate. (opened.1, whole)))

@@ -7,6 +7,7 @@ use Rattle.mdc_outside.specs.Disk.{File, Since, IsImage, settled}
 use Rattle.mdc_outside.specs.Moments.{Beside}
 use Rattle.redo_journal.specs.Layout.{home_page}
 use Rattle.redo_journal.specs.Runs.{Runs, IsWithin}
+use Rattle.redo_journal.proofs.Steps.{cases_Option}
 use Rattle.page_store.specs.declared.desk.Desk.{Desk}
 use Rattle.page_store.specs.Leaving.{Leaves}
 use Rattle.page_store.specs.Standing.{pages_of, listed}
@@ -19,7 +20,6 @@ use Rattle.page_store.proofs.Commits.{pages_at_rest}
 use Rattle.page_store.proofs.Desks.{unchanged_work}
 use Rattle.page_store.proofs.Judged.{served_formed}
 use Rattle.page_store.proofs.Leaving.{nothing_said}
-use Rattle.page_store.proofs.Repairs.{told_before}
 
 -- what holds whatever a call answered
 pub on_ok : {T E : Type 0} (result : Result T E) {P : Type 0} → P → OnOk result P
@@ -51,21 +51,23 @@ module _ {D : Type 0} {file : D → Option File} {aside : D → Beside} {attache
     told = λ before is. leaves.told (settled before) (settled_told before synced is);
     crash = λ before said is tape.
         let passes = run.crash before said is tape in
-        let only = leaves.crash (settled before) said (settled_told before synced is) (ap (λ b. b.tape) run.beside ∙ tape) in
-        (clock middle, record {
-          begun = run.later;
-          passed = leaves.later;
-          since_origin = only.since_call;
-          nothing_else = λ t image heard early left. elim (only.nothing_else t image heard (omega (arith, early, run.later)) left) [
-            | inl half ↦ elim (passes.nothing_else t image heard early half) [
-              | inl past ↦ inl past
-              | inr since ↦ (let now = passes.since_call image heard since in inr (inl (now.left, nothing_said now.said.0 now.said.1 said heard now.said.2 now.said.3)))
-            ]
-            | inr since ↦ inr (inr since)
-          ];
-          keeps = λ t image heard early past. only.keeps t image heard (omega (arith, early, run.later)) (passes.keeps t image heard early past);
-          adds = only.adds;
-        });
+        let only = leaves.crash (settled before) said (settled_told before synced is) (ap (λ b. b.tape) run.beside ∙ tape) in (
+          clock middle,
+          record {
+            begun = run.later;
+            passed = leaves.later;
+            since_origin = only.since_call;
+            nothing_else = λ t image heard early left. elim (only.nothing_else t image heard (omega (arith, early, run.later)) left) [
+              | inl half ↦ elim (passes.nothing_else t image heard early half) [
+                | inl past ↦ inl past
+                | inr since ↦ (let now = passes.since_call image heard since in inr (inl (now.left, nothing_said now.said.0 now.said.1 said heard now.said.2 now.said.3)))
+              ]
+              | inr since ↦ inr (inr since)
+            ];
+            keeps = λ t image heard early past. only.keeps t image heard (omega (arith, early, run.later)) (passes.keeps t image heard early past);
+            adds = only.adds;
+          },
+        );
     later = omega (arith, run.later, leaves.later);
     attached = leaves.attached ∙ run.attached;
     listed = leaves.listed ∙ run.listed;
@@ -82,6 +84,13 @@ module _ {D : Type 0} {file : D → Option File} {aside : D → Beside} {attache
       ap (λ told. base_of told desk) after.1
       ∙ (ap (λ halt. base_in halt desk.base after.0.bytes) going
       ∙ (sym (pages_at_rest desk.shape.extents desk.shape.extent_pages desk.base after.0 (rests after.0 after.1)) ∙ stands.1))
+
+  -- a file is told as before
+  pub still_told : {old new : D} → Opens file aside attaches is_attached clock moment old new → is_some (file new) ≡ is_some (file old)
+  still_told {old} {new} opened = elim (cases_Option (file old)) [
+    | inl none ↦ ap is_some (opened.untold none) ∙ sym (ap is_some none)
+    | inr some ↦ ap is_some (opened.told some.0 some.1).1 ∙ sym (ap is_some some.1)
+  ]
 
 -- the desk has the numbers that the file rests with
 pub rests_with : {told : Option File} {extents extent_pages count : ℕ} (desk : Desk) → desk.shape.extents ≡ extents → desk.shape.extent_pages ≡ extent_pages → desk.base ≡ count
@@ -113,6 +122,11 @@ just_opened told tape attaches desk empty =
     let images = empty.images in
     let halt = empty.halt in
     rw (work, marked, hand, images, halt) refl
+
+-- the same by what the host told before
+pub shown_as_before : (told : Option File) (tape before : Option (List ℕ)) (attaches listed : Option (List (List ℕ × Bool))) (is_told : Bool) (desk : Desk) → IsEmptyDesk desk
+    → is_some told ≡ is_told → tape ≡ before → attaches ≡ listed → IsJustOpened is_told before listed (state_of told tape attaches desk)
+shown_as_before told tape before attaches listed is_told desk empty same_told same_tape same_attaches = just_opened told tape attaches desk empty ∙ rw (same_told, same_tape, same_attaches) refl
 
 -- and it has no page to be written
 pub nothing_written : (desk : Desk) → IsEmptyDesk desk → written_in desk ≡ 0

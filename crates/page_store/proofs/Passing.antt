@@ -85,7 +85,7 @@ module _ {H : Type 0} {file : H → Option File} {aside : H → Beside} {attache
       → WhereTold (file new.host) (aside new.host).tape (λ f said. (image tape : List ℕ) → moment new.host (clock new.host) image tape ↔ IsMoment f.since said [] image tape)
       → ((before : File) (said image : List ℕ) (pages : Option (List (List ℕ))) → file old.host ≡ Some before → (aside old.host).tape ≡ Some said → Kind before image → Reopens image pages → Within pages said)
       → ((after : File) (said image : List ℕ) (pages : Option (List (List ℕ))) → file new.host ≡ Some after → (aside new.host).tape ≡ Some said → IsImage after.since image → Reopens image pages
-          → AtRest (state_of (file new.host) (aside new.host).tape (attaches new.host) new.desk) pages said)
+      → AtRest (state_of (file new.host) (aside new.host).tape (attaches new.host) new.desk) pages said)
       → Passes (λ (s : Held H). state_of (file s.host) (aside s.host).tape (attaches s.host) s.desk) (λ s. clock s.host) (λ s. left_of (file s.host) (aside s.host).tape (moment s.host)) Within old new
   passes {Kind} Within old new leaves only_now within rests = record {
     later = leaves.later;

@@ -13,14 +13,14 @@ mod fresh;
 mod journal;
 mod judging;
 mod making;
-mod page_cache;
-mod write_through;
 mod number;
 mod opening;
+mod page_cache;
 mod reading;
 mod recovery;
 mod root;
 mod shape;
+mod write_through;
 
 pub use fault::OpenFault;
 pub use file_store::FileStore;
