@@ -28,4 +28,6 @@ pub use making::make;
 pub use opening::Unopened;
 
 #[cfg(test)]
+mod store_tests;
+#[cfg(test)]
 mod tests;
