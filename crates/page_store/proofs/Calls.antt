@@ -1,14 +1,14 @@
 -- What the calls of a commit leave, from the clauses of the journal's calls.
-use Rattle.std.proofs.Common.{◌≡◌, ◌⊎◌, ◌≤◌, ◌<◌, ◌+◌, ◌*◌, ℕ, Bool, IsTrue, IsFalse, List, [], ◌∷◌, length, Option, Some, None, Result, Ok, Err, OnOk, IfSome, arith, sym, ap, subst, ◌∙◌, inl, inr, refl}
+use Rattle.std.proofs.Common.{◌≡◌, ℕ, Bool, IsTrue, IsFalse, List, [], ◌∷◌, Option, Some, None, Result, Ok, Err, OnOk, IfSome, arith, sym, subst, ◌∙◌, inr, refl}
 use Rattle.std.specs.Option.{ForSome, option_map}
 use Rattle.std.specs.List.{All}
 use Rattle.mdc_outside.specs.Disk.{File, Since, IsImage, IsSound, all_synced, torn, written, settled}
 use Rattle.mdc_outside.specs.Moments.{Beside}
 use Rattle.redo_journal.specs.Images.{Numbered, AreRising}
-use Rattle.redo_journal.specs.Layout.{file_page, home_page, is_open, journal_of, torn_journal, torn_home, IsReady, HoldsJournal, HoldsHome}
+use Rattle.redo_journal.specs.Layout.{home_page, is_open, journal_of, torn_journal, torn_home, IsReady, HoldsJournal, HoldsHome}
 use Rattle.redo_journal.specs.Runs.{Runs, IsWithin}
 use Rattle.page_store.specs.Leaving.{Leaves}
-use Rattle.page_store.specs.Standing.{count_of, pages_of, IsFormed}
+use Rattle.page_store.specs.Standing.{pages_of, IsFormed}
 use Rattle.page_store.specs.Commit.{Both, Stands, StandsStill, StandsEither, IsReadyFor, IsCounting, IsClosed, IsCommitted, IsJournaled, HomeStays, RestsWith, pages_with}
 use Rattle.page_store.proofs.Leaving.{runs_leave, leaves_then}
 use Rattle.page_store.proofs.Crashes.{while_home, while_closed}

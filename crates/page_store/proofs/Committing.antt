@@ -1,14 +1,14 @@
 -- What a commit leaves, step by step.
-use Rattle.std.proofs.Common.{◌≡◌, ◌⊎◌, ◌≤◌, ◌<◌, ◌+◌, ◌*◌, ℕ, IsTrue, IsFalse, IsSome, List, length, Option, Some, None, unwrap_or, min, arith, sym, ap, subst, ◌∙◌, inl, inr, refl}
-use Rattle.std.proofs.lemmas.Bool.{cases_lt, cases_Bool, both_ways}
+use Rattle.std.proofs.Common.{◌≡◌, ◌≤◌, ◌<◌, ◌+◌, ◌*◌, ℕ, IsTrue, IsFalse, IsSome, List, length, Option, Some, None, unwrap_or, arith, sym, ap, subst, ◌∙◌, inl, inr, refl}
+use Rattle.std.proofs.lemmas.Bool.{cases_lt, both_ways}
 use Rattle.std.specs.List.{All}
 use Rattle.store_api.specs.StoreState.{stated_in}
 use Rattle.mdc_outside.specs.Disk.{File, IsImage, all_synced, torn}
 use Rattle.redo_journal.specs.Images.{Numbered, AreRising}
-use Rattle.redo_journal.specs.Layout.{file_page, home_page, is_open, start_of, journal_of, index_pages, torn_journal, HoldsJournal}
-use Rattle.page_store.specs.Standing.{listed, image_of, page_of, count_of, pages_of, IsFormed}
+use Rattle.redo_journal.specs.Layout.{file_page, home_page, is_open, start_of, journal_of, torn_journal, HoldsJournal}
+use Rattle.page_store.specs.Standing.{listed, image_of, count_of, pages_of}
 use Rattle.page_store.specs.Commit.{Stands, AreFitting, IsReadyFor, IsJournaled, HomeStays, count_with, pages_with}
-use Rattle.page_store.proofs.Listed.{listed_same, length-listed}
+use Rattle.page_store.proofs.Listed.{listed_same}
 use Rattle.page_store.proofs.Kept.{same_part, journal_left, same_but_gate}
 use Rattle.page_store.proofs.Crashes.{while_written, while_opened}
 

@@ -7,7 +7,7 @@ use Rattle.store_api.specs.StoreState.{stated_in}
 use Rattle.mdc_outside.specs.Disk.{IsImage, all_synced, torn}
 use Rattle.redo_journal.specs.Images.{Numbered}
 use Rattle.redo_journal.specs.Layout.{file_page, home_page, is_open, start_of, number_of, journal_of, index_pages, torn_journal, torn_home}
-use Rattle.page_store.specs.Standing.{listed, image_of, page_of, count_of, pages_of, is_made, IsFormed}
+use Rattle.page_store.specs.Standing.{image_of, page_of, count_of, pages_of, is_made, IsFormed}
 use Rattle.page_store.specs.Commit.{Stands, AreFitting, count_with, pages_with}
 use Rattle.page_store.proofs.Deciding.{decided_formed}
 use Rattle.page_store.proofs.Kept.{same_part, same_behind, same_number, same_journal, length-journal_of, home_left, journal_left, outside_home, IsSameButGate, same_but_gate}

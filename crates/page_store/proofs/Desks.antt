@@ -1,5 +1,5 @@
 -- What the calls on a desk do to what it is seen as.
-use Rattle.std.proofs.Common.{◌≡◌, ◌≤◌, ◌<◌, ◌+◌, ◌-◌, ℕ, zero, suc, Bool, true, false, IsTrue, IsSome, is_some, List, [], ◌∷◌, ◌++◌, length, replicate, set, slice_get, get_or, Option, Some, None, unwrap_or, Result, Ok, Err, OnOk, min, arith, refl, sym, ap, subst, ◌∙◌, length-append, le-leb}
+use Rattle.std.proofs.Common.{◌≡◌, ◌≤◌, ◌<◌, ◌-◌, ℕ, zero, suc, IsTrue, IsSome, is_some, List, [], ◌∷◌, ◌++◌, length, replicate, set, slice_get, get_or, Option, Some, None, unwrap_or, Result, Ok, Err, arith, refl, sym, ap, subst, ◌∙◌, length-append, le-leb}
 use Rattle.std.specs.Option.{ForSome, option_map}
 use Rattle.std.proofs.lemmas.List.{length-set, length-replicate}
 use Rattle.store_api.specs.StoreState.{zero_page, page_at, seen, differing}
@@ -9,14 +9,12 @@ use Rattle.redo_journal.specs.Images.{Numbered}
 use Rattle.redo_journal.specs.Layout.{home_page}
 use Rattle.page_store.specs.declared.desk.Desk.{Desk}
 use Rattle.page_store.specs.declared.desk.Hand.{Hand}
-use Rattle.page_store.specs.declared.desk.Hand.TheVariants.{Clean}
 use Rattle.page_store.specs.declared.write_through.Halt.{Halt}
-use Rattle.page_store.specs.Standing.{listed}
 use Rattle.page_store.specs.Changes.{Overlay, Changed, unchanged, changed_in, laid_over, image_in}
 use Rattle.page_store.specs.Cached.{AreHome, Leads}
-use Rattle.page_store.specs.Desk.{IsKept, IsPrepared, Does, DoesOnOk, base_in, base_of, work_of, page_in, written_in}
+use Rattle.page_store.specs.Desk.{IsKept, Does, DoesOnOk, base_in, base_of, work_of, page_in, written_in}
 use Rattle.page_store.proofs.Listed.{length-listed, page_at-listed}
-use Rattle.page_store.proofs.LaidOver.{length-laid_over, laid_over-set, laid_over-grown, laid_over-unchanged, laid_over-at, differing-laid_over}
+use Rattle.page_store.proofs.LaidOver.{laid_over-set, laid_over-grown, laid_over-unchanged, laid_over-at, differing-laid_over}
 
 -- how many pages the base has
 pub length-base_in : (halt : Option Halt) (count : ℕ) (file : List ℕ) → halt ≡ None → length (base_in halt count file) ≡ count

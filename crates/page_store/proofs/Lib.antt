@@ -22,6 +22,7 @@ pub mod Openings
 pub mod Pages
 pub mod Passing
 pub mod Recent
+pub mod Telling
 pub mod Wholes
 pub mod Repairs
 pub mod Roots

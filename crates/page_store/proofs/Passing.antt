@@ -1,13 +1,13 @@
 -- How the moments of a host are those of the store that owns it.
-use Rattle.std.proofs.Common.{◌≡◌, ◌⊎◌, ◌≤◌, ℕ, Bool, List, [], true, false, IsSome, Option, Some, None, Result, Ok, Err, OnOk, OnErr, IfSome, MatchBool, is_some, inl, inr, arith, refl, sym, ap, subst, ◌∙◌}
+use Rattle.std.proofs.Common.{◌≡◌, ◌⊎◌, ◌≤◌, ℕ, Bool, List, [], true, false, IsSome, Option, Some, None, Result, Ok, Err, OnOk, OnErr, IfSome, is_some, inl, inr, sym, ap, subst, ◌∙◌}
 use Rattle.std.proofs.Common.{◌↔◌}
 use Rattle.std.specs.Option.{ForSome}
 use Rattle.store_api.specs.StoreState.{StoreState}
 use Rattle.store_api.specs.Moments.{Outcomes, OnlyBase, BaseOrWork, AtRest, Passes}
-use Rattle.mdc_outside.specs.Disk.{File, IsImage, all_synced}
+use Rattle.mdc_outside.specs.Disk.{File, IsImage}
 use Rattle.mdc_outside.specs.Moments.{Beside, IsMoment, WhereTold}
 use Rattle.page_store.specs.declared.desk.Desk.{Desk}
-use Rattle.page_store.specs.Standing.{pages_of, page_of, count_of, IsFormed, Reopens, listed}
+use Rattle.page_store.specs.Standing.{pages_of, page_of, IsFormed, Reopens, listed}
 use Rattle.redo_journal.specs.Layout.{home_page}
 use Rattle.page_store.specs.Leaving.{Leaves}
 use Rattle.page_store.specs.Desk.{IsKept, StandsForEither, RestsEither, state_of, base_of, base_in, work_of}
@@ -16,23 +16,21 @@ use Rattle.page_store.proofs.Leaving.{nothing_said, leaves_itself}
 use Rattle.page_store.proofs.Listed.{listed_same}
 use Rattle.page_store.proofs.Pages.{page_of-closed}
 use Rattle.page_store.proofs.Crashes.{only_itself}
-use Rattle.page_store.proofs.Calls.{one_file, left_told}
+use Rattle.page_store.proofs.Calls.{left_told}
 
 -- the bytes told are those of the tape
 pub if_said : (tape : Option (List ℕ)) (said : List ℕ) → tape ≡ Some said → IfSome tape (λ bytes. said ≡ bytes)
 if_said None said is = absurd (cc)
 if_said (Some bytes) said is = cc
 
--- what a crash leaves now is what the file and the tape tell
-told_now : (told : Option File) (tape : Option (List ℕ)) (file : File) (said : List ℕ) (now : List ℕ → List ℕ → Type 0) → told ≡ Some file → tape ≡ Some said
-    → WhereTold told tape (λ f s. (image heard : List ℕ) → now image heard ↔ IsMoment f.since s [] image heard)
-    → (image heard : List ℕ) → now image heard → IsMoment file.since said [] image heard
-told_now None tape file said now is heard_is only image heard left = absurd (cc)
-told_now (Some f) None file said now is heard_is only image heard left = absurd (cc)
-told_now (Some f) (Some s) file said now is heard_is only image heard left =
+-- a fact of what is told, where it is told
+pub where_told : (told : Option File) (tape : Option (List ℕ)) (file : File) (said : List ℕ) (fact : File → List ℕ → Type 0) → told ≡ Some file → tape ≡ Some said → WhereTold told tape fact → fact file said
+where_told None tape file said fact is heard holds = absurd (cc)
+where_told (Some f) None file said fact is heard holds = absurd (cc)
+where_told (Some f) (Some s) file said fact is heard holds =
     let same : f ≡ file = cc in
     let same_said : s ≡ said = cc in
-    subst (λ (g : File). IsMoment g.since said [] image heard) same (subst (λ xs. IsMoment f.since xs [] image heard) same_said ((only image heard).0 left))
+    subst (λ (g : File). fact g said) same (subst (λ xs. fact f xs) same_said holds)
 
 -- a file at rest reopens to the base
 pub kept_reopens : (told : Option File) (desk : Desk) (file : File) (image : List ℕ) (pages : Option (List (List ℕ))) → IsKept desk told → desk.halt ≡ None → told ≡ Some file
@@ -112,7 +110,8 @@ module _ {H : Type 0} {file : H → Option File} {aside : H → Beside} {attache
         let tape : (aside old.host).tape ≡ Some left.2 = ap (λ b. b.tape) (sym leaves.beside) ∙ left.3 in
         (left.0, left.1, left.2, left.3, left.4, (leaves.crash before.0 left.2 before.1 tape).adds t left.4 heard early left.5, left.6);
     at_rest = λ pages heard left.
-        let now = told_now (file new.host) (aside new.host).tape left.0 left.2 (moment new.host (clock new.host)) left.1 left.3 only_now left.4 heard left.5 in
+        let Now : File → List ℕ → Type 0 = λ f s. (image tape : List ℕ) → moment new.host (clock new.host) image tape ↔ IsMoment f.since s [] image tape in
+        let now = (where_told (file new.host) (aside new.host).tape left.0 left.2 Now left.1 left.3 only_now left.4 heard).0 left.5 in
         let said : heard ≡ left.2 = nothing_said now.said.0 now.said.1 left.2 heard now.said.2 now.said.3 in
         subst (λ (bytes : List ℕ). AtRest (state_of (file new.host) (aside new.host).tape (attaches new.host) new.desk) pages bytes) (sym said) (rests left.0 left.2 left.4 pages left.1 left.3 now.left left.6);
   }

@@ -1,15 +1,13 @@
 -- What a crash leaves while a journal that counts is brought home.
-use Rattle.std.proofs.Common.{◌≡◌, ℕ, Bool, IsTrue, IsFalse, List, [], ◌∷◌, length, Option, Some, None, Result, Ok, Err, OnOk, IfSome, arith, refl, sym, ap, ◌∙◌, subst, inl, inr}
-use Rattle.std.specs.Option.{option_map, ForSome}
-use Rattle.std.specs.List.{All}
+use Rattle.std.proofs.Common.{◌≡◌, ℕ, Bool, List, length, Option, Some, arith, refl, sym, ap, ◌∙◌, subst, inl, inr}
+use Rattle.std.specs.Option.{ForSome}
 use Rattle.std.proofs.lemmas.List.FromFn.{length-map-range_with_len}
-use Rattle.mdc_outside.specs.Disk.{File, Since, IsImage, IsSound, all_synced, torn, written, settled}
+use Rattle.mdc_outside.specs.Disk.{File, Since, IsImage, all_synced}
 use Rattle.mdc_outside.specs.Moments.{Beside}
-use Rattle.redo_journal.specs.Images.{Numbered}
-use Rattle.redo_journal.specs.Layout.{IsReady, HoldsHome, file_page, home_page, is_open, journal_of, torn_home}
-use Rattle.redo_journal.specs.Runs.{Runs, IsWithin, IsCovered}
+use Rattle.redo_journal.specs.Layout.{file_page}
+use Rattle.redo_journal.specs.Runs.{Runs, IsCovered}
 use Rattle.redo_journal.proofs.Composing.{runs_within}
-use Rattle.redo_journal.proofs.Steps.{cases_Option, was_told}
+use Rattle.redo_journal.proofs.Steps.{cases_Option}
 use Rattle.page_store.specs.Leaving.{Leaves}
 use Rattle.page_store.specs.Commit.{IsClosed, StandsStill}
 use Rattle.page_store.specs.Opening.{IsAtRest, StandsAs}

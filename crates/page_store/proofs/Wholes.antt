@@ -1,5 +1,5 @@
 -- What a store in a file knows of its desk and its host.
-use Rattle.std.proofs.Common.{◌≡◌, ◌≤◌, ◌+◌, ℕ, Bool, false, IsTrue, is_some, List, [], length, replicate, Option, Some, None, arith, refl, sym, ap, subst, ◌∙◌}
+use Rattle.std.proofs.Common.{◌≡◌, ℕ, Bool, false, IsTrue, is_some, List, [], length, Option, Some, None, refl, sym, ap, subst, ◌∙◌}
 use Rattle.std.specs.Option.{ForSome}
 use Rattle.store_api.specs.StoreState.{stated_count}
 use Rattle.std.proofs.lemmas.List.{length-replicate}

@@ -1,5 +1,5 @@
 -- What a commit needs of its images, and what it leaves of the file.
-use Rattle.std.specs.Prelude.{◌≡◌, ◌⊎◌, ◌≤◌, ◌<◌, ℕ, ◌+◌, ◌*◌, IsTrue, IsFalse, IsSome, List, length, Option, Some, None, unwrap_or}
+use Rattle.std.specs.Prelude.{◌≡◌, ◌⊎◌, ◌≤◌, ◌<◌, ℕ, ◌+◌, ◌*◌, IsTrue, IsFalse, IsSome, List, length, Option, Some, unwrap_or}
 use Rattle.std.specs.List.{All}
 use Rattle.store_api.specs.StoreState.{stated_in}
 use Rattle.mdc_outside.specs.Disk.{File, IsImage, all_synced}

@@ -1,5 +1,5 @@
 -- What a store has in memory beside its file, and what the two together are seen as.
-use Rattle.std.specs.Prelude.{◌≡◌, ◌⊎◌, ◌≤◌, ◌<◌, ◌+◌, ◌-◌, min, ℕ, Bool, false, IsSome, is_some, List, [], length, map, replicate, slice_get, slice_index_or, Option, Some, None, Result, OnOk, OnErr}
+use Rattle.std.specs.Prelude.{◌≡◌, ◌⊎◌, ◌≤◌, ◌<◌, ◌+◌, ◌-◌, min, ℕ, Bool, IsSome, is_some, List, [], length, replicate, slice_get, slice_index_or, Option, Some, None, Result, OnOk, OnErr}
 use Rattle.std.specs.Option.{ForSome, option_map}
 use Rattle.store_api.specs.StoreState.{StoreState, stated_count, zero_page}
 use Rattle.mdc_outside.specs.Disk.{File, IsImage}

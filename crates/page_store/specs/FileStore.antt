@@ -1,6 +1,5 @@
 -- What a store in a file is seen as.
 use Rattle.std.specs.Prelude.{◌≡◌, ℕ, Bool, IsTrue, List, Option, Some, None}
-use Rattle.store_api.specs.StoreState.{StoreState}
 use Rattle.store_api.specs.Moments.{Outcomes}
 use Rattle.mdc_outside.specs.Disk.{File}
 use Rattle.page_store.specs.declared.desk.Desk.{Desk}

@@ -1,13 +1,12 @@
 -- What was read of a file before it is judged, and what is then made of it.
 use Rattle.std.specs.Prelude.{◌≡◌, ◌≤◌, ◌<◌, ℕ, ◌+◌, IsTrue, IsFalse, List, Option, Some, None, length}
 use Rattle.std.specs.List.{All}
-use Rattle.mdc_outside.specs.Disk.{File}
 use Rattle.redo_journal.specs.Layout.{file_page, is_open, start_of, journal_of, IsJournal}
 use Rattle.page_store.specs.declared.journal.Journal.{Journal}
 use Rattle.page_store.specs.declared.recovery.Opened.{Opened}
 use Rattle.page_store.specs.Shape.{IsBirth, extents_in, extent_pages_in}
 use Rattle.page_store.specs.Standing.{page_of, count_of}
-use Rattle.page_store.specs.Opening.{IsMade, IsAtRest}
+use Rattle.page_store.specs.Opening.{IsMade}
 
 -- the journal that counts in the file, or nothing where its gate isn't open
 abbrev pub IsCounting : Option Journal → List ℕ → Type 0

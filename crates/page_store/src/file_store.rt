@@ -1,5 +1,7 @@
 // A store in a database file.
-ghost use Rattle.std.specs.Prelude.{◌≡◌};
+ghost use Rattle.std.specs.Prelude.{◌≡◌, ◌⊎◌, ◌≤◌, [], OnOk, OnErr};
+ghost use Rattle.mdc_outside.specs.Moments.{Elapses};
+ghost use Rattle.mdc_outside.specs.Outside.{Rose, Takes, TakesPart};
 
 use crate::desk::Desk;
 use mdc_outside::Host;
@@ -98,9 +100,25 @@ impl<H: Host> Store for FileStore<H> {
 
     fn tell(&mut self, bytes: &[u8]) -> Result<(), Mute> {
         self.desk.hand = None;
-        match self.host.say(bytes) {
-            Ok(()) => Ok(()),
-            Err(_) => Err(Mute),
-        }
+        say(&mut self.host, bytes)
+    }
+}
+
+// Has the host say bytes. Where that fails, it has said some first part of them.
+fn say<H: Host>(host: &mut H, bytes: &[u8]) -> Result<(), Mute>
+    ensures said { OnOk result (Takes (H.beside host.old).tape bytes.now (H.beside host.new).tape) }
+    ensures part { TakesPart (H.beside host.old).tape bytes.now (H.beside host.new).tape }
+    ensures mute { OnErr result (Rose (H.say_faults host.old) (H.say_faults host.new)) }
+    ensures count { H.say_faults host.old ≤ H.say_faults host.new }
+    ensures file { H.file host.new ≡ H.file host.old }
+    ensures attached { H.is_attached host.new ≡ H.is_attached host.old }
+    ensures listed { H.attaches host.new ≡ H.attaches host.old }
+    ensures disk_count { H.disk_faults host.new ≡ H.disk_faults host.old }
+    ensures time { Elapses (H.file host.old) (H.beside host.old).tape bytes.now (H.clock host.old) (H.clock host.new) (H.moment host.old) (H.moment host.new)
+        ⊎ Elapses (H.file host.old) (H.beside host.old).tape [] (H.clock host.old) (H.clock host.new) (H.moment host.old) (H.moment host.new) }
+{
+    match host.say(bytes) {
+        Ok(()) => Ok(()),
+        Err(_) => Err(Mute),
     }
 }

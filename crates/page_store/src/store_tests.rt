@@ -30,7 +30,7 @@ fn made(alloc: Global) -> Result<MemHost, Fail> {
 }
 
 // Opens the file of a host, with room for eight clean pages.
-fn opened<H: Host>(alloc: Global, mut host: H) -> Result<FileStore<H>, OpenFault>
+fn opened<H: Host + Drop>(alloc: Global, mut host: H) -> Result<FileStore<H>, OpenFault>
     ensures going { IfOk result (λ store. (⟦<FileStore<H> as Pages>⟧.state store).ended ≡ false) }
     ensures unmarked { IfOk result (λ store. (⟦<FileStore<H> as Pages>⟧.state store).marked ≡ None) }
 {

@@ -1,5 +1,5 @@
 -- The first of the clean pages is the page of the base.
-use Rattle.std.proofs.Common.{IsSome, Some, None}
+use Rattle.std.proofs.Common.{Some, None}
 use Rattle.page_store.specs.declared.desk.Hand.TheVariants.{Clean}
 use Rattle.page_store.proofs.Desks.{brings_committed, brings_same, clean_page, first_page, kept_with, some_first}
 use Rattle.page_store.proofs.desk.Desk.committed.Goals as goal

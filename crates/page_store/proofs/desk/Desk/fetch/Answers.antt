@@ -1,5 +1,5 @@
 use Rattle.std.proofs.Common.{Some}
-use Rattle.page_store.proofs.Desks.{brings_page, brings_shown, image_page, same_page, fetches_on_ok}
+use Rattle.page_store.proofs.Desks.{brings_page, image_page, same_page, fetches_on_ok}
 use Rattle.page_store.proofs.desk.Desk.fetch.Goals as goal
 
 pub returns-in-Some-clause-ok : goal.returns-in-Some-clause-ok

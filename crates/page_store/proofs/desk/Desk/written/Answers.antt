@@ -1,5 +1,4 @@
 use Rattle.std.proofs.Common.{arith}
-use Rattle.page_store.specs.Changes.{changed_in}
 use Rattle.page_store.proofs.Desks.{differing_work}
 use Rattle.page_store.proofs.desk.Desk.written.Goals as goal
 

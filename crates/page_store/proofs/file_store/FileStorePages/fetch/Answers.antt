@@ -1,9 +1,9 @@
-use Rattle.std.proofs.Common.{arith, sym, ◌∙◌}
+use Rattle.std.proofs.Common.{arith}
 use Rattle.redo_journal.proofs.Composing.{runs_within}
 use Rattle.page_store.proofs.Leaving.{runs_leave}
 use Rattle.page_store.proofs.Calls.{sound_image}
 use Rattle.page_store.proofs.Passing.{keeps_base}
-use Rattle.page_store.proofs.Wholes.{still_going, held_pages, length-base_of}
+use Rattle.page_store.proofs.Wholes.{still_going, held_pages}
 use Rattle.page_store.proofs.file_store.FileStorePages.fetch.Goals as goal
 
 pub fetch-requires-clause-within : goal.fetch-requires-clause-within

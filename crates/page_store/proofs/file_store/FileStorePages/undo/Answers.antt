@@ -1,7 +1,6 @@
-use Rattle.std.proofs.Common.{arith, sym, ◌∙◌}
 use Rattle.page_store.proofs.Calls.{sound_image}
 use Rattle.page_store.proofs.Passing.{stays}
-use Rattle.page_store.proofs.Wholes.{still_going, held_pages, whole_again}
+use Rattle.page_store.proofs.Wholes.{still_going, whole_again}
 use Rattle.page_store.proofs.file_store.FileStorePages.undo.Goals as goal
 
 pub invariant_of-self : goal.invariant_of-self

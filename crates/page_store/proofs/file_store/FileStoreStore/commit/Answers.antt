@@ -1,4 +1,3 @@
-use Rattle.std.proofs.Common.{inl, inr}
 use Rattle.store_api.specs.Moments.{BaseOrWork}
 use Rattle.page_store.specs.Desk.{state_of}
 use Rattle.page_store.proofs.Passing.{passes, commit_rests, either_reopens, if_said}

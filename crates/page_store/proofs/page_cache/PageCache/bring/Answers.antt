@@ -1,6 +1,5 @@
 -- A page that is here goes to the front, and one that isn't is read and put there.
-use Rattle.std.proofs.Common.{◌≡◌, rules, false, is_some, nat_eq, sym, subst, ◌∙◌}
-use Rattle.std.specs.Map.{lookup}
+use Rattle.std.proofs.Common.{◌≡◌, rules, nat_eq, sym, subst, ◌∙◌}
 use Rattle.lru.specs.LruCache.{put_entries}
 use Rattle.redo_journal.specs.Layout.{home_page}
 use Rattle.page_store.specs.Cached.{AreHome, Leads, unboxed}
