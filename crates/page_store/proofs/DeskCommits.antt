@@ -109,7 +109,7 @@ module _ (desk : Desk) (told : Option File) (images : Numbered) (kept : IsKept d
   pub ready_desk : (count : ℕ) → count ≡ length desk.changes.now → ForSome told (IsReadyFor (66 + count) images)
   ready_desk count is_count file is =
       subst (λ n. IsReadyFor (66 + n) images file) (sym is_count)
-      (ready_for desk.extents desk.extent_pages desk.base desk.changes.now images file (kept.at_rest file is) (omega (arith, kept.some)) kept.count.0 prepared.holds (made file is))
+      (ready_for desk.shape.extents desk.shape.extent_pages desk.base desk.changes.now images file (kept.at_rest file is) (omega (arith, kept.some)) kept.count.0 prepared.holds (made file is))
 
   -- the base is the home pages
   base_is : (file : File) → base_of (Some file) desk ≡ listed desk.base (home_page file.bytes)
@@ -121,7 +121,7 @@ module _ (desk : Desk) (told : Option File) (images : Numbered) (kept : IsKept d
 
   -- the file stands for the base
   stands_base : (file : File) → told ≡ Some file → pages_of file.bytes ≡ base_of (Some file) desk
-  stands_base file is = pages_at_rest desk.extents desk.extent_pages desk.base file (kept.at_rest file is) ∙ sym (base_is file)
+  stands_base file is = pages_at_rest desk.shape.extents desk.shape.extent_pages desk.base file (kept.at_rest file is) ∙ sym (base_is file)
 
   -- with the images it stands for the work
   stands_work : (file : File) → told ≡ Some file → pages_with images file.bytes ≡ work_of (Some file) desk desk.changes.now
@@ -211,7 +211,7 @@ module _ (desk : Desk) (told : Option File) (images : Numbered) (kept : IsKept d
     committed_pages both = elim (both_told told left keeps) [
       | inl neither ↦ rw (neither.0, neither.1) (refl, ap (λ n. replicate n []) (length-replicate {A = Option (List ℕ)} (length desk.changes.now) None))
       | inr files ↦
-          (let home = work_after desk.extents desk.extent_pages desk.base desk.changes.now images files.0 files.1 (kept.at_rest files.0 files.2) (made files.0 files.2) (both.holds files.0 files.1 files.2 files.3) in
+          (let home = work_after desk.shape.extents desk.shape.extent_pages desk.base desk.changes.now images files.0 files.1 (kept.at_rest files.0 files.2) (made files.0 files.2) (both.holds files.0 files.1 files.2 files.3) in
           let base : base_of (Some files.1) (settled images desk) ≡ work_of (Some files.0) desk desk.changes.now =
           ap (λ h. base_in h (length desk.changes.now) files.1.bytes) going ∙ (home ∙ sym (work_is files.0)) in
           let size : length (work_of (Some files.0) desk desk.changes.now) ≡ length desk.changes.now = length-laid_over desk.changes.now (base_of (Some files.0) desk) in
@@ -234,11 +234,11 @@ module _ (desk : Desk) (told : Option File) (images : Numbered) (kept : IsKept d
     kept_after both = record {
       at_rest = λ after now.
           let before = keeps.back after now in
-          rest_after desk.extents desk.extent_pages desk.base desk.changes.now images before.0 after (kept.at_rest before.0 before.1) (made before.0 before.1) (both.holds before.0 after before.1 now);
+          rest_after desk.shape.extents desk.shape.extent_pages desk.base desk.changes.now images before.0 after (kept.at_rest before.0 before.1) (made before.0 before.1) (both.holds before.0 after before.1 now);
       clean = λ after now.
           let before = keeps.back after now in
           renewed_home images desk.cache before.0.bytes after.bytes desk.base (length desk.changes.now) (kept.clean before.0 before.1) kept.count.0
-          (home_after desk.extents desk.extent_pages desk.base desk.changes.now images before.0 after (kept.at_rest before.0 before.1) (made before.0 before.1) (both.holds before.0 after before.1 now));
+          (home_after desk.shape.extents desk.shape.extent_pages desk.base desk.changes.now images before.0 after (kept.at_rest before.0 before.1) (made before.0 before.1) (both.holds before.0 after before.1 now));
       some = omega (arith, kept.some, kept.count.0);
       count = (omega (arith, length-replicate {A = Option (List ℕ)} (length desk.changes.now) None), omega (arith, length-replicate {A = Option (List ℕ)} (length desk.changes.now) None, kept.count.1));
       marked = λ changes is. absurd (cc);

@@ -18,6 +18,7 @@ pub mod Leaving
 pub mod Listed
 pub mod MakeCrashes
 pub mod Numbers
+pub mod Openings
 pub mod Pages
 pub mod Passing
 pub mod Recent

@@ -65,7 +65,7 @@ IsBetween low high n = (low ≤ n) × (n ≤ high)
 
 -- What the desk has fits the file, which is at rest: between the calls of a store in which no commit has failed.
 pub record IsKept (desk : Desk) (told : Option File) : Type 0 where
-  pub at_rest : ForSome told (IsAtRest desk.extents desk.extent_pages desk.base)
+  pub at_rest : ForSome told (IsAtRest desk.shape.extents desk.shape.extent_pages desk.base)
   pub clean : ForSome told (λ file. AreHome file.bytes desk.base desk.cache)
   pub some : 18 ≤ desk.base
   pub count : IsBetween desk.base 262289 (length desk.changes.now)

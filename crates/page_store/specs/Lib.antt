@@ -8,6 +8,7 @@ pub mod Faults
 pub mod FileStore
 pub mod Fresh
 pub mod Leaving
+pub mod Opened
 pub mod Opening
 pub mod PageMaps
 pub mod Reading

@@ -12,6 +12,7 @@ ghost use Rattle.page_store.specs.Desk.{IsKept, IsPlaced, Does, DoesOnOk, DoesOn
 
 use crate::changes::Changes;
 use crate::page_cache::PageCache;
+use crate::shape::Shape;
 use crate::write_through::{Halt, write_any};
 use mdc_outside::Disk;
 use mdc_values::Memory;
@@ -39,8 +40,7 @@ pub(crate) enum Hand {
 #[derive(Drop)]
 pub(crate) struct Desk {
     pub(crate) alloc: Global,
-    pub(crate) extents: u32,
-    pub(crate) extent_pages: u32,
+    pub(crate) shape: Shape,
     pub(crate) base: u32,
     pub(crate) changes: Changes,
     pub(crate) cache: PageCache,

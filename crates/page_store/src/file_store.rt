@@ -12,8 +12,8 @@ use store_api::{DeviceFault, Mute, Page, PageFault, Pages, Store};
 /// host tells its file, the store tells its pages; it tells no fetches.
 #[derive(Drop)]
 pub struct FileStore<H: Host> {
-    host: H,
-    desk: Desk,
+    pub(crate) host: H,
+    pub(crate) desk: Desk,
 }
 
 impl<H: Host> Model for FileStore<H> {

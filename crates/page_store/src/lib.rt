@@ -14,6 +14,7 @@ mod journal;
 mod judging;
 mod making;
 mod number;
+mod opening;
 mod page_cache;
 mod reading;
 mod recovery;
@@ -24,6 +25,9 @@ mod write_through;
 pub use fault::OpenFault;
 pub use file_store::FileStore;
 pub use making::make;
+pub use opening::Unopened;
 
+#[cfg(test)]
+mod store_tests;
 #[cfg(test)]
 mod tests;

@@ -1,0 +1,136 @@
+-- What opening a database leaves, from the clauses of its sync and of its repair.
+use Rattle.std.proofs.Common.{◌≡◌, ◌⊎◌, ◌≤◌, ◌<◌, ℕ, zero, Bool, true, false, IsTrue, List, [], length, replicate, Option, Some, None, is_some, Result, Ok, Err, OnOk, OnErr, arith, refl, sym, ap, subst, ◌∙◌, inl, inr}
+use Rattle.std.specs.Option.{ForSome, option_map}
+use Rattle.std.specs.List.{All}
+use Rattle.std.proofs.lemmas.List.{length-replicate}
+use Rattle.mdc_outside.specs.Disk.{File, Since, IsImage, settled}
+use Rattle.mdc_outside.specs.Moments.{Beside}
+use Rattle.redo_journal.specs.Layout.{home_page}
+use Rattle.redo_journal.specs.Runs.{Runs, IsWithin}
+use Rattle.redo_journal.proofs.Steps.{cases_Option}
+use Rattle.page_store.specs.declared.desk.Desk.{Desk}
+use Rattle.page_store.specs.Leaving.{Leaves}
+use Rattle.page_store.specs.Standing.{pages_of, listed}
+use Rattle.page_store.specs.Desk.{IsKept, IsPrepared, base_of, base_in, work_of, state_of, written_in}
+use Rattle.page_store.specs.Changes.{unchanged}
+use Rattle.page_store.specs.Opening.{IsServed, IsAtRest, StandsAs}
+use Rattle.page_store.specs.Opened.{Opens, StandsSince, CouldBeLeft, IsEmptyDesk, IsJustOpened, bytes_of}
+use Rattle.page_store.proofs.Calls.{one_file}
+use Rattle.page_store.proofs.Commits.{pages_at_rest}
+use Rattle.page_store.proofs.Desks.{unchanged_work}
+use Rattle.page_store.proofs.Judged.{served_formed}
+use Rattle.page_store.proofs.Leaving.{nothing_said}
+
+-- what holds whatever a call answered
+pub on_ok : {T E : Type 0} (result : Result T E) {P : Type 0} → P → OnOk result P
+on_ok (Ok x) holds = holds
+on_ok (Err e) holds = tt
+
+-- the same of a fault
+pub on_err : {T E : Type 0} (result : Result T E) {P : Type 0} → P → OnErr result P
+on_err (Ok x) holds = tt
+on_err (Err e) holds = holds
+
+-- a sync changes no byte
+pub settled_bytes : (old new : Option File) → new ≡ option_map settled old → bytes_of new ≡ bytes_of old
+settled_bytes None new is = ap bytes_of is
+settled_bytes (Some file) new is = ap bytes_of is
+
+-- a file that was told is told after a sync
+pub settled_told : {old new : Option File} (before : File) → new ≡ option_map settled old → old ≡ Some before → new ≡ Some (settled before)
+settled_told before is told = is ∙ ap (option_map settled) told
+
+module _ {D : Type 0} {file : D → Option File} {aside : D → Beside} {attaches : D → Option (List (List ℕ × Bool))} {is_attached : D → Bool} {clock : D → ℕ} {moment : D → ℕ → List ℕ → List ℕ → Type 0} where
+  -- a sync, and then a run that keeps what the file stands for
+  pub opens : {old middle new : D} → file middle ≡ option_map settled (file old)
+      → Runs file aside attaches is_attached clock moment IsWithin (λ since. since) old middle
+      → Leaves file aside attaches is_attached clock moment (λ before image. StandsAs before.bytes image) middle new
+      → Opens file aside attaches is_attached clock moment old new
+  opens {old} {middle} {new} synced run leaves = record {
+    untold = λ none. leaves.untold (run.untold none);
+    told = λ before is. leaves.told (settled before) (settled_told before synced is);
+    crash = λ before said is tape.
+        let passes = run.crash before said is tape in
+        let only = leaves.crash (settled before) said (settled_told before synced is) (ap (λ b. b.tape) run.beside ∙ tape) in (
+          clock middle,
+          record {
+            begun = run.later;
+            passed = leaves.later;
+            since_origin = only.since_call;
+            nothing_else = λ t image heard early left. elim (only.nothing_else t image heard (omega (arith, early, run.later)) left) [
+              | inl half ↦ elim (passes.nothing_else t image heard early half) [
+                | inl past ↦ inl past
+                | inr since ↦ (let now = passes.since_call image heard since in inr (inl (now.left, nothing_said now.said.0 now.said.1 said heard now.said.2 now.said.3)))
+              ]
+              | inr since ↦ inr (inr since)
+            ];
+            keeps = λ t image heard early past. only.keeps t image heard (omega (arith, early, run.later)) (passes.keeps t image heard early past);
+            adds = only.adds;
+          },
+        );
+    later = omega (arith, run.later, leaves.later);
+    attached = leaves.attached ∙ run.attached;
+    listed = leaves.listed ∙ run.listed;
+    beside = leaves.beside ∙ run.beside;
+  }
+
+  -- the file that was served stands for what it rests with
+  pub served_base : {old new : D} (desk : Desk) → Opens file aside attaches is_attached clock moment old new
+      → ForSome (file new) (IsAtRest desk.shape.extents desk.shape.extent_pages desk.base) → desk.halt ≡ None
+      → (before : File) → file old ≡ Some before → IsServed before.bytes → base_of (file new) desk ≡ pages_of before.bytes
+  served_base desk opened rests going before is served =
+      let after = opened.told before is in
+      let stands = after.2 (served_formed before.bytes served) in
+      ap (λ told. base_of told desk) after.1
+      ∙ (ap (λ halt. base_in halt desk.base after.0.bytes) going
+      ∙ (sym (pages_at_rest desk.shape.extents desk.shape.extent_pages desk.base after.0 (rests after.0 after.1)) ∙ stands.1))
+
+  -- a file is told as before
+  pub still_told : {old new : D} → Opens file aside attaches is_attached clock moment old new → is_some (file new) ≡ is_some (file old)
+  still_told {old} {new} opened = elim (cases_Option (file old)) [
+    | inl none ↦ ap is_some (opened.untold none) ∙ sym (ap is_some none)
+    | inr some ↦ ap is_some (opened.told some.0 some.1).1 ∙ sym (ap is_some some.1)
+  ]
+
+-- the desk has the numbers that the file rests with
+pub rests_with : {told : Option File} {extents extent_pages count : ℕ} (desk : Desk) → desk.shape.extents ≡ extents → desk.shape.extent_pages ≡ extent_pages → desk.base ≡ count
+    → ForSome told (IsAtRest extents extent_pages count) → ForSome told (IsAtRest desk.shape.extents desk.shape.extent_pages desk.base)
+rests_with desk extents pages base rests = λ file is. rw (extents, pages, base) (rests file is)
+
+-- an empty desk fits a file at rest
+pub empty_kept : (told : Option File) (desk : Desk) → IsEmptyDesk desk → ForSome told (IsAtRest desk.shape.extents desk.shape.extent_pages desk.base)
+    → 18 ≤ desk.base → desk.base ≤ 262289 → IsKept desk told
+empty_kept told desk empty rests some few =
+    let size : length desk.changes.now ≡ desk.base = ap (λ changes. length changes.now) empty.changes ∙ length-replicate desk.base None in
+    record {
+      at_rest = rests;
+      clean = λ file is. rw empty.cache (λ k entry lt. absurd (omega arith));
+      some = some;
+      count = (omega arith, omega arith);
+      marked = λ changes is. (let none = ap (λ changes. changes.marked) empty.changes in absurd (cc));
+      hand = λ there. (let none : false ≡ true = rw empty.hand at there in absurd (cc));
+      ready = λ images is. (let none = empty.images in absurd (cc));
+    }
+
+-- what a store with an empty desk is seen as
+pub just_opened : (told : Option File) (tape : Option (List ℕ)) (attaches : Option (List (List ℕ × Bool))) (desk : Desk) → IsEmptyDesk desk
+    → IsJustOpened (is_some told) tape attaches (state_of told tape attaches desk)
+just_opened told tape attaches desk empty =
+    let work : work_of told desk desk.changes.now ≡ base_of told desk = ap (λ changes. work_of told desk changes.now) empty.changes ∙ unchanged_work told desk empty.halt in
+    let marked : desk.changes.marked ≡ None = ap (λ changes. changes.marked) empty.changes in
+    let hand = empty.hand in
+    let images = empty.images in
+    let halt = empty.halt in
+    rw (work, marked, hand, images, halt) refl
+
+-- the same by what the host told before
+pub shown_as_before : (told : Option File) (tape before : Option (List ℕ)) (attaches listed : Option (List (List ℕ × Bool))) (is_told : Bool) (desk : Desk) → IsEmptyDesk desk
+    → is_some told ≡ is_told → tape ≡ before → attaches ≡ listed → IsJustOpened is_told before listed (state_of told tape attaches desk)
+shown_as_before told tape before attaches listed is_told desk empty same_told same_tape same_attaches = just_opened told tape attaches desk empty ∙ rw (same_told, same_tape, same_attaches) refl
+
+-- and it has no page to be written
+pub nothing_written : (desk : Desk) → IsEmptyDesk desk → written_in desk ≡ 0
+nothing_written desk empty =
+    let size : length desk.changes.now ≡ desk.base = ap (λ changes. length changes.now) empty.changes ∙ length-replicate desk.base None in
+    let kept : desk.changes.kept ≡ 0 = ap (λ changes. changes.kept) empty.changes in
+    omega arith

@@ -1,0 +1,147 @@
+// How a store opens the database in a file, and gives its host back.
+ghost use Rattle.std.specs.Prelude.{◌≡◌, ◌≢◌, ◌⊎◌, ◌≤◌, [], IsTrue, IfOk, IfErr, OnOk, OnErr, IsErrOf, is_some};
+ghost use Rattle.std.specs.Option.{ForSome};
+ghost use Rattle.mdc_outside.specs.Outside.{Rose};
+ghost use Rattle.page_store.specs.Desk.{IsKept, base_of, state_of, written_in};
+ghost use Rattle.page_store.specs.Leaving.{Leaves};
+ghost use Rattle.page_store.specs.Opened.{Opens, CouldBeLeft, IsEmptyDesk, IsJustOpened, bytes_of};
+ghost use Rattle.page_store.specs.Opening.{IsAtRest, IsServed, Refuses};
+ghost use Rattle.page_store.specs.Shape.{is_shape};
+ghost use Rattle.page_store.specs.Standing.{pages_of};
+
+use crate::changes::Changes;
+use crate::desk::Desk;
+use crate::page_cache::PageCache;
+use crate::recovery::{Opened, recover};
+use crate::shape::Shape;
+use crate::{FileStore, OpenFault};
+use mdc_outside::{Disk, Host};
+use redo_journal::settle;
+use std::alloc::Global;
+use store_api::Pages;
+
+/// A file that wasn't opened: why, and the host.
+#[derive(Drop)]
+pub struct Unopened<H> {
+    pub fault: OpenFault,
+    pub host: H,
+}
+
+impl<H: Host> FileStore<H> {
+    /// Opens the database in the attached file, after a crash too. The base of the store is then what the file stands
+    /// for. `cache` is how many clean pages it may keep in memory.
+    ///
+    /// It first has all of the file on the disk, and then brings a journal that counts home. At each moment since, a crash
+    /// leaves a file that stands for the same pages.
+    ///
+    /// It answers the first of these that the file is: `Unmade`, `NotMdc`, `Damaged` or of another `Version`. It answers
+    /// `Memory` where memory ran out. The bytes of the file are then as they were. It answers `Device` where the disk
+    /// failed. The file then stands for what it stood for, unless the first sync failed: then it may be what a crash could
+    /// leave.
+    pub fn open(alloc: Global, mut host: H, cache: usize) -> Result<FileStore<H>, Unopened<H>>
+        requires attached { IsTrue (H.is_attached host) }
+        requires cache { 8 ≤ cache }
+        ensures served { IfOk result (λ store. ForSome (H.file host) (λ file. IsServed file.bytes
+            × ((⟦<FileStore<H> as Pages>⟧.state store).base ≡ pages_of file.bytes))) }
+        ensures just_opened { IfOk result (λ store. IsJustOpened (is_some (H.file host)) (H.tape host) (H.attaches host) (⟦<FileStore<H> as Pages>⟧.state store)) }
+        ensures unwritten { IfOk result (λ store. ⟦<FileStore<H> as Pages>⟧.written store ≡ 0) }
+        ensures refused { IfErr result (λ unopened. ForSome (H.file host) (λ file. Refuses unopened.fault file.bytes)) }
+        ensures never { IfErr result (λ unopened. unopened.fault ≢ OpenFault.Exists) }
+        ensures untouched { IfErr result (λ unopened. unopened.fault ≢ OpenFault.Device → bytes_of (H.file unopened.host) ≡ bytes_of (H.file host)) }
+        ensures device { IfErr result (λ unopened. unopened.fault ≡ OpenFault.Device → Rose (H.disk_faults host) (H.disk_faults unopened.host)) }
+        ensures later { IfOk result (λ store. H.disk_faults host ≤ H.disk_faults store.host) }
+        ensures later_refused { IfErr result (λ unopened. H.disk_faults host ≤ H.disk_faults unopened.host) }
+        ensures opens { IfOk result (λ store. Opens H.file H.beside H.attaches H.is_attached H.clock H.moment host store.host) }
+        // Where there is no moment at which all was on the disk, a crash leaves what it could leave before.
+        ensures opens_or_leaves { IfErr result (λ unopened.
+            Opens H.file H.beside H.attaches H.is_attached H.clock H.moment host unopened.host
+            ⊎ Leaves H.file H.beside H.attaches H.is_attached H.clock H.moment CouldBeLeft host unopened.host) }
+    {
+        match lay_out(alloc, &mut host, cache) {
+            Ok(desk) => Ok(FileStore { host, desk }),
+            Err(fault) => Err(Unopened { fault, host }),
+        }
+    }
+
+    /// How many extents the database may have, and how many pages each has.
+    pub fn shape(&self) -> (u32, u32)
+        ensures parts { result ≡ (self.now.desk.shape.extents, self.now.desk.shape.extent_pages) }
+        ensures limits { IsTrue (is_shape result.0 result.1) }
+    {
+        (self.desk.shape.extents, self.desk.shape.extent_pages)
+    }
+
+    /// Gives the host back. It makes no call of the disk and takes no memory. It may follow a fault of any call.
+    pub fn close(self) -> H
+        ensures { result ≡ self.host }
+    {
+        self.host
+    }
+}
+
+// Opens the database in the attached file. The memory of the cache is taken first, so that a want of it comes before any
+// call of the disk.
+fn lay_out<D: Disk>(alloc: Global, disk: &mut D, cache: usize) -> Result<Desk, OpenFault>
+    requires attached { IsTrue (D.is_attached disk.old) }
+    requires cache { 8 ≤ cache }
+    ensures served { IfOk result (λ desk. ForSome (D.file disk.old) (λ file. IsServed file.bytes × (base_of (D.file disk.new) desk ≡ pages_of file.bytes))) }
+    ensures empty { IfOk result IsEmptyDesk }
+    ensures kept { IfOk result (λ desk. IsKept desk (D.file disk.new)) }
+    ensures refused { IfErr result (λ fault. ForSome (D.file disk.old) (λ file. Refuses fault file.bytes)) }
+    ensures untouched { IfErr result (λ fault. fault ≢ OpenFault.Device → bytes_of (D.file disk.new) ≡ bytes_of (D.file disk.old)) }
+    ensures never { IsErrOf result OpenFault.Exists → ⊥ }
+    ensures device { IsErrOf result OpenFault.Device → Rose (D.disk_faults disk.old) (D.disk_faults disk.new) }
+    ensures later { D.disk_faults disk.old ≤ D.disk_faults disk.new }
+    ensures opens { OnOk result (Opens D.file D.beside D.attaches D.is_attached D.clock D.moment disk.old disk.new) }
+    ensures opens_or_leaves { OnErr result (
+        Opens D.file D.beside D.attaches D.is_attached D.clock D.moment disk.old disk.new
+        ⊎ Leaves D.file D.beside D.attaches D.is_attached D.clock D.moment CouldBeLeft disk.old disk.new) }
+{
+    let cache = PageCache::new(alloc, cache)?;
+    let opened = come_to_rest(alloc, disk)?;
+    Ok(desk_of(alloc, opened, cache))
+}
+
+// A desk with nothing on it.
+fn desk_of(alloc: Global, opened: Opened, cache: PageCache) -> Desk
+    requires shape { IsTrue (is_shape opened.extents opened.extent_pages) }
+    requires clean { cache ≡ [] }
+    ensures empty { IsEmptyDesk result }
+    ensures extents { result.shape.extents ≡ opened.extents }
+    ensures extent_pages { result.shape.extent_pages ≡ opened.extent_pages }
+    ensures base { result.base ≡ opened.count }
+{
+    Desk {
+        alloc,
+        shape: Shape {
+            extents: opened.extents,
+            extent_pages: opened.extent_pages,
+        },
+        base: opened.count,
+        changes: Changes::new(alloc, opened.count),
+        cache,
+        hand: None,
+        images: None,
+        halt: None,
+    }
+}
+
+// Has all of the file on the disk, finds what it stands for, and brings it to rest.
+fn come_to_rest<D: Disk>(alloc: Global, disk: &mut D) -> Result<Opened, OpenFault>
+    requires attached { IsTrue (D.is_attached disk.old) }
+    ensures served { IfOk result (λ opened. ForSome (D.file disk.old) (λ file. IsServed file.bytes)) }
+    ensures at_rest { IfOk result (λ opened. ForSome (D.file disk.new) (IsAtRest opened.extents opened.extent_pages opened.count)) }
+    ensures limits { IfOk result (λ opened. IsTrue (is_shape opened.extents opened.extent_pages) × (18 ≤ opened.count) × (opened.count ≤ 262289)) }
+    ensures refused { IfErr result (λ fault. ForSome (D.file disk.old) (λ file. Refuses fault file.bytes)) }
+    ensures untouched { IfErr result (λ fault. fault ≢ OpenFault.Device → bytes_of (D.file disk.new) ≡ bytes_of (D.file disk.old)) }
+    ensures never { IsErrOf result OpenFault.Exists → ⊥ }
+    ensures device { IsErrOf result OpenFault.Device → Rose (D.disk_faults disk.old) (D.disk_faults disk.new) }
+    ensures later { D.disk_faults disk.old ≤ D.disk_faults disk.new }
+    ensures opens { OnOk result (Opens D.file D.beside D.attaches D.is_attached D.clock D.moment disk.old disk.new) }
+    ensures opens_or_leaves { OnErr result (
+        Opens D.file D.beside D.attaches D.is_attached D.clock D.moment disk.old disk.new
+        ⊎ Leaves D.file D.beside D.attaches D.is_attached D.clock D.moment CouldBeLeft disk.old disk.new) }
+{
+    settle(disk)?;
+    recover(alloc, disk)
+}
