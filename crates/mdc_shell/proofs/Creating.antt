@@ -2,7 +2,7 @@
 use Rattle.std.proofs.Common.{◌≡◌, ◌⊎◌, ◌↔◌, ◌≤◌, ◌<◌, ℕ, Bool, true, false, IfSome, Result, Ok, Err, OnOk, List, [], ◌∷◌, ◌++◌, length, Option, Some, None, arith, refl, sym, ap, subst, ◌∙◌, inl, inr}
 use Rattle.std.specs.Option.{ForSome, option_map}
 use Rattle.mdc_outside.specs.Disk.{File, Since, IsImage, IsSound, all_synced, opened}
-use Rattle.mdc_outside.specs.Moments.{Elapses, IsMoment, WhereTold}
+use Rattle.mdc_outside.specs.Moments.{Beside, Elapses, IsMoment, WhereTold}
 use Rattle.mdc_outside.specs.Outside.{Takes, TakesPart}
 use Rattle.page_store.specs.Fresh.{HoldsFresh, IsOfMaking, IsUnmadeOrFresh, fresh_file}
 use Rattle.page_store.specs.Empty.{IsEmptyDatabase}
@@ -244,3 +244,7 @@ creates_failed extents extent_pages file new_file tape new_tape same = record {
   failed = λ _. same;
   memory = λ e. absurd (omega (arith, e));
 }
+
+-- a tape beside a disk stays where all beside it does
+pub tape_stays : (half old : Beside) (half_tape old_tape : Option (List ℕ)) → half ≡ old → half.tape ≡ half_tape → old.tape ≡ old_tape → half_tape ≡ old_tape
+tape_stays half old half_tape old_tape same is was = sym is ∙ (ap (λ (b : Beside). b.tape) same ∙ was)

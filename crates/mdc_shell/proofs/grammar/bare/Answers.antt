@@ -1,9 +1,9 @@
-use Rattle.std.proofs.Common.{◌≡◌, ◌∙◌, true, ap}
+use Rattle.std.proofs.Common.{◌∙◌, true, ap}
 use Rattle.clap.specs.Simple.{App, app_of_fields, on_top}
 use Rattle.mdc_shell.proofs.grammar.bare.Goals as goal
 
 pub returns : goal.returns
-returns c = let a = c.no_binary_name.ensures in let b = c.disable_help_flag.ensures in
+returns c =
     ap app_of_fields c.subcommand_required.ensures
     ∙ ap (λ (a : App). on_top (λ s. record s { subcommand_required = true }) a) (ap app_of_fields c.disable_version_flag.ensures
     ∙ ap (λ (a : App). on_top (λ s. record s { disable_version_flag = true }) a) (ap app_of_fields c.disable_help_subcommand.ensures
