@@ -179,14 +179,14 @@ unfolding AreNoFlags
 split_of [] all none = absurd (refused _ _ _ no_words none)
 split_of (w ∷ rest) all none = elim (bool_cases (bytes_eq (codes "create") w)) [
   | inl create ↦ (let is : codes "create" ≡ w = (bytes_eq-Decides (codes "create") w).0 create in
-    let P : Text → Type 0 = λ (t : Text). fault_of mdc_app (t ∷ rest) ≡ [] in
-    let Q : Text → Type 0 = λ (t : Text). IsCreateSplit (t ∷ rest) in
-    inl (subst Q is (create_only rest all.1 (subst P (sym is) none))))
+      let P : Text → Type 0 = λ (t : Text). fault_of mdc_app (t ∷ rest) ≡ [] in
+      let Q : Text → Type 0 = λ (t : Text). IsCreateSplit (t ∷ rest) in
+      inl (subst Q is (create_only rest all.1 (subst P (sym is) none))))
   | inr no_create ↦ elim (bool_cases (bytes_eq (codes "run") w)) [
     | inl run ↦ (let is : codes "run" ≡ w = (bytes_eq-Decides (codes "run") w).0 run in
-      let P : Text → Type 0 = λ (t : Text). fault_of mdc_app (t ∷ rest) ≡ [] in
-      let Q : Text → Type 0 = λ (t : Text). IsRunSplit (t ∷ rest) in
-      inr (subst Q is (run_only rest all.1 (subst P (sym is) none))))
+        let P : Text → Type 0 = λ (t : Text). fault_of mdc_app (t ∷ rest) ≡ [] in
+        let Q : Text → Type 0 = λ (t : Text). IsRunSplit (t ∷ rest) in
+        inr (subst Q is (run_only rest all.1 (subst P (sym is) none))))
     | inr no_run ↦ absurd (refused _ _ _ (other_word w rest all.0 no_create no_run) none)
   ]
 ]

@@ -68,8 +68,8 @@ call_and_make extents extent_pages file tape start middle past half since elapse
     elim (leaves.nothing_else start image taken elapses.later left) [
       | inl old ↦ quiet_call extents extent_pages file tape start middle past half elapses only before said is told image taken old
       | inr within ↦ (let made = leaves.since_call image taken within in
-        let P : Since → Type 0 = λ (s : Since). ((left : List ℕ) → IsImage s left → left ≡ []) → IsUnmadeOrFresh extents extent_pages image in
-        (subst P same made.0, made.1))
+          let P : Since → Type 0 = λ (s : Since). ((left : List ℕ) → IsImage s left → left ≡ []) → IsUnmadeOrFresh extents extent_pages image in
+          (subst P same made.0, made.1))
     ]
 
 -- a file that has a byte is there, so it opens as it was

@@ -14,9 +14,9 @@ returns-in-Some c = λ words finds.
     let name = sym names ∙ c.in-Some.ensures.found.0 refl in
     elim finds [
       | inl f ↦ asks_create words all c.create_in.result f (c.create_in.ensures f.file f.extents f.pages
-      (value_found _ (codes "FILE") (rows_of found) all f.file (first_value-rows found (codes "FILE")) rows f.file_is)
-      (value_found _ (codes "EXTENTS") (rows_of found) all f.extents (first_value-rows found (codes "EXTENTS")) rows f.extents_is)
-      (value_found _ (codes "PAGES") (rows_of found) all f.pages (first_value-rows found (codes "PAGES")) rows f.pages_is))
+          (value_found _ (codes "FILE") (rows_of found) all f.file (first_value-rows found (codes "FILE")) rows f.file_is)
+          (value_found _ (codes "EXTENTS") (rows_of found) all f.extents (first_value-rows found (codes "EXTENTS")) rows f.extents_is)
+          (value_found _ (codes "PAGES") (rows_of found) all f.pages (first_value-rows found (codes "PAGES")) rows f.pages_is))
       | inr f ↦ absurd (no_both (one_name all (codes "create") (codes "run") name f.name))
     ]
 
@@ -30,5 +30,5 @@ returns c = λ words finds.
     elim finds [
       | inl f ↦ absurd (no_both (one_name all (codes "create") (codes "run") f.name name))
       | inr f ↦ asks_run words all c.run_in.result f (c.run_in.ensures f.file
-      (value_found _ (codes "FILE") (rows_of found) all f.file (first_value-rows found (codes "FILE")) rows f.file_is))
+          (value_found _ (codes "FILE") (rows_of found) all f.file (first_value-rows found (codes "FILE")) rows f.file_is))
     ]
