@@ -1,6 +1,9 @@
+pub mod Asking
 pub mod Before
 pub mod Causes
+pub mod ClapWords
 pub mod Columns
+pub mod Creating
 pub mod Ends
 pub mod LineTexts
 pub mod Onto
@@ -9,4 +12,3 @@ pub mod Rows
 pub mod Sessions
 pub mod Told
 pub mod Values
-pub mod WordsLemmas

@@ -1,8 +1,13 @@
+pub mod Asked
+pub mod Create
 pub mod Engine
+pub mod Found
+pub mod Grammar
 pub mod Key
 pub mod Place
 pub mod Reader
 pub mod Run
 pub mod Session
 pub mod Status
+pub mod Untouched
 pub mod Words

@@ -1,5 +1,8 @@
 -- The statuses of a run (README.md, "Limits and statuses").
 use Rattle.std.specs.Prelude.{◌≡◌, ◌⊎◌, ℕ, Bool, true, false, Result, Ok, Err}
+use Rattle.mdc_shell.specs.declared.create.Created.{Created}
+use Rattle.mdc_shell.specs.declared.create.Created.TheVariants.{Made, Exists, DiskFailed}
+use Rattle.mdc_shell.specs.declared.create.Created.TheVariants as created
 use Rattle.mdc_shell.specs.declared.status.Stop.{Stop}
 use Rattle.mdc_shell.specs.declared.status.Stop.TheVariants.{Unread, Unsaid, TooLong, Memory}
 
@@ -19,6 +22,17 @@ status_of (Err stop) = status_of_stop stop
 abbrev pub IsScriptStatus : ℕ → Type 0
 IsScriptStatus n = (n ≡ 0) ⊎ (n ≡ 1) ⊎ (n ≡ 4) ⊎ (n ≡ 5) ⊎ (n ≡ 7) ⊎ (n ≡ 8)
 
+-- how a create ends
+abbrev pub status_of_created : Created → ℕ
+status_of_created Made = 0
+status_of_created DiskFailed = 3
+status_of_created created.Unsaid = 5
+status_of_created Exists = 6
+
+-- one of the statuses that a create may end with
+abbrev pub IsCreateStatus : ℕ → Type 0
+IsCreateStatus n = (n ≡ 0) ⊎ (n ≡ 3) ⊎ (n ≡ 5) ⊎ (n ≡ 6) ⊎ (n ≡ 8)
+
 -- one of the statuses that a run may end with: 2 is for words that are no command line
 abbrev pub IsStatus : ℕ → Type 0
-IsStatus n = IsScriptStatus n ⊎ (n ≡ 2)
+IsStatus n = IsScriptStatus n ⊎ IsCreateStatus n ⊎ (n ≡ 2)

@@ -6,17 +6,23 @@
 
 mod answer_text;
 mod cells;
+mod command;
+mod create;
 mod definition;
 mod engine;
 #[cfg(test)]
 mod engine_tests;
 mod fitting;
+mod grammar;
 mod lines;
+mod numeral;
+mod plain;
 mod program;
 #[cfg(test)]
 mod program_tests;
 mod refusals;
 mod session;
+mod shape;
 mod status;
 mod table;
 

@@ -1,13 +1,21 @@
 // The program's one call: a command line, a source and a host in, a status and the host out.
-ghost use Rattle.std.specs.Prelude.{◌≡◌, ◌⊎◌, ◌≤◌, ◌<◌, ◌↔◌, List, ℕ, map, string_bytes, IsTrue};
+ghost use Rattle.std.specs.Prelude.{◌≡◌, ◌⊎◌, ◌≤◌, List, ℕ, map, string_bytes, IsTrue};
 ghost use Rattle.mdc_outside.specs.Outside.{Rose};
+ghost use Rattle.page_store.specs.Shape.{is_shape};
+ghost use Rattle.mdc_shell.specs.Create.{Completes, Creates, LeavesByCreate, MayAttach};
 ghost use Rattle.mdc_shell.specs.Run.{RunsFrom, IsWithin, IsTold};
 ghost use Rattle.mdc_shell.specs.Status.{IsStatus, IsScriptStatus};
-ghost use Rattle.mdc_shell.specs.Words.{IsRunLine, SaysUsage};
+ghost use Rattle.mdc_shell.specs.Untouched.{IsUntouched};
+ghost use Rattle.mdc_shell.specs.Words.{IsCreateLine, IsNoLine, IsRunLine, SaysUsage};
 
+use crate::command::Command;
+use crate::create::create;
 use crate::session::serve;
+use crate::shape::Shape;
 use crate::status::Status;
 use mdc_outside::{Failed, Host, Source};
+use mdc_values::Memory;
+use sql_reader::one_closing;
 use std::alloc::Global;
 
 /// What a call of `run` ends with: its status, and the host that it was given.
@@ -20,7 +28,9 @@ pub struct Ended<H> {
 const USAGE: &[u8] = b"usage: mdc create FILE EXTENTS PAGES | run FILE | check FILE | work N\n";
 
 /// Runs the program on the words after its name. `run -` runs the script of `input` in memory and says one reply for
-/// each statement, as the statement closes. For all other words nothing is read, and the usage line is said.
+/// each statement, as the statement closes. `create FILE EXTENTS PAGES` makes an empty database in the file, and says
+/// `OK` once it is on the disk, or `FILE EXISTS` where the file has a byte. For all other words nothing is read, and the
+/// usage line is said.
 pub fn run<I: Source, H: Host>(
     alloc: Global,
     words: &Vec<String>,
@@ -34,13 +44,28 @@ pub fn run<I: Source, H: Host>(
         → RunsFrom (I.left input.old) (H.tape host) (I.left input.new) (H.tape result.host) result.status.0 }
     ensures served { IsRunLine (map string_bytes words.now.items) → result.status.0 ≡ 2 → ⊥ }
 
+    // The words of a create: what it does to the file and says, for each status.
+    ensures created { (path : List ℕ) (extents extent_pages : ℕ) → IsCreateLine (map string_bytes words.now.items) path extents extent_pages
+        → Creates extents extent_pages (H.file host) (H.file result.host) (H.tape host) (H.tape result.host) result.status.0
+        × MayAttach (H.attaches host) path (H.attaches result.host) × (input.new ≡ input.old) }
+
+    // What a crash leaves at each moment of a create.
+    ensures crash { (path : List ℕ) (extents extent_pages : ℕ) → IsCreateLine (map string_bytes words.now.items) path extents extent_pages
+        → LeavesByCreate extents extent_pages (H.file host) (H.tape host) (H.moment result.host (H.clock host)) }
+
     // All other words: nothing is read.
-    ensures usage { (IsRunLine (map string_bytes words.now.items) → ⊥)
+    ensures usage { IsNoLine (map string_bytes words.now.items)
         → SaysUsage (H.tape host) (H.tape result.host) result.status.0 × (input.new ≡ input.old) }
 
+    // Only a create calls the disk.
+    ensures no_disk { ((path : List ℕ) (extents extent_pages : ℕ) → IsCreateLine (map string_bytes words.now.items) path extents extent_pages → ⊥)
+        → IsUntouched H.file H.attaches H.disk_faults host result.host }
+
     // The outside stops a run only where a call to it failed.
+    ensures failed { result.status.0 ≡ 3 → Rose (H.disk_faults host) (H.disk_faults result.host) }
     ensures unread { result.status.0 ≡ 4 → Rose (I.read_faults input.old) (I.read_faults input.new) }
     ensures unsaid { result.status.0 ≡ 5 → Rose (H.say_faults host) (H.say_faults result.host) }
+    ensures disk { H.disk_faults host ≤ H.disk_faults result.host }
     ensures reads { I.read_faults input.old ≤ I.read_faults input.new }
     ensures says { H.say_faults host ≤ H.say_faults result.host }
 
@@ -50,48 +75,78 @@ pub fn run<I: Source, H: Host>(
         → (Rose (H.say_faults host) (H.say_faults result.host) → ⊥)
         → IsWithin (I.left input.old) → IsTold (H.tape host)
         → (result.status.0 ≡ 0) ⊎ (result.status.0 ≡ 1) ⊎ (result.status.0 ≡ 8) }
-{
-    let mut host = host;
-    let status = if is_run_line(words) {
-        run_script(alloc, input, &mut host)
-    } else {
-        say_usage(&mut host)
-    };
-    Ended { status, host }
-}
 
-// The words are `run -`.
-fn is_run_line(words: &[String]) -> bool
-    ensures { IsTrue result ↔ IsRunLine (map string_bytes words.now) }
+    // Where nothing failed, a create makes a database of a file without a byte, unless memory is wanted.
+    ensures completes { (path : List ℕ) (extents extent_pages : ℕ) → IsCreateLine (map string_bytes words.now.items) path extents extent_pages
+        → (Rose (H.disk_faults host) (H.disk_faults result.host) → ⊥)
+        → (Rose (H.say_faults host) (H.say_faults result.host) → ⊥)
+        → Completes (H.file host) result.status.0 }
 {
-    match words {
-        [command, file] => command.as_str() == "run" && file.as_str() == "-",
-        _ => false,
+    // The law that what a reader has given begins all that there is.
+    one_closing();
+    match Command::of_words(alloc, words.as_slice()) {
+        Ok(Some(Command::RunScript)) => run_script(alloc, input, host),
+        Ok(Some(Command::Create { path, shape })) => create_file(host, path, shape),
+        Ok(None) => say_usage(host),
+        Err(Memory) => Ended {
+            status: Status::MEMORY,
+            host,
+        },
     }
 }
 
 // Runs the script of the input.
-fn run_script<I: Source, H: Host>(alloc: Global, input: &mut I, host: &mut H) -> Status
-    ensures runs { RunsFrom (I.left input.old) (H.tape host.old) (I.left input.new) (H.tape host.new) result.0 }
-    ensures statuses { IsScriptStatus result.0 }
-    ensures unread { result.0 ≡ 4 → Rose (I.read_faults input.old) (I.read_faults input.new) }
-    ensures unsaid { result.0 ≡ 5 → Rose (H.say_faults host.old) (H.say_faults host.new) }
+fn run_script<I: Source, H: Host>(alloc: Global, input: &mut I, host: H) -> Ended<H>
+    ensures runs { RunsFrom (I.left input.old) (H.tape host) (I.left input.new) (H.tape result.host) result.status.0 }
+    ensures statuses { IsScriptStatus result.status.0 }
+    ensures disk { IsUntouched H.file H.attaches H.disk_faults host result.host }
+    ensures unread { result.status.0 ≡ 4 → Rose (I.read_faults input.old) (I.read_faults input.new) }
+    ensures unsaid { result.status.0 ≡ 5 → Rose (H.say_faults host) (H.say_faults result.host) }
     ensures reads { I.read_faults input.old ≤ I.read_faults input.new }
-    ensures says { H.say_faults host.old ≤ H.say_faults host.new }
+    ensures says { H.say_faults host ≤ H.say_faults result.host }
 {
-    let served = serve(alloc, input, host);
-    Status::of(&served)
+    let mut host = host;
+    let served = serve(alloc, input, &mut host);
+    Ended {
+        status: Status::of(&served),
+        host,
+    }
+}
+
+// Makes an empty database in the file at the path.
+fn create_file<H: Host>(host: H, path: &str, shape: Shape) -> Ended<H>
+    requires { IsTrue (is_shape shape.extents shape.extent_pages) }
+    ensures creates { Creates shape.extents shape.extent_pages (H.file host) (H.file result.host) (H.tape host) (H.tape result.host) result.status.0 }
+    ensures attaches { MayAttach (H.attaches host) path.now (H.attaches result.host) }
+    ensures crash { LeavesByCreate shape.extents shape.extent_pages (H.file host) (H.tape host) (H.moment result.host (H.clock host)) }
+    ensures failed { result.status.0 ≡ 3 → Rose (H.disk_faults host) (H.disk_faults result.host) }
+    ensures unsaid { result.status.0 ≡ 5 → Rose (H.say_faults host) (H.say_faults result.host) }
+    ensures disk { H.disk_faults host ≤ H.disk_faults result.host }
+    ensures says { H.say_faults host ≤ H.say_faults result.host }
+    ensures completes { (Rose (H.disk_faults host) (H.disk_faults result.host) → ⊥)
+        → (Rose (H.say_faults host) (H.say_faults result.host) → ⊥)
+        → Completes (H.file host) result.status.0 }
+{
+    let mut host = host;
+    let created = create(&mut host, path, shape);
+    Ended {
+        status: Status::of_created(created),
+        host,
+    }
 }
 
 // Says the usage line.
-fn say_usage<H: Host>(host: &mut H) -> Status
-    ensures says { SaysUsage (H.tape host.old) (H.tape host.new) result.0 }
-    ensures statuses { (result.0 ≡ 2) ⊎ (result.0 ≡ 5) }
-    ensures unsaid { result.0 ≡ 5 → Rose (H.say_faults host.old) (H.say_faults host.new) }
-    ensures says_count { H.say_faults host.old ≤ H.say_faults host.new }
+fn say_usage<H: Host>(host: H) -> Ended<H>
+    ensures says { SaysUsage (H.tape host) (H.tape result.host) result.status.0 }
+    ensures statuses { (result.status.0 ≡ 2) ⊎ (result.status.0 ≡ 5) }
+    ensures disk { IsUntouched H.file H.attaches H.disk_faults host result.host }
+    ensures unsaid { result.status.0 ≡ 5 → Rose (H.say_faults host) (H.say_faults result.host) }
+    ensures says_count { H.say_faults host ≤ H.say_faults result.host }
 {
-    match host.say(USAGE) {
+    let mut host = host;
+    let status = match host.say(USAGE) {
         Ok(()) => Status(2),
         Err(Failed) => Status(5),
-    }
+    };
+    Ended { status, host }
 }

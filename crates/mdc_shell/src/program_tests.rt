@@ -1,8 +1,10 @@
 // Worked rows of the whole program, on a source and a host in memory.
 use crate::program::run;
-use mdc_outside::{MemHost, MemSource};
+use host_edge::FileHost;
+use mdc_outside::{Disk, Host, MemHost, MemSource};
 use std::alloc::Global;
 use std::test::Fail;
+use std::{env, fs, process};
 
 /// A script, what is said to it, and the status.
 type Row = (&'static str, &'static str, u8);
@@ -115,35 +117,170 @@ fn what_fails_stops_the_run(rt: HostRuntime) -> Result<(), Fail> {
     Ok(())
 }
 
+/// Words behind the program's name, cut at each blank: an empty line is one empty word.
+fn words_of(alloc: Global, line: &str) -> Result<Vec<String>, Fail> {
+    let mut words = Vec::new(alloc);
+    for word in line.split(' ') {
+        words.push(String::from_str(alloc, word)?)?;
+    }
+    Ok(words)
+}
+
+/// The status and the tape of these words on a host without a file, which fails the calls of these numbers, and how many
+/// calls it was given.
+fn run_words(
+    alloc: Global,
+    words: &Vec<String>,
+    fails: &[u64],
+) -> Result<(u8, Vec<u8>, u64), Fail> {
+    let mut source = MemSource::new(b"SELECT;".to_vec(alloc)?, 1, Vec::new(alloc));
+    let host = MemHost::new(alloc, None, fails.to_vec(alloc)?);
+    let ended = run(alloc, words, &mut source, host);
+    let tape = ended.host.said().to_vec(alloc)?;
+    Ok((ended.status.0, tape, ended.host.calls()))
+}
+
+const USAGE: &str = "usage: mdc create FILE EXTENTS PAGES | run FILE | check FILE | work N\n";
+
+/// Lines that are no command line.
+const OTHER_LINES: [&str; 32] = [
+    "",
+    "run",
+    "run - -",
+    "run f",
+    "Run -",
+    "create",
+    "create f 16",
+    "create f 16 2 x",
+    "create - 16 2",
+    "create -f 16 2",
+    "create  16 2",
+    "create f 16 3",
+    "create f 16 1",
+    "create f 16 64",
+    "create f 3 2",
+    "create f 65537 2",
+    "create f 65537 4",
+    "create f 65536 8",
+    "create f 8193 32",
+    "create f 016 2",
+    "create f 16 02",
+    "create f +16 2",
+    "create f 0 2",
+    "create f 16x 2",
+    "create f 1000000000 2",
+    "create f 4294967312 2",
+    "Create f 16 2",
+    "--help",
+    "-h",
+    "--version",
+    "help",
+    "--",
+];
+
 #[test]
 fn other_words_are_no_command_line(rt: HostRuntime) -> Result<(), Fail> {
     let alloc = rt.alloc();
-    for line in [
-        "",
-        "run",
-        "run - -",
-        "run FILE",
-        "Run -",
-        "create f 16 2",
-        "--help",
-    ] {
-        let mut words = Vec::new(alloc);
-        for word in line.split_whitespace() {
-            words.push(String::from_str(alloc, word)?)?;
-        }
-        let mut source = MemSource::new(b"SELECT;".to_vec(alloc)?, 1, Vec::new(alloc));
-        let ended = run(
-            alloc,
-            &words,
-            &mut source,
-            MemHost::new(alloc, None, Vec::new(alloc)),
-        );
-        assert_eq!(rt; ended.status.0, 2, "{line}");
-        assert_eq!(rt;
-            ended.host.said(),
-            b"usage: mdc create FILE EXTENTS PAGES | run FILE | check FILE | work N\n".as_slice()
-        );
+    for line in OTHER_LINES {
+        let (status, tape, calls) = run_words(alloc, &words_of(alloc, line)?, &[])?;
+        assert_eq!(rt; status, 2, "{line}");
+        assert_eq!(rt; tape.as_slice(), USAGE.as_bytes(), "{line}");
+        assert_eq!(rt; calls, 1, "{line}");
     }
+    let (status, tape, _) = run_words(alloc, &Vec::new(alloc), &[])?;
+    assert_eq!(rt; (status, tape.as_slice()), (2, USAGE.as_bytes()));
+    Ok(())
+}
+
+/// Lines that make a database.
+const CREATE_LINES: [&str; 6] = [
+    "create f 16 2",
+    "create f 4 2",
+    "create f 65536 4",
+    "create f 8192 32",
+    "create create 131 16",
+    "create f-/g 512 8",
+];
+
+#[test]
+fn databases_within_the_limits_are_made(rt: HostRuntime) -> Result<(), Fail> {
+    let alloc = rt.alloc();
+    for line in CREATE_LINES {
+        let (status, tape, _) = run_words(alloc, &words_of(alloc, line)?, &[])?;
+        assert_eq!(rt; status, 0, "{line}");
+        assert_eq!(rt; tape.as_slice(), b"OK\n".as_slice(), "{line}");
+    }
+    Ok(())
+}
+
+#[test]
+fn what_fails_stops_a_create(rt: HostRuntime) -> Result<(), Fail> {
+    let alloc = rt.alloc();
+    let words = words_of(alloc, "create f 16 2")?;
+    let (_, _, calls) = run_words(alloc, &words, &[])?;
+    // The last call says the line, and those before it are of the disk.
+    for call in 1..calls {
+        let (status, tape, _) = run_words(alloc, &words, &[call])?;
+        assert_eq!(rt; (status, tape.len()), (3, 0), "{call}");
+    }
+    let (status, tape, _) = run_words(alloc, &words, &[calls])?;
+    assert_eq!(rt; (status, tape.len()), (5, 0));
+    Ok(())
+}
+
+/// The bytes of a host's file.
+fn file_of<H: Host>(alloc: Global, host: &mut H, path: &str) -> Result<Vec<u8>, Fail> {
+    host.attach(path, false)?;
+    let end = host.len()?;
+    let mut bytes = vec![in alloc; 0u8; end as usize]?;
+    host.read(0, &mut bytes)?;
+    Ok(bytes)
+}
+
+#[test]
+fn a_file_is_made_once(rt: HostRuntime) -> Result<(), Fail> {
+    let alloc = rt.alloc();
+    let words = words_of(alloc, "create f 16 2")?;
+    let mut source = MemSource::new(Vec::new(alloc), 1, Vec::new(alloc));
+    let host = MemHost::new(alloc, None, Vec::new(alloc));
+    let mut made = run(alloc, &words, &mut source, host);
+    assert_eq!(rt; made.status.0, 0);
+    let first = file_of(alloc, &mut made.host, "f")?;
+    assert_eq!(rt; first.len(), 344_064);
+
+    let mut again = run(alloc, &words, &mut source, made.host);
+    assert_eq!(rt; again.status.0, 6);
+    assert_eq!(rt; again.host.said(), b"OK\nFILE EXISTS\n".as_slice());
+    let second = file_of(alloc, &mut again.host, "f")?;
+    assert_eq!(rt; second.as_slice() == first.as_slice(), true);
+    Ok(())
+}
+
+#[test]
+fn a_real_file_has_the_same_bytes(rt: HostRuntime) -> Result<(), Fail> {
+    let alloc = rt.alloc();
+    let name = format!(in alloc; "mdc-create-{}", process::id(rt.process()))?;
+    let folder = env::temp_dir(&rt)?.join(alloc, name.as_str())?;
+    let path = folder.join(alloc, "data")?;
+    fs::create_dir(&rt, folder.as_path())?;
+    let line = format!(in alloc; "create {} 16 2", path.as_str())?;
+    let words = words_of(alloc, line.as_str())?;
+    let mut source = MemSource::new(Vec::new(alloc), 1, Vec::new(alloc));
+
+    let real = FileHost::new(alloc, rt.clone()?, Vec::new(alloc));
+    assert_eq!(rt; run(alloc, &words, &mut source, real).status.0, 0);
+    let written = fs::read(&rt, path.as_path())?;
+    let again = FileHost::new(alloc, rt.clone()?, Vec::new(alloc));
+    assert_eq!(rt; run(alloc, &words, &mut source, again).status.0, 6);
+    let still = fs::read(&rt, path.as_path())?;
+    fs::remove_file(&rt, path.as_path())?;
+    fs::remove_dir(&rt, folder.as_path())?;
+
+    let memory = MemHost::new(alloc, None, Vec::new(alloc));
+    let mut made = run(alloc, &words, &mut source, memory);
+    let image = file_of(alloc, &mut made.host, "f")?;
+    assert_eq!(rt; written.as_slice() == image.as_slice(), true);
+    assert_eq!(rt; still.as_slice() == image.as_slice(), true);
     Ok(())
 }
 

@@ -5,6 +5,7 @@ ghost use Rattle.mdc_outside.specs.Outside.{Rose, Takes, TakesPart};
 ghost use Rattle.mdc_shell.specs.Session.{turn, is_refusal};
 ghost use Rattle.mdc_shell.specs.Run.{RunsFrom};
 ghost use Rattle.mdc_shell.specs.Status.{status_of};
+ghost use Rattle.mdc_shell.specs.Untouched.{IsUntouched};
 ghost use Rattle.sql_reader.specs.Item.{item_of};
 
 use crate::answer_text::outcome_bytes;
@@ -33,6 +34,7 @@ impl Session {
         ensures cause { OnErr result (IsErrOf result Stop.Memory ⊎ IsErrOf result Stop.Unsaid) }
         ensures unsaid { IsErrOf result Stop.Unsaid → Rose (H.say_faults host.old) (H.say_faults host.new) }
         ensures count { H.say_faults host.old ≤ H.say_faults host.new }
+        ensures disk { IsUntouched H.file H.attaches H.disk_faults host.old host.new }
     {
         let outcome = match read {
             Read::Stmt(stmt) => self.engine.execute(&stmt)?,
@@ -56,6 +58,7 @@ pub fn serve<I: Source, H: Host>(alloc: Global, input: &mut I, host: &mut H) -> 
     ensures unsaid { IsErrOf result Stop.Unsaid → Rose (H.say_faults host.old) (H.say_faults host.new) }
     ensures reads { I.read_faults input.old ≤ I.read_faults input.new }
     ensures says { H.say_faults host.old ≤ H.say_faults host.new }
+    ensures disk { IsUntouched H.file H.attaches H.disk_faults host.old host.new }
 {
     // The law that what a reader has given begins all that there is.
     one_closing();

@@ -2,8 +2,9 @@
 ghost use Rattle.std.specs.Prelude.{◌≡◌};
 ghost use Rattle.mdc_shell.specs.declared.status.Stop.TheVariants.{Unsaid, Memory};
 ghost use Rattle.mdc_shell.specs.Reader.{stop_of};
-ghost use Rattle.mdc_shell.specs.Status.{status_of};
+ghost use Rattle.mdc_shell.specs.Status.{status_of, status_of_created};
 
+use crate::create::Created;
 use mdc_outside::Failed;
 use mdc_values::Memory;
 use sql_reader::ReadStop;
@@ -27,6 +28,18 @@ impl Status {
             Err(Stop::Unsaid) => Status(5),
             Err(Stop::TooLong) => Status(7),
             Err(Stop::Memory) => Status(8),
+        }
+    }
+
+    /// The status of a create.
+    pub fn of_created(created: Created) -> Status
+        ensures { result.0 ≡ status_of_created created }
+    {
+        match created {
+            Created::Made => Status(0),
+            Created::DiskFailed => Status(3),
+            Created::Unsaid => Status(5),
+            Created::Exists => Status(6),
         }
     }
 }

@@ -25,6 +25,7 @@ loop-session-init g c = rw c.in_ok-statements.ensures (record {
   at_end = λ e. cc;
   reads = omega arith;
   says = omega arith;
+  disk = record { same_file = refl; same_attaches = refl; same_faults = refl };
 })
 
 pub returns-in_err-read-clause-runs : goal.returns-in_err-read-clause-runs
@@ -66,6 +67,11 @@ loop-session-preserved g c =
       at_end = ended;
       reads = omega arith;
       says = omega arith;
+      disk = record {
+        same_file = answer.disk.same_file ∙ inv.disk.same_file;
+        same_attaches = answer.disk.same_attaches ∙ inv.disk.same_attaches;
+        same_faults = answer.disk.same_faults ∙ inv.disk.same_faults;
+      };
     }
 
 pub returns-in_err-answer-clause-runs : goal.returns-in_err-answer-clause-runs

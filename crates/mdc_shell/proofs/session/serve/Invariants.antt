@@ -5,6 +5,7 @@ use Rattle.mdc_outside.specs.Outside.{Takes}
 use Rattle.sql_reader.specs.Progress.{Given, Took}
 use Rattle.mdc_shell.proofs.Sessions.{left_to_do}
 use Rattle.mdc_shell.specs.Session.{after, outcomes, texts, has_refusal}
+use Rattle.mdc_shell.specs.Untouched.{IsUntouched}
 use Rattle.mdc_shell.proofs.session.serve.Given as goal
 
 -- the items given so far are answered
@@ -23,6 +24,7 @@ invariant-loop-session g l =
       at_end : l.statements.finished ≡ true → IfSome (left l.input) (λ bytes. bytes ≡ []);
       reads : g.I.Source.read_faults l.fn.input ≤ g.I.Source.read_faults l.input;
       says : g.H.Host.say_faults l.fn.host ≤ g.H.Host.say_faults l.host;
+      disk : IsUntouched g.H.Disk.file g.H.Disk.attaches g.H.Disk.disk_faults l.fn.host l.host;
     }
 
 -- with each item a piece more is done with, or the last one is

@@ -1,0 +1,169 @@
+-- What the words of a command line ask for.
+use Rattle.std.proofs.Common.{◌≡◌, ◌⊎◌, ◌≢◌, ◌∙◌, ◌<◌, ◌≤◌, ◌^◌, ℕ, codes, List, [], ◌∷◌, map, length, get_or, Option, Some, None, Result, Ok, Err, MatchOption, refl, sym, ap, subst, inl, inr, arith, option_map, true}
+use Rattle.std.specs.List.{All, slice_index_or}
+use Rattle.std.specs.Result.{OkIff, result_ok}
+use Rattle.std.specs.Str.Parse.{AllDigits, ParsesUnsigned, digits_value}
+use Rattle.std.proofs.lemmas.List.Elements.{All-cons, All-nil, All-head, All-tail}
+use Rattle.std.proofs.lemmas.Str.Parse.{digits_value_short, numerals_by_value, parse_plain, tells_digits}
+use Rattle.clap.specs.Words.{App, IsAmong, Row, Text, fault_of, first_of, is_simple, is_simple_and_free, subcommand_of}
+use Rattle.clap.specs.declared.error.ErrorKind.{ErrorKind}
+use Rattle.clap.specs.declared.error.ErrorKind.TheVariants.{OutOfMemory}
+use Rattle.mdc_shell.specs.declared.command.Command.{Command}
+use Rattle.mdc_shell.specs.declared.command.Command.TheVariants.{Create, RunScript}
+use Rattle.mdc_shell.specs.Asked.{Asks, AsksCreate, AsksRun}
+use Rattle.mdc_shell.specs.Found.{Finds, FindsCreate, FindsRun, IsSplit, name_in, value_in}
+use Rattle.mdc_shell.specs.Grammar.{mdc_app}
+use Rattle.mdc_shell.proofs.ClapWords.{mdc_is_free, mdc_is_simple, split_is_taken, taken_finds}
+use Rattle.mdc_shell.specs.Words.{IsCreateLine, IsNoLine, IsNumeral, IsPath, IsPlain, IsRequest, IsRunLine}
+
+-- a text without a sign in front is read as its number
+pub number_read : {E : Type 0} (text : List ℕ) (r : Result ℕ E) → 0 < length text → length text ≤ 9 → get_or text 0 0 ≢ 48 → get_or text 0 0 ≢ 43 → ParsesUnsigned 32 10 text r
+    → MatchOption (result_ok r) ((n : ℕ) → IsNumeral text n → ⊥) (IsNumeral text)
+number_read text r some short lead plus parses = go r (parse_plain (numerals_by_value (AllDigits 10) tells_digits) 32 text r parses plus)
+  where
+    go : {E : Type 0} (r : Result ℕ E) → OkIff r (AllDigits 10 text × (0 < length text) × (digits_value 10 text < 2 ^ 32)) (digits_value 10 text)
+        → MatchOption (result_ok r) ((n : ℕ) → IsNumeral text n → ⊥) (IsNumeral text)
+    go (Ok n) read = record { digits = read.0.0; some = some; short = short; lead = lead; value = read.1 }
+    go (Err e) none = λ n number.
+        none (number.digits, number.some, omega (arith, digits_value_short (numerals_by_value (AllDigits 10) tells_digits) text 9 number.digits number.short))
+
+-- a numeral writes one number
+pub one_number : (text : List ℕ) (n m : ℕ) → IsNumeral text n → IsNumeral text m → n ≡ m
+one_number text n m first second = first.value ∙ sym second.value
+
+-- two maps, one after the other
+pub map_twice : {A B C : Type 0} (f : B → C) (g : A → B) (o : Option A) → option_map f (option_map g o) ≡ option_map (λ x. f (g x)) o
+map_twice f g None = refl
+map_twice f g (Some x) = refl
+
+-- the value of an argument, by the rows
+pub value_found : (first : Option Text) (id : Text) (rows : List Row) (found : Option (Text × List Row)) (text : Text)
+    → first ≡ first_of id rows → option_map (λ p. p.1) found ≡ Some rows → value_in id found ≡ Some text → first ≡ Some text
+value_found first id rows None text reads is value = absurd (cc)
+value_found first id rows (Some p) text reads is value =
+    let same : rows ≡ p.1 = cc in
+    reads ∙ (ap (first_of id) same ∙ value)
+
+-- two names that clap could find aren't both found
+pub one_name : (found : Option (Text × List Row)) (a b : Text) → name_in found ≡ Some a → name_in found ≡ Some b → a ≡ b
+one_name found a b first second = let e : Some a ≡ Some b = sym first ∙ second in cc
+
+-- what is true of each mapped element
+pub all_mapped : {X Y : Type 0} (P : Y → Type 0) (f : X → Y) (xs : List X) → All (λ x. P (f x)) xs → All P (map f xs)
+all_mapped P f [] all = All-nil P
+all_mapped P f (x ∷ xs) all = All-cons P (f x) (map f xs) (All-head (λ y. P (f y)) x xs all) (all_mapped P f xs (All-tail (λ y. P (f y)) x xs all))
+
+pub all_unmapped : {X Y : Type 0} (P : Y → Type 0) (f : X → Y) (xs : List X) → All P (map f xs) → All (λ x. P (f x)) xs
+all_unmapped P f [] all = All-nil (λ x. P (f x))
+all_unmapped P f (x ∷ xs) all = All-cons (λ y. P (f y)) x xs (All-head P (f x) (map f xs) all) (all_unmapped P f xs (All-tail P (f x) (map f xs) all))
+
+-- `create` isn't `run`
+pub no_both : codes "create" ≡ codes "run" → ⊥
+no_both e = let n : 99 ≡ 114 = ap (λ t. get_or t 0 0) e in absurd (omega (arith, n))
+
+-- what the values behind `create` ask for, the words do
+pub asks_create : (words : List Text) (found : Option (Text × List Row)) (asked : Option Command) (finds : FindsCreate words found)
+    → AsksCreate finds.file finds.extents finds.pages asked → Asks words asked
+asks_create words found None finds asks = record {
+  no_run = λ run.
+      let e : codes "create" ∷ finds.file ∷ finds.extents ∷ finds.pages ∷ [] ≡ codes "run" ∷ codes "-" ∷ [] = sym finds.are ∙ run in
+      absurd (no_both (cc));
+  no_create = λ path n m line.
+      let e : codes "create" ∷ finds.file ∷ finds.extents ∷ finds.pages ∷ [] ≡ codes "create" ∷ path ∷ line.extents_text ∷ line.pages_text ∷ [] = sym finds.are ∙ line.are in
+      let file : finds.file ≡ path = cc in
+      let extents : finds.extents ≡ line.extents_text = cc in
+      let pages : finds.pages ≡ line.pages_text = cc in
+      asks n m (rw (file, extents, pages) line.request);
+}
+asks_create words found (Some RunScript) finds asks = absurd asks
+asks_create words found (Some (Create path shape)) finds asks = record {
+  extents_text = finds.extents;
+  pages_text = finds.pages;
+  are = rw asks.0 finds.are;
+  request = rw asks.0 asks.1;
+}
+
+-- what the file behind `run` asks for, the words do
+pub asks_run : (words : List Text) (found : Option (Text × List Row)) (asked : Option Command) (finds : FindsRun words found)
+    → AsksRun finds.file asked → Asks words asked
+asks_run words found None finds asks = record {
+  no_run = λ run.
+      let e : codes "run" ∷ finds.file ∷ [] ≡ codes "run" ∷ codes "-" ∷ [] = sym finds.are ∙ run in
+      asks (cc);
+  no_create = λ path n m line.
+      let e : codes "run" ∷ finds.file ∷ [] ≡ codes "create" ∷ path ∷ line.extents_text ∷ line.pages_text ∷ [] = sym finds.are ∙ line.are in
+      absurd (no_both (cc));
+}
+asks_run words found (Some RunScript) finds asks = finds.are ∙ ap (λ t. codes "run" ∷ t ∷ []) asks
+asks_run words found (Some (Create path shape)) finds asks = absurd asks
+
+-- a path is plain
+path_plain : (word : Text) → IsPath word → IsPlain word
+path_plain [] path = absurd path
+path_plain (x ∷ xs) path = inl path
+
+-- a numeral is plain
+numeral_plain : (text : Text) (n : ℕ) → IsNumeral text n → IsPlain text
+numeral_plain [] n number = absurd (omega (arith, number.some))
+numeral_plain (x ∷ xs) n number =
+    let digit = (tells_digits.parts x xs number.digits).0 in
+    inl (λ e. absurd (omega (arith, digit, e)))
+
+-- the words of a command line are plain
+run_plain : All IsPlain (codes "run" ∷ codes "-" ∷ [])
+run_plain = All-cons IsPlain (codes "run") (codes "-" ∷ []) (inl (λ e. absurd (omega (arith, e)))) (All-cons IsPlain (codes "-") [] (inr refl) (All-nil IsPlain))
+
+create_plain : (path a b : Text) (n m : ℕ) → IsRequest path a b n m → All IsPlain (codes "create" ∷ path ∷ a ∷ b ∷ [])
+create_plain path a b n m is = All-cons IsPlain (codes "create") (path ∷ a ∷ b ∷ []) (inl (λ e. absurd (omega (arith, e))))
+    (All-cons IsPlain path (a ∷ b ∷ []) (path_plain path is.names)
+    (All-cons IsPlain a (b ∷ []) (numeral_plain a n is.extents_written)
+    (All-cons IsPlain b [] (numeral_plain b m is.pages_written) (All-nil IsPlain))))
+
+-- words that aren't plain are no command line
+pub no_line_unplain : (words : List Text) → (All IsPlain words → ⊥) → IsNoLine words
+no_line_unplain words unplain = record {
+  no_run = λ run. unplain (subst (All IsPlain) (sym run) run_plain);
+  no_create = λ path n m line. unplain (subst (All IsPlain) (sym line.are) (create_plain path line.extents_text line.pages_text n m line.request));
+}
+
+-- words that don't have the form of a command line are none
+pub no_line_other : (words : List Text) → (IsSplit words → ⊥) → IsNoLine words
+no_line_other words other = record {
+  no_run = λ run. other (inr (record { file = codes "-"; are = run }));
+  no_create = λ path n m line. other (inl (record { file = path; extents = line.extents_text; pages = line.pages_text; are = line.are }));
+}
+
+-- where clap takes plain words, it finds what they say
+pub parsed_finds : (app : App) (words : List Text) (found : Option (Text × List Row)) → app ≡ mdc_app → All IsPlain words
+    → (is_simple_and_free app ≡ true → fault_of app words ≡ []) → (is_simple app ≡ true → found ≡ subcommand_of app words) → Finds words found
+parsed_finds app words found same plain taken reads =
+    let none : fault_of mdc_app words ≡ [] = ap (λ (a : App). fault_of a words) (sym same) ∙ taken (ap is_simple_and_free same ∙ mdc_is_free) in
+    let is : found ≡ subcommand_of mdc_app words = reads (ap is_simple same ∙ mdc_is_simple) ∙ ap (λ (a : App). subcommand_of a words) same in
+    subst (Finds words) (sym is) (taken_finds words plain none)
+
+-- where clap refuses plain words, and not for want of memory, they don't have the form of a command line
+pub refused_is_other : (app : App) (words : List Text) (k : ErrorKind) → app ≡ mdc_app → All IsPlain words
+    → (is_simple_and_free app ≡ true → (k ≡ OutOfMemory) ⊎ IsAmong k (fault_of app words)) → (k ≡ OutOfMemory → ⊥) → IsSplit words → ⊥
+refused_is_other app words k same plain fails other split =
+    let none : fault_of app words ≡ [] = ap (λ (a : App). fault_of a words) same ∙ split_is_taken words plain split in
+    elim (fails (ap is_simple_and_free same ∙ mdc_is_free)) [
+      | inl memory ↦ other memory
+      | inr among ↦ subst (IsAmong k) none among
+    ]
+
+-- words are one create line at most
+pub record IsSameLine (path other : Text) (extents more extent_pages more_pages : ℕ) : Type 0 where
+  pub same_path : path ≡ other
+  pub same_extents : extents ≡ more
+  pub same_pages : extent_pages ≡ more_pages
+
+pub same_line : (words : List Text) (path other : Text) (n m k l : ℕ) → IsCreateLine words path n k → IsCreateLine words other m l → IsSameLine path other n m k l
+same_line words path other n m k l first second =
+    let e : codes "create" ∷ path ∷ first.extents_text ∷ first.pages_text ∷ [] ≡ codes "create" ∷ other ∷ second.extents_text ∷ second.pages_text ∷ [] = sym first.are ∙ second.are in
+    let extents : first.extents_text ≡ second.extents_text = cc in
+    let pages : first.pages_text ≡ second.pages_text = cc in
+    record {
+      same_path = cc;
+      same_extents = first.request.extents_written.value ∙ (ap (digits_value 10) extents ∙ sym second.request.extents_written.value);
+      same_pages = first.request.pages_written.value ∙ (ap (digits_value 10) pages ∙ sym second.request.pages_written.value);
+    }

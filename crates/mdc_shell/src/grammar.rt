@@ -1,0 +1,31 @@
+// What clap is told of the command line.
+ghost use Rattle.std.specs.Prelude.{◌≡◌, IfOk};
+ghost use Rattle.clap.specs.Words.{app_of};
+ghost use Rattle.mdc_shell.specs.Grammar.{bare_app, mdc_app};
+
+use clap::{Arg, Command};
+use std::alloc::{AllocError, Global};
+
+/// The commands `create FILE EXTENTS PAGES` and `run FILE`.
+pub fn grammar<'w>(alloc: Global) -> Result<Command<'w>, AllocError>
+    ensures { IfOk result (λ command. app_of command ≡ mdc_app) }
+{
+    let create = Command::new(alloc, "create")
+        .arg(Arg::new(alloc, "FILE").required(true))?
+        .arg(Arg::new(alloc, "EXTENTS").required(true))?
+        .arg(Arg::new(alloc, "PAGES").required(true))?;
+    let run = Command::new(alloc, "run").arg(Arg::new(alloc, "FILE").required(true))?;
+    bare(alloc).subcommand(create)?.subcommand(run)
+}
+
+// A command that has subcommands alone: clap gives it no help and no version of its own.
+fn bare<'w>(alloc: Global) -> Command<'w>
+    ensures { app_of result ≡ bare_app }
+{
+    Command::new(alloc, "mdc")
+        .no_binary_name(true)
+        .disable_help_flag(true)
+        .disable_help_subcommand(true)
+        .disable_version_flag(true)
+        .subcommand_required(true)
+}
