@@ -12,7 +12,7 @@ use Rattle.page_store.specs.declared.desk.Hand.{Hand}
 use Rattle.page_store.specs.declared.write_through.Halt.{Halt}
 use Rattle.page_store.specs.Changes.{Overlay, Changed, unchanged, changed_in, laid_over, image_in}
 use Rattle.page_store.specs.Cached.{AreHome, Leads}
-use Rattle.page_store.specs.Desk.{IsKept, Does, DoesOnOk, base_in, base_of, work_of, page_in, written_in}
+use Rattle.page_store.specs.Desk.{IsKept, Does, DoesOnOk, base_in, base_of, work_of, page_at_hand, written_in}
 use Rattle.page_store.proofs.Listed.{length-listed, page_at-listed}
 use Rattle.page_store.proofs.LaidOver.{laid_over-set, laid_over-grown, laid_over-unchanged, laid_over-at, differing-laid_over}
 
@@ -67,7 +67,7 @@ differing_work (Some file) desk kept going enough =
 
 -- a page came to hand that is the told one, where pages are told
 pub brings_page : (told : Option File) (desk : Desk) (hand : Option Hand) (cache : Numbered) (p : ℕ) (page : List ℕ)
-    → page_in hand desk.changes.now cache ≡ Some page
+    → page_at_hand hand desk.changes.now cache ≡ Some page
     → (IsTrue (is_some told) → page ≡ page_at (work_of told desk desk.changes.now) p)
     → Does (Fetches p) told desk told (record desk { cache = cache; hand = hand })
 brings_page None desk hand cache p page at is tape attaches = (page, is, rw at refl)
@@ -75,7 +75,7 @@ brings_page (Some file) desk hand cache p page at is tape attaches = (page, is, 
 
 -- the same of a page of the base
 pub brings_committed : (told : Option File) (desk : Desk) (hand : Option Hand) (cache : Numbered) (p : ℕ) (page : List ℕ)
-    → page_in hand desk.changes.now cache ≡ Some page
+    → page_at_hand hand desk.changes.now cache ≡ Some page
     → (IsTrue (is_some told) → page ≡ page_at (base_of told desk) p)
     → Does (FetchesCommitted p) told desk told (record desk { cache = cache; hand = hand })
 brings_committed None desk hand cache p page at is tape attaches = (page, is, rw at refl)
@@ -120,7 +120,7 @@ clean_page (Some file) desk p page entries going lt leads home shown =
 
 -- a desk with another page at hand and other clean pages
 pub kept_with : (told : Option File) (desk : Desk) (hand : Option Hand) (cache : Numbered) → IsKept desk told
-    → ForSome told (λ file. AreHome file.bytes desk.base cache) → (IsSome hand → IsSome (page_in hand desk.changes.now cache))
+    → ForSome told (λ file. AreHome file.bytes desk.base cache) → (IsSome hand → IsSome (page_at_hand hand desk.changes.now cache))
     → IsKept (record desk { cache = cache; hand = hand }) told
 kept_with told desk hand cache kept clean there = record {
   at_rest = kept.at_rest;

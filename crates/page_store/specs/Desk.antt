@@ -32,11 +32,11 @@ work_of None desk changes = replicate (length changes) []
 work_of (Some file) desk changes = laid_over changes (base_in desk.halt desk.base file.bytes)
 
 -- the page at hand
-abbrev pub page_in : Option Hand → Overlay → Numbered → Option (List ℕ)
-page_in None changes cache = None
-page_in (Some (Changed p)) changes cache = slice_index_or changes p None
-page_in (Some Clean) changes cache = option_map (λ entry. entry.1) (slice_get cache 0)
-page_in (Some Blank) changes cache = Some zero_page
+abbrev pub page_at_hand : Option Hand → Overlay → Numbered → Option (List ℕ)
+page_at_hand None changes cache = None
+page_at_hand (Some (Changed p)) changes cache = slice_index_or changes p None
+page_at_hand (Some Clean) changes cache = option_map (λ entry. entry.1) (slice_get cache 0)
+page_at_hand (Some Blank) changes cache = Some zero_page
 
 -- what a store is seen as
 abbrev pub state_of : Option File → Option (List ℕ) → Option (List (List ℕ × Bool)) → Desk → StoreState
@@ -45,7 +45,7 @@ state_of told tape attaches desk = record {
   base = base_of told desk;
   work = work_of told desk desk.changes.now;
   marked = option_map (work_of told desk) desk.changes.marked;
-  hand = page_in desk.hand desk.changes.now desk.cache;
+  hand = page_at_hand desk.hand desk.changes.now desk.cache;
   prepared = is_some desk.images;
   ended = is_some desk.halt;
   told = tape;
@@ -70,14 +70,14 @@ pub record IsKept (desk : Desk) (told : Option File) : Type 0 where
   pub some : 18 ≤ desk.base
   pub count : IsBetween desk.base 262289 (length desk.changes.now)
   pub marked : ForSome desk.changes.marked (λ changes. IsBetween desk.base (length desk.changes.now) (length changes))
-  pub hand : IsSome desk.hand → IsSome (page_in desk.hand desk.changes.now desk.cache)
+  pub hand : IsSome desk.hand → IsSome (page_at_hand desk.hand desk.changes.now desk.cache)
   pub ready : ForSome desk.images (IsPrepared desk told)
 
 -- where the page of a number lies in memory: it was changed or grown, or else it is a clean page
 abbrev pub IsPlaced : ℕ → Desk → Option Hand → Type 0
 IsPlaced p desk None = (p < desk.base) × (image_in desk.base desk.changes.now p ≡ None)
 IsPlaced p desk (Some hand) =
-    (page : List ℕ) × (page_in (Some hand) desk.changes.now desk.cache ≡ Some page) × (image_in desk.base desk.changes.now p ≡ Some page)
+    (page : List ℕ) × (page_at_hand (Some hand) desk.changes.now desk.cache ≡ Some page) × (image_in desk.base desk.changes.now p ≡ Some page)
 
 -- an image that is formed and stands for the base or for the work
 abbrev pub StandsForEither : Desk → File → List ℕ → Type 0

@@ -8,7 +8,7 @@ ghost use Rattle.redo_journal.specs.Runs.{Runs, IsCovered};
 ghost use Rattle.store_api.specs.Calls.{Fetches, FetchesCommitted, LosesHand, LosesReadiness, Writes, Grows, Marks, Keeps, Undoes, Prepares, Commits, Ends, RollsBack};
 ghost use Rattle.store_api.specs.StoreState.{stated_count, zero_page, differing};
 ghost use Rattle.page_store.specs.Leaving.{Leaves};
-ghost use Rattle.page_store.specs.Desk.{IsKept, IsPlaced, Does, DoesOnOk, DoesOnErr, StandsForEither, RestsEither, page_in, base_of, work_of, written_in};
+ghost use Rattle.page_store.specs.Desk.{IsKept, IsPlaced, Does, DoesOnOk, DoesOnErr, StandsForEither, RestsEither, page_at_hand, base_of, work_of, written_in};
 
 use crate::changes::Changes;
 use crate::page_cache::PageCache;
@@ -115,8 +115,8 @@ impl Desk {
 
     /// Lends the page at hand.
     pub(crate) fn page(&self) -> &Page
-        requires { IsSome (page_in self.now.hand self.now.changes.now self.now.cache) }
-        ensures { page_in self.now.hand self.now.changes.now self.now.cache ≡ Some result.now }
+        requires { IsSome (page_at_hand self.now.hand self.now.changes.now self.now.cache) }
+        ensures { page_at_hand self.now.hand self.now.changes.now self.now.cache ≡ Some result.now }
     {
         match self.hand {
             Some(Hand::Changed(p)) => self.changes.get(p).unwrap(),
