@@ -63,8 +63,8 @@ fn is_filled<S: Pages>(store: &mut S, p: u32, byte: u8) -> Result<bool, Fail>
     Ok(page_of(store, p)? == [byte; 4096])
 }
 
-// Writes this byte all over a page of the work.
-fn fill<S: Pages>(store: &mut S, p: u32, byte: u8) -> Result<(), Fail>
+// Writes over a page of the work.
+fn put<S: Pages>(store: &mut S, p: u32, page: &Page) -> Result<(), Fail>
     requires { (S.state store.old).ended ≡ false }
     ensures going { (S.state store.new).ended ≡ false }
     ensures marked { (S.state store.new).marked ≡ (S.state store.old).marked }
@@ -72,8 +72,17 @@ fn fill<S: Pages>(store: &mut S, p: u32, byte: u8) -> Result<(), Fail>
     if p >= store.count() {
         return Err(Refused)?;
     }
-    store.write(p, &[byte; 4096])?;
+    store.write(p, page)?;
     Ok(())
+}
+
+// Writes this byte all over a page of the work.
+fn fill<S: Pages>(store: &mut S, p: u32, byte: u8) -> Result<(), Fail>
+    requires { (S.state store.old).ended ≡ false }
+    ensures going { (S.state store.new).ended ≡ false }
+    ensures marked { (S.state store.new).marked ≡ (S.state store.old).marked }
+{
+    put(store, p, &[byte; 4096])
 }
 
 // Makes the work the base. Its page 0 states how many pages it has.
@@ -214,7 +223,7 @@ fn grow_by_two<S: Store>(store: &mut S) -> Result<(), Fail>
     store.grow(2)?;
     let mut root = page_of(store, 0)?;
     root[11] = 20;
-    store.write(0, &root)?;
+    put(store, 0, &root)?;
     commit(store)
 }
 
