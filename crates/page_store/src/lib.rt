@@ -26,6 +26,7 @@ pub use fault::OpenFault;
 pub use file_store::FileStore;
 pub use making::make;
 pub use opening::Unopened;
+pub use shape::is_shape;
 
 #[cfg(test)]
 mod store_tests;

@@ -29,8 +29,9 @@ pub(crate) fn shape_in(page: &Page) -> Option<Shape>
     })
 }
 
-// Whether the numbers are within the limits.
-fn is_shape(extents: u32, extent_pages: u32) -> bool
+/// Whether a database may have so many extents of so many pages: 4 to 65,536 extents of 2, 4, 8, 16 or 32 pages, which
+/// are 262,144 pages at most.
+pub fn is_shape(extents: u32, extent_pages: u32) -> bool
     ensures { result ≡ is_shape extents extent_pages }
 {
     extents >= 4
