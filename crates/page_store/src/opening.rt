@@ -1,12 +1,13 @@
 // How a store opens the database in a file, and gives its host back.
-ghost use Rattle.std.specs.Prelude.{◌≡◌, ◌≢◌, ◌⊎◌, ◌≤◌, [], IsTrue, IfOk, IfErr, OnOk, OnErr, IsErrOf, is_some};
+ghost use Rattle.std.specs.Prelude.{◌≡◌, ◌≢◌, ◌⊎◌, ◌≤◌, [], IsTrue, false, IfOk, IfErr, OnOk, OnErr, IsErrOf, is_some};
 ghost use Rattle.std.specs.Option.{ForSome};
 ghost use Rattle.mdc_outside.specs.Outside.{Rose};
 ghost use Rattle.page_store.specs.Desk.{IsKept, base_of, state_of, written_in};
 ghost use Rattle.page_store.specs.Leaving.{Leaves};
 ghost use Rattle.page_store.specs.Opened.{Opens, CouldBeLeft, IsEmptyDesk, IsJustOpened, bytes_of};
 ghost use Rattle.page_store.specs.Opening.{IsAtRest, IsServed, Refuses};
-ghost use Rattle.page_store.specs.Shape.{is_shape};
+ghost use Rattle.redo_journal.specs.Layout.{file_page};
+ghost use Rattle.page_store.specs.Shape.{is_shape, extents_in, extent_pages_in};
 ghost use Rattle.page_store.specs.Standing.{pages_of};
 
 use crate::changes::Changes;
@@ -67,6 +68,8 @@ impl<H: Host> FileStore<H> {
     pub fn shape(&self) -> (u32, u32)
         ensures parts { result ≡ (self.now.desk.shape.extents, self.now.desk.shape.extent_pages) }
         ensures limits { IsTrue (is_shape result.0 result.1) }
+        ensures stated { (⟦<FileStore<H> as Pages>⟧.state self.now).ended ≡ false → ForSome (H.file self.now.host) (λ file.
+            (extents_in (file_page file.bytes 1) ≡ result.0) × (extent_pages_in (file_page file.bytes 1) ≡ result.1)) }
     {
         (self.desk.shape.extents, self.desk.shape.extent_pages)
     }

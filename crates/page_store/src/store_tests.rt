@@ -106,6 +106,7 @@ fn commit<S: Store>(store: &mut S) -> Result<(), Fail>
 // Brings pages of the work to hand, one after another.
 fn fetch_each<S: Pages>(store: &mut S, pages: &[u32]) -> Result<(), Fail>
     requires { (S.state store.old).ended ≡ false }
+    ensures { (S.state store.new).ended ≡ false }
 {
     for p in pages {
         page_of(store, *p)?;
