@@ -1,0 +1,130 @@
+// The file that is worked on.
+ghost use Rattle.std.specs.Prelude.{◌≡◌, false, None, IfOk, OnOk};
+
+use crate::stop::Stop;
+use mdc_outside::Host;
+use page_store::{FileStore, make};
+use std::alloc::Global;
+use store_api::{MAX_PAGES, Page, Pages, Store};
+
+// The scratch file in memory.
+const FILE: &str = "-";
+
+// How many clean pages a store keeps.
+const CACHE: usize = 1024;
+
+// A database may grow to so many extents. An empty one then has as many pages as an extent.
+const EXTENTS: u32 = 7680;
+
+const EXTENT_PAGES: u32 = 32;
+
+// How many pages a file grows by in one commit.
+const STEP: u32 = 4096;
+
+/// Makes a file of at least so many pages, and opens it.
+pub fn made<H: Host + Drop>(alloc: Global, mut host: H, pages: u32) -> Result<FileStore<H>, Stop>
+    ensures going { IfOk result (λ store. (⟦<FileStore<H> as Pages>⟧.state store).ended ≡ false) }
+    ensures unmarked { IfOk result (λ store. (⟦<FileStore<H> as Pages>⟧.state store).marked ≡ None) }
+{
+    make_empty(&mut host)?;
+    let mut store = opened(alloc, host)?;
+    grow_to(&mut store, pages)?;
+    Ok(store)
+}
+
+// Makes an empty database.
+fn make_empty<H: Host>(host: &mut H) -> Result<(), Stop> {
+    host.attach(FILE, true)?;
+    make(host, EXTENTS, EXTENT_PAGES)?;
+    Ok(())
+}
+
+/// Opens the file.
+pub fn opened<H: Host + Drop>(alloc: Global, mut host: H) -> Result<FileStore<H>, Stop>
+    ensures going { IfOk result (λ store. (⟦<FileStore<H> as Pages>⟧.state store).ended ≡ false) }
+    ensures unmarked { IfOk result (λ store. (⟦<FileStore<H> as Pages>⟧.state store).marked ≡ None) }
+{
+    host.attach(FILE, false)?;
+    match FileStore::open(alloc, host, CACHE) {
+        Ok(store) => Ok(store),
+        Err(unopened) => Err(Stop::Unopened(unopened.fault)),
+    }
+}
+
+// Adds whole extents until there are at least so many pages.
+fn grow_to<S: Store>(store: &mut S, pages: u32) -> Result<(), Stop>
+    requires going { (S.state store.old).ended ≡ false }
+    requires unmarked { (S.state store.old).marked ≡ None }
+    ensures going { OnOk result ((S.state store.new).ended ≡ false) }
+    ensures unmarked { OnOk result ((S.state store.new).marked ≡ None) }
+{
+    if pages > MAX_PAGES - EXTENT_PAGES {
+        return Err(Stop::TooLarge);
+    }
+    let pages = pages.next_multiple_of(EXTENT_PAGES);
+    for _ in 0..=pages / STEP {
+        let missing = pages.saturating_sub(store.count());
+        grow(store, missing.min(STEP))?;
+    }
+    Ok(())
+}
+
+// Adds pages, and commits them.
+fn grow<S: Store>(store: &mut S, n: u32) -> Result<(), Stop>
+    requires going { (S.state store.old).ended ≡ false }
+    requires unmarked { (S.state store.old).marked ≡ None }
+    ensures going { OnOk result ((S.state store.new).ended ≡ false) }
+    ensures unmarked { OnOk result ((S.state store.new).marked ≡ None) }
+{
+    if n > MAX_PAGES.saturating_sub(store.count()) {
+        return Err(Stop::TooLarge);
+    }
+    store.grow(n)?;
+    let mut root = *page_of(store, 0)?;
+    root[8..12].copy_from_slice(&store.count().to_be_bytes());
+    write(store, 0, &root)?;
+    commit(store)
+}
+
+/// Lends a page of the work.
+pub fn page_of<S: Pages>(store: &mut S, p: u32) -> Result<&Page, Stop>
+    requires { (S.state store.old).ended ≡ false }
+    ensures going { (S.state store.new).ended ≡ false }
+    ensures marked { (S.state store.new).marked ≡ (S.state store.old).marked }
+{
+    if p >= store.count() {
+        return Err(Stop::TooLarge);
+    }
+    store.fetch(p)?;
+    Ok(store.page())
+}
+
+/// Writes over a page of the work.
+pub fn write<S: Pages>(store: &mut S, p: u32, bytes: &Page) -> Result<(), Stop>
+    requires { (S.state store.old).ended ≡ false }
+    ensures going { (S.state store.new).ended ≡ false }
+    ensures marked { (S.state store.new).marked ≡ (S.state store.old).marked }
+{
+    if p >= store.count() {
+        return Err(Stop::TooLarge);
+    }
+    store.write(p, bytes)?;
+    Ok(())
+}
+
+/// Makes the work the base. Its page 0 states how many pages it has.
+pub fn commit<S: Store>(store: &mut S) -> Result<(), Stop>
+    requires going { (S.state store.old).ended ≡ false }
+    requires unmarked { (S.state store.old).marked ≡ None }
+    ensures going { OnOk result ((S.state store.new).ended ≡ false) }
+    ensures unmarked { OnOk result ((S.state store.new).marked ≡ None) }
+{
+    let root = page_of(store, 0)?;
+    let stated = u32::from_be_bytes([root[8], root[9], root[10], root[11]]);
+    if stated != store.count() {
+        return Err(Stop::TooLarge);
+    }
+    store.prepare()?;
+    store.commit()?;
+    Ok(())
+}
