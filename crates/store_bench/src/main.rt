@@ -4,6 +4,7 @@
 //! the work alone. `bench/store` runs it, and prints what each piece of work takes.
 #![tactic(auto)]
 
+mod calls;
 mod plan;
 mod setup;
 mod stop;

@@ -1,11 +1,12 @@
 // The file that is worked on.
 ghost use Rattle.std.specs.Prelude.{◌≡◌, false, None, IfOk, OnOk};
 
+use crate::calls::{commit, fetch, write};
 use crate::stop::Stop;
 use mdc_outside::Host;
 use page_store::{FileStore, make};
 use std::alloc::Global;
-use store_api::{MAX_PAGES, Page, Pages, Store};
+use store_api::{MAX_PAGES, Store};
 
 // The scratch file in memory.
 const FILE: &str = "-";
@@ -80,51 +81,9 @@ fn grow<S: Store>(store: &mut S, n: u32) -> Result<(), Stop>
         return Err(Stop::TooLarge);
     }
     store.grow(n)?;
-    let mut root = *page_of(store, 0)?;
+    fetch(store, 0)?;
+    let mut root = *store.page();
     root[8..12].copy_from_slice(&store.count().to_be_bytes());
     write(store, 0, &root)?;
     commit(store)
-}
-
-/// Lends a page of the work.
-pub fn page_of<S: Pages>(store: &mut S, p: u32) -> Result<&Page, Stop>
-    requires { (S.state store.old).ended ≡ false }
-    ensures going { (S.state store.new).ended ≡ false }
-    ensures marked { (S.state store.new).marked ≡ (S.state store.old).marked }
-{
-    if p >= store.count() {
-        return Err(Stop::TooLarge);
-    }
-    store.fetch(p)?;
-    Ok(store.page())
-}
-
-/// Writes over a page of the work.
-pub fn write<S: Pages>(store: &mut S, p: u32, bytes: &Page) -> Result<(), Stop>
-    requires { (S.state store.old).ended ≡ false }
-    ensures going { (S.state store.new).ended ≡ false }
-    ensures marked { (S.state store.new).marked ≡ (S.state store.old).marked }
-{
-    if p >= store.count() {
-        return Err(Stop::TooLarge);
-    }
-    store.write(p, bytes)?;
-    Ok(())
-}
-
-/// Makes the work the base. Its page 0 states how many pages it has.
-pub fn commit<S: Store>(store: &mut S) -> Result<(), Stop>
-    requires going { (S.state store.old).ended ≡ false }
-    requires unmarked { (S.state store.old).marked ≡ None }
-    ensures going { OnOk result ((S.state store.new).ended ≡ false) }
-    ensures unmarked { OnOk result ((S.state store.new).marked ≡ None) }
-{
-    let root = page_of(store, 0)?;
-    let stated = u32::from_be_bytes([root[8], root[9], root[10], root[11]]);
-    if stated != store.count() {
-        return Err(Stop::TooLarge);
-    }
-    store.prepare()?;
-    store.commit()?;
-    Ok(())
 }

@@ -20,8 +20,10 @@ pub enum Stop {
     Uncommitted(DeviceFault),
     /// Memory ran out before there was a store.
     Memory,
-    /// The size is more than a store can have.
+    /// The size is more than the store has or can have.
     TooLarge,
+    /// Page 0 states another number of pages.
+    Uncounted,
 }
 
 impl From<io::Error> for Stop {

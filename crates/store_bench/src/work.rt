@@ -1,7 +1,8 @@
 // The pieces of work. Each answers the sum of one byte of every page that it saw.
-ghost use Rattle.std.specs.Prelude.{◌≡◌, false, None, OnOk};
+ghost use Rattle.std.specs.Prelude.{◌≡◌, ◌<◌, false, None, OnOk};
 
-use crate::setup::{commit as commit_work, made, opened, page_of, write};
+use crate::calls;
+use crate::setup::{made, opened};
 use crate::stop::Stop;
 use mdc_outside::Host;
 use std::alloc::Global;
@@ -29,14 +30,14 @@ pub fn open<H: Host + Drop>(alloc: Global, host: H, pages: u32, times: u32) -> R
 pub fn hot<H: Host + Drop>(alloc: Global, host: H, pages: u32, times: u32) -> Result<u64, Stop> {
     let mut store = made(alloc, host, MANY)?;
     fetch_around(&mut store, CACHED, CACHED)?;
-    fetch_times(&mut store, CACHED, pages, times)
+    fetch_around(&mut store, CACHED, pages.saturating_mul(times))
 }
 
 /// Fetches so many pages, none of which is in the cache.
 pub fn cold<H: Host + Drop>(alloc: Global, host: H, pages: u32, times: u32) -> Result<u64, Stop> {
     let mut store = made(alloc, host, MANY)?;
     fetch_around(&mut store, MANY, MANY)?;
-    fetch_times(&mut store, MANY, pages, times)
+    fetch_around(&mut store, MANY, pages.saturating_mul(times))
 }
 
 /// Writes so many pages and commits them, over a full cache.
@@ -49,31 +50,17 @@ pub fn commit<H: Host + Drop>(alloc: Global, host: H, pages: u32, times: u32) ->
     fetch_around(&mut store, MANY, MANY)
 }
 
-// Fetches so many pages, from page 0 again after each round of that many, so many times.
-fn fetch_times<S: Pages>(store: &mut S, round: u32, pages: u32, times: u32) -> Result<u64, Stop>
-    requires { (S.state store.old).ended ≡ false }
-{
-    let mut sum: u64 = 0;
-    for _ in 0..times {
-        sum = sum.wrapping_add(fetch_around(store, round, pages)?);
-    }
-    Ok(sum)
-}
-
 // Fetches so many pages, from page 0 again after each round of that many.
 fn fetch_around<S: Pages>(store: &mut S, round: u32, pages: u32) -> Result<u64, Stop>
-    requires { (S.state store.old).ended ≡ false }
+    requires going { (S.state store.old).ended ≡ false }
+    requires round { 0 < round }
     ensures going { (S.state store.new).ended ≡ false }
     ensures marked { (S.state store.new).marked ≡ (S.state store.old).marked }
 {
     let mut sum: u64 = 0;
-    let mut p: u32 = 0;
-    for _ in 0..pages {
-        sum = sum.wrapping_add(u64::from(page_of(store, p)?[0]));
-        p += 1;
-        if p >= round {
-            p = 0;
-        }
+    for i in 0..pages {
+        calls::fetch(store, i % round)?;
+        sum = sum.wrapping_add(u64::from(store.page()[0]));
     }
     Ok(sum)
 }
@@ -86,7 +73,7 @@ fn commit_pages<S: Store>(store: &mut S, pages: u32, bytes: &Page) -> Result<(),
     ensures unmarked { OnOk result ((S.state store.new).marked ≡ None) }
 {
     for i in 0..pages {
-        write(store, i + 1, bytes)?;
+        calls::write(store, i + 1, bytes)?;
     }
-    commit_work(store)
+    calls::commit(store)
 }
