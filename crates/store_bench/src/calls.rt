@@ -1,6 +1,6 @@
 // Calls of a store. Each tests first what it requires.
-ghost use Rattle.std.specs.Prelude.{◌≡◌, false, None, IsSome, OnOk};
-ghost use Rattle.store_api.specs.StoreState.{stated_in};
+ghost use Rattle.std.specs.Prelude.{◌≡◌, false, drop, None, IsSome, OnOk};
+ghost use Rattle.byteorder.specs.Endian.{big_number};
 
 use crate::stop::Stop;
 use byteorder::{BigEndian, ByteOrder};
@@ -40,7 +40,10 @@ pub fn commit<S: Store>(store: &mut S) -> Result<(), Stop>
     ensures going { OnOk result ((S.state store.new).ended ≡ false) }
     ensures unmarked { OnOk result ((S.state store.new).marked ≡ None) }
 {
-    fetch(store, 0)?;
+    if store.count() == 0 {
+        return Err(Stop::TooLarge);
+    }
+    store.fetch(0)?;
     if stated_count(store.page()) != store.count() {
         return Err(Stop::Uncounted);
     }
@@ -51,7 +54,7 @@ pub fn commit<S: Store>(store: &mut S) -> Result<(), Stop>
 
 // How many pages there are, as this page 0 states it.
 fn stated_count(root: &Page) -> u32
-    ensures { result ≡ stated_in root.now }
+    ensures { result ≡ big_number 4 (drop 8 root.now) }
 {
     BigEndian::read_u32(&root[8..])
 }

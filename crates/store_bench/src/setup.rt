@@ -1,12 +1,13 @@
 // The file that is worked on.
-ghost use Rattle.std.specs.Prelude.{◌≡◌, false, None, IfOk, OnOk};
+ghost use Rattle.std.specs.Prelude.{◌≡◌, ◌+◌, ◌≤◌, false, None, IsTrue, IfOk, OnOk};
 
 use crate::calls::{commit, fetch, write};
 use crate::stop::Stop;
+use byteorder::{BigEndian, ByteOrder};
 use mdc_outside::Host;
 use page_store::{FileStore, make};
 use std::alloc::Global;
-use store_api::{MAX_PAGES, Store};
+use store_api::{MAX_PAGES, Page, Pages, Store};
 
 // The scratch file in memory.
 const FILE: &str = "-";
@@ -77,13 +78,26 @@ fn grow<S: Store>(store: &mut S, n: u32) -> Result<(), Stop>
     ensures going { OnOk result ((S.state store.new).ended ≡ false) }
     ensures unmarked { OnOk result ((S.state store.new).marked ≡ None) }
 {
-    if n > MAX_PAGES.saturating_sub(store.count()) {
+    if !has_room(store.count(), n) {
         return Err(Stop::TooLarge);
     }
     store.grow(n)?;
     fetch(store, 0)?;
-    let mut root = *store.page();
-    root[8..12].copy_from_slice(&store.count().to_be_bytes());
+    let root = with_count(store.page(), store.count());
     write(store, 0, &root)?;
     commit(store)
+}
+
+// Whether a store of so many pages has room for n more.
+fn has_room(count: u32, n: u32) -> bool
+    ensures { IsTrue result → count + n ≤ 262289 }
+{
+    n <= MAX_PAGES && count <= MAX_PAGES - n
+}
+
+// A page 0 that states this number of pages.
+fn with_count(root: &Page, count: u32) -> Page {
+    let mut root = *root;
+    BigEndian::write_u32(&mut root[8..], count);
+    root
 }

@@ -44,9 +44,7 @@ pub fn cold<H: Host + Drop>(alloc: Global, host: H, pages: u32, times: u32) -> R
 pub fn commit<H: Host + Drop>(alloc: Global, host: H, pages: u32, times: u32) -> Result<u64, Stop> {
     let mut store = made(alloc, host, MANY)?;
     fetch_around(&mut store, CACHED, CACHED)?;
-    for n in 0..times {
-        commit_pages(&mut store, pages, &[n as u8; 4096])?;
-    }
+    commit_times(&mut store, pages, times)?;
     fetch_around(&mut store, MANY, MANY)
 }
 
@@ -63,6 +61,18 @@ fn fetch_around<S: Pages>(store: &mut S, round: u32, pages: u32) -> Result<u64, 
         sum = sum.wrapping_add(u64::from(store.page()[0]));
     }
     Ok(sum)
+}
+
+// Makes so many commits of so many pages.
+fn commit_times<S: Store>(store: &mut S, pages: u32, times: u32) -> Result<(), Stop>
+    requires going { (S.state store.old).ended ≡ false }
+    requires unmarked { (S.state store.old).marked ≡ None }
+    ensures going { OnOk result ((S.state store.new).ended ≡ false) }
+{
+    for _ in 0..times {
+        commit_pages(store, pages, &[7; 4096])?;
+    }
+    Ok(())
 }
 
 // Writes these bytes over each of so many pages behind page 0, and commits them.
