@@ -1,0 +1,89 @@
+// The pieces of work. Each answers the sum of one byte of every page that it saw.
+ghost use Rattle.std.specs.Prelude.{◌≡◌, ◌<◌, false, None, OnOk};
+
+use crate::calls;
+use crate::setup::{made, opened};
+use crate::stop::Stop;
+use mdc_outside::Host;
+use std::alloc::Global;
+use store_api::{Page, Pages, Store};
+
+// How many clean pages are in the cache once it is full.
+const CACHED: u32 = 1024;
+
+// How many pages there are where none is found in the cache, and where pages are committed.
+const MANY: u32 = 8192;
+
+/// Opens a file of at least so many pages, and closes it.
+pub fn open<H: Host + Drop>(alloc: Global, host: H, pages: u32, times: u32) -> Result<u64, Stop> {
+    let mut host = made(alloc, host, pages)?.close();
+    let mut sum: u64 = 0;
+    for _ in 0..times {
+        let store = opened(alloc, host)?;
+        sum = sum.wrapping_add(u64::from(store.count()));
+        host = store.close();
+    }
+    Ok(sum)
+}
+
+/// Fetches so many pages, all of which are in the cache.
+pub fn hot<H: Host + Drop>(alloc: Global, host: H, pages: u32, times: u32) -> Result<u64, Stop> {
+    let mut store = made(alloc, host, MANY)?;
+    fetch_around(&mut store, CACHED, CACHED)?;
+    fetch_around(&mut store, CACHED, pages.saturating_mul(times))
+}
+
+/// Fetches so many pages, none of which is in the cache.
+pub fn cold<H: Host + Drop>(alloc: Global, host: H, pages: u32, times: u32) -> Result<u64, Stop> {
+    let mut store = made(alloc, host, MANY)?;
+    fetch_around(&mut store, MANY, MANY)?;
+    fetch_around(&mut store, MANY, pages.saturating_mul(times))
+}
+
+/// Writes so many pages and commits them, over a full cache.
+pub fn commit<H: Host + Drop>(alloc: Global, host: H, pages: u32, times: u32) -> Result<u64, Stop> {
+    let mut store = made(alloc, host, MANY)?;
+    fetch_around(&mut store, CACHED, CACHED)?;
+    commit_times(&mut store, pages, times)?;
+    fetch_around(&mut store, MANY, MANY)
+}
+
+// Fetches so many pages, from page 0 again after each round of that many.
+fn fetch_around<S: Pages>(store: &mut S, round: u32, pages: u32) -> Result<u64, Stop>
+    requires going { (S.state store.old).ended ≡ false }
+    requires round { 0 < round }
+    ensures going { (S.state store.new).ended ≡ false }
+    ensures marked { (S.state store.new).marked ≡ (S.state store.old).marked }
+{
+    let mut sum: u64 = 0;
+    for i in 0..pages {
+        calls::fetch(store, i % round)?;
+        sum = sum.wrapping_add(u64::from(store.page()[0]));
+    }
+    Ok(sum)
+}
+
+// Makes so many commits of so many pages.
+fn commit_times<S: Store>(store: &mut S, pages: u32, times: u32) -> Result<(), Stop>
+    requires going { (S.state store.old).ended ≡ false }
+    requires unmarked { (S.state store.old).marked ≡ None }
+    ensures going { OnOk result ((S.state store.new).ended ≡ false) }
+{
+    for _ in 0..times {
+        commit_pages(store, pages, &[7; 4096])?;
+    }
+    Ok(())
+}
+
+// Writes these bytes over each of so many pages behind page 0, and commits them.
+fn commit_pages<S: Store>(store: &mut S, pages: u32, bytes: &Page) -> Result<(), Stop>
+    requires going { (S.state store.old).ended ≡ false }
+    requires unmarked { (S.state store.old).marked ≡ None }
+    ensures going { OnOk result ((S.state store.new).ended ≡ false) }
+    ensures unmarked { OnOk result ((S.state store.new).marked ≡ None) }
+{
+    for i in 0..pages {
+        calls::write(store, i + 1, bytes)?;
+    }
+    calls::commit(store)
+}
