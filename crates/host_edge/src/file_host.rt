@@ -85,37 +85,33 @@ impl<R: Files + Drop, W: Write + Drop> Disk for FileHost<R, W> {
     }
 
     fn len(&mut self) -> Result<u64, Failed> {
-        let outcome = match &mut self.attached {
-            Some(Attached::File(file)) => positioned::len(file),
-            Some(Attached::Scratch) => positioned::len(&mut self.scratch),
-            None => Err(ErrorKind::NotFound.into()),
+        let outcome = match self.attached.as_mut().unwrap() {
+            Attached::File(file) => positioned::len(file),
+            Attached::Scratch => positioned::len(&mut self.scratch),
         };
         counted(&mut self.disk_faults, outcome)
     }
 
     fn read(&mut self, at: u64, out: &mut [u8]) -> Result<(), Failed> {
-        let outcome = match &mut self.attached {
-            Some(Attached::File(file)) => positioned::read_at(file, at, out),
-            Some(Attached::Scratch) => positioned::read_at(&mut self.scratch, at, out),
-            None => Err(ErrorKind::NotFound.into()),
+        let outcome = match self.attached.as_mut().unwrap() {
+            Attached::File(file) => positioned::read_at(file, at, out),
+            Attached::Scratch => positioned::read_at(&mut self.scratch, at, out),
         };
         counted(&mut self.disk_faults, outcome)
     }
 
     fn write(&mut self, at: u64, bytes: &[u8]) -> Result<(), Failed> {
-        let outcome = match &mut self.attached {
-            Some(Attached::File(file)) => positioned::write_at(file, at, bytes),
-            Some(Attached::Scratch) => positioned::write_at(&mut self.scratch, at, bytes),
-            None => Err(ErrorKind::NotFound.into()),
+        let outcome = match self.attached.as_mut().unwrap() {
+            Attached::File(file) => positioned::write_at(file, at, bytes),
+            Attached::Scratch => positioned::write_at(&mut self.scratch, at, bytes),
         };
         counted(&mut self.disk_faults, outcome)
     }
 
     fn sync(&mut self) -> Result<(), Failed> {
-        let outcome = match &self.attached {
-            Some(Attached::File(file)) => file.sync_all(),
-            Some(Attached::Scratch) => Ok(()),
-            None => Err(ErrorKind::NotFound.into()),
+        let outcome = match self.attached.as_ref().unwrap() {
+            Attached::File(file) => file.sync_all(),
+            Attached::Scratch => Ok(()),
         };
         counted(&mut self.disk_faults, outcome)
     }

@@ -6,10 +6,12 @@ use Rattle.mdc_outside.specs.Disk.{Since, IsImage, AreBytes, file_at_first, all_
 use Rattle.mdc_outside.specs.Replay.{Past, State, state_of, fresh, replay, step, at_first, may_leave, since_within, piece_within}
 use Rattle.mdc_outside.specs.Aftermath.{filled, torn_bytes, torn_by, bytes_after, tape_after, since_all, EndsSynced, PutsNothing, MayBeLeft, IsLeft, IsLeftWithin, makes_file}
 use Rattle.mdc_outside.specs.Contents.{contents_of}
+use Rattle.mdc_outside.specs.Points.{IsLeftAt}
 use Rattle.mdc_outside.specs.ReplayLaws.{image-overwritten, image-synced}
 use Rattle.mdc_outside.specs.declared.call.Event.{Event}
 use Rattle.mdc_outside.specs.declared.call.Event.TheVariants.{Attach, Len, Read, Write, Sync, Say}
 use Rattle.mdc_outside.specs.declared.call.Entry.{Entry}
+use Rattle.mdc_outside.proofs.PointLemmas.{moments-points}
 use Rattle.mdc_outside.proofs.Replaying.{replay-grown, or-true, or-false}
 
 -- a range holds as many bytes as were written
@@ -166,14 +168,18 @@ synced-more calls i entry inside is sync =
     take_more calls i entry inside ∙ ap (λ last. take i calls ++ last ∷ []) (sym is ∙ sync) in
     rw grown (synced-grown (take i calls))
 
--- what may be left within a call may be left since the calls before it
-pub moment-within : (past : Past) (n : ℕ) (entry : Entry) (image : List ℕ) → n < length past.entries → entry ≡ get_or past.entries n entry → AreBytes image
+-- what may be left within a call may be left at its point of the record
+pub left-within : (past : Past) (n : ℕ) (entry : Entry) (image : List ℕ) → n < length past.entries → entry ≡ get_or past.entries n entry → AreBytes image
     → IsImage (since_within entry.event (replay (at_first past.first past.heard) (take n past.entries)).file.since) image
-    → may_leave past n image (replay (at_first past.first past.heard) (take n past.entries)).tape
-moment-within past n entry image inside is bytes left =
+    → IsLeftAt past n image (replay (at_first past.first past.heard) (take n past.entries)).tape
+left-within past n entry image inside is bytes left =
     let here : drop n past.entries ≡ entry ∷ drop (n + 1) past.entries = drop_more past.entries n entry inside ∙ ap (λ entry. entry ∷ drop (n + 1) past.entries) (sym is) in
     let before = replay (at_first past.first past.heard) (take n past.entries) in
-    rw here (inl (record { left = left; byte = bytes; said = ([], piece_within entry.event, refl, sym (append-nil before.tape)) }))
+    rw here (record { left = left; byte = bytes; said = ([], piece_within entry.event, refl, sym (append-nil before.tape)) })
+
+-- and since the calls before it
+pub moment-at : (past : Past) (n : ℕ) (image tape : List ℕ) → n < length past.entries → IsLeftAt past n image tape → may_leave past n image tape
+moment-at past n image tape inside left = (moments-points past n image tape (omega arith)).1 (n, omega arith, omega arith, left)
 
 -- the file that a host begins with has its bytes, all of them on the disk
 pub first-bytes : (first : Option (List ℕ)) → (file_at_first first).bytes ≡ contents_of first None
@@ -190,14 +196,14 @@ pub after-tape : {E : Type 0} (result : Result Past E) (tape before : List ℕ) 
 after-tape (Ok host) tape before is same = ap (λ past. past.heard) is ∙ same
 after-tape (Err e) tape before is same = tt
 
--- the file and the tape of the host that is left are a moment of the first
-pub after-moment : {E : Type 0} (result : Result Past E) (past : Past) (n : ℕ) (bytes tape : List ℕ) → IfOk result (λ host. host ≡ fresh host.first tape) → IfOk result (λ host. (file_at_first host.first).bytes ≡ bytes)
-    → may_leave past n bytes tape → IfOk result (λ host. may_leave past n (state_of host).file.bytes (state_of host).tape)
-after-moment (Ok host) past n bytes tape is same may =
+-- what holds of these bytes and this tape holds of the file and the tape of the host that is left
+pub after-both : {E : Type 0} (result : Result Past E) (fact : List ℕ → List ℕ → Type 0) (bytes tape : List ℕ) → IfOk result (λ host. host ≡ fresh host.first tape) → IfOk result (λ host. (file_at_first host.first).bytes ≡ bytes)
+    → fact bytes tape → IfOk result (λ host. fact (state_of host).file.bytes (state_of host).tape)
+after-both (Ok host) fact bytes tape is same may =
     let image : (state_of host).file.bytes ≡ bytes = ap (λ past. (state_of past).file.bytes) is ∙ same in
     let said : (state_of host).tape ≡ tape = ap (λ past. (state_of past).tape) is in
     rw (image, said) may
-after-moment (Err e) past n bytes tape is same may = tt
+after-both (Err e) fact bytes tape is same may = tt
 
 -- the file that was there is there in the host that is left
 pub after-there : {E : Type 0} (result : Result Past E) (before there : Bool) (tape : List ℕ) → IfOk result (λ host. host ≡ fresh host.first tape) → IfOk result (λ host. IsTrue there → IsTrue (file_at_first host.first).is_there)

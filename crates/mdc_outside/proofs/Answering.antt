@@ -47,11 +47,6 @@ on_err (Err e) fact = fact
 pub state-done : (event : Event) (old new : Past) → new ≡ called event true old → state_of new ≡ after_done event (state_of old)
 state-done event old new is = ap state_of is ∙ state-called event true old
 
--- the file after a failed call
-pub state-failed : (event : Event) (old new : Past) (e : Failed) → IsAnswered event (Err e) old new → (state_of new ≡ after_failed event (state_of old)) ⊎ (state_of new ≡ state_of old)
-state-failed event old new e (inl is) = inl (ap state_of is ∙ state-called event false old)
-state-failed event old new e (inr is) = inr (ap state_of is)
-
 -- a failed call that tears nothing changes nothing
 mild-failed : (event : Event) (state : State) → IsMild event → after_failed event state ≡ state
 mild-failed (Attach path make) state mild = refl

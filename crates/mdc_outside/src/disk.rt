@@ -1,5 +1,5 @@
 // The disk beneath the engine: one file, and what a crash may leave of it at each moment.
-ghost use Rattle.std.specs.Prelude.{◌≡◌, ◌≢◌, ◌⊎◌, ◌↔◌, ◌≤◌, ◌+◌, ◌∷◌, ◌++◌, [], ℕ, Bool, true, false, List, Option, Some, take, drop, length, IsTrue, IfOk, IfSome, OnOk, OnErr};
+ghost use Rattle.std.specs.Prelude.{◌≡◌, ◌⊎◌, ◌↔◌, ◌≤◌, ◌+◌, [], ℕ, Bool, false, List, Option, take, drop, length, IsTrue, IfOk, IfSome, OnOk, OnErr};
 ghost use Rattle.std.specs.Option.{option_map, ForSome};
 ghost use Rattle.mdc_outside.specs.Disk.{File, IsSound, Becomes, IsTorn, IsUnsettled, opened, written, settled};
 ghost use Rattle.mdc_outside.specs.Moments.{Beside, IsMoment, WhereTold, Elapses, HasCause, Adds};

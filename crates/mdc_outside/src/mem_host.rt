@@ -50,6 +50,7 @@ impl MemHost {
     ghost use Rattle.mdc_outside.specs.Calls.{call_of};
     ghost use Rattle.mdc_outside.specs.Disk.{file_at_first, AreBytes};
     ghost use Rattle.mdc_outside.specs.Aftermath.{IsLeftWithin};
+    ghost use Rattle.mdc_outside.specs.Points.{IsLeftAt};
     ghost use Rattle.mdc_outside.specs.Replay.{state_of, state_before, fresh, with_disk_faults, with_file, IsQuiet, IsRecorded, IsAnswered, IsSaid};
     ghost use Rattle.mdc_outside.specs.declared.call.Event.TheVariants.{Attach, Len, Read, Write, Sync, Say};
 
@@ -111,6 +112,7 @@ impl MemHost {
         ensures bytes { IfOk result (λ host. IsLeftWithin fill call self.now (state_of host).file.bytes) }
         ensures moment { IfOk result (λ host. WhereTold (⟦<MemHost as Disk>⟧.file host) (⟦<MemHost as Disk>⟧.beside host).tape
             (λ file tape. ⟦<MemHost as Disk>⟧.moment self.now (call - 1) file.bytes tape)) }
+        ensures within { IfOk result (λ host. IsLeftAt self.now (call - 1) (state_of host).file.bytes (state_of host).tape) }
     {
         let n = call as usize - 1;
         let (before, _) = self.entries.split_at(n);

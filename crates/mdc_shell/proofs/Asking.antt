@@ -1,6 +1,6 @@
 -- What the words of a command line ask for.
 use Rattle.std.proofs.Common.{◌≡◌, ◌⊎◌, ◌≢◌, ◌∙◌, ◌<◌, ◌≤◌, ◌^◌, ℕ, codes, List, [], ◌∷◌, map, length, get_or, Option, Some, None, Result, Ok, Err, MatchOption, refl, sym, ap, subst, inl, inr, arith, option_map, true}
-use Rattle.std.specs.List.{All, slice_index_or}
+use Rattle.std.specs.List.{All}
 use Rattle.std.specs.Result.{OkIff, result_ok}
 use Rattle.std.specs.Str.Parse.{AllDigits, ParsesUnsigned, digits_value}
 use Rattle.std.proofs.lemmas.List.Elements.{All-cons, All-nil, All-head, All-tail}
@@ -14,7 +14,7 @@ use Rattle.mdc_shell.specs.Asked.{Asks, AsksCreate, AsksRun}
 use Rattle.mdc_shell.specs.Found.{Finds, FindsCreate, FindsRun, IsSplit, name_in, value_in}
 use Rattle.mdc_shell.specs.Grammar.{mdc_app}
 use Rattle.mdc_shell.proofs.ClapWords.{mdc_is_free, mdc_is_simple, split_is_taken, taken_finds}
-use Rattle.mdc_shell.specs.Words.{IsCreateLine, IsNoLine, IsNumeral, IsPath, IsPlain, IsRequest, IsRunLine}
+use Rattle.mdc_shell.specs.Words.{IsCreateLine, IsNoLine, IsNumeral, IsPath, IsPlain, IsRequest}
 
 -- a text without a sign in front is read as its number
 pub number_read : {E : Type 0} (text : List ℕ) (r : Result ℕ E) → 0 < length text → length text ≤ 9 → get_or text 0 0 ≢ 48 → get_or text 0 0 ≢ 43 → ParsesUnsigned 32 10 text r
@@ -26,10 +26,6 @@ number_read text r some short lead plus parses = go r (parse_plain (numerals_by_
     go (Ok n) read = record { digits = read.0.0; some = some; short = short; lead = lead; value = read.1 }
     go (Err e) none = λ n number.
         none (number.digits, number.some, omega (arith, digits_value_short (numerals_by_value (AllDigits 10) tells_digits) text 9 number.digits number.short))
-
--- a numeral writes one number
-pub one_number : (text : List ℕ) (n m : ℕ) → IsNumeral text n → IsNumeral text m → n ≡ m
-one_number text n m first second = first.value ∙ sym second.value
 
 -- two maps, one after the other
 pub map_twice : {A B C : Type 0} (f : B → C) (g : A → B) (o : Option A) → option_map f (option_map g o) ≡ option_map (λ x. f (g x)) o
@@ -124,13 +120,6 @@ pub no_line_unplain : (words : List Text) → (All IsPlain words → ⊥) → Is
 no_line_unplain words unplain = record {
   no_run = λ run. unplain (subst (All IsPlain) (sym run) run_plain);
   no_create = λ path n m line. unplain (subst (All IsPlain) (sym line.are) (create_plain path line.extents_text line.pages_text n m line.request));
-}
-
--- words that don't have the form of a command line are none
-pub no_line_other : (words : List Text) → (IsSplit words → ⊥) → IsNoLine words
-no_line_other words other = record {
-  no_run = λ run. other (inr (record { file = codes "-"; are = run }));
-  no_create = λ path n m line. other (inl (record { file = path; extents = line.extents_text; pages = line.pages_text; are = line.are }));
 }
 
 -- where clap takes plain words, it finds what they say

@@ -1,16 +1,16 @@
 -- What clap makes of words that are no flags.
-use Rattle.std.proofs.Common.{◌≡◌, ◌⊎◌, ◌≢◌, ◌∙◌, ℕ, Bool, true, false, cond, codes, List, [], ◌∷◌, ◌++◌, Option, Some, None, refl, sym, ap, ap₂, subst, inl, inr, arith, is_some}
-use Rattle.std.specs.Prelude.{nat_eq, fold}
+use Rattle.std.proofs.Common.{◌≡◌, ◌∙◌, true, false, codes, List, [], ◌∷◌, Some, None, refl, sym, ap₂, subst, inl, inr, is_some}
+use Rattle.std.specs.Prelude.{nat_eq}
 use Rattle.std.specs.List.{All}
 use Rattle.std.specs.Str.{bytes_eq}
-use Rattle.std.proofs.lemmas.Bool.{cases_eq, ne_eqb}
+use Rattle.std.proofs.lemmas.Bool.{cases_Bool, cases_eq, ne_eqb}
 use Rattle.std.proofs.lemmas.List.Elements.{All-head, All-tail}
 use Rattle.std.proofs.lemmas.Slice.Eq.{bytes_eq-Decides}
 use Rattle.clap.specs.Lexer.{long_of, short_of}
-use Rattle.clap.specs.Walk.{Held, Names, Row, Rule, Text, Walk, finished, nothing_held, settled, walk, walk_from, walked}
-use Rattle.clap.specs.Simple.{App, Shape, built, entered, is_simple, names_of, subcommand_of}
+use Rattle.clap.specs.Walk.{Text, Walk, finished, nothing_held, settled, walk_from}
+use Rattle.clap.specs.Simple.{built, entered, is_simple, names_of, subcommand_of}
 use Rattle.clap.specs.Kinds.{Kinds, or_else}
-use Rattle.clap.specs.Faults.{check_fault, defaults_fault, entered_fault, fault_of, is_simple_and_free, settle_fault, walk_fault}
+use Rattle.clap.specs.Faults.{check_fault, defaults_fault, entered_fault, fault_of, is_simple_and_free, settle_fault}
 use Rattle.clap.specs.declared.error.kind.ErrorKind.TheVariants.{InvalidSubcommand, MissingRequiredArgument, MissingSubcommand, UnknownArgument}
 use Rattle.clap.proofs.FaultLemmas.{stopped_fault}
 use Rattle.clap.proofs.OnLiterals.{clap_on_literals}
@@ -169,20 +169,16 @@ run_only [] all none = absurd (refused _ _ _ run_none none)
 run_only (a ∷ []) all none = record { file = a; are = refl }
 run_only (a ∷ b ∷ rest) all none = absurd (refused _ _ _ (run_fault (a ∷ b ∷ rest) ∙ run_many a b rest all.0 all.1.0) none)
 
-bool_cases : (b : Bool) → (b ≡ true) ⊎ (b ≡ false)
-bool_cases true = inl refl
-bool_cases false = inr refl
-
 -- only words of the form of a command line are taken
 split_of : (words : List Text) → AreNoFlags words → fault_of mdc_app words ≡ [] → IsSplit words
 unfolding AreNoFlags
 split_of [] all none = absurd (refused _ _ _ no_words none)
-split_of (w ∷ rest) all none = elim (bool_cases (bytes_eq (codes "create") w)) [
+split_of (w ∷ rest) all none = elim (cases_Bool (bytes_eq (codes "create") w)) [
   | inl create ↦ (let is : codes "create" ≡ w = (bytes_eq-Decides (codes "create") w).0 create in
       let P : Text → Type 0 = λ (t : Text). fault_of mdc_app (t ∷ rest) ≡ [] in
       let Q : Text → Type 0 = λ (t : Text). IsCreateSplit (t ∷ rest) in
       inl (subst Q is (create_only rest all.1 (subst P (sym is) none))))
-  | inr no_create ↦ elim (bool_cases (bytes_eq (codes "run") w)) [
+  | inr no_create ↦ elim (cases_Bool (bytes_eq (codes "run") w)) [
     | inl run ↦ (let is : codes "run" ≡ w = (bytes_eq-Decides (codes "run") w).0 run in
         let P : Text → Type 0 = λ (t : Text). fault_of mdc_app (t ∷ rest) ≡ [] in
         let Q : Text → Type 0 = λ (t : Text). IsRunSplit (t ∷ rest) in

@@ -9,16 +9,17 @@ use Rattle.sql_reader.specs.declared.statements.ReadStop.{ReadStop}
 use Rattle.sql_reader.specs.declared.statements.ReadStop.TheVariants as read
 use Rattle.mdc_shell.specs.Run.{RunsFrom, IsDone, StopsWithin, SaysClosed, SaysPart}
 use Rattle.mdc_shell.specs.Session.{outcomes, texts, has_refusal}
-use Rattle.mdc_shell.specs.Status.{status_of}
+use Rattle.mdc_shell.specs.Status.{served_by, status_of}
+use Rattle.mdc_shell.specs.declared.status.Served.{Served}
 use Rattle.mdc_shell.specs.declared.status.Stop.{Stop}
 use Rattle.mdc_shell.specs.declared.status.Stop.TheVariants.{Unread, Unsaid, TooLong, Memory}
 use Rattle.mdc_shell.proofs.Sessions.{says_more}
 
 -- how a script ended, by what `serve` answers
-abbrev pub EndsSo : List ℕ → List ℕ → List ℕ → Result Bool Stop → Type 0
-EndsSo taken rest said (Ok refused) =
+abbrev pub EndsSo : List ℕ → List ℕ → List ℕ → Result Served Stop → Type 0
+EndsSo taken rest said (Ok served) =
     (items : List Item) × Reads taken items × (rest ≡ []) × (said ≡ texts (outcomes items))
-    × (refused ≡ has_refusal (outcomes items)) × (length taken ≤ 67108864)
+    × (served ≡ served_by (has_refusal (outcomes items))) × (length taken ≤ 67108864)
 EndsSo taken rest said (Err Unread) = SaysClosed taken said × (length taken ≤ 67108864)
 EndsSo taken rest said (Err Unsaid) = StopsWithin taken rest said × (length taken ≤ 67108864)
 EndsSo taken rest said (Err Memory) = StopsWithin taken rest said × (length taken ≤ 67108864)
@@ -38,7 +39,7 @@ neither : {C : Type 0} (status a b : ℕ) → status ≢ a → status ≢ b → 
 neither status a b not_a not_b is = absurd (elim is [ inl e ↦ not_a e | inr e ↦ not_b e ])
 
 -- the statuses 0 and 1
-done_end : (taken rest said : List ℕ) (items : List Item) (refused : Bool) → Reads taken items → rest ≡ [] → said ≡ texts (outcomes items) → refused ≡ has_refusal (outcomes items) → length taken ≤ 67108864 → IsEnd taken rest said (status_of (Ok refused))
+done_end : (taken rest said : List ℕ) (items : List Item) (refused : Bool) → Reads taken items → rest ≡ [] → said ≡ texts (outcomes items) → refused ≡ has_refusal (outcomes items) → length taken ≤ 67108864 → IsEnd taken rest said (status_of (Ok (served_by refused)))
 done_end taken rest said items false reads empty texts_said e fits = record {
   done = λ is. record { items = items; reads = reads; none_left = empty; texts_said = texts_said; status_is = ap (λ b. if b then 1 else 0) e };
   unread = λ is. absurd (omega arith);
@@ -56,8 +57,10 @@ done_end taken rest said items true reads empty texts_said e fits = record {
   only_limit = λ long. absurd (omega arith);
 }
 
-is_end : (taken rest said : List ℕ) (result : Result Bool Stop) → EndsSo taken rest said result → IsEnd taken rest said (status_of result)
-is_end taken rest said (Ok refused) (items, reads, empty, texts_said, e, fits) = done_end taken rest said items refused reads empty texts_said e fits
+is_end : (taken rest said : List ℕ) (result : Result Served Stop) → EndsSo taken rest said result → IsEnd taken rest said (status_of result)
+is_end taken rest said (Ok served) (items, reads, empty, texts_said, e, fits) =
+    let P : Served → Type 0 = λ (s : Served). IsEnd taken rest said (status_of (Ok s)) in
+    subst P (sym e) (done_end taken rest said items (has_refusal (outcomes items)) reads empty texts_said refl fits)
 is_end taken rest said (Err Unread) (closed, fits) = record {
   done = neither 4 0 1 (λ e. omega arith) (λ e. omega arith);
   unread = λ is. closed;
@@ -92,7 +95,7 @@ is_end taken rest said (Err TooLong) (closed, long) = record {
 }
 
 -- a run that ends so, from what was taken and said in all
-pub runs_to : (script tape left new : Option (List ℕ)) (taken said : List ℕ) (result : Result Bool Stop) → Took script [] left taken → Takes tape said new → ((rest : List ℕ) → left ≡ Some rest → EndsSo taken rest said result) → RunsFrom script tape left new (status_of result)
+pub runs_to : (script tape left new : Option (List ℕ)) (taken said : List ℕ) (result : Result Served Stop) → Took script [] left taken → Takes tape said new → ((rest : List ℕ) → left ≡ Some rest → EndsSo taken rest said result) → RunsFrom script tape left new (status_of result)
 runs_to None tape left new taken said result took takes ends = tt
 runs_to (Some script) None left new taken said result took takes ends = tt
 runs_to (Some script) (Some tape) left new taken said result (piece, rest, whole, is_left, is_taken) takes ends =
@@ -113,7 +116,7 @@ runs_to (Some script) (Some tape) left new taken said result (piece, rest, whole
     }
 
 -- the same where the last of it is a part of a reply's text
-pub runs_to_part : (script tape mid left new : Option (List ℕ)) (taken said text : List ℕ) (result : Result Bool Stop) → Took script [] left taken → Takes tape said mid → TakesPart mid text new → ((rest part unsaid : List ℕ) → left ≡ Some rest → text ≡ part ++ unsaid → EndsSo taken rest (said ++ part) result) → RunsFrom script tape left new (status_of result)
+pub runs_to_part : (script tape mid left new : Option (List ℕ)) (taken said text : List ℕ) (result : Result Served Stop) → Took script [] left taken → Takes tape said mid → TakesPart mid text new → ((rest part unsaid : List ℕ) → left ≡ Some rest → text ≡ part ++ unsaid → EndsSo taken rest (said ++ part) result) → RunsFrom script tape left new (status_of result)
 runs_to_part None tape mid left new taken said text result took takes part ends = tt
 runs_to_part (Some script) None mid left new taken said text result took takes part ends = tt
 runs_to_part (Some script) (Some tape) mid left new taken said text result took takes part ends =

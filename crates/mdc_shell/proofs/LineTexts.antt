@@ -1,8 +1,7 @@
 -- A line of texts, written one text after the other.
-use Rattle.std.proofs.Common.{◌≡◌, ◌∙◌, ◌<◌, ◌≤◌, ◌+◌, ℕ, List, [], ◌∷◌, ◌++◌, refl, ap, sym, map, drop, get_or, length, append_assoc}
+use Rattle.std.proofs.Common.{◌≡◌, ◌∙◌, ◌≤◌, ℕ, List, [], ◌∷◌, ◌++◌, refl, ap, sym, map, drop, length, append_assoc}
 use Rattle.std.proofs.lemmas.List.{drop_all}
 use Rattle.mdc_ast.specs.Step.{line}
-use Rattle.mdc_shell.proofs.Columns.{from_place}
 
 -- what comes in a line behind its first text
 abbrev pub rest_of_line : List (List ℕ) → List ℕ
@@ -13,21 +12,6 @@ rest_of_line (text ∷ texts) = 124 ∷ text ++ rest_of_line texts
 pub line-first : (text : List ℕ) (texts : List (List ℕ)) → line (text ∷ texts) ≡ text ++ rest_of_line texts
 line-first text [] = refl
 line-first text (next ∷ texts) = ap (λ left. text ++ 124 ∷ left) (line-first next texts)
-
--- a bar and a text, appended one after the other
-pub appended : (old half new text : List ℕ) (texts : List (List ℕ)) → half ≡ old ++ 124 ∷ [] → new ≡ half ++ text →
-    new ++ rest_of_line texts ≡ old ++ rest_of_line (text ∷ texts)
-appended old half new text texts first second =
-    rw (second, first)
-    (ap (λ left. left ++ rest_of_line texts) (append_assoc old (124 ∷ []) text) ∙ append_assoc old (124 ∷ text) (rest_of_line texts))
-
--- one turn of a loop that writes the texts of the elements
-pub text_turn : {X : Type 0} (text_of : X → List ℕ) (xs : List X) (i : ℕ) (x : X) (old half new : List ℕ) →
-    i < length xs → x ≡ get_or xs i x → half ≡ old ++ 124 ∷ [] → new ≡ half ++ text_of x →
-    new ++ rest_of_line (map text_of (drop (i + 1) xs)) ≡ old ++ rest_of_line (map text_of (drop i xs))
-text_turn text_of xs i x old half new lt is first second =
-    appended old half new (text_of x) (map text_of (drop (i + 1) xs)) first second
-    ∙ ap (λ left. old ++ rest_of_line (map text_of left)) (sym (from_place xs i x lt is))
 
 -- a line whose first text stands there, and whose rest is written
 pub line_end : (old first text new : List ℕ) (texts : List (List ℕ)) → first ≡ old ++ text →

@@ -1,8 +1,7 @@
 -- Rows at places, before and after a row is put.
-use Rattle.std.proofs.Common.{◌≡◌, ◌∙◌, ◌<◌, ◌+◌, ℕ, zero, suc, List, [], ◌∷◌, ◌++◌, Option, Some, None, refl, ap, sym, subst, length, get_or, drop, arith, rules}
+use Rattle.std.proofs.Common.{◌≡◌, ◌∙◌, ◌<◌, ◌+◌, ℕ, zero, suc, List, [], ◌∷◌, ◌++◌, Option, Some, None, refl, ap, sym, subst, length, get_or, arith, rules}
 use Rattle.std.specs.Prelude.{IsSome, slice_get}
 use Rattle.mdc_ast.specs.declared.definition.Row.{Row}
-use Rattle.mdc_shell.proofs.Columns.{from_place}
 use Rattle.mdc_shell.specs.declared.cells.Place.{Place}
 use Rattle.mdc_shell.specs.Place.{row_in, row_at, Keeps, rows_at, with_found, HasNumber, AreNumbered}
 
@@ -77,21 +76,6 @@ some_at cells number (place ∷ places) zero other h lt = there number (row_at c
 some_at cells number (place ∷ places) (suc i) other h lt =
     let below : i < length places = omega arith in
     some_at cells (number + 1) places i other h.1 below
-
--- the place of each row finds one
-pub IsSome-row_at : (cells : List (List Row)) (number : ℕ) (places : List Place) (i : ℕ) (place : Place) → AreNumbered cells number places →
-    i < length places → place ≡ get_or places i place → IsSome (row_at cells place)
-IsSome-row_at cells number places i place h lt is =
-    let P : Place → Type 0 = λ at. IsSome (row_at cells at) in
-    subst P (sym is) (some_at cells number places i place h lt)
-
--- the rows behind a place begin with its row
-pub rows_at-from : (cells : List (List Row)) (places : List Place) (i : ℕ) (place : Place) (row : Row) → i < length places →
-    place ≡ get_or places i place → row_at cells place ≡ Some row →
-    rows_at cells (drop i places) ≡ row ∷ rows_at cells (drop (i + 1) places)
-rows_at-from cells places i place row lt is found =
-    ap (rows_at cells) (from_place places i place lt is)
-    ∙ ap (λ first. with_found first (rows_at cells (drop (i + 1) places))) found
 
 -- a list of the same places finds a row at each index
 pub IsSome-index : (cells : List (List Row)) (places same : List Place) (i : ℕ) (other : Place) → same ≡ places → AreNumbered cells 0 places →

@@ -1,5 +1,5 @@
 -- A table before and after rows are put.
-use Rattle.std.proofs.Common.{◌≡◌, ◌∙◌, ◌+◌, ℕ, suc, List, [], ◌∷◌, ◌++◌, Some, ap, sym, length, map, codes, arith, append_assoc, append-nil, length-append}
+use Rattle.std.proofs.Common.{◌≡◌, ◌∙◌, ◌+◌, ℕ, List, [], ◌∷◌, ◌++◌, Some, ap, sym, length, map, codes, arith, length-append}
 use Rattle.std.specs.Fmt.{decimal}
 use Rattle.std.specs.List.{flat_map}
 use Rattle.mdc_values.specs.Value.{printed}
@@ -8,7 +8,7 @@ use Rattle.mdc_ast.specs.declared.name.Name.{Name}
 use Rattle.mdc_ast.specs.declared.definition.ColumnDef.{ColumnDef}
 use Rattle.mdc_ast.specs.declared.definition.Row.{Row}
 use Rattle.mdc_ast.specs.Database.{PlainTable}
-use Rattle.mdc_ast.specs.Step.{with_rows, numbered, line, lines_of}
+use Rattle.mdc_ast.specs.Step.{with_rows, line, lines_of}
 use Rattle.mdc_shell.specs.declared.cells.Place.{Place}
 use Rattle.mdc_shell.specs.Place.{row_at, Keeps, rows_at, AreNumbered}
 use Rattle.mdc_shell.proofs.Places.{rows_at-kept, rows_at-more, AreNumbered-kept, AreNumbered-more, length-rows_at}
@@ -42,22 +42,6 @@ with_rows-put name columns dims old new places after place number values keeps h
     ∙ ap (λ before. before ++ row number values ∷ []) (rows_at-kept old new keeps 0 places h)
     ∙ ap (λ n. rows_at old places ++ row n values ∷ []) count in
     ap (λ n. table name columns dims n (rows_at new after)) next ∙ ap (table name columns dims (length places + 1)) rows
-
--- rows are put one after the other
-pub with_rows-cons : (before : PlainTable) (values : List Value) (others : List (List Value)) →
-    with_rows (with_rows before (values ∷ [])) others ≡ with_rows before (values ∷ others)
-with_rows-cons before values others =
-    let next : before.next + 1 + length others ≡ before.next + suc (length others) = omega arith in
-    ap (λ n. table before.name before.columns before.dims n ((before.rows ++ row before.next values ∷ []) ++ numbered (before.next + 1) others)) next
-    ∙ ap (table before.name before.columns before.dims (before.next + suc (length others)))
-    (append_assoc before.rows (row before.next values ∷ []) (numbered (before.next + 1) others))
-
--- no rows leave a table as it is
-pub with_rows-nil : (before : PlainTable) → with_rows before [] ≡ before
-with_rows-nil before =
-    let next : before.next + 0 ≡ before.next = omega arith in
-    ap (λ n. table before.name before.columns before.dims n (before.rows ++ [])) next
-    ∙ ap (table before.name before.columns before.dims before.next) (append-nil before.rows)
 
 -- the lines of a query, appended one after the other
 pub lines_whole : (name : Name) (columns : List ColumnDef) (dims : List (List ℕ)) (cells : List (List Row)) (places : List Place)

@@ -18,14 +18,6 @@ pub takes_nothing : (tape : Option (List ℕ)) → Takes tape [] tape
 takes_nothing None = refl
 takes_nothing (Some tape) = ap Some (sym (append-nil tape))
 
--- one piece taken, and then another
-pub took_more : (script left new : Option (List ℕ)) (taken more : List ℕ) → Took script [] left taken → Took left taken new more → Took script [] new more
-took_more None left new taken more first second = tt
-took_more (Some bytes) left new taken more (piece, rest, whole, is_left, is_taken) second =
-    let P : Option (List ℕ) → Type 0 = λ l. Took l taken new more in
-    let goes = subst P is_left second in
-    (piece ++ goes.0, goes.1, whole ∙ (ap (λ r. piece ++ r) goes.2 ∙ sym (append_assoc piece goes.0 goes.1)), goes.3, goes.4 ∙ ap (λ t. t ++ goes.0) is_taken)
-
 -- nothing taken
 pub took_nothing : (script : Option (List ℕ)) (taken : List ℕ) → Took script taken script taken
 took_nothing None taken = tt

@@ -6,7 +6,7 @@ use Rattle.mdc_values.specs.declared.value.Value.{Value}
 use Rattle.mdc_ast.specs.declared.definition.ColumnDef.{ColumnDef}
 use Rattle.mdc_ast.specs.declared.statement.InsertItem.{InsertItem}
 use Rattle.mdc_ast.specs.Step.{values_of}
-use Rattle.mdc_shell.proofs.Before.{after}
+use Rattle.mdc_shell.proofs.Before.{ahead_if_ok}
 
 -- no items give no values
 no_items : (columns : List ColumnDef) → values_of columns [] ≡ Ok []
@@ -25,5 +25,5 @@ none_left columns tuple n e =
 
 -- what is done by then is all
 pub values_of-end : (columns : List ColumnDef) (tuple : List InsertItem) (done : List Value) (n : ℕ) →
-    n ≡ min (length columns) (length tuple) → after done (values_of (drop n columns) (drop n tuple)) ≡ Ok done
-values_of-end columns tuple done n e = ap (after done) (none_left columns tuple n e) ∙ ap Ok (append-nil done)
+    n ≡ min (length columns) (length tuple) → ahead_if_ok done (values_of (drop n columns) (drop n tuple)) ≡ Ok done
+values_of-end columns tuple done n e = ap (ahead_if_ok done) (none_left columns tuple n e) ∙ ap Ok (append-nil done)

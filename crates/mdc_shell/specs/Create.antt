@@ -1,11 +1,11 @@
 -- What `create FILE EXTENTS PAGES` does to its file and its tape, for each status (README.md, "Limits and statuses").
-use Rattle.std.specs.Prelude.{◌≡◌, ◌⊎◌, ◌<◌, ℕ, Bool, true, List, [], ◌++◌, Option, Some, length, codes}
+use Rattle.std.specs.Prelude.{◌≡◌, ◌⊎◌, ◌<◌, ℕ, Bool, true, List, ◌++◌, Option, Some, length, codes}
 use Rattle.std.specs.Option.{ForSome}
 use Rattle.mdc_outside.specs.Disk.{File, IsImage}
 use Rattle.mdc_outside.specs.Moments.{Adds}
 use Rattle.mdc_outside.specs.Outside.{Takes, TakesPart}
 use Rattle.page_store.specs.Empty.{IsEmptyDatabase}
-use Rattle.page_store.specs.Fresh.{HoldsFresh, IsOfMaking, fresh_file}
+use Rattle.page_store.specs.Fresh.{HoldsFresh, IsBlank, IsOfMaking, fresh_file}
 use Rattle.mdc_shell.specs.Status.{IsCreateStatus}
 
 -- what is said once the database is made
@@ -20,38 +20,48 @@ exists_line = codes "FILE EXISTS\n"
 abbrev pub HoldsEmpty : ℕ → ℕ → Option File → Type 0
 HoldsEmpty extents extent_pages file = ForSome file (λ f. HoldsFresh extents extent_pages f × IsEmptyDatabase extents f.bytes)
 
+-- the file, where it is told, had no byte, and now it holds an empty database
+abbrev pub IsMadeOfNothing : ℕ → ℕ → Option File → Option File → Type 0
+IsMadeOfNothing extents extent_pages old new = ForSome old (λ f. length f.bytes ≡ 0) × HoldsEmpty extents extent_pages new
+
 -- the file, where it is told, has a byte, and it is as it was
 abbrev pub StaysAsItWas : Option File → Option File → Type 0
 StaysAsItWas old new = ForSome old (λ f. 0 < length f.bytes) × (new ≡ old)
 
+-- where the file has a byte, it is as it was
+abbrev pub StaysWhereFull : Option File → Option File → Type 0
+StaysWhereFull old new = ForSome old (λ f. 0 < length f.bytes → new ≡ old)
+
+-- a told file is still told, and it is one that a crash within a making could leave
+abbrev pub IsLeftByMaking : ℕ → ℕ → Option File → Option File → Type 0
+IsLeftByMaking extents extent_pages old new = (before : File) → old ≡ Some before
+    → (after : File) × (new ≡ Some after) × IsOfMaking extents extent_pages before after.bytes
+
 -- What a create does to the file and to the tape, for each status.
 pub record Creates (extents extent_pages : ℕ) (file new_file : Option File) (tape new_tape : Option (List ℕ)) (status : ℕ) : Type 0 where
   pub one_of : IsCreateStatus status
-  -- 0: the database is made, and this is said
-  pub made : status ≡ 0 → HoldsEmpty extents extent_pages new_file × Takes tape made_line new_tape
+  -- 0: the database is made of a file without a byte, and this is said
+  pub made : status ≡ 0 → IsMadeOfNothing extents extent_pages file new_file × Takes tape made_line new_tape
   -- 6: the file has a byte already, and this is said
   pub exists : status ≡ 6 → StaysAsItWas file new_file × Takes tape exists_line new_tape
   -- 5: one of the two, and a first part of its line is said
-  pub part : status ≡ 5 → (HoldsEmpty extents extent_pages new_file × TakesPart tape made_line new_tape)
+  pub part : status ≡ 5 → (IsMadeOfNothing extents extent_pages file new_file × TakesPart tape made_line new_tape)
       ⊎ (StaysAsItWas file new_file × TakesPart tape exists_line new_tape)
-  -- 3: nothing is said
-  pub failed : status ≡ 3 → new_tape ≡ tape
+  -- 3: nothing is said, a file with a byte is as it was, and one without is what a crash within the making could leave
+  pub failed : status ≡ 3 → (new_tape ≡ tape) × StaysWhereFull file new_file × IsLeftByMaking extents extent_pages file new_file
   -- 8: nothing is said, and the file is as it was
   pub memory : status ≡ 8 → (new_tape ≡ tape) × (new_file ≡ file)
-
--- no byte can be left by a crash
-abbrev pub IsBlank : File → Type 0
-IsBlank file = (left : List ℕ) → IsImage file.since left → left ≡ []
 
 -- the tape has a first part of the line more than what was said before
 abbrev pub HasPart : List ℕ → List ℕ → List ℕ → Type 0
 HasPart line said tape = (part unsaid : List ℕ) × (line ≡ part ++ unsaid) × (tape ≡ said ++ part)
 
 -- What a crash within a create leaves. Where no byte could be left before, the image isn't made or is the whole, and it is
--- the whole where something was said.
+-- the whole where something was said. Where the file had a byte, the image is one that could be left before.
 pub record LeftByCreate (extents extent_pages : ℕ) (before : File) (said image tape : List ℕ) : Type 0 where
   pub left : IsOfMaking extents extent_pages before image
   pub told : IsBlank before → (tape ≡ said) ⊎ ((image ≡ fresh_file extents extent_pages) × HasPart made_line said tape)
+  pub full : 0 < length before.bytes → IsImage before.since image × HasPart exists_line said tape
 
 -- the same at each of these moments, where the file and the tape are told
 abbrev pub LeavesByCreate : ℕ → ℕ → Option File → Option (List ℕ) → (List ℕ → List ℕ → Type 0) → Type 0

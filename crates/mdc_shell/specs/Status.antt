@@ -3,6 +3,8 @@ use Rattle.std.specs.Prelude.{◌≡◌, ◌⊎◌, ℕ, Bool, true, false, Resu
 use Rattle.mdc_shell.specs.declared.create.Created.{Created}
 use Rattle.mdc_shell.specs.declared.create.Created.TheVariants.{Made, Exists, DiskFailed}
 use Rattle.mdc_shell.specs.declared.create.Created.TheVariants as created
+use Rattle.mdc_shell.specs.declared.status.Served.{Served}
+use Rattle.mdc_shell.specs.declared.status.Served.TheVariants.{AllDone, SomeRefused}
 use Rattle.mdc_shell.specs.declared.status.Stop.{Stop}
 use Rattle.mdc_shell.specs.declared.status.Stop.TheVariants.{Unread, Unsaid, TooLong, Memory}
 
@@ -12,10 +14,15 @@ status_of_stop Unsaid = 5
 status_of_stop TooLong = 7
 status_of_stop Memory = 8
 
+-- how a script's statements were answered, by whether one was refused
+abbrev pub served_by : Bool → Served
+served_by false = AllDone
+served_by true = SomeRefused
+
 -- a script that was read to its end, with a refusal or without, or a stop
-abbrev pub status_of : Result Bool Stop → ℕ
-status_of (Ok false) = 0
-status_of (Ok true) = 1
+abbrev pub status_of : Result Served Stop → ℕ
+status_of (Ok AllDone) = 0
+status_of (Ok SomeRefused) = 1
 status_of (Err stop) = status_of_stop stop
 
 -- one of the statuses that a script may end with

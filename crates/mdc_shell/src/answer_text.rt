@@ -1,5 +1,5 @@
 // How answers are written, as bytes.
-ghost use Rattle.std.specs.Prelude.{◌≡◌, ◌∷◌, ◌++◌, length, take, OnOk, OnErr, decimal, codes};
+ghost use Rattle.std.specs.Prelude.{◌≡◌, ◌++◌, length, take, OnOk, OnErr, decimal, codes};
 ghost use Rattle.mdc_ast.specs.Answer.{reply_text, refusal_text, cause_text, text_of};
 
 use crate::refusals::{NO_TABLE, OUT_OF_RANGE};

@@ -26,7 +26,6 @@ pub struct Cells {
 
 impl Model for Cells {
     ghost use Rattle.std.specs.Prelude.{List};
-    ghost use Rattle.std.specs.Coded.{coded_list};
     ghost use Rattle.mdc_ast.specs.declared.definition.Row.{Row};
 
     ghost Value = { List (List Row) };
@@ -72,7 +71,8 @@ impl Cells {
     }
 }
 
-// The cell of a key. A key that has none yet gets a new one, with no rows.
+// The cell of a key. A key that has none yet gets a new one, with no rows. After `Memory` an empty cell may stay that no
+// key has.
 fn cell_of(
     alloc: Global,
     key: Vec<i64>,

@@ -6,7 +6,7 @@ ghost use Rattle.mdc_outside.specs.Moments.{Elapses};
 ghost use Rattle.mdc_outside.specs.Outside.{Rose, Takes, TakesPart};
 ghost use Rattle.page_store.specs.Fresh.{IsOfMaking};
 ghost use Rattle.page_store.specs.Shape.{is_shape};
-ghost use Rattle.mdc_shell.specs.Create.{Completes, Creates, HoldsEmpty, LeavesByCreate, MayAttach, StaysAsItWas};
+ghost use Rattle.mdc_shell.specs.Create.{Completes, Creates, HoldsEmpty, IsLeftByMaking, LeavesByCreate, MayAttach, StaysAsItWas, StaysWhereFull};
 ghost use Rattle.mdc_shell.specs.Status.{status_of_created};
 
 use crate::shape::Shape;
@@ -57,6 +57,7 @@ fn make_at<D: Disk>(disk: &mut D, path: &str, shape: Shape) -> Result<(), OpenFa
     requires { IsTrue (is_shape shape.extents shape.extent_pages) }
     ensures made { OnOk result (HoldsEmpty shape.extents shape.extent_pages (D.file disk.new)) }
     ensures exists { IsErrOf result OpenFault.Exists → StaysAsItWas (D.file disk.old) (D.file disk.new) }
+    ensures untouched { StaysWhereFull (D.file disk.old) (D.file disk.new) }
     ensures refused { ForSome (D.file disk.old) (λ file. 0 < length file.bytes → IsErrOf result OpenFault.Exists ⊎ IsErrOf result OpenFault.Device) }
     ensures causes { OnErr result (IsErrOf result OpenFault.Exists ⊎ IsErrOf result OpenFault.Device) }
     ensures device { IsErrOf result OpenFault.Device → Rose (D.disk_faults disk.old) (D.disk_faults disk.new) }
@@ -64,7 +65,7 @@ fn make_at<D: Disk>(disk: &mut D, path: &str, shape: Shape) -> Result<(), OpenFa
     ensures attaches { MayAttach (D.attaches disk.old) path.now (D.attaches disk.new) }
     ensures beside { D.beside disk.new ≡ D.beside disk.old }
     ensures time { D.clock disk.old ≤ D.clock disk.new }
-    ensures told { (before : File) → D.file disk.old ≡ Some before → (after : File) × (D.file disk.new ≡ Some after) }
+    ensures told { IsLeftByMaking shape.extents shape.extent_pages (D.file disk.old) (D.file disk.new) }
     ensures crash { (before : File) (said : List ℕ) → D.file disk.old ≡ Some before → (D.beside disk.old).tape ≡ Some said
         → (image taken : List ℕ) → D.moment disk.new (D.clock disk.old) image taken → IsOfMaking shape.extents shape.extent_pages before image × (taken ≡ said) }
 {

@@ -8,10 +8,13 @@ use mdc_ast::{ColumnDef, ColumnText, Name, TypeText};
 use mdc_values::{Chars, ColType, List, Memory};
 use std::alloc::Global;
 
+// How many bytes a name may have.
 const MAX_NAME: usize = 18;
 
+// How many columns a table may have.
 const MAX_COLUMNS: usize = 16;
 
+// How many dimensions a table may have.
 const MAX_DIMENSIONS: usize = 4;
 
 /// Whether two names are the same.
@@ -40,15 +43,19 @@ pub fn has_good_columns(alloc: Global, name: &Name, columns: &[ColumnText]) -> R
     Ok(!has_twice(&names))
 }
 
-/// Whether there are few enough dimensions, and no column stands in them twice.
-pub fn has_good_dimensions(alloc: Global, dims: &[List<Name>]) -> Result<bool, Memory>
-    ensures { IfOk result (λ good. good ≡ (nat_le (length dims.now) 4 && not (has_twice (flat_map (λ dim. dim) dims.now)))) }
+/// Whether the dimensions are few enough.
+pub fn are_few(dims: &[List<Name>]) -> bool
+    ensures { result ≡ nat_le (length dims.now) 4 }
 {
-    if dims.len() > MAX_DIMENSIONS {
-        return Ok(false);
-    }
+    dims.len() <= MAX_DIMENSIONS
+}
+
+/// Whether a column stands in the dimensions twice.
+pub fn has_column_twice(alloc: Global, dims: &[List<Name>]) -> Result<bool, Memory>
+    ensures { IfOk result (λ twice. twice ≡ has_twice (flat_map (λ dim. dim) dims.now)) }
+{
     let names = names_in(alloc, dims)?;
-    Ok(!has_twice(&names))
+    Ok(has_twice(&names))
 }
 
 /// The columns of a table.

@@ -5,7 +5,7 @@ ghost use Rattle.mdc_ast.specs.Step.{step, create, insert, query};
 ghost use Rattle.mdc_shell.specs.Engine.{defined};
 
 use crate::definition::{
-    columns_of, copy_of, dimensions_of, has_good_columns, has_good_dimensions,
+    are_few, columns_of, copy_of, dimensions_of, has_column_twice, has_good_columns,
 };
 use crate::refusals::{no_table, not_built};
 use crate::table::Table;
@@ -105,11 +105,14 @@ fn defined(
     if !has_good_columns(alloc, name, columns)? {
         return Ok(None);
     }
+    if !are_few(dims) {
+        return Ok(None);
+    }
     // That all names are columns comes first, so that few names are looked at before one stands twice.
     let Some(dimensions) = dimensions_of(alloc, columns, dims)? else {
         return Ok(None);
     };
-    if !has_good_dimensions(alloc, dims)? {
+    if has_column_twice(alloc, dims)? {
         return Ok(None);
     }
     let defined = columns_of(alloc, columns)?;

@@ -1,11 +1,18 @@
-//! The program `mdc`: a command line, a script on standard input, one reply a statement on standard output.
+//! The program `mdc`. `run -` runs a script from standard input in memory, with one reply a statement on standard output.
+//! `create FILE EXTENTS PAGES` makes an empty database in a file. For all other words it says a usage line.
 //!
-//! Its one call is `run` (`program`), which promises for each status what was taken and said; `main` only makes the
-//! real source and host. It stands on `sql_reader` for the items of a script and on `mdc_ast` for what they mean.
+//! Its one call is `run` (`program`). For a script it promises, at each status, which bytes were taken and which replies
+//! were said; for a create, what the file holds, what was said, and what a crash leaves at each moment; for all other words,
+//! that nothing is read. `main` only makes the real source and host, of which nothing is told.
+//!
+//! It stands on `sql_reader` for the items of a script and on `mdc_ast` for what they mean, on `page_store` for a database
+//! in a file, on `host_edge` for the real source and host (`mdc_outside`), and on `clap` for the words.
 #![tactic(auto)]
 
 mod answer_text;
 mod cells;
+#[cfg(test)]
+mod cells_tests;
 mod command;
 mod create;
 mod definition;

@@ -1,5 +1,5 @@
 // Numbers on the command line.
-ghost use Rattle.std.specs.Prelude.{◌≡◌, ℕ, MatchOption};
+ghost use Rattle.std.specs.Prelude.{ℕ, MatchOption};
 ghost use Rattle.mdc_shell.specs.Words.{IsNumeral};
 
 // How many digits a number may have.

@@ -42,7 +42,7 @@ pub fn run<I: Source, H: Host>(
     // The words of a script: what it says, and what it takes, for each status.
     ensures script { IsRunLine (map string_bytes words.now.items)
         → RunsFrom (I.left input.old) (H.tape host) (I.left input.new) (H.tape result.host) result.status.0 }
-    ensures served { IsRunLine (map string_bytes words.now.items) → result.status.0 ≡ 2 → ⊥ }
+    ensures served { IsRunLine (map string_bytes words.now.items) → IsScriptStatus result.status.0 }
 
     // The words of a create: what it does to the file and says, for each status.
     ensures created { (path : List ℕ) (extents extent_pages : ℕ) → IsCreateLine (map string_bytes words.now.items) path extents extent_pages
@@ -145,8 +145,8 @@ fn say_usage<H: Host>(host: H) -> Ended<H>
 {
     let mut host = host;
     let status = match host.say(USAGE) {
-        Ok(()) => Status(2),
-        Err(Failed) => Status(5),
+        Ok(()) => Status::USAGE,
+        Err(Failed) => Status::UNSAID,
     };
     Ended { status, host }
 }

@@ -1,5 +1,5 @@
 // Worked rows of the whole program, on a source and a host in memory.
-use crate::program::run;
+use crate::program::{Ended, run};
 use host_edge::FileHost;
 use mdc_outside::{Disk, Host, MemHost, MemSource};
 use std::alloc::Global;
@@ -60,7 +60,24 @@ const ROWS: [Row; 12] = [
     ),
 ];
 
-/// The status and the tape of `run -` on a script that comes in pieces of at most `step` bytes.
+/// How `run -` ends on a script that comes in pieces of at most `step` bytes.
+fn ended_in_steps(
+    alloc: Global,
+    script: Vec<u8>,
+    step: usize,
+    read_fails: &[u64],
+    say_fails: &[u64],
+) -> Result<Ended<MemHost>, Fail> {
+    let words = vec![in alloc;
+        String::from_str(alloc, "run")?,
+        String::from_str(alloc, "-")?,
+    ]?;
+    let mut source = MemSource::new(script, step.max(1), read_fails.to_vec(alloc)?);
+    let host = MemHost::new(alloc, None, say_fails.to_vec(alloc)?);
+    Ok(run(alloc, &words, &mut source, host))
+}
+
+/// The status and the tape of that end.
 fn run_in_steps(
     alloc: Global,
     script: Vec<u8>,
@@ -68,13 +85,7 @@ fn run_in_steps(
     read_fails: &[u64],
     say_fails: &[u64],
 ) -> Result<(u8, Vec<u8>), Fail> {
-    let words = vec![in alloc;
-        String::from_str(alloc, "run")?,
-        String::from_str(alloc, "-")?,
-    ]?;
-    let mut source = MemSource::new(script, step.max(1), read_fails.to_vec(alloc)?);
-    let host = MemHost::new(alloc, None, say_fails.to_vec(alloc)?);
-    let ended = run(alloc, &words, &mut source, host);
+    let ended = ended_in_steps(alloc, script, step, read_fails, say_fails)?;
     Ok((ended.status.0, ended.host.said().to_vec(alloc)?))
 }
 
@@ -90,6 +101,19 @@ fn statements_are_answered_in_any_pieces(rt: HostRuntime) -> Result<(), Fail> {
             assert_eq!(rt; tape.as_slice(), said.as_bytes(), "{script}");
             assert_eq!(rt; ended, status, "{script}");
         }
+    }
+    Ok(())
+}
+
+// No clause says that replies aren't put together into one call.
+#[test]
+fn each_reply_is_said_in_a_call_of_its_own(rt: HostRuntime) -> Result<(), Fail> {
+    let alloc = rt.alloc();
+    let script = format!(in alloc; "{T}SELECT * FROM T; SELECT; ;SELECT * FROM T")?;
+    for step in [7, 4096] {
+        let bytes = script.as_bytes().to_vec(alloc)?;
+        let ended = ended_in_steps(alloc, bytes, step, &[], &[])?;
+        assert_eq!(rt; (ended.status.0, ended.host.calls()), (1, 4));
     }
     Ok(())
 }
@@ -253,6 +277,27 @@ fn a_file_is_made_once(rt: HostRuntime) -> Result<(), Fail> {
     assert_eq!(rt; again.host.said(), b"OK\nFILE EXISTS\n".as_slice());
     let second = file_of(alloc, &mut again.host, "f")?;
     assert_eq!(rt; second.as_slice() == first.as_slice(), true);
+    Ok(())
+}
+
+/// What a create on a file of three bytes gives whose call of this number fails: the status, the tape and the file.
+fn create_over_bytes(alloc: Global, call: u64) -> Result<(u8, Vec<u8>, Vec<u8>), Fail> {
+    let words = words_of(alloc, "create f 16 2")?;
+    let mut source = MemSource::new(Vec::new(alloc), 1, Vec::new(alloc));
+    let host = MemHost::new(alloc, Some(b"abc".to_vec(alloc)?), vec![in alloc; call]?);
+    let mut ended = run(alloc, &words, &mut source, host);
+    let tape = ended.host.said().to_vec(alloc)?;
+    Ok((ended.status.0, tape, file_of(alloc, &mut ended.host, "f")?))
+}
+
+#[test]
+fn a_file_with_a_byte_outlives_a_disk_that_fails(rt: HostRuntime) -> Result<(), Fail> {
+    let alloc = rt.alloc();
+    for call in 1..3 {
+        let (status, tape, file) = create_over_bytes(alloc, call)?;
+        assert_eq!(rt; (status, tape.len()), (3, 0), "{call}");
+        assert_eq!(rt; file.as_slice(), b"abc".as_slice(), "{call}");
+    }
     Ok(())
 }
 

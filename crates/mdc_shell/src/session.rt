@@ -10,7 +10,7 @@ ghost use Rattle.sql_reader.specs.Item.{item_of};
 
 use crate::answer_text::outcome_bytes;
 use crate::engine::Engine;
-use crate::status::Stop;
+use crate::status::{Served, Stop};
 use mdc_ast::Outcome;
 use mdc_outside::{Host, Source};
 use sql_reader::{Read, Statements, one_closing};
@@ -50,9 +50,9 @@ impl Session {
     }
 }
 
-/// Answers the statements of a script, and says whether one was refused. Each reply is said before the next statement
+/// Answers the statements of a script, and tells whether one was refused. Each reply is said before the next statement
 /// is asked for.
-pub fn serve<I: Source, H: Host>(alloc: Global, input: &mut I, host: &mut H) -> Result<bool, Stop>
+pub fn serve<I: Source, H: Host>(alloc: Global, input: &mut I, host: &mut H) -> Result<Served, Stop>
     ensures runs { RunsFrom (I.left input.old) (H.tape host.old) (I.left input.new) (H.tape host.new) (status_of result) }
     ensures unread { IsErrOf result Stop.Unread → Rose (I.read_faults input.old) (I.read_faults input.new) }
     ensures unsaid { IsErrOf result Stop.Unsaid → Rose (H.say_faults host.old) (H.say_faults host.new) }
@@ -71,5 +71,5 @@ pub fn serve<I: Source, H: Host>(alloc: Global, input: &mut I, host: &mut H) -> 
     while let Some(read) = statements.next(input)? {
         session.answer(read, host)?;
     }
-    Ok(session.refused)
+    Ok(Served::by_refusal(session.refused))
 }

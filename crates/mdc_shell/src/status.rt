@@ -2,7 +2,7 @@
 ghost use Rattle.std.specs.Prelude.{◌≡◌};
 ghost use Rattle.mdc_shell.specs.declared.status.Stop.TheVariants.{Unsaid, Memory};
 ghost use Rattle.mdc_shell.specs.Reader.{stop_of};
-ghost use Rattle.mdc_shell.specs.Status.{status_of, status_of_created};
+ghost use Rattle.mdc_shell.specs.Status.{served_by, status_of, status_of_created};
 
 use crate::create::Created;
 use mdc_outside::Failed;
@@ -14,20 +14,44 @@ use sql_reader::ReadStop;
 pub struct Status(pub u8);
 
 impl Status {
+    /// All that was asked for is done.
+    pub const DONE: Status = Status(0);
+
+    /// The script was read to its end, and a statement was refused.
+    pub const REFUSED: Status = Status(1);
+
+    /// The words are no command line.
+    pub const USAGE: Status = Status(2);
+
+    /// The disk failed.
+    pub const DISK_FAILED: Status = Status(3);
+
+    /// A read of the source failed.
+    pub const UNREAD: Status = Status(4);
+
+    /// The host failed to take what was said.
+    pub const UNSAID: Status = Status(5);
+
+    /// The file to be made has a byte already.
+    pub const EXISTS: Status = Status(6);
+
+    /// The script has more bytes than its limit.
+    pub const TOO_LONG: Status = Status(7);
+
     /// Want of memory.
     pub const MEMORY: Status = Status(8);
 
     /// The status of a script that was read to its end, with a refusal or without, or stopped.
-    pub fn of(served: &Result<bool, Stop>) -> Status
+    pub fn of(served: &Result<Served, Stop>) -> Status
         ensures { result.0 ≡ status_of served.now }
     {
         match served {
-            Ok(false) => Status(0),
-            Ok(true) => Status(1),
-            Err(Stop::Unread) => Status(4),
-            Err(Stop::Unsaid) => Status(5),
-            Err(Stop::TooLong) => Status(7),
-            Err(Stop::Memory) => Status(8),
+            Ok(Served::AllDone) => Status::DONE,
+            Ok(Served::SomeRefused) => Status::REFUSED,
+            Err(Stop::Unread) => Status::UNREAD,
+            Err(Stop::Unsaid) => Status::UNSAID,
+            Err(Stop::TooLong) => Status::TOO_LONG,
+            Err(Stop::Memory) => Status::MEMORY,
         }
     }
 
@@ -36,10 +60,32 @@ impl Status {
         ensures { result.0 ≡ status_of_created created }
     {
         match created {
-            Created::Made => Status(0),
-            Created::DiskFailed => Status(3),
-            Created::Unsaid => Status(5),
-            Created::Exists => Status(6),
+            Created::Made => Status::DONE,
+            Created::DiskFailed => Status::DISK_FAILED,
+            Created::Unsaid => Status::UNSAID,
+            Created::Exists => Status::EXISTS,
+        }
+    }
+}
+
+/// How the statements of a script were answered that was read to its end.
+#[derive(Clone, Copy, Debug, PartialEq, Eq)]
+pub enum Served {
+    /// None was refused.
+    AllDone,
+    /// One at least was refused.
+    SomeRefused,
+}
+
+impl Served {
+    /// By whether a statement was refused.
+    pub fn by_refusal(refused: bool) -> Served
+        ensures { result ≡ served_by refused }
+    {
+        if refused {
+            Served::SomeRefused
+        } else {
+            Served::AllDone
         }
     }
 }

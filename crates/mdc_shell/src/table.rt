@@ -1,5 +1,5 @@
 // A table: what it is made of, and its rows by cell, which it shows in order of insertion.
-ghost use Rattle.std.specs.Prelude.{◌≡◌, ◌==◌, [], ◌∷◌, ◌++◌, length, slice_get, flat_map, map, IfOk, OnOk, MatchResult, Ok, Err};
+ghost use Rattle.std.specs.Prelude.{◌≡◌, ◌==◌, [], ◌∷◌, ◌++◌, length, slice_get, flat_map, map, IfOk, OnOk, Ok, Err};
 ghost use Rattle.std.specs.List.{list_all};
 ghost use Rattle.std.specs.Str.{bytes_eq};
 ghost use Rattle.mdc_values.specs.Value.{printed};
@@ -112,7 +112,7 @@ impl Table {
         tuples.iter().all(|tuple| tuple.len() == width)
     }
 
-    // After `Memory` the first of the rows may be there.
+    // Puts these rows last. After `Memory` the first of them may be there.
     fn put_all(&mut self, rows: Vec<List<Value>>) -> Result<(), Memory>
         ensures { OnOk result (self.new ≡ with_rows self.old rows.items) }
     {
@@ -122,6 +122,7 @@ impl Table {
         Ok(())
     }
 
+    // Puts a row of these values last. After `Memory` the row may lie in a cell without a place, where nothing finds it.
     fn put(&mut self, values: List<Value>) -> Result<(), Memory>
         ensures { OnOk result (self.new ≡ with_rows self.old (values ∷ [])) }
     {

@@ -24,14 +24,6 @@ renewed_home images (entry ∷ entries) file after count next home le stands zer
 renewed_home images (entry ∷ entries) file after count next home le stands (suc k) d lt =
     renewed_home images entries file after count next (λ j e less. home (suc j) e (omega arith)) le stands k d (omega arith)
 
--- clean pages stay clean where the home pages stay
-pub same_home : (entries : Numbered) (file after : List ℕ) (count next : ℕ) → AreHome file count entries → count ≤ next
-    → ((p : ℕ) → p < count → home_page after p ≡ home_page file p)
-    → AreHome after next entries
-same_home entries file after count next home le stands k d lt =
-    let was = home k d lt in
-    (omega arith, was.1 ∙ sym (stands _ was.0))
-
 -- no image has a number below all of theirs
 pub image_of-below : (images : Numbered) (p : ℕ) → All (λ behind. p < behind.0) images → image_of images p ≡ None
 image_of-below [] p above = refl

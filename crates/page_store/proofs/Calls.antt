@@ -8,8 +8,8 @@ use Rattle.redo_journal.specs.Images.{Numbered, AreRising}
 use Rattle.redo_journal.specs.Layout.{home_page, is_open, journal_of, torn_journal, torn_home, IsReady, HoldsJournal, HoldsHome}
 use Rattle.redo_journal.specs.Runs.{Runs, IsWithin}
 use Rattle.page_store.specs.Leaving.{Leaves}
-use Rattle.page_store.specs.Standing.{pages_of, IsFormed}
-use Rattle.page_store.specs.Commit.{Both, Stands, StandsStill, StandsEither, IsReadyFor, IsCounting, IsClosed, IsCommitted, IsJournaled, HomeStays, RestsWith, pages_with}
+use Rattle.page_store.specs.Standing.{pages_of, IsFormed, Stands}
+use Rattle.page_store.specs.Commit.{Both, StandsStill, StandsEither, IsReadyFor, IsCounting, IsClosed, IsCommitted, IsJournaled, HomeStays, RestsWith, pages_with}
 use Rattle.page_store.proofs.Leaving.{runs_leave, leaves_then}
 use Rattle.page_store.proofs.Crashes.{while_home, while_closed}
 use Rattle.page_store.proofs.Committing.{journaled_written, journaled_opened, stands_through, stands_same}

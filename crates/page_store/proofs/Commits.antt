@@ -9,11 +9,11 @@ use Rattle.mdc_outside.specs.Disk.{File, IsImage}
 use Rattle.redo_journal.specs.Images.{Numbered, AreRising}
 use Rattle.redo_journal.specs.Layout.{home_page, is_open}
 use Rattle.redo_journal.proofs.Rising.{All-rest}
-use Rattle.page_store.specs.Standing.{listed, image_of, page_of, count_of, pages_of, IsFormed}
+use Rattle.page_store.specs.Standing.{listed, image_of, page_of, count_of, pages_of, IsFormed, Stands}
 use Rattle.page_store.specs.Changes.{Overlay, laid_over, image_in, HoldsBelow}
 use Rattle.page_store.specs.Opening.{IsAtRest}
 use Rattle.page_store.specs.Shape.{extents_in, extent_pages_in}
-use Rattle.page_store.specs.Commit.{Both, Stands, IsReadyFor, IsCommitted, StandsEither, count_with, pages_with}
+use Rattle.page_store.specs.Commit.{Both, IsReadyFor, IsCommitted, StandsEither, count_with, pages_with}
 use Rattle.page_store.proofs.Listed.{length-listed, page_at-listed, listed_same}
 use Rattle.page_store.proofs.LaidOver.{listed-laid_over}
 use Rattle.page_store.proofs.Pages.{page_of-closed, pages_again}
@@ -66,8 +66,8 @@ some_or None page = refl
 some_or (Some first) page = refl
 
 -- a page that was grown is to be written
-pub grown_image : (base : ℕ) (now : Overlay) (p : ℕ) → base ≤ p → IsSome (image_in base now p)
-grown_image base now p le =
+pub grown_has_image : (base : ℕ) (now : Overlay) (p : ℕ) → base ≤ p → IsSome (image_in base now p)
+grown_has_image base now p le =
     let test : leb base p ≡ true = grind (arith, nat_tests) in
     rw test (some_or (get_or now p None) zero_page)
 
@@ -77,7 +77,7 @@ pages_at_rest extents extent_pages base file rest =
     ap (λ n. listed n (page_of file.bytes)) rest.states_pages ∙ listed_same base (page_of file.bytes) (home_page file.bytes) (λ p lt. page_of-closed file.bytes p rest.closed)
 
 -- what the images of the changes make of home pages, which is their work
-pub record IsMade (base : ℕ) (now : Overlay) (images : Numbered) (bytes : List ℕ) : Type 0 where
+pub record MakesWork (base : ℕ) (now : Overlay) (images : Numbered) (bytes : List ℕ) : Type 0 where
   pub count : count_with images bytes ≡ length now
   pub pages : pages_with images bytes ≡ laid_over now (listed base (home_page bytes))
 
@@ -86,12 +86,12 @@ made_at : (base : ℕ) (now : Overlay) (images : Numbered) (bytes : List ℕ) �
     → (p : ℕ) → p < length now → unwrap_or (image_of images p) (home_page bytes p) ≡ unwrap_or (image_of images p) (page_at (listed base (home_page bytes)) p)
 made_at base now images bytes holds p lt = elim (cases_lt p base) [
   | inl below ↦ ap (unwrap_or (image_of images p)) (sym (page_at-listed base (home_page bytes) p below))
-  | inr grown ↦ unwrap_or-some (image_of images p) (home_page bytes p) (page_at (listed base (home_page bytes)) p) (subst IsSome (sym (holds.found p lt)) (grown_image base now p grown))
+  | inr grown ↦ unwrap_or-some (image_of images p) (home_page bytes p) (page_at (listed base (home_page bytes)) p) (subst IsSome (sym (holds.found p lt)) (grown_has_image base now p grown))
 ]
 
 -- images that hold what is to be written make the work, where page 0 of the work states how many pages it has
 pub made_by : (base : ℕ) (now : Overlay) (images : Numbered) (bytes : List ℕ) → 0 < length now → HoldsBelow (length now) (image_in base now) images
-    → stated_count (laid_over now (listed base (home_page bytes))) ≡ length now → IsMade base now images bytes
+    → stated_count (laid_over now (listed base (home_page bytes))) ≡ length now → MakesWork base now images bytes
 made_by base now images bytes some holds counted =
     let with_images : ℕ → List ℕ = λ p. unwrap_or (image_of images p) (home_page bytes p) in
     let laid : listed (length now) with_images ≡ laid_over now (listed base (home_page bytes)) =
@@ -103,7 +103,7 @@ made_by base now images bytes some holds counted =
 
 -- the file is ready for images that make its work
 pub ready_for : (extents extent_pages base : ℕ) (now : Overlay) (images : Numbered) (file : File) → IsAtRest extents extent_pages base file
-    → 0 < base → base ≤ length now → HoldsBelow (length now) (image_in base now) images → IsMade base now images file.bytes
+    → 0 < base → base ≤ length now → HoldsBelow (length now) (image_in base now) images → MakesWork base now images file.bytes
     → IsReadyFor (66 + length now) images file
 ready_for extents extent_pages base now images file rest some more holds made = record {
   synced = rest.synced;
@@ -113,12 +113,12 @@ ready_for extents extent_pages base now images file rest some more holds made = 
   behind_old = omega (arith, rest.states_pages);
   behind_new = omega (arith, made.count);
   named = subst (λ n. All (λ (image : ℕ × List ℕ). image.0 < n) images) (sym made.count) holds.below;
-  grown = λ p low lt. subst IsSome (sym (holds.found p (omega (arith, made.count)))) (grown_image base now p (omega (arith, rest.states_pages)));
+  grown = λ p low lt. subst IsSome (sym (holds.found p (omega (arith, made.count)))) (grown_has_image base now p (omega (arith, rest.states_pages)));
 }
 
 -- After a commit the file is at rest, and has as many pages as the work.
 pub rest_after : (extents extent_pages base : ℕ) (now : Overlay) (images : Numbered) (before after : File) → IsAtRest extents extent_pages base before
-    → IsMade base now images before.bytes → IsCommitted images before after → IsAtRest extents extent_pages (length now) after
+    → MakesWork base now images before.bytes → IsCommitted images before after → IsAtRest extents extent_pages (length now) after
 rest_after extents extent_pages base now images before after rest made committed =
     let size : length (pages_of after.bytes) ≡ length (pages_with images before.bytes) = ap length committed.1.pages in
     record {
@@ -132,14 +132,14 @@ rest_after extents extent_pages base now images before after rest made committed
 
 -- its home pages are the work
 pub work_after : (extents extent_pages base : ℕ) (now : Overlay) (images : Numbered) (before after : File) → IsAtRest extents extent_pages base before
-    → IsMade base now images before.bytes → IsCommitted images before after → listed (length now) (home_page after.bytes) ≡ laid_over now (listed base (home_page before.bytes))
+    → MakesWork base now images before.bytes → IsCommitted images before after → listed (length now) (home_page after.bytes) ≡ laid_over now (listed base (home_page before.bytes))
 work_after extents extent_pages base now images before after rest made committed =
     sym (pages_at_rest extents extent_pages (length now) after (rest_after extents extent_pages base now images before after rest made committed))
     ∙ (committed.1.pages ∙ made.pages)
 
 -- each home page is its image, or else as it was
 pub home_after : (extents extent_pages base : ℕ) (now : Overlay) (images : Numbered) (before after : File) → IsAtRest extents extent_pages base before
-    → IsMade base now images before.bytes → IsCommitted images before after
+    → MakesWork base now images before.bytes → IsCommitted images before after
     → (p : ℕ) → p < length now → home_page after.bytes p ≡ unwrap_or (image_of images p) (home_page before.bytes p)
 home_after extents extent_pages base now images before after rest made committed p lt =
     let pages : listed (length now) (home_page after.bytes) ≡ pages_with images before.bytes =

@@ -6,8 +6,8 @@ use Rattle.store_api.specs.StoreState.{stated_in}
 use Rattle.mdc_outside.specs.Disk.{File, IsImage, all_synced, torn}
 use Rattle.redo_journal.specs.Images.{Numbered, AreRising}
 use Rattle.redo_journal.specs.Layout.{file_page, home_page, is_open, start_of, journal_of, torn_journal, HoldsJournal}
-use Rattle.page_store.specs.Standing.{listed, image_of, count_of, pages_of}
-use Rattle.page_store.specs.Commit.{Stands, AreFitting, IsReadyFor, IsJournaled, HomeStays, count_with, pages_with}
+use Rattle.page_store.specs.Standing.{listed, image_of, count_of, pages_of, Stands}
+use Rattle.page_store.specs.Commit.{AreFitting, IsReadyFor, IsJournaled, HomeStays, count_with, pages_with}
 use Rattle.page_store.proofs.Listed.{listed_same}
 use Rattle.page_store.proofs.Kept.{same_part, journal_left, same_but_gate}
 use Rattle.page_store.proofs.Crashes.{while_written, while_opened}

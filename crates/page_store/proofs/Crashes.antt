@@ -7,9 +7,8 @@ use Rattle.store_api.specs.StoreState.{stated_in}
 use Rattle.mdc_outside.specs.Disk.{IsImage, all_synced, torn}
 use Rattle.redo_journal.specs.Images.{Numbered}
 use Rattle.redo_journal.specs.Layout.{file_page, home_page, is_open, start_of, number_of, journal_of, index_pages, torn_journal, torn_home}
-use Rattle.page_store.specs.Standing.{image_of, page_of, count_of, pages_of, is_made, IsFormed}
-use Rattle.page_store.specs.Commit.{Stands, AreFitting, count_with, pages_with}
-use Rattle.page_store.proofs.Deciding.{decided_formed}
+use Rattle.page_store.specs.Standing.{image_of, page_of, count_of, pages_of, is_made, IsFormed, Stands}
+use Rattle.page_store.specs.Commit.{AreFitting, count_with, pages_with}
 use Rattle.page_store.proofs.Kept.{same_part, same_behind, same_number, same_journal, length-journal_of, home_left, journal_left, outside_home, IsSameButGate, same_but_gate}
 use Rattle.page_store.proofs.Pages.{page_of-closed, page_of-open, unwrap_or-same, image_of-none, image_of-home, fits, formed_again, pages_again}
 
@@ -158,7 +157,3 @@ while_closed bytes image formed gate home left =
     let long : 8192 ≤ length bytes = omega (arith, formed.whole) in
     let same = same_but_gate bytes image long fit.journal.behind_gates left in
     stands_again bytes image formed same.made same.birth same.size same.starts same.numbers same.journal (same_pages bytes image same gate home) gate
-
--- each file is formed or not
-pub formed_or_not : (file : List ℕ) → IsFormed file ⊎ (¬ IsFormed file)
-formed_or_not file = decided_formed file

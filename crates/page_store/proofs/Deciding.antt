@@ -1,15 +1,18 @@
--- Whether a file is formed is decided.
-use Rattle.std.proofs.Common.{◌≡◌, ◌⊎◌, ◌≤◌, ◌<◌, ◌+◌, ◌*◌, ℕ, suc, Bool, IsTrue, List, [], ◌∷◌, length, inl, inr, arith}
+-- Whether a file is formed, and of which shape, is decided. So each image that a host may leave is one that its store leaves.
+use Rattle.std.proofs.Common.{◌≡◌, ◌⊎◌, ◌≤◌, ◌<◌, ◌+◌, ◌*◌, ℕ, suc, Bool, IsTrue, List, [], ◌∷◌, length, Option, Some, inl, inr, arith, refl}
 use Rattle.std.specs.List.{All}
 use Rattle.std.proofs.lemmas.Bool.{cases_lt, cases_Bool, both_ways}
 use Rattle.std.proofs.lemmas.Bool.Decides.{not_from_Decides}
 use Rattle.std.proofs.lemmas.Slice.Eq.{bytes_eq-Decides}
 use Rattle.std.proofs.lemmas.List.Elements.{All-nil, All-cons}
 use Rattle.std.specs.Str.{bytes_eq}
+use Rattle.mdc_outside.specs.Disk.{File}
 use Rattle.redo_journal.specs.Images.{Numbered, AreRising}
 use Rattle.redo_journal.specs.Layout.{file_page, is_open, start_of, number_of, journal_of, index_pages, IsJournal}
+use Rattle.page_store.specs.declared.shape.Shape.{Shape}
 use Rattle.page_store.specs.Shape.{IsBirth, is_shape, birth_page, extents_in, extent_pages_in}
-use Rattle.page_store.specs.Standing.{count_of, is_made, IsFitting, IsFormed}
+use Rattle.page_store.specs.Standing.{count_of, is_made, IsFitting, IsFormed, IsFormedAs}
+use Rattle.page_store.specs.FileStore.{left_of, IsLeft}
 
 -- it holds or not
 abbrev pub Decided : Type 0 → Type 0
@@ -39,6 +42,10 @@ decided_test b = elim (cases_Bool b) [ inl is ↦ inl is | inr not_so ↦ inr (b
 -- an order
 decided_le : (m n : ℕ) → Decided (m ≤ n)
 decided_le m n = elim (cases_lt n m) [ inl above ↦ inr (λ le. omega arith) | inr le ↦ inl le ]
+
+-- the same number
+decided_same : (m n : ℕ) → Decided (m ≡ n)
+decided_same m n = decided_as {P = (m ≤ n) × (n ≤ m)} (λ both. omega (arith, both.0, both.1)) (λ same. (omega (arith, same), omega (arith, same))) (decided_both (decided_le m n) (decided_le n m))
 
 -- a fact on each
 decided_All : {X : Type 0} (P : X → Type 0) → ((x : X) → Decided (P x)) → (xs : List X) → Decided (All P xs)
@@ -81,10 +88,25 @@ decided_fitting file =
     (decided_All (λ (image : ℕ × List ℕ). image.0 < count_of file) (λ image. decided_le (suc image.0) (count_of file)) (journal_of file))))
 
 -- a formed file
-pub decided_formed : (file : List ℕ) → Decided (IsFormed file)
+decided_formed : (file : List ℕ) → Decided (IsFormed file)
 decided_formed file =
     decided_as {P = IsTrue (is_made file) × (IsBirth (file_page file 1) × ((IsTrue (is_open file) → IsFitting file) × (4096 * (66 + count_of file) ≤ length file)))}
     (λ all. record { made = all.0; birth = all.1.0; journal = all.1.1.0; whole = all.1.1.1 })
     (λ formed. (formed.made, (formed.birth, (formed.journal, formed.whole))))
     (decided_both (decided_test (is_made file)) (decided_both (decided_birth (file_page file 1))
     (decided_both (decided_where (decided_test (is_open file)) (decided_fitting file)) (decided_le (4096 * (66 + count_of file)) (length file)))))
+
+-- a formed file that states this shape
+decided_formed_as : (shape : Shape) (file : List ℕ) → Decided (IsFormedAs shape file)
+decided_formed_as shape file =
+    decided_as {P = IsFormed file × ((extents_in (file_page file 1) ≡ shape.extents) × (extent_pages_in (file_page file 1) ≡ shape.extent_pages))}
+    (λ all. record { formed = all.0; extents = all.1.0; extent_pages = all.1.1 }) (λ formed. (formed.formed, (formed.extents, formed.extent_pages)))
+    (decided_both (decided_formed file) (decided_both (decided_same (extents_in (file_page file 1)) shape.extents) (decided_same (extent_pages_in (file_page file 1)) shape.extent_pages)))
+
+-- each image and tape that a host may leave is what its store leaves
+pub each_left : (shape : Shape) (told : Option File) (tape : Option (List ℕ)) (moment : ℕ → List ℕ → List ℕ → Type 0) (file : File) (said : List ℕ) → told ≡ Some file → tape ≡ Some said
+    → (t : ℕ) (image heard : List ℕ) → moment t image heard → IsLeft shape (left_of shape told tape moment t) image heard
+each_left shape told tape moment file said is heard_is t image heard now = elim (decided_formed_as shape image) [
+  | inl formed ↦ inl (formed, (file, is, said, heard_is, image, now, (formed, refl)))
+  | inr fails ↦ inr (file, is, said, heard_is, image, now, fails)
+]

@@ -12,14 +12,15 @@ use Rattle.page_store.specs.declared.desk.Desk.{Desk}
 use Rattle.page_store.specs.declared.write_through.Halt.{Halt}
 use Rattle.page_store.specs.declared.write_through.Halt.TheVariants.{BeforeHome, BehindGate}
 use Rattle.page_store.specs.Leaving.{Leaves}
-use Rattle.page_store.specs.Standing.{listed, pages_of}
+use Rattle.page_store.specs.Standing.{listed, pages_of, IsFormedAs, Stands}
+use Rattle.page_store.specs.Shape.{extents_in, extent_pages_in}
 use Rattle.page_store.specs.Changes.{Changed, laid_over, unchanged}
 use Rattle.page_store.specs.Cached.{renewed}
 use Rattle.page_store.specs.Commit.{Both, IsReadyFor, IsCommitted, StandsEither, HomeStays, RestsWith, pages_with}
 use Rattle.page_store.specs.Desk.{IsKept, IsPrepared, Does, StandsForEither, RestsEither, base_in, base_of, work_of, state_of}
 use Rattle.page_store.proofs.Calls.{one_file, left_told}
 use Rattle.page_store.proofs.Cached.{renewed_home}
-use Rattle.page_store.proofs.Commits.{IsMade, made_by, ready_for, pages_at_rest, rest_after, work_after, home_after}
+use Rattle.page_store.proofs.Commits.{MakesWork, made_by, ready_for, pages_at_rest, rest_after, work_after, home_after}
 use Rattle.page_store.proofs.LaidOver.{laid_over-again, laid_over-unchanged, length-laid_over}
 use Rattle.page_store.proofs.Listed.{listed_same}
 
@@ -102,7 +103,7 @@ module _ (desk : Desk) (told : Option File) (images : Numbered) (kept : IsKept d
   prepared = kept.ready images ready
 
   -- what the images make is the work
-  made : (file : File) → told ≡ Some file → IsMade desk.base desk.changes.now images file.bytes
+  made : (file : File) → told ≡ Some file → MakesWork desk.base desk.changes.now images file.bytes
   made file is = made_by desk.base desk.changes.now images file.bytes (omega (arith, kept.some, kept.count.0)) prepared.holds (prepared.counted file is)
 
   -- the file is ready for the images
@@ -127,10 +128,16 @@ module _ (desk : Desk) (told : Option File) (images : Numbered) (kept : IsKept d
   stands_work : (file : File) → told ≡ Some file → pages_with images file.bytes ≡ work_of (Some file) desk desk.changes.now
   stands_work file is = (made file is).pages ∙ sym (work_is file)
 
+  -- an image with the birth page of the file states the shape of the desk
+  shaped : (file : File) (image : List ℕ) {all : List (List ℕ)} → told ≡ Some file → Stands file.bytes all image → IsFormedAs desk.shape image
+  shaped file image is stands =
+      let rest = kept.at_rest file is in
+      record { formed = stands.formed; extents = ap extents_in stands.birth ∙ rest.states_extents; extent_pages = ap extent_pages_in stands.birth ∙ rest.states_extent_pages }
+
   -- what a crash leaves stands for the base or for the work
   pub stands_either : (file : File) (image : List ℕ) → told ≡ Some file → StandsEither images file image → StandsForEither desk file image
-  stands_either file image is (inl stands) = (stands.formed, inl (stands.pages ∙ stands_base file is))
-  stands_either file image is (inr stands) = (stands.formed, inr (stands.pages ∙ stands_work file is))
+  stands_either file image is (inl stands) = (shaped file image is stands, inl (stands.pages ∙ stands_base file is))
+  stands_either file image is (inr stands) = (shaped file image is stands, inr (stands.pages ∙ stands_work file is))
 
   -- after a commit that failed, the base is as it was, or it is the work
   base_left : (halt : Halt) (before after : File) → told ≡ Some before → FailsBy images halt before after → IsImage after.since after.bytes
@@ -153,15 +160,15 @@ module _ (desk : Desk) (told : Option File) (images : Numbered) (kept : IsKept d
       let rest = kept.at_rest before is in
       let same : listed desk.base (home_page after.bytes) ≡ listed desk.base (home_page before.bytes) =
       listed_same desk.base (home_page after.bytes) (home_page before.bytes) (λ p lt. stays p (omega (arith, rest.states_pages))) in
-      (stands.formed, inl (stands.pages ∙ (stands_base before is ∙ (base_is before ∙ sym same))))
+      (shaped before image is stands, inl (stands.pages ∙ (stands_base before is ∙ (base_is before ∙ sym same))))
   rests_by BeforeHome before after is stays as_read image left (inr stands) =
       let rest = kept.at_rest before is in
       let same : listed desk.base (home_page after.bytes) ≡ listed desk.base (home_page before.bytes) =
       listed_same desk.base (home_page after.bytes) (home_page before.bytes) (λ p lt. stays p (omega (arith, rest.states_pages))) in
-      (stands.formed, inr (stands.pages ∙ ((made before is).pages ∙ ap (laid_over desk.changes.now) (sym same))))
+      (shaped before image is stands, inr (stands.pages ∙ ((made before is).pages ∙ ap (laid_over desk.changes.now) (sym same))))
   rests_by BehindGate before after is counts as_read image left stands =
       let now = counts image left in
-      (now.formed, inl (now.pages ∙ sym (counts after.bytes as_read).pages))
+      (shaped before image is now, inl (now.pages ∙ sym (counts after.bytes as_read).pages))
 
   module _ (left : Option File) (keeps : KeepsTold told left) where
     -- what a crash leaves from now on

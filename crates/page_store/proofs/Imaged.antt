@@ -130,17 +130,6 @@ rising_images test (e ∷ entries) sorted =
       | inr other ↦ rw other rest
     ]
 
--- what is below each is below the one behind a front
-above_all : (n : ℕ) (front : Numbered) (image : ℕ × List ℕ) (rest : Numbered) → All (λ behind. n < behind.0) (front ++ image ∷ rest) → n < image.0
-above_all n [] image rest all = all 0 image (omega arith)
-above_all n (first ∷ front) image rest all = above_all n front image rest (λ k d lt. all (suc k) d (omega arith))
-
--- those before one of rising images are below it
-pub below_next : (front : Numbered) (image : ℕ × List ℕ) (rest : Numbered) → AreRising (front ++ image ∷ rest) → All (λ before. before.0 < image.0) front
-below_next [] image rest rising k d lt = absurd (omega arith)
-below_next (first ∷ front) image rest rising zero d lt = above_all first.0 front image rest rising.0
-below_next (first ∷ front) image rest rising (suc k) d lt = below_next front image rest rising.1 k d (omega arith)
-
 -- the entries of a map below a number
 abbrev pub below_base : ℕ → PageMap → List (ℕ × Box (List ℕ))
 below_base base changed = entries_between nat_cmp Unbounded (Excluded base) changed.entries

@@ -16,7 +16,7 @@ use Rattle.page_store.specs.Faults.{open_fault_of}
 use Rattle.page_store.specs.Shape.{IsBirth, extents_in, extent_pages_in}
 use Rattle.page_store.specs.Standing.{page_of, count_of, IsFitting, IsFormed}
 use Rattle.page_store.specs.Opening.{IsMade, IsRoot, IsRead, IsWhole, IsServed, IsAtRest, IsOther, Refuses}
-use Rattle.page_store.specs.Reading.{IsCounting, IsBehind, States, WasRead}
+use Rattle.page_store.specs.Reading.{IsJournalIn, IsBehind, States, WasRead}
 
 -- page 0 as it was read, in the file
 root_in_file : {bytes extents pages : ℕ} {journal : Option Journal} {root file : List ℕ} → WasRead bytes extents pages journal root file
@@ -40,16 +40,16 @@ pub count_is : {bytes extents pages : ℕ} {journal : Option Journal} {root file
 count_is count read is = ap stated_in (sym read.root_is) ∙ sym is
 
 -- a journal that lies behind all pages and names them alone fits
-fits : (journal : Option Journal) (count : ℕ) (file : List ℕ) → IsCounting journal file → count_of file ≡ count → IsBehind journal count → IsTrue (is_open file) → IsFitting file
-fits None count file counting same behind gate = absurd (cc)
-fits (Some journal) count file counting same behind gate = record {
+journal_fits : (journal : Option Journal) (count : ℕ) (file : List ℕ) → IsJournalIn journal file → count_of file ≡ count → IsBehind journal count → IsTrue (is_open file) → IsFitting file
+journal_fits None count file counting same behind gate = absurd (cc)
+journal_fits (Some journal) count file counting same behind gate = record {
   behind = omega (arith, behind.0, counting.3, same);
   journal = counting.1;
   named = subst (λ (images : Numbered). All (λ image. image.0 < count_of file) images) counting.2 (subst (λ (n : ℕ). All (λ image. image.0 < n) journal.images) (sym same) behind.1);
 }
 
 -- a journal that fits lies behind all pages and names them alone
-behind_all : (journal : Option Journal) (count : ℕ) (file : List ℕ) → IsCounting journal file → count_of file ≡ count → (IsTrue (is_open file) → IsFitting file) → IsBehind journal count
+behind_all : (journal : Option Journal) (count : ℕ) (file : List ℕ) → IsJournalIn journal file → count_of file ≡ count → (IsTrue (is_open file) → IsFitting file) → IsBehind journal count
 behind_all None count file counting same fitting = tt
 behind_all (Some journal) count file counting same fitting =
     let fit = fitting counting.0 in (
@@ -61,7 +61,7 @@ behind_all (Some journal) count file counting same fitting =
 is_read : {bytes extents pages : ℕ} {journal : Option Journal} {root file : List ℕ} (count : ℕ) → WasRead bytes extents pages journal root file
     → IsRoot extents pages root → count ≡ stated_in root → IsBehind journal count → IsRead file
 is_read {bytes} {extents} {pages} {journal} {root} {file} count read is counts behind = record {
-  journal = fits journal count file read.counting (count_is count read counts) behind;
+  journal = journal_fits journal count file read.counting (count_is count read counts) behind;
   root = root_in_file read is;
 }
 
@@ -106,7 +106,7 @@ can_serve count version read is counts behind long states one =
 
 -- what was read, put together
 pub was_read : (bytes extents pages : ℕ) (journal : Option Journal) (birth root file : List ℕ) → IsMade file × (birth ≡ file_page file 1)
-    → IsBirth birth × (extents ≡ extents_in birth) × (pages ≡ extent_pages_in birth) → bytes ≡ length file → IsCounting journal file → root ≡ page_of file 0
+    → IsBirth birth × (extents ≡ extents_in birth) × (pages ≡ extent_pages_in birth) → bytes ≡ length file → IsJournalIn journal file → root ≡ page_of file 0
     → WasRead bytes extents pages journal root file
 was_read bytes extents pages journal birth root file made shape size counting is = record {
   made = made.0;
@@ -143,7 +143,7 @@ served_formed file served = record { made = served.0.1; birth = served.1; journa
 
 -- a file without a journal rests
 pub found_at_rest : (opened : Opened) (file : File) → file.since ≡ all_synced file.bytes → IsFalse (is_open file.bytes) → IsServed file.bytes → States opened file.bytes
-    → IsAtRest opened.extents opened.extent_pages opened.count file
+    → IsAtRest opened.shape.extents opened.shape.extent_pages opened.count file
 found_at_rest opened file synced closed served states = record {
   synced = synced;
   closed = closed;
@@ -155,7 +155,7 @@ found_at_rest opened file synced closed served states = record {
 
 -- a file that rests with what it stated before states what was found
 pub rests_as_found : (opened : Opened) (before : List ℕ) (file : File) → States opened before
-    → IsAtRest (extents_in (file_page before 1)) (extent_pages_in (file_page before 1)) (count_of before) file → IsAtRest opened.extents opened.extent_pages opened.count file
+    → IsAtRest (extents_in (file_page before 1)) (extent_pages_in (file_page before 1)) (count_of before) file → IsAtRest opened.shape.extents opened.shape.extent_pages opened.count file
 rests_as_found opened before file states rest = record {
   synced = rest.synced;
   closed = rest.closed;

@@ -22,14 +22,14 @@ use Rattle.page_store.proofs.LaidOver.{changed_in-set, changed_in-unchanged}
 use Rattle.page_store.proofs.Listed.{get_or-listed, listed_put, listed_none}
 
 -- the same entries have the same pages
-pub same_pages : (old new : PageMap) → IsUnchanged old new → (q : ℕ) → page_in new q ≡ page_in old q
-same_pages old new same q = ap (λ es. option_map bytes_in (lookup (is_at (nat_cmp q)) es)) same
+pub unchanged_pages : (old new : PageMap) → IsUnchanged old new → (q : ℕ) → page_in new q ≡ page_in old q
+unchanged_pages old new same q = ap (λ es. option_map bytes_in (lookup (is_at (nat_cmp q)) es)) same
 
 -- a write below the count leaves no page with bytes at or above it
 pub within_written : {T E : Type 0} (r : Result T E) (count p : ℕ) (w : Option (List ℕ)) (old new : PageMap)
     → OnOk r (PutsPage p w old new) → OnErr r (IsUnchanged old new) → p < count → IsWithin count old → IsWithin count new
 within_written (Ok x) count p w old new ok err lt within = λ q le. ok.apart q (λ e. omega arith) ∙ within q le
-within_written (Err e) count p w old new ok err lt within = λ q le. same_pages old new err q ∙ within q le
+within_written (Err e) count p w old new ok err lt within = λ q le. unchanged_pages old new err q ∙ within q le
 
 -- what is saved still fits after a write that keeps the mark
 pub saved_written : (count : ℕ) (saved : Saved) (pages : SavedMap) (old new : PageMap) → IsSavedWithin count old saved

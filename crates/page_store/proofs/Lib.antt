@@ -17,7 +17,6 @@ pub mod LaidOver
 pub mod Leaving
 pub mod Listed
 pub mod MakeCrashes
-pub mod Numbers
 pub mod Openings
 pub mod Pages
 pub mod Passing

@@ -1,5 +1,5 @@
 -- What a crash leaves while a database is made.
-use Rattle.std.proofs.Common.{◌≡◌, ◌≤◌, ◌+◌, ◌*◌, ℕ, Bool, List, [], ◌∷◌, ◌++◌, length, drop, replicate, get_or, Option, Some, None, IfSome, Result, Ok, Err, OnOk, inl, inr, arith, refl, ap, sym, subst, ◌∙◌}
+use Rattle.std.proofs.Common.{◌≡◌, ◌≤◌, ◌+◌, ◌*◌, ℕ, Bool, List, [], ◌∷◌, ◌++◌, length, drop, replicate, get_or, Option, Some, IfSome, Result, Ok, Err, OnOk, inl, inr, arith, refl, ap, sym, subst, ◌∙◌}
 use Rattle.std.specs.Option.{option_map, ForSome}
 use Rattle.std.proofs.lemmas.List.{length-replicate, drop_all}
 use Rattle.std.proofs.lemmas.Bool.{cases_eq, ne_eqb}
@@ -14,6 +14,7 @@ use Rattle.redo_journal.proofs.Written.{mapped}
 use Rattle.page_store.specs.Shape.{map_pages}
 use Rattle.page_store.specs.Fresh.{zero_pages, root_page, front_with, file_with, fresh_file, fresh_len, IsUnmade, IsUnmadeOrFresh, IsOfMaking}
 use Rattle.page_store.specs.Leaving.{Leaves}
+use Rattle.page_store.proofs.Calls.{sound_image}
 use Rattle.page_store.proofs.Leaving.{runs_leave, leaves_then}
 use Rattle.page_store.proofs.FreshBytes.{length-file_with, same_behind_made}
 
@@ -40,9 +41,9 @@ while_filled n since image synced left =
     inr (rw shut)
 
 -- while the made byte is written open, with all else on the disk
-pub while_opened : (extents extent_pages : ℕ) (since : Since) (bytes image : List ℕ) → bytes ≡ file_with 0 extents extent_pages → since ≡ all_synced bytes → IsImage (torn 0 1 since) image
+pub while_made_open : (extents extent_pages : ℕ) (since : Since) (bytes image : List ℕ) → bytes ≡ file_with 0 extents extent_pages → since ≡ all_synced bytes → IsImage (torn 0 1 since) image
     → IsUnmadeOrFresh extents extent_pages image
-while_opened extents extent_pages since bytes image is synced left =
+while_made_open extents extent_pages since bytes image is synced left =
     let at_sync : IsImage (torn 0 1 (all_synced bytes)) image = subst (λ (s : Since). IsImage (torn 0 1 s) image) synced left in
     let size : length bytes ≡ fresh_len extents = ap length is ∙ length-file_with 0 extents extent_pages in
     let whole : length (fresh_file extents extent_pages) ≡ fresh_len extents = length-file_with 77 extents extent_pages in
@@ -54,13 +55,6 @@ while_opened extents extent_pages since bytes image is synced left =
       ]))
       | inr other ↦ inl (inr (ne_eqb (get_or image 0 0) 77 other))
     ]
-
--- a file that is told is one of its images
-pub told_sound : (told : Option File) (file : File) → IfSome told IsSound → told ≡ Some file → IsImage file.since file.bytes
-told_sound None file sound is = absurd (cc)
-told_sound (Some other) file sound is =
-    let same : other ≡ file = cc in
-    subst (λ (f : File). IsImage f.since f.bytes) same sound.image
 
 -- zeros at the end are pages of zeros
 pub between_zero_pages : {T E : Type 0} (result : Result T E) (old new : Option File) (count pages : ℕ) → count ≡ 4096 * pages
@@ -177,16 +171,17 @@ module _ {D : Type 0} {file : D → Option File} {aside : D → Beside} {attache
       → Runs file aside attaches is_attached clock moment IsCovered (λ since. since) old new
       → Leaves file aside attaches is_attached clock moment (IsOfMaking extents extent_pages) old new
   still_leaves extents extent_pages {old} {new} sound run = runs_leave (runs_within run)
-      (λ after is. told_sound (file new) after (sound new) is)
-      (λ before image is left empty. inl (inl (omega (arith, ap length (empty image left)))))
+      (λ after is. sound_image (file new) after (sound new) is)
+      (λ before image is left. inl left)
 
   -- the made byte is written into an empty file
   pub begun_leaves : (extents extent_pages : ℕ) {old new : D} → ((disk : D) → IfSome (file disk) IsSound)
+      → ForSome (file old) (λ f. length f.bytes ≡ 0)
       → Runs file aside attaches is_attached clock moment IsWithin (torn 0 1) old new
       → Leaves file aside attaches is_attached clock moment (IsOfMaking extents extent_pages) old new
-  begun_leaves extents extent_pages {old} {new} sound run = runs_leave run
-      (λ after is. told_sound (file new) after (sound new) is)
-      (λ before image is left empty. inl (while_begun before.since before.bytes image (told_sound (file old) before (sound old) is) empty left))
+  begun_leaves extents extent_pages {old} {new} sound none run = runs_leave run
+      (λ after is. sound_image (file new) after (sound new) is)
+      (λ before image is left. inr (none before is, λ blank. inl (while_begun before.since before.bytes image (sound_image (file old) before (sound old) is) blank left)))
 
   -- all else is written
   pub filled_leaves : (extents extent_pages n : ℕ) {old new : D} → ((disk : D) → IfSome (file disk) IsSound)
@@ -194,7 +189,7 @@ module _ {D : Type 0} {file : D → Option File} {aside : D → Beside} {attache
       → Runs file aside attaches is_attached clock moment IsWithin (torn 1 n) old new
       → Leaves file aside attaches is_attached clock moment (λ before. IsUnmadeOrFresh extents extent_pages) old new
   filled_leaves extents extent_pages n {old} {new} sound begun run = runs_leave run
-      (λ after is. told_sound (file new) after (sound new) is)
+      (λ after is. sound_image (file new) after (sound new) is)
       (λ before image is left. inl (while_filled n before.since image (begun before is) left))
 
   -- the made byte is written open
@@ -203,16 +198,16 @@ module _ {D : Type 0} {file : D → Option File} {aside : D → Beside} {attache
       → Runs file aside attaches is_attached clock moment IsWithin (torn 0 1) old new
       → Leaves file aside attaches is_attached clock moment (λ before. IsUnmadeOrFresh extents extent_pages) old new
   opened_leaves extents extent_pages {old} {new} sound filled run = runs_leave run
-      (λ after is. told_sound (file new) after (sound new) is)
-      (λ before image is left. let all = filled before is in while_opened extents extent_pages before.since before.bytes image all.0 all.1 left)
+      (λ after is. sound_image (file new) after (sound new) is)
+      (λ before image is left. let all = filled before is in while_made_open extents extent_pages before.since before.bytes image all.0 all.1 left)
 
   -- and then more of the making
-  pub leaves_on : (extents extent_pages : ℕ) {old middle new : D}
+  pub leaves_on : (extents extent_pages : ℕ) {old middle new : D} → ForSome (file old) (λ f. length f.bytes ≡ 0)
       → Leaves file aside attaches is_attached clock moment (IsOfMaking extents extent_pages) old middle
       → Leaves file aside attaches is_attached clock moment (λ before. IsUnmadeOrFresh extents extent_pages) middle new
       → Leaves file aside attaches is_attached clock moment (IsOfMaking extents extent_pages) old new
-  leaves_on extents extent_pages first second = leaves_then first second
-      (λ before image is left. left) (λ before half image is is_half first left empty. left)
+  leaves_on extents extent_pages none first second = leaves_then first second
+      (λ before image is left. left) (λ before half image is is_half first left. inr (none before is, λ blank. left))
 
   -- a call that left the file as it was, and then a making
   pub still_then : (extents extent_pages : ℕ) {old middle new : D} → file middle ≡ file old

@@ -1,21 +1,18 @@
 -- What opening a database leaves, from the clauses of its sync and of its repair.
-use Rattle.std.proofs.Common.{◌≡◌, ◌⊎◌, ◌≤◌, ◌<◌, ℕ, zero, Bool, true, false, IsTrue, List, [], length, replicate, Option, Some, None, is_some, Result, Ok, Err, OnOk, OnErr, arith, refl, sym, ap, subst, ◌∙◌, inl, inr}
+use Rattle.std.proofs.Common.{◌≡◌, ◌≤◌, ℕ, Bool, true, false, List, length, Option, Some, None, is_some, Result, Ok, Err, OnOk, IfErr, IsErrAnd, arith, refl, sym, ap, subst, ◌∙◌, inl, inr}
 use Rattle.std.specs.Option.{ForSome, option_map}
-use Rattle.std.specs.List.{All}
 use Rattle.std.proofs.lemmas.List.{length-replicate}
-use Rattle.mdc_outside.specs.Disk.{File, Since, IsImage, settled}
+use Rattle.mdc_outside.specs.Disk.{File, settled}
 use Rattle.mdc_outside.specs.Moments.{Beside}
-use Rattle.redo_journal.specs.Layout.{home_page}
 use Rattle.redo_journal.specs.Runs.{Runs, IsWithin}
 use Rattle.redo_journal.proofs.Steps.{cases_Option}
 use Rattle.page_store.specs.declared.desk.Desk.{Desk}
+use Rattle.page_store.specs.declared.shape.Shape.{Shape}
 use Rattle.page_store.specs.Leaving.{Leaves}
 use Rattle.page_store.specs.Standing.{pages_of, listed}
-use Rattle.page_store.specs.Desk.{IsKept, IsPrepared, base_of, base_in, work_of, state_of, written_in}
-use Rattle.page_store.specs.Changes.{unchanged}
+use Rattle.page_store.specs.Desk.{IsKept, base_of, base_in, work_of, state_of}
 use Rattle.page_store.specs.Opening.{IsServed, IsAtRest, StandsAs}
-use Rattle.page_store.specs.Opened.{Opens, StandsSince, CouldBeLeft, IsEmptyDesk, IsJustOpened, bytes_of}
-use Rattle.page_store.proofs.Calls.{one_file}
+use Rattle.page_store.specs.Opened.{Opens, IsEmptyDesk, IsJustOpened, bytes_of}
 use Rattle.page_store.proofs.Commits.{pages_at_rest}
 use Rattle.page_store.proofs.Desks.{unchanged_work}
 use Rattle.page_store.proofs.Judged.{served_formed}
@@ -26,10 +23,15 @@ pub on_ok : {T E : Type 0} (result : Result T E) {P : Type 0} → P → OnOk res
 on_ok (Ok x) holds = holds
 on_ok (Err e) holds = tt
 
--- the same of a fault
-pub on_err : {T E : Type 0} (result : Result T E) {P : Type 0} → P → OnErr result P
-on_err (Ok x) holds = tt
-on_err (Err e) holds = holds
+-- the same of each fault
+pub if_err : {T E : Type 0} (result : Result T E) {P : E → Type 0} → ((fault : E) → P fault) → IfErr result P
+if_err (Ok x) each = tt
+if_err (Err e) each = each e
+
+-- the same where there is one fault alone
+pub if_err_as : {T E : Type 0} (result : Result T E) (fault : E) (P : E → Type 0) → IsErrAnd result (λ given. given ≡ fault) → P fault → IfErr result P
+if_err_as (Ok x) fault P is holds = tt
+if_err_as (Err e) fault P is holds = subst P (sym is) holds
 
 -- a sync changes no byte
 pub settled_bytes : (old new : Option File) → new ≡ option_map settled old → bytes_of new ≡ bytes_of old
@@ -83,7 +85,7 @@ module _ {D : Type 0} {file : D → Option File} {aside : D → Beside} {attache
       let stands = after.2 (served_formed before.bytes served) in
       ap (λ told. base_of told desk) after.1
       ∙ (ap (λ halt. base_in halt desk.base after.0.bytes) going
-      ∙ (sym (pages_at_rest desk.shape.extents desk.shape.extent_pages desk.base after.0 (rests after.0 after.1)) ∙ stands.1))
+      ∙ (sym (pages_at_rest desk.shape.extents desk.shape.extent_pages desk.base after.0 (rests after.0 after.1)) ∙ stands.pages))
 
   -- a file is told as before
   pub still_told : {old new : D} → Opens file aside attaches is_attached clock moment old new → is_some (file new) ≡ is_some (file old)
@@ -92,10 +94,10 @@ module _ {D : Type 0} {file : D → Option File} {aside : D → Beside} {attache
     | inr some ↦ ap is_some (opened.told some.0 some.1).1 ∙ sym (ap is_some some.1)
   ]
 
--- the desk has the numbers that the file rests with
-pub rests_with : {told : Option File} {extents extent_pages count : ℕ} (desk : Desk) → desk.shape.extents ≡ extents → desk.shape.extent_pages ≡ extent_pages → desk.base ≡ count
-    → ForSome told (IsAtRest extents extent_pages count) → ForSome told (IsAtRest desk.shape.extents desk.shape.extent_pages desk.base)
-rests_with desk extents pages base rests = λ file is. rw (extents, pages, base) (rests file is)
+-- the desk has the shape and the count that the file rests with
+pub rests_with : {told : Option File} {shape : Shape} {count : ℕ} (desk : Desk) → desk.shape ≡ shape → desk.base ≡ count
+    → ForSome told (IsAtRest shape.extents shape.extent_pages count) → ForSome told (IsAtRest desk.shape.extents desk.shape.extent_pages desk.base)
+rests_with desk shape base rests = λ file is. rw (shape, base) (rests file is)
 
 -- an empty desk fits a file at rest
 pub empty_kept : (told : Option File) (desk : Desk) → IsEmptyDesk desk → ForSome told (IsAtRest desk.shape.extents desk.shape.extent_pages desk.base)
@@ -127,10 +129,3 @@ just_opened told tape attaches desk empty =
 pub shown_as_before : (told : Option File) (tape before : Option (List ℕ)) (attaches listed : Option (List (List ℕ × Bool))) (is_told : Bool) (desk : Desk) → IsEmptyDesk desk
     → is_some told ≡ is_told → tape ≡ before → attaches ≡ listed → IsJustOpened is_told before listed (state_of told tape attaches desk)
 shown_as_before told tape before attaches listed is_told desk empty same_told same_tape same_attaches = just_opened told tape attaches desk empty ∙ rw (same_told, same_tape, same_attaches) refl
-
--- and it has no page to be written
-pub nothing_written : (desk : Desk) → IsEmptyDesk desk → written_in desk ≡ 0
-nothing_written desk empty =
-    let size : length desk.changes.now ≡ desk.base = ap (λ changes. length changes.now) empty.changes ∙ length-replicate desk.base None in
-    let kept : desk.changes.kept ≡ 0 = ap (λ changes. changes.kept) empty.changes in
-    omega arith

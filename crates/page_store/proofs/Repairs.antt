@@ -12,7 +12,7 @@ use Rattle.page_store.specs.Leaving.{Leaves}
 use Rattle.page_store.specs.Commit.{IsClosed, StandsStill}
 use Rattle.page_store.specs.Opening.{IsAtRest, StandsAs}
 use Rattle.page_store.specs.Shape.{extents_in, extent_pages_in}
-use Rattle.page_store.specs.Standing.{IsFormed, count_of, page_of, pages_of}
+use Rattle.page_store.specs.Standing.{Stands, count_of, page_of, pages_of}
 use Rattle.page_store.proofs.Calls.{one_file}
 use Rattle.page_store.proofs.Crashes.{only_itself}
 use Rattle.page_store.proofs.Leaving.{runs_leave, leaves_then, leaves_as}
@@ -29,7 +29,7 @@ count_by_pages a b same = sym (length-map-range_with_len (page_of a) 0 (count_of
 itself_stands : (file : File) (image : List ℕ) → file.since ≡ all_synced file.bytes → IsImage file.since image → StandsAs file.bytes image
 itself_stands file image synced left formed =
     let same : image ≡ file.bytes = only_itself file.bytes image (subst (λ (s : Since). IsImage s image) synced left) in
-    subst (λ (i : List ℕ). IsFormed i × (pages_of i ≡ pages_of file.bytes)) (sym same) (formed, refl)
+    subst (λ (i : List ℕ). Stands file.bytes (pages_of file.bytes) i) (sym same) (record { formed = formed; pages = refl; birth = refl })
 
 -- a file whose gate was closed, and which stands still, rests with what it stated
 pub rests_still : (before after : File) → IsClosed after → StandsStill before after.bytes
@@ -60,8 +60,8 @@ module _ {D : Type 0} {file : D → Option File} {aside : D → Beside} {attache
   keeps_then first second = leaves_then first second (λ before image is kept. kept)
       (λ before half image is_before is_half kept_first kept_second formed.
       let one = kept_first formed in
-      let two = kept_second one.0 in
-      (two.0, two.1 ∙ one.1))
+      let two = kept_second one.formed in
+      record { formed = two.formed; pages = two.pages ∙ one.pages; birth = two.birth ∙ one.birth })
 
   -- a file that is told was told before
   pub told_before : {Kind : File → List ℕ → Type 0} {old new : D} → Leaves file aside attaches is_attached clock moment Kind old new
@@ -74,7 +74,7 @@ module _ {D : Type 0} {file : D → Option File} {aside : D → Beside} {attache
   -- a journal that is brought home keeps what the file stands for
   pub home_keeps : {old new : D} → Leaves file aside attaches is_attached clock moment StandsStill old new
       → Leaves file aside attaches is_attached clock moment (λ before image. StandsAs before.bytes image) old new
-  home_keeps leaves = leaves_as leaves (λ before image is still formed. (still.formed, still.pages))
+  home_keeps leaves = leaves_as leaves (λ before image is still formed. still)
 
   -- then it rests
   pub home_rests : {old new : D} → Leaves file aside attaches is_attached clock moment StandsStill old new → ForSome (file new) IsClosed

@@ -9,7 +9,7 @@ use Rattle.mdc_outside.specs.Outside.{Takes, TakesPart}
 use Rattle.page_store.specs.declared.desk.Desk.{Desk}
 use Rattle.page_store.specs.Desk.{IsKept, state_of}
 use Rattle.page_store.specs.FileStore.{Held, left_of}
-use Rattle.page_store.proofs.Passing.{where_told, kept_reopens, rests_with_base, if_said}
+use Rattle.page_store.proofs.Passing.{where_told, reopens_as, kept_reopens, rests_with_base, if_said}
 use Rattle.page_store.proofs.Leaving.{nothing_said}
 
 -- a tape that has a first part of a piece more was told before
@@ -21,11 +21,6 @@ told_tape (Some before) new piece said takes is = (before, refl)
 tells_on : (tape new : Option (List ℕ)) (piece said : List ℕ) → TakesPart tape piece new → tape ≡ Some said → (now : List ℕ) × (new ≡ Some now)
 tells_on None new piece said takes is = absurd (cc)
 tells_on (Some before) new piece said takes is = (before ++ takes.0, takes.3)
-
--- a whole piece is a first part of it
-pub takes_whole : (tape new : Option (List ℕ)) (piece : List ℕ) → Takes tape piece new → TakesPart tape piece new
-takes_whole None new piece takes = takes
-takes_whole (Some before) new piece takes = (piece, [], sym (append-nil piece), takes)
 
 -- what is told with a front of a piece more
 front_said : (tape : Option (List ℕ)) (before part heard : List ℕ) → tape ≡ Some before → heard ≡ before ++ part → IfSome (continued part tape) (λ bytes. heard ≡ bytes)
@@ -54,10 +49,10 @@ pub tells_pass : {H : Type 0} (file : H → Option File) (aside : H → Beside) 
     → WhereTold (file old.host) (aside old.host).tape (λ f said. (image tape : List ℕ) → moment old.host (clock old.host) image tape ↔ IsMoment f.since said [] image tape)
     → WhereTold (file new.host) (aside new.host).tape (λ f said. (image tape : List ℕ) → moment new.host (clock new.host) image tape ↔ IsMoment f.since said [] image tape)
     → ((s t : ℕ) (image tape : List ℕ) → s ≤ t → t ≤ clock old.host → moment old.host t image tape → moment old.host s image tape)
-    → IsKept old.desk (file old.host) → old.desk.halt ≡ None → IsKept new.desk (file new.host) → new.desk.halt ≡ None
-    → Passes (λ (s : Held H). state_of (file s.host) (aside s.host).tape (attaches s.host) s.desk) (λ s. clock s.host) (λ s. left_of (file s.host) (aside s.host).tape (moment s.host))
+    → IsKept old.desk (file old.host) → old.desk.halt ≡ None → IsKept new.desk (file new.host) → new.desk.halt ≡ None → new.desk.shape ≡ old.desk.shape
+    → Passes (λ (s : Held H). state_of (file s.host) (aside s.host).tape (attaches s.host) s.desk) (λ s. clock s.host) (λ s. left_of s.desk.shape (file s.host) (aside s.host).tape (moment s.host))
     (BaseWithFront whole (state_of (file old.host) (aside old.host).tape (attaches old.host) old.desk)) old new
-tells_pass {H} file aside attaches clock moment old new whole piece front same takes elapses only_old only_new earlier kept going kept_new going_new =
+tells_pass {H} file aside attaches clock moment old new whole piece front same takes elapses only_old only_new earlier kept going kept_new going_new shape =
     let Since : File → List ℕ → Type 0 = λ f said. (t : ℕ) (image tape : List ℕ) → t ≤ clock old.host
     → moment new.host t image tape ↔ (moment old.host t image tape ⊎ IsMoment f.since said piece image tape) in
     let Now : File → List ℕ → Type 0 = λ f said. (image tape : List ℕ) → moment old.host (clock old.host) image tape ↔ IsMoment f.since said [] image tape in
@@ -72,21 +67,21 @@ tells_pass {H} file aside attaches clock moment old new whole piece front same t
           elim ((each (clock old.host) left.4 heard (omega arith)).0 left.5) [
             | inl past ↦ (let at_first = (now left.4 heard).0 past in
                 let said : heard ≡ tape.0 = nothing_said at_first.said.0 at_first.said.1 tape.0 heard at_first.said.2 at_first.said.3 in
-                (kept_reopens (file old.host) old.desk left.0 left.4 pages kept going told at_first.left left.6, [], (whole, refl), front_said (aside old.host).tape tape.0 [] heard tape.1 (said ∙ sym (append-nil tape.0))))
-            | inr since ↦ (kept_reopens (file old.host) old.desk left.0 left.4 pages kept going told since.left left.6, since.said.0, front since.said.0 since.said.1 since.said.2, front_said (aside old.host).tape tape.0 since.said.0 heard tape.1 since.said.3)
+                (kept_reopens (file old.host) old.desk left.0 left.4 pages kept going told at_first.left (reopens_as shape left.4 pages left.6), [], (whole, refl), front_said (aside old.host).tape tape.0 [] heard tape.1 (said ∙ sym (append-nil tape.0))))
+            | inr since ↦ (kept_reopens (file old.host) old.desk left.0 left.4 pages kept going told since.left (reopens_as shape left.4 pages left.6), since.said.0, front since.said.0 since.said.1 since.said.2, front_said (aside old.host).tape tape.0 since.said.0 heard tape.1 since.said.3)
           ];
       nothing_else = λ t pages heard early left.
           let told : file old.host ≡ Some left.0 = sym same ∙ left.1 in
           let tape = told_tape (aside old.host).tape (aside new.host).tape whole left.2 takes left.3 in
           let each = where_told (file old.host) (aside old.host).tape left.0 tape.0 Since told tape.1 elapses.each in
           elim ((each t left.4 heard early).0 left.5) [
-            | inl past ↦ inl (left.0, told, tape.0, tape.1, left.4, past, left.6)
+            | inl past ↦ inl (left.0, told, tape.0, tape.1, left.4, past, reopens_as shape left.4 pages left.6)
             | inr since ↦ inr (left.0, left.1, left.2, left.3, left.4, (each (clock old.host) left.4 heard (omega arith)).1 (inr since), left.6)
           ];
       keeps = λ t pages heard early left.
           let tape = tells_on (aside old.host).tape (aside new.host).tape whole left.2 takes left.3 in
           let each = where_told (file old.host) (aside old.host).tape left.0 left.2 Since left.1 left.3 elapses.each in
-          (left.0, same ∙ left.1, tape.0, tape.1, left.4, (each t left.4 heard early).1 (inl left.5), left.6);
+          (left.0, same ∙ left.1, tape.0, tape.1, left.4, (each t left.4 heard early).1 (inl left.5), reopens_as (sym shape) left.4 pages left.6);
       adds = λ t pages heard early left.
           let told : file old.host ≡ Some left.0 = sym same ∙ left.1 in
           let tape = told_tape (aside old.host).tape (aside new.host).tape whole left.2 takes left.3 in

@@ -7,7 +7,7 @@ use Rattle.mdc_outside.specs.Disk.{File}
 use Rattle.page_store.specs.declared.desk.Desk.{Desk}
 use Rattle.page_store.specs.Changes.{Overlay}
 use Rattle.page_store.specs.Desk.{IsKept, work_of, base_of, base_in}
-use Rattle.page_store.specs.FileStore.{Held, IsWhole}
+use Rattle.page_store.specs.FileStore.{Held, FitsFile}
 use Rattle.page_store.proofs.Desks.{length-base_in}
 use Rattle.page_store.proofs.LaidOver.{length-laid_over}
 
@@ -36,7 +36,7 @@ pub held_pages : {H : Type 0} (file : H → Option File) (host : H) (desk : Desk
 held_pages file host desk held is = length-work_of (file held.host) held.desk held.desk.changes.now ∙ sym (ap (λ h. length h.desk.changes.now) is)
 
 -- the store is whole again
-pub whole_again : (is_attached : Bool) (told : Option File) (desk : Desk) → IsTrue is_attached → IsKept desk told → IsWhole is_attached told desk
+pub whole_again : (is_attached : Bool) (told : Option File) (desk : Desk) → IsTrue is_attached → IsKept desk told → FitsFile is_attached told desk
 whole_again is_attached told desk attached kept = record { attached = attached; kept = λ going. kept }
 
 -- where pages are told, page 0 states how many there are

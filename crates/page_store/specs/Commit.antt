@@ -4,14 +4,8 @@ use Rattle.std.specs.List.{All}
 use Rattle.store_api.specs.StoreState.{stated_in}
 use Rattle.mdc_outside.specs.Disk.{File, IsImage, all_synced}
 use Rattle.redo_journal.specs.Images.{Numbered, AreRising}
-use Rattle.redo_journal.specs.Layout.{file_page, home_page, is_open, journal_of, index_pages}
-use Rattle.page_store.specs.Standing.{listed, image_of, count_of, pages_of, IsFormed}
-
--- the image is formed, stands for these pages, and has the file's birth page
-pub record Stands (file : List ℕ) (all : List (List ℕ)) (image : List ℕ) : Type 0 where
-  pub formed : IsFormed image
-  pub pages : pages_of image ≡ all
-  pub birth : file_page image 1 ≡ file_page file 1
+use Rattle.redo_journal.specs.Layout.{home_page, is_open, journal_of, index_pages}
+use Rattle.page_store.specs.Standing.{listed, image_of, count_of, pages_of, IsFormed, Stands}
 
 -- how many pages there are with these images, as page 0 then states it
 abbrev pub count_with : Numbered → List ℕ → ℕ

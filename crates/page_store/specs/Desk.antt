@@ -10,7 +10,7 @@ use Rattle.page_store.specs.declared.desk.Hand.{Hand}
 use Rattle.page_store.specs.declared.desk.Hand.TheVariants.{Changed, Clean, Blank}
 use Rattle.page_store.specs.declared.write_through.Halt.{Halt}
 use Rattle.page_store.specs.declared.write_through.Halt.TheVariants.{BeforeHome, BehindGate}
-use Rattle.page_store.specs.Standing.{listed, pages_of, IsFormed}
+use Rattle.page_store.specs.Standing.{listed, pages_of, IsFormedAs}
 use Rattle.page_store.specs.Changes.{Overlay, laid_over, image_in, HoldsBelow}
 use Rattle.page_store.specs.Cached.{AreHome}
 use Rattle.page_store.specs.Opening.{IsAtRest}
@@ -79,10 +79,10 @@ IsPlaced p desk None = (p < desk.base) × (image_in desk.base desk.changes.now p
 IsPlaced p desk (Some hand) =
     (page : List ℕ) × (page_at_hand (Some hand) desk.changes.now desk.cache ≡ Some page) × (image_in desk.base desk.changes.now p ≡ Some page)
 
--- an image that is formed and stands for the base or for the work
+-- an image that is formed, states the shape and stands for the base or for the work
 abbrev pub StandsForEither : Desk → File → List ℕ → Type 0
 StandsForEither desk file image =
-    IsFormed image × ((pages_of image ≡ base_of (Some file) desk) ⊎ (pages_of image ≡ work_of (Some file) desk desk.changes.now))
+    IsFormedAs desk.shape image × ((pages_of image ≡ base_of (Some file) desk) ⊎ (pages_of image ≡ work_of (Some file) desk desk.changes.now))
 
 -- what a crash leaves from now on stands for the base or for the work
 abbrev pub RestsEither : Desk → File → Type 0

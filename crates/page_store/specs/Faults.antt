@@ -1,4 +1,5 @@
 -- What kind of fault keeps a file from being opened.
+use Rattle.std.specs.Prelude.{◌≡◌, ◌⊎◌}
 use Rattle.redo_journal.specs.declared.replaying.ReplayFault.{ReplayFault}
 use Rattle.redo_journal.specs.declared.replaying.ReplayFault.TheVariants as replay
 use Rattle.page_store.specs.declared.fault.OpenFault.{OpenFault}
@@ -19,3 +20,7 @@ IsUnserved (Version version) = Unit {0}
 IsUnserved Device = ⊥
 IsUnserved (Damaged damage) = Unit {0}
 IsUnserved Memory = ⊥
+
+-- a fault that may come before all of the file is on the disk
+abbrev pub MayComeFirst : OpenFault → Type 0
+MayComeFirst fault = (fault ≡ Device) ⊎ (fault ≡ Memory)

@@ -1,4 +1,4 @@
--- The file that is made: empty but for its gates, its birth page and its root page (docs/FORMAT.md, "Creation").
+-- The file that is made: empty but for its gates, its birth page and its root page (docs/FORMAT.md, "Making").
 use Rattle.std.specs.Prelude.{◌≡◌, ◌⊎◌, ◌<◌, ℕ, ◌+◌, ◌*◌, List, [], ◌∷◌, ◌++◌, length, drop, replicate, IsFalse}
 use Rattle.byteorder.specs.Endian.{big_bytes}
 use Rattle.mdc_outside.specs.Disk.{File, IsImage, all_synced}
@@ -42,10 +42,15 @@ IsUnmade file = (length file < 8192) ⊎ IsFalse (is_made file)
 abbrev pub IsUnmadeOrFresh : ℕ → ℕ → List ℕ → Type 0
 IsUnmadeOrFresh extents extent_pages file = IsUnmade file ⊎ (file ≡ fresh_file extents extent_pages)
 
--- where a crash before left no byte, the image isn't made or is the whole
+-- a crash leaves no byte of the file
+abbrev pub IsBlank : File → Type 0
+IsBlank file = (left : List ℕ) → IsImage file.since left → left ≡ []
+
+-- The image is one that could be left before, or the file had no byte. Where none could be left, the image isn't made or is
+-- the whole.
 abbrev pub IsOfMaking : ℕ → ℕ → File → List ℕ → Type 0
 IsOfMaking extents extent_pages before image =
-    ((left : List ℕ) → IsImage before.since left → left ≡ []) → IsUnmadeOrFresh extents extent_pages image
+    IsImage before.since image ⊎ ((length before.bytes ≡ 0) × (IsBlank before → IsUnmadeOrFresh extents extent_pages image))
 
 -- the file holds an empty database, all of it on the disk
 pub record HoldsFresh (extents extent_pages : ℕ) (file : File) : Type 0 where

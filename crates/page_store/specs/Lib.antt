@@ -1,3 +1,4 @@
+pub mod Bound
 pub mod Cached
 pub mod Changes
 pub mod ChangesView

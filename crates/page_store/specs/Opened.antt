@@ -1,6 +1,6 @@
 -- What opening a database does to its file, and what a store shows that was just opened.
-use Rattle.std.specs.Prelude.{◌≡◌, ◌⊎◌, ◌≤◌, ℕ, Bool, false, IsTrue, List, [], Option, Some, None, is_some}
-use Rattle.std.specs.Option.{ForSome, option_map}
+use Rattle.std.specs.Prelude.{◌≡◌, ◌⊎◌, ◌≤◌, ℕ, Bool, false, List, [], Option, Some, None}
+use Rattle.std.specs.Option.{option_map}
 use Rattle.store_api.specs.StoreState.{StoreState}
 use Rattle.mdc_outside.specs.Disk.{File, IsImage}
 use Rattle.mdc_outside.specs.Moments.{Beside}

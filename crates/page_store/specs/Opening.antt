@@ -8,7 +8,7 @@ use Rattle.store_api.specs.declared.fault.Damage.{Damage}
 use Rattle.page_store.specs.declared.fault.OpenFault.{OpenFault}
 use Rattle.page_store.specs.declared.fault.OpenFault.TheVariants.{Exists, Unmade, NotMdc, Version, Device, Damaged, Memory}
 use Rattle.page_store.specs.Shape.{IsBirth, extents_in, extent_pages_in, first_count}
-use Rattle.page_store.specs.Standing.{IsFitting, IsFormed, page_of, count_of, pages_of, is_made}
+use Rattle.page_store.specs.Standing.{IsFitting, IsFormed, Stands, page_of, count_of, pages_of, is_made}
 use Rattle.page_store.specs.Fresh.{IsUnmade}
 
 -- Page 0 is whole and begins with `ROOT`, and its count is that of a new database and of some whole extents.
@@ -57,9 +57,9 @@ IsOfVersion version file =
 abbrev pub IsServed : List ℕ → Type 0
 IsServed file = IsMade file × IsBirth (file_page file 1) × IsRead file × IsWhole file × (version_of file ≡ 1)
 
--- an image that is formed and stands for the same pages as that file, where that file is formed
+-- an image that is formed, stands for the same pages as that file and has its birth page, where that file is formed
 abbrev pub StandsAs : List ℕ → List ℕ → Type 0
-StandsAs file image = IsFormed file → IsFormed image × (pages_of image ≡ pages_of file)
+StandsAs file image = IsFormed file → Stands file (pages_of file) image
 
 -- All is on the disk, the gate is closed, and the file is formed and has so many pages, of a database of this size.
 pub record IsAtRest (extents extent_pages pages : ℕ) (file : File) : Type 0 where

@@ -56,6 +56,6 @@ pub record IsSavedWithin (count : ℕ) (changed : PageMap) (saved : Saved) : Typ
   pub over : IsOver saved.pages changed
 
 -- the keys are below the count, and what is saved fits
-pub record IsKept (count : ℕ) (changed : PageMap) (saved : Option Saved) : Type 0 where
+pub record IsConsistent (count : ℕ) (changed : PageMap) (saved : Option Saved) : Type 0 where
   pub within : IsWithin count changed
   pub mark : ForSome saved (IsSavedWithin count changed)

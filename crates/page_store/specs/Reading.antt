@@ -9,9 +9,9 @@ use Rattle.page_store.specs.Standing.{page_of, count_of}
 use Rattle.page_store.specs.Opening.{IsMade}
 
 -- the journal that counts in the file, or nothing where its gate isn't open
-abbrev pub IsCounting : Option Journal → List ℕ → Type 0
-IsCounting None file = IsFalse (is_open file)
-IsCounting (Some journal) file = IsTrue (is_open file) × IsJournal file × (journal.images ≡ journal_of file) × (journal.start ≡ start_of file)
+abbrev pub IsJournalIn : Option Journal → List ℕ → Type 0
+IsJournalIn None file = IsFalse (is_open file)
+IsJournalIn (Some journal) file = IsTrue (is_open file) × IsJournal file × (journal.images ≡ journal_of file) × (journal.start ≡ start_of file)
 
 -- where there is a journal, it lies behind so many pages, and names them alone
 abbrev pub IsBehind : Option Journal → ℕ → Type 0
@@ -25,11 +25,11 @@ pub record WasRead (bytes extents extent_pages : ℕ) (journal : Option Journal)
   pub size : bytes ≡ length file
   pub states_extents : extents ≡ extents_in (file_page file 1)
   pub states_extent_pages : extent_pages ≡ extent_pages_in (file_page file 1)
-  pub counting : IsCounting journal file
+  pub counting : IsJournalIn journal file
   pub root_is : root ≡ page_of file 0
 
--- the size of the file's database, and how many pages it has
+-- the shape of the file's database, and how many pages it has
 pub record States (opened : Opened) (file : List ℕ) : Type 0 where
-  pub extents : opened.extents ≡ extents_in (file_page file 1)
-  pub extent_pages : opened.extent_pages ≡ extent_pages_in (file_page file 1)
+  pub extents : opened.shape.extents ≡ extents_in (file_page file 1)
+  pub extent_pages : opened.shape.extent_pages ≡ extent_pages_in (file_page file 1)
   pub count : opened.count ≡ count_of file

@@ -4,7 +4,8 @@ use Rattle.std.specs.List.{All, range_with_len}
 use Rattle.store_api.specs.StoreState.{stated_in}
 use Rattle.redo_journal.specs.Images.{Numbered}
 use Rattle.redo_journal.specs.Layout.{file_page, home_page, is_open, start_of, journal_of, IsJournal}
-use Rattle.page_store.specs.Shape.{IsBirth}
+use Rattle.page_store.specs.declared.shape.Shape.{Shape}
+use Rattle.page_store.specs.Shape.{IsBirth, extents_in, extent_pages_in}
 
 -- what f gives for each number below n, in order
 abbrev pub listed : {X : Type 0} → ℕ → (ℕ → X) → List X
@@ -48,7 +49,19 @@ pub record IsFormed (file : List ℕ) : Type 0 where
   pub journal : IsTrue (is_open file) → IsFitting file
   pub whole : 4096 * (66 + count_of file) ≤ length file
 
--- what opening a file gives: its pages, where it is formed, and else nothing
-abbrev pub Reopens : List ℕ → Option (List (List ℕ)) → Type 0
-Reopens file None = ¬ IsFormed file
-Reopens file (Some pages) = IsFormed file × (pages ≡ pages_of file)
+-- the image is formed, stands for these pages, and has the file's birth page
+pub record Stands (file : List ℕ) (all : List (List ℕ)) (image : List ℕ) : Type 0 where
+  pub formed : IsFormed image
+  pub pages : pages_of image ≡ all
+  pub birth : file_page image 1 ≡ file_page file 1
+
+-- the file is formed, and its birth page states this shape
+pub record IsFormedAs (shape : Shape) (file : List ℕ) : Type 0 where
+  pub formed : IsFormed file
+  pub extents : extents_in (file_page file 1) ≡ shape.extents
+  pub extent_pages : extent_pages_in (file_page file 1) ≡ shape.extent_pages
+
+-- what opening a file gives a store of this shape: its pages, where it is formed and states that shape, and else nothing
+abbrev pub Reopens : Shape → List ℕ → Option (List (List ℕ)) → Type 0
+Reopens shape file None = ¬ IsFormedAs shape file
+Reopens shape file (Some pages) = IsFormedAs shape file × (pages ≡ pages_of file)

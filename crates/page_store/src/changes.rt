@@ -34,11 +34,11 @@ impl Model for Changes {
     ghost Value = { Changed };
 
     ghost use Rattle.page_store.specs.ChangesView.{changed_of};
-    ghost use Rattle.page_store.specs.PageMaps.{IsKept};
+    ghost use Rattle.page_store.specs.PageMaps.{IsConsistent};
 
     ghost view = { changed_of };
 
-    ghost invariant = { λ it. IsKept it.count it.changed it.saved };
+    ghost invariant = { λ it. IsConsistent it.count it.changed it.saved };
 }
 
 impl Changes {

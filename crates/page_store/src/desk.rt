@@ -1,13 +1,14 @@
 // What a store has in memory beside its host: its changes, clean pages, and where the page at hand lies.
-ghost use Rattle.std.specs.Prelude.{◌≡◌, ◌<◌, ◌≤◌, ◌+◌, IsTrue, IsSome, Option, None, Some, length, OnOk, OnErr, IsErrOf};
+ghost use Rattle.std.specs.Prelude.{◌≡◌, ◌<◌, ◌≤◌, ◌+◌, IsTrue, IsSome, Option, None, Some, [], length, OnOk, OnErr, IsErrOf};
 ghost use Rattle.std.specs.Option.{ForSome};
-ghost use Rattle.mdc_outside.specs.Outside.{Rose};
-ghost use Rattle.mdc_outside.specs.Disk.{File};
-ghost use Rattle.mdc_outside.specs.Moments.{HasCause};
-ghost use Rattle.redo_journal.specs.Runs.{Runs, IsCovered};
 ghost use Rattle.store_api.specs.Calls.{Fetches, FetchesCommitted, LosesHand, LosesReadiness, Writes, Grows, Marks, Keeps, Undoes, Prepares, Commits, Ends, RollsBack};
 ghost use Rattle.store_api.specs.StoreState.{stated_count, zero_page, differing};
-ghost use Rattle.page_store.specs.Leaving.{Leaves};
+ghost use Rattle.mdc_outside.specs.Disk.{File};
+ghost use Rattle.mdc_outside.specs.Moments.{HasCause};
+ghost use Rattle.mdc_outside.specs.Outside.{Rose};
+ghost use Rattle.redo_journal.specs.Bound.{RunsOf};
+ghost use Rattle.redo_journal.specs.Runs.{IsCovered};
+ghost use Rattle.page_store.specs.Bound.{LeavesOf};
 ghost use Rattle.page_store.specs.Desk.{IsKept, IsPlaced, Does, DoesOnOk, DoesOnErr, StandsForEither, RestsEither, page_at_hand, base_of, work_of, written_in};
 
 use crate::changes::Changes;
@@ -16,14 +17,12 @@ use crate::shape::Shape;
 use crate::write_through::{Halt, write_any};
 use mdc_outside::Disk;
 use mdc_values::Memory;
-use redo_journal::Images;
+use redo_journal::{FIRST_PAGE, Images};
 use std::alloc::Global;
-use store_api::{DeviceFault, Page, PageFault};
+use store_api::{DeviceFault, Page, PageFault, blank_page};
 
 // The file page of the store's page 0.
-const FIRST: u32 = 66;
-
-static BLANK: Page = [0; 4096];
+const FIRST: u32 = FIRST_PAGE as u32;
 
 /// Where the page at hand lies.
 #[derive(Clone, Copy, Debug)]
@@ -61,10 +60,11 @@ impl Desk {
         ensures device { IsErrOf result PageFault.Device → Rose (D.disk_faults disk.old) (D.disk_faults disk.new) }
         ensures changes { self.new.changes ≡ self.old.changes }
         ensures base { self.new.base ≡ self.old.base }
+        ensures shape { self.new.shape ≡ self.old.shape }
         ensures going_on { self.new.halt ≡ None }
         ensures still_kept { IsKept self.new (D.file disk.new) }
         ensures same { D.file disk.new ≡ D.file disk.old }
-        ensures runs { Runs D.file D.beside D.attaches D.is_attached D.clock D.moment IsCovered (λ since. since) disk.old disk.new }
+        ensures runs { RunsOf D.Disk IsCovered (λ since. since) disk.old disk.new }
         ensures later { D.disk_faults disk.old ≤ D.disk_faults disk.new }
     {
         match self.place_of(p) {
@@ -87,10 +87,11 @@ impl Desk {
         ensures device { IsErrOf result PageFault.Device → Rose (D.disk_faults disk.old) (D.disk_faults disk.new) }
         ensures changes { self.new.changes ≡ self.old.changes }
         ensures base { self.new.base ≡ self.old.base }
+        ensures shape { self.new.shape ≡ self.old.shape }
         ensures going_on { self.new.halt ≡ None }
         ensures still_kept { IsKept self.new (D.file disk.new) }
         ensures same { D.file disk.new ≡ D.file disk.old }
-        ensures runs { Runs D.file D.beside D.attaches D.is_attached D.clock D.moment IsCovered (λ since. since) disk.old disk.new }
+        ensures runs { RunsOf D.Disk IsCovered (λ since. since) disk.old disk.new }
         ensures later { D.disk_faults disk.old ≤ D.disk_faults disk.new }
     {
         self.hand = None;
@@ -121,7 +122,7 @@ impl Desk {
         match self.hand {
             Some(Hand::Changed(p)) => self.changes.get(p).unwrap(),
             Some(Hand::Clean) => self.cache.first(),
-            Some(Hand::Blank) => blank(),
+            Some(Hand::Blank) => blank_page(),
             None => unreachable!(),
         }
     }
@@ -132,6 +133,7 @@ impl Desk {
         ensures ok { (told : Option File) → IsKept self.old told → DoesOnOk result (Writes p bytes.now) told self.old told self.new }
         ensures err { (told : Option File) → DoesOnErr result LosesReadiness told self.old told self.new }
         ensures memory { IsErrOf result PageFault.Device → ⊥ }
+        ensures shape { self.new.shape ≡ self.old.shape }
         ensures halt { self.new.halt ≡ self.old.halt }
         ensures kept { (told : Option File) → IsKept self.old told → IsKept self.new told }
         ensures written { written_in self.new ≤ written_in self.old + 1 }
@@ -148,6 +150,7 @@ impl Desk {
     pub(crate) fn grow(&mut self, n: u32)
         requires { length self.old.changes.now + n ≤ 262289 }
         ensures does { (told : Option File) → IsKept self.old told → self.old.halt ≡ None → Does (Grows n) told self.old told self.new }
+        ensures shape { self.new.shape ≡ self.old.shape }
         ensures halt { self.new.halt ≡ self.old.halt }
         ensures kept { (told : Option File) → IsKept self.old told → IsKept self.new told }
         ensures written { written_in self.new ≤ written_in self.old + n }
@@ -161,6 +164,7 @@ impl Desk {
     pub(crate) fn mark(&mut self)
         requires { self.old.changes.marked ≡ None }
         ensures does { (told : Option File) → Does Marks told self.old told self.new }
+        ensures shape { self.new.shape ≡ self.old.shape }
         ensures halt { self.new.halt ≡ self.old.halt }
         ensures kept { (told : Option File) → IsKept self.old told → IsKept self.new told }
         ensures written { written_in self.new ≡ written_in self.old }
@@ -174,6 +178,7 @@ impl Desk {
     pub(crate) fn keep(&mut self)
         requires { IsSome self.old.changes.marked }
         ensures does { (told : Option File) → Does Keeps told self.old told self.new }
+        ensures shape { self.new.shape ≡ self.old.shape }
         ensures halt { self.new.halt ≡ self.old.halt }
         ensures kept { (told : Option File) → IsKept self.old told → IsKept self.new told }
         ensures written { written_in self.new ≡ written_in self.old }
@@ -186,6 +191,7 @@ impl Desk {
     pub(crate) fn undo(&mut self)
         requires { IsSome self.old.changes.marked }
         ensures does { (told : Option File) → Does Undoes told self.old told self.new }
+        ensures shape { self.new.shape ≡ self.old.shape }
         ensures halt { self.new.halt ≡ self.old.halt }
         ensures kept { (told : Option File) → IsKept self.old told → IsKept self.new told }
         ensures written { (told : Option File) → IsKept self.old told → written_in self.new ≤ written_in self.old }
@@ -198,6 +204,7 @@ impl Desk {
     /// Goes back to the base, and drops a mark. It takes no memory.
     pub(crate) fn rollback(&mut self)
         ensures does { (told : Option File) → IsKept self.old told → self.old.halt ≡ None → Does RollsBack told self.old told self.new }
+        ensures shape { self.new.shape ≡ self.old.shape }
         ensures halt { self.new.halt ≡ self.old.halt }
         ensures kept { (told : Option File) → IsKept self.old told → IsKept self.new told }
         ensures written { written_in self.new ≡ 0 }
@@ -225,6 +232,7 @@ impl Desk {
         ensures ok { (told : Option File) → DoesOnOk result Prepares told self.old told self.new }
         ensures err { (told : Option File) → DoesOnErr result LosesReadiness told self.old told self.new }
         ensures memory { IsErrOf result PageFault.Device → ⊥ }
+        ensures shape { self.new.shape ≡ self.old.shape }
         ensures halt { self.new.halt ≡ self.old.halt }
         ensures kept { (told : Option File) → IsKept self.old told
             → ForSome told (λ file. stated_count (work_of told self.old self.old.changes.now) ≡ length self.old.changes.now)
@@ -243,6 +251,7 @@ impl Desk {
     }
 
     /// Makes the work the base, whole or not at all. It takes no memory. After a fault a crash leaves the one or the other.
+    /// Where no page changed, it makes no call of the disk.
     pub(crate) fn commit<D: Disk>(&mut self, disk: &mut D) -> Result<(), DeviceFault>
         requires attached { IsTrue (D.is_attached disk.old) }
         requires going { self.old.halt ≡ None }
@@ -251,11 +260,13 @@ impl Desk {
         ensures ok { DoesOnOk result Commits (D.file disk.old) self.old (D.file disk.new) self.new }
         ensures err { DoesOnErr result Ends (D.file disk.old) self.old (D.file disk.new) self.new }
         ensures rests { OnErr result (ForSome (D.file disk.new) (RestsEither self.new)) }
+        ensures shape { self.new.shape ≡ self.old.shape }
         ensures going_on { OnOk result (self.new.halt ≡ None) }
         ensures halted { OnErr result (IsSome self.new.halt) }
         ensures still_kept { OnOk result (IsKept self.new (D.file disk.new)) }
         ensures written { OnOk result (written_in self.new ≡ 0) }
-        ensures leaves { Leaves D.file D.beside D.attaches D.is_attached D.clock D.moment (StandsForEither self.old) disk.old disk.new }
+        ensures quiet { self.old.images ≡ Some [] → disk.new ≡ disk.old }
+        ensures leaves { LeavesOf D.Disk (StandsForEither self.old) disk.old disk.new }
         ensures cause { HasCause result (D.disk_faults disk.old) (D.disk_faults disk.new) }
     {
         self.hand = None;
@@ -272,12 +283,4 @@ impl Desk {
         self.changes.clear(count);
         Ok(())
     }
-}
-
-// A page of zeros.
-#[tactic(auto, unfolding(store_api::specs::StoreState::zero_page))]
-fn blank() -> &'static Page
-    ensures { result.now ≡ zero_page }
-{
-    &BLANK
 }

@@ -17,13 +17,13 @@ pub struct FileStore<H: Host> {
 }
 
 impl<H: Host> Model for FileStore<H> {
-    ghost use Rattle.page_store.specs.FileStore.{Held, IsWhole};
+    ghost use Rattle.page_store.specs.FileStore.{Held, FitsFile};
 
     ghost Value = { Held H };
 
     ghost view = { λ s. record { host = s.host; desk = s.desk } };
 
-    ghost invariant = { λ s. IsWhole (H.is_attached s.host) (H.file s.host) s.desk };
+    ghost invariant = { λ s. FitsFile (H.is_attached s.host) (H.file s.host) s.desk };
 }
 
 impl<H: Host> Pages for FileStore<H> {
@@ -40,7 +40,7 @@ impl<H: Host> Pages for FileStore<H> {
 
     ghost clock = { λ s. H.clock s.host };
 
-    ghost left = { λ s. left_of (H.file s.host) (H.beside s.host).tape (H.moment s.host) };
+    ghost left = { λ s. left_of s.desk.shape (H.file s.host) (H.beside s.host).tape (H.moment s.host) };
 
     fn count(&self) -> u32 {
         self.desk.changes.count()

@@ -6,7 +6,7 @@ ghost use Rattle.page_store.specs.Fresh.{root_page};
 
 use byteorder::{BigEndian, ByteOrder};
 use redo_journal::zeros;
-use store_api::Page;
+use store_api::{Page, blank_page};
 
 // The version of the format.
 pub(crate) const VERSION: u32 = 1;
@@ -53,15 +53,7 @@ fn page_with(front: &[u8]) -> Page
     requires { length front.now ≤ 4096 }
     ensures { result ≡ front.now ++ drop (length front.now) zero_page }
 {
-    let mut page = blank_page();
+    let mut page = *blank_page();
     page[..front.len()].copy_from_slice(front);
     page
-}
-
-// A page of zeros.
-#[tactic(auto, unfolding(store_api::specs::StoreState::zero_page))]
-fn blank_page() -> Page
-    ensures { result ≡ zero_page }
-{
-    [0; 4096]
 }

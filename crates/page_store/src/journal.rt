@@ -2,9 +2,9 @@
 ghost use Rattle.std.specs.Prelude.{◌≡◌, ◌↔◌, ◌<◌, List, ℕ, IsTrue};
 ghost use Rattle.std.specs.List.{All};
 ghost use Rattle.page_store.specs.Standing.{counted, image_of};
-ghost use Rattle.page_store.specs.Reading.{IsCounting, IsBehind};
+ghost use Rattle.page_store.specs.Reading.{IsJournalIn, IsBehind};
 
-use redo_journal::Images;
+use redo_journal::{FIRST_PAGE, Images};
 use store_api::Page;
 
 /// A journal that counts: the file page at which it starts, and its images.
@@ -20,7 +20,7 @@ pub(crate) fn is_behind(journal: &Option<Journal>, count: u32) -> bool
 {
     match journal {
         None => true,
-        Some(journal) => u64::from(journal.start) >= 66 + u64::from(count)
+        Some(journal) => u64::from(journal.start) >= FIRST_PAGE + u64::from(count)
             && are_below(&journal.images, count),
     }
 }
@@ -40,7 +40,7 @@ fn are_below(images: &Images, count: u32) -> bool
 
 /// The image of page 0, where a journal has one.
 pub(crate) fn root_image(journal: &Option<Journal>) -> Option<Page>
-    ensures { (file : List ℕ) → IsCounting journal.now file → result ≡ image_of (counted file) 0 }
+    ensures { (file : List ℕ) → IsJournalIn journal.now file → result ≡ image_of (counted file) 0 }
 {
     match journal {
         None => None,

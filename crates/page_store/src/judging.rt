@@ -10,6 +10,7 @@ use crate::fresh::VERSION;
 use crate::journal::{Journal, is_behind};
 use crate::root::{count_in, version_in};
 use crate::shape::Shape;
+use redo_journal::{FIRST_PAGE, PAGE_BYTES};
 use store_api::{Damage, Page};
 
 /// The page count of a file of so many bytes, or why it can't be served.
@@ -44,11 +45,11 @@ fn first_missing(end: u64, count: u32) -> Option<u32>
     requires { count ≤ 262289 }
     ensures { MatchOption result (4096 * (66 + count) ≤ end) (λ page. (end < 4096 * (66 + count)) × (page ≡ end / 4096 - 66)) }
 {
-    let whole = end / 4096;
-    if whole >= 66 + u64::from(count) {
+    let whole = end / PAGE_BYTES;
+    if whole >= FIRST_PAGE + u64::from(count) {
         return None;
     }
-    Some(whole.saturating_sub(66) as u32)
+    Some(whole.saturating_sub(FIRST_PAGE) as u32)
 }
 
 /// A page of which something is missing, or which hasn't its form.

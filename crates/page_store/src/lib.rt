@@ -12,6 +12,7 @@ mod file_store;
 mod fresh;
 mod journal;
 mod judging;
+mod laws;
 mod making;
 mod number;
 mod opening;
@@ -24,6 +25,7 @@ mod write_through;
 
 pub use fault::OpenFault;
 pub use file_store::FileStore;
+pub use laws::formed_is_served;
 pub use making::make;
 pub use opening::Unopened;
 pub use shape::is_shape;

@@ -4,16 +4,17 @@ ghost use Rattle.std.specs.Option.{option_map, ForSome};
 ghost use Rattle.mdc_outside.specs.Disk.{torn, written, settled};
 ghost use Rattle.mdc_outside.specs.Moments.{HasCause};
 ghost use Rattle.mdc_outside.specs.Outside.{Rose};
-ghost use Rattle.redo_journal.specs.Runs.{Runs, IsWithin, IsCovered, Between};
+ghost use Rattle.redo_journal.specs.Bound.{RunsOf};
+ghost use Rattle.redo_journal.specs.Runs.{IsWithin, IsCovered, Between};
+ghost use Rattle.page_store.specs.Bound.{LeavesOf};
 ghost use Rattle.page_store.specs.Empty.{IsEmptyDatabase};
 ghost use Rattle.page_store.specs.Fresh.{HoldsFresh, IsOfMaking, file_with, fresh_len, front_with, root_page, zero_pages};
-ghost use Rattle.page_store.specs.Leaving.{Leaves};
 ghost use Rattle.page_store.specs.Shape.{is_shape, first_count, map_pages};
 
 use crate::OpenFault;
 use crate::fresh::{behind_made, birth_page, first_count, root_page};
 use mdc_outside::{Disk, Failed};
-use redo_journal::{PAGE_BYTES, end_of, fill, put, settle};
+use redo_journal::{FIRST_PAGE, PAGE_BYTES, end_of, fill, put, settle};
 
 // The made byte of a whole file.
 pub(crate) const MADE: u8 = 0x4d;
@@ -21,7 +22,7 @@ pub(crate) const MADE: u8 = 0x4d;
 const UNMADE: u8 = 0;
 
 // The file page of the root page.
-pub(crate) const ROOT: u64 = 66;
+pub(crate) const ROOT: u64 = FIRST_PAGE;
 
 // How many pages a log has.
 const LOG_PAGES: u32 = 64;
@@ -29,8 +30,8 @@ const LOG_PAGES: u32 = 64;
 /// Makes an empty database in the attached file, which may grow to so many extents of so many pages. All of it is on the
 /// disk then.
 ///
-/// It answers `Exists` where the file has a byte, and then writes nothing. It answers `Device` where the disk failed. What
-/// was written before a failure or a crash is a file that isn't made, or the whole one.
+/// It answers `Exists` where the file has a byte, and `Device` where the disk failed. A file that has a byte is never
+/// written to. Of one that has none, a failure or a crash leaves a file that isn't made, or the whole one.
 pub fn make<D: Disk>(disk: &mut D, extents: u32, extent_pages: u32) -> Result<(), OpenFault>
     requires attached { IsTrue (D.is_attached disk.old) }
     requires shape { IsTrue (is_shape extents extent_pages) }
@@ -38,11 +39,12 @@ pub fn make<D: Disk>(disk: &mut D, extents: u32, extent_pages: u32) -> Result<()
     ensures empty { OnOk result (ForSome (D.file disk.new) (λ file. IsEmptyDatabase extents file.bytes)) }
     ensures exists { IsErrOf result OpenFault.Exists → ForSome (D.file disk.old) (λ file. 0 < length file.bytes) }
     ensures as_before { IsErrOf result OpenFault.Exists → D.file disk.new ≡ D.file disk.old }
+    ensures untouched { ForSome (D.file disk.old) (λ file. 0 < length file.bytes → D.file disk.new ≡ D.file disk.old) }
     ensures refused { ForSome (D.file disk.old) (λ file. 0 < length file.bytes → IsErrOf result OpenFault.Exists ⊎ IsErrOf result OpenFault.Device) }
     ensures causes { OnErr result (IsErrOf result OpenFault.Exists ⊎ IsErrOf result OpenFault.Device) }
     ensures device { IsErrOf result OpenFault.Device → Rose (D.disk_faults disk.old) (D.disk_faults disk.new) }
     ensures later { D.disk_faults disk.old ≤ D.disk_faults disk.new }
-    ensures leaves { Leaves D.file D.beside D.attaches D.is_attached D.clock D.moment (IsOfMaking extents extent_pages) disk.old disk.new }
+    ensures leaves { LeavesOf D.Disk (IsOfMaking extents extent_pages) disk.old disk.new }
 {
     if end_of(disk)? > 0 {
         return Err(OpenFault::Exists);
@@ -55,7 +57,7 @@ fn write_database<D: Disk>(disk: &mut D, extents: u32, extent_pages: u32) -> Res
     requires attached { IsTrue (D.is_attached disk.old) }
     requires empty { ForSome (D.file disk.old) (λ file. length file.bytes ≡ 0) }
     ensures made { OnOk result (ForSome (D.file disk.new) (HoldsFresh extents extent_pages)) }
-    ensures leaves { Leaves D.file D.beside D.attaches D.is_attached D.clock D.moment (IsOfMaking extents extent_pages) disk.old disk.new }
+    ensures leaves { LeavesOf D.Disk (IsOfMaking extents extent_pages) disk.old disk.new }
     ensures cause { HasCause result (D.disk_faults disk.old) (D.disk_faults disk.new) }
 {
     set_made(disk, UNMADE)?;
@@ -68,7 +70,7 @@ fn write_database<D: Disk>(disk: &mut D, extents: u32, extent_pages: u32) -> Res
 fn set_made<D: Disk>(disk: &mut D, made: u8) -> Result<(), Failed>
     requires attached { IsTrue (D.is_attached disk.old) }
     ensures written { OnOk result (D.file disk.new ≡ option_map (λ file. settled (written 0 (made ∷ []) file)) (D.file disk.old)) }
-    ensures runs { Runs D.file D.beside D.attaches D.is_attached D.clock D.moment IsWithin (torn 0 1) disk.old disk.new }
+    ensures runs { RunsOf D.Disk IsWithin (torn 0 1) disk.old disk.new }
     ensures cause { HasCause result (D.disk_faults disk.old) (D.disk_faults disk.new) }
 {
     put(disk, 0, &[made])?;
@@ -80,7 +82,7 @@ fn write_pages<D: Disk>(disk: &mut D, extents: u32, extent_pages: u32) -> Result
     requires attached { IsTrue (D.is_attached disk.old) }
     requires begun { ForSome (D.file disk.old) (λ file. file.bytes ≡ 0 ∷ []) }
     ensures written { OnOk result (ForSome (D.file disk.new) (λ file. file.bytes ≡ file_with 0 extents extent_pages)) }
-    ensures runs { Runs D.file D.beside D.attaches D.is_attached D.clock D.moment IsCovered (torn 1 (fresh_len extents - 1)) disk.old disk.new }
+    ensures runs { RunsOf D.Disk IsCovered (torn 1 (fresh_len extents - 1)) disk.old disk.new }
     ensures cause { HasCause result (D.disk_faults disk.old) (D.disk_faults disk.new) }
 {
     write_front(disk, extents, extent_pages)?;
@@ -92,7 +94,7 @@ fn write_front<D: Disk>(disk: &mut D, extents: u32, extent_pages: u32) -> Result
     requires attached { IsTrue (D.is_attached disk.old) }
     requires begun { ForSome (D.file disk.old) (λ file. file.bytes ≡ 0 ∷ []) }
     ensures written { OnOk result (ForSome (D.file disk.new) (λ file. file.bytes ≡ front_with 0 extents extent_pages)) }
-    ensures runs { Runs D.file D.beside D.attaches D.is_attached D.clock D.moment IsCovered (torn 1 270335) disk.old disk.new }
+    ensures runs { RunsOf D.Disk IsCovered (torn 1 270335) disk.old disk.new }
     ensures cause { HasCause result (D.disk_faults disk.old) (D.disk_faults disk.new) }
 {
     append(disk, 1, behind_made())?;
@@ -105,7 +107,7 @@ fn write_store<D: Disk>(disk: &mut D, extents: u32) -> Result<(), Failed>
     requires attached { IsTrue (D.is_attached disk.old) }
     requires end { ForSome (D.file disk.old) (λ file. 270336 ≡ length file.bytes) }
     ensures written { OnOk result (Between (D.file disk.old) (D.file disk.new) (λ old new. new ≡ old ++ root_page extents ++ zero_pages (16 + map_pages extents))) }
-    ensures runs { Runs D.file D.beside D.attaches D.is_attached D.clock D.moment IsCovered (torn 270336 (4096 * first_count extents)) disk.old disk.new }
+    ensures runs { RunsOf D.Disk IsCovered (torn 270336 (4096 * first_count extents)) disk.old disk.new }
     ensures cause { HasCause result (D.disk_faults disk.old) (D.disk_faults disk.new) }
 {
     append(disk, ROOT * PAGE_BYTES, &root_page(extents))?;
@@ -117,7 +119,7 @@ fn append<D: Disk>(disk: &mut D, end: u64, bytes: &[u8]) -> Result<(), Failed>
     requires attached { IsTrue (D.is_attached disk.old) }
     requires end { ForSome (D.file disk.old) (λ file. end ≡ length file.bytes) }
     ensures appended { OnOk result (Between (D.file disk.old) (D.file disk.new) (λ old new. new ≡ old ++ bytes.now)) }
-    ensures runs { Runs D.file D.beside D.attaches D.is_attached D.clock D.moment IsCovered (torn end (length bytes.now)) disk.old disk.new }
+    ensures runs { RunsOf D.Disk IsCovered (torn end (length bytes.now)) disk.old disk.new }
     ensures cause { HasCause result (D.disk_faults disk.old) (D.disk_faults disk.new) }
 {
     put(disk, end, bytes)
@@ -129,7 +131,7 @@ fn append_zeros<D: Disk>(disk: &mut D, end: u64, pages: u32) -> Result<(), Faile
     requires end { ForSome (D.file disk.old) (λ file. end ≡ length file.bytes) }
     requires low { end < 2 ^ 48 }
     ensures appended { OnOk result (Between (D.file disk.old) (D.file disk.new) (λ old new. new ≡ old ++ zero_pages pages)) }
-    ensures runs { Runs D.file D.beside D.attaches D.is_attached D.clock D.moment IsCovered (torn end (4096 * pages)) disk.old disk.new }
+    ensures runs { RunsOf D.Disk IsCovered (torn end (4096 * pages)) disk.old disk.new }
     ensures cause { HasCause result (D.disk_faults disk.old) (D.disk_faults disk.new) }
 {
     fill(disk, end, end + u64::from(pages) * PAGE_BYTES)

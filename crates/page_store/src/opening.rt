@@ -1,12 +1,15 @@
 // How a store opens the database in a file, and gives its host back.
-ghost use Rattle.std.specs.Prelude.{◌≡◌, ◌≢◌, ◌⊎◌, ◌≤◌, [], IsTrue, false, IfOk, IfErr, OnOk, OnErr, IsErrOf, is_some};
+ghost use Rattle.std.specs.Prelude.{◌≡◌, ◌≢◌, ◌⊎◌, ◌≤◌, ℕ, List, Some, [], IsTrue, false, IfOk, IfErr, OnOk, IsErrOf, is_some};
 ghost use Rattle.std.specs.Option.{ForSome};
+ghost use Rattle.mdc_outside.specs.Disk.{File};
 ghost use Rattle.mdc_outside.specs.Outside.{Rose};
+ghost use Rattle.redo_journal.specs.Layout.{file_page};
+ghost use Rattle.page_store.specs.Bound.{LeavesOf, OpensOf};
 ghost use Rattle.page_store.specs.Desk.{IsKept, base_of, state_of, written_in};
-ghost use Rattle.page_store.specs.Leaving.{Leaves};
+ghost use Rattle.page_store.specs.Faults.{MayComeFirst};
+ghost use Rattle.page_store.specs.FileStore.{IsLeft};
 ghost use Rattle.page_store.specs.Opened.{Opens, CouldBeLeft, IsEmptyDesk, IsJustOpened, bytes_of};
 ghost use Rattle.page_store.specs.Opening.{IsAtRest, IsServed, Refuses};
-ghost use Rattle.redo_journal.specs.Layout.{file_page};
 ghost use Rattle.page_store.specs.Shape.{is_shape, extents_in, extent_pages_in};
 ghost use Rattle.page_store.specs.Standing.{pages_of};
 
@@ -14,7 +17,6 @@ use crate::changes::Changes;
 use crate::desk::Desk;
 use crate::page_cache::PageCache;
 use crate::recovery::{Opened, recover};
-use crate::shape::Shape;
 use crate::{FileStore, OpenFault};
 use mdc_outside::{Disk, Host};
 use redo_journal::settle;
@@ -52,11 +54,12 @@ impl<H: Host> FileStore<H> {
         ensures device { IfErr result (λ unopened. unopened.fault ≡ OpenFault.Device → Rose (H.disk_faults host) (H.disk_faults unopened.host)) }
         ensures later { IfOk result (λ store. H.disk_faults host ≤ H.disk_faults store.host) }
         ensures later_refused { IfErr result (λ unopened. H.disk_faults host ≤ H.disk_faults unopened.host) }
-        ensures opens { IfOk result (λ store. Opens H.file H.beside H.attaches H.is_attached H.clock H.moment host store.host) }
-        // Where there is no moment at which all was on the disk, a crash leaves what it could leave before.
+        ensures opens { IfOk result (λ store. OpensOf H.Disk host store.host) }
+        // Where there is no moment at which all was on the disk, a crash leaves what it could leave before. That is so
+        // only where the disk failed or memory ran out: no file is judged before it is on the disk.
         ensures opens_or_leaves { IfErr result (λ unopened.
-            Opens H.file H.beside H.attaches H.is_attached H.clock H.moment host unopened.host
-            ⊎ Leaves H.file H.beside H.attaches H.is_attached H.clock H.moment CouldBeLeft host unopened.host) }
+            OpensOf H.Disk host unopened.host
+            ⊎ (MayComeFirst unopened.fault × LeavesOf H.Disk CouldBeLeft host unopened.host)) }
     {
         match lay_out(alloc, &mut host, cache) {
             Ok(desk) => Ok(FileStore { host, desk }),
@@ -75,8 +78,14 @@ impl<H: Host> FileStore<H> {
     }
 
     /// Gives the host back. It makes no call of the disk and takes no memory. It may follow a fault of any call.
+    ///
+    /// What the store leaves at a crash is what the host may leave: where the store never leaves a file that doesn't
+    /// reopen, each image of the host is a database of this shape, with pages that the store leaves.
     pub fn close(self) -> H
-        ensures { result ≡ self.host }
+        ensures same { result ≡ self.host }
+        ensures left { (file : File) (said : List ℕ) → H.file self.host ≡ Some file → (H.beside self.host).tape ≡ Some said
+            → (t : ℕ) (image heard : List ℕ) → H.moment result t image heard
+            → IsLeft self.desk.shape (⟦<FileStore<H> as Pages>⟧.left self t) image heard }
     {
         self.host
     }
@@ -95,10 +104,10 @@ fn lay_out<D: Disk>(alloc: Global, disk: &mut D, cache: usize) -> Result<Desk, O
     ensures never { IsErrOf result OpenFault.Exists → ⊥ }
     ensures device { IsErrOf result OpenFault.Device → Rose (D.disk_faults disk.old) (D.disk_faults disk.new) }
     ensures later { D.disk_faults disk.old ≤ D.disk_faults disk.new }
-    ensures opens { OnOk result (Opens D.file D.beside D.attaches D.is_attached D.clock D.moment disk.old disk.new) }
-    ensures opens_or_leaves { OnErr result (
-        Opens D.file D.beside D.attaches D.is_attached D.clock D.moment disk.old disk.new
-        ⊎ Leaves D.file D.beside D.attaches D.is_attached D.clock D.moment CouldBeLeft disk.old disk.new) }
+    ensures opens { OnOk result (OpensOf D.Disk disk.old disk.new) }
+    ensures opens_or_leaves { IfErr result (λ fault.
+        OpensOf D.Disk disk.old disk.new
+        ⊎ (MayComeFirst fault × LeavesOf D.Disk CouldBeLeft disk.old disk.new)) }
 {
     let cache = PageCache::new(alloc, cache)?;
     let opened = come_to_rest(alloc, disk)?;
@@ -107,19 +116,14 @@ fn lay_out<D: Disk>(alloc: Global, disk: &mut D, cache: usize) -> Result<Desk, O
 
 // A desk with nothing on it.
 fn desk_of(alloc: Global, opened: Opened, cache: PageCache) -> Desk
-    requires shape { IsTrue (is_shape opened.extents opened.extent_pages) }
     requires clean { cache ≡ [] }
     ensures empty { IsEmptyDesk result }
-    ensures extents { result.shape.extents ≡ opened.extents }
-    ensures extent_pages { result.shape.extent_pages ≡ opened.extent_pages }
+    ensures shape { result.shape ≡ opened.shape }
     ensures base { result.base ≡ opened.count }
 {
     Desk {
         alloc,
-        shape: Shape {
-            extents: opened.extents,
-            extent_pages: opened.extent_pages,
-        },
+        shape: opened.shape,
         base: opened.count,
         changes: Changes::new(alloc, opened.count),
         cache,
@@ -133,17 +137,17 @@ fn desk_of(alloc: Global, opened: Opened, cache: PageCache) -> Desk
 fn come_to_rest<D: Disk>(alloc: Global, disk: &mut D) -> Result<Opened, OpenFault>
     requires attached { IsTrue (D.is_attached disk.old) }
     ensures served { IfOk result (λ opened. ForSome (D.file disk.old) (λ file. IsServed file.bytes)) }
-    ensures at_rest { IfOk result (λ opened. ForSome (D.file disk.new) (IsAtRest opened.extents opened.extent_pages opened.count)) }
-    ensures limits { IfOk result (λ opened. IsTrue (is_shape opened.extents opened.extent_pages) × (18 ≤ opened.count) × (opened.count ≤ 262289)) }
+    ensures at_rest { IfOk result (λ opened. ForSome (D.file disk.new) (IsAtRest opened.shape.extents opened.shape.extent_pages opened.count)) }
+    ensures limits { IfOk result (λ opened. (18 ≤ opened.count) × (opened.count ≤ 262289)) }
     ensures refused { IfErr result (λ fault. ForSome (D.file disk.old) (λ file. Refuses fault file.bytes)) }
     ensures untouched { IfErr result (λ fault. fault ≢ OpenFault.Device → bytes_of (D.file disk.new) ≡ bytes_of (D.file disk.old)) }
     ensures never { IsErrOf result OpenFault.Exists → ⊥ }
     ensures device { IsErrOf result OpenFault.Device → Rose (D.disk_faults disk.old) (D.disk_faults disk.new) }
     ensures later { D.disk_faults disk.old ≤ D.disk_faults disk.new }
-    ensures opens { OnOk result (Opens D.file D.beside D.attaches D.is_attached D.clock D.moment disk.old disk.new) }
-    ensures opens_or_leaves { OnErr result (
-        Opens D.file D.beside D.attaches D.is_attached D.clock D.moment disk.old disk.new
-        ⊎ Leaves D.file D.beside D.attaches D.is_attached D.clock D.moment CouldBeLeft disk.old disk.new) }
+    ensures opens { OnOk result (OpensOf D.Disk disk.old disk.new) }
+    ensures opens_or_leaves { IfErr result (λ fault.
+        OpensOf D.Disk disk.old disk.new
+        ⊎ (MayComeFirst fault × LeavesOf D.Disk CouldBeLeft disk.old disk.new)) }
 {
     settle(disk)?;
     recover(alloc, disk)

@@ -5,23 +5,19 @@ ghost use Rattle.std.specs.Map.{keys_of, set_value};
 ghost use Rattle.std.specs.Option.{ForSome};
 ghost use Rattle.mdc_outside.specs.Disk.{File};
 ghost use Rattle.mdc_outside.specs.Outside.{Rose};
+ghost use Rattle.redo_journal.specs.Bound.{RunsOf};
 ghost use Rattle.redo_journal.specs.Layout.{home_page};
-ghost use Rattle.redo_journal.specs.Runs.{Runs, IsCovered};
+ghost use Rattle.redo_journal.specs.Runs.{IsCovered};
 ghost use Rattle.page_store.specs.Cached.{AreHome, Leads, renewed};
 
 use lru::LruCache;
 use mdc_outside::Disk;
 use mdc_values::Memory;
-use redo_journal::{Images, read_page};
+use redo_journal::{FIRST_PAGE, Images, PAGE_BYTES, read_page};
 use std::alloc::Global;
 use std::marker::Model;
 use std::num::NonZeroUsize;
 use store_api::{Page, PageFault};
-
-const PAGE_BYTES: u64 = 4096;
-
-// The file page of the store's page 0.
-const FIRST: u64 = 66;
 
 /// Clean pages, which are as their home pages in the file, the one that was used last first.
 #[derive(Drop)]
@@ -63,7 +59,7 @@ impl PageCache {
         ensures err { OnErr result (self.new ≡ self.old) }
         ensures device { IsErrOf result PageFault.Device → Rose (D.disk_faults disk.old) (D.disk_faults disk.new) }
         ensures same { D.file disk.new ≡ D.file disk.old }
-        ensures runs { Runs D.file D.beside D.attaches D.is_attached D.clock D.moment IsCovered (λ since. since) disk.old disk.new }
+        ensures runs { RunsOf D.Disk IsCovered (λ since. since) disk.old disk.new }
         ensures later { D.disk_faults disk.old ≤ D.disk_faults disk.new }
     {
         if self.pages.promote(&p) {
@@ -121,10 +117,10 @@ fn read_home<D: Disk>(disk: &mut D, p: u32) -> Result<Page, PageFault>
     ensures page { IfOk result (λ page. ForSome (D.file disk.old) (λ file. page ≡ home_page file.bytes p)) }
     ensures device { OnErr result (Rose (D.disk_faults disk.old) (D.disk_faults disk.new)) }
     ensures same { D.file disk.new ≡ D.file disk.old }
-    ensures runs { Runs D.file D.beside D.attaches D.is_attached D.clock D.moment IsCovered (λ since. since) disk.old disk.new }
+    ensures runs { RunsOf D.Disk IsCovered (λ since. since) disk.old disk.new }
     ensures later { D.disk_faults disk.old ≤ D.disk_faults disk.new }
 {
-    match read_page(disk, (FIRST + u64::from(p)) * PAGE_BYTES) {
+    match read_page(disk, (FIRST_PAGE + u64::from(p)) * PAGE_BYTES) {
         Ok(page) => Ok(page),
         Err(_) => Err(PageFault::Device),
     }

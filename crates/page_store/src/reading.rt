@@ -3,23 +3,21 @@ ghost use Rattle.std.specs.Prelude.{◌≡◌, ◌≢◌, ◌≤◌, length, IsT
 ghost use Rattle.std.specs.Option.{ForSome};
 ghost use Rattle.mdc_outside.specs.Moments.{HasCause};
 ghost use Rattle.mdc_outside.specs.Outside.{Rose};
-ghost use Rattle.redo_journal.specs.Layout.{IsJournal, file_page, is_open};
+ghost use Rattle.redo_journal.specs.Bound.{RunsOf};
 ghost use Rattle.redo_journal.specs.Faults.{IsDamaged};
-ghost use Rattle.redo_journal.specs.Runs.{Runs, IsCovered};
+ghost use Rattle.redo_journal.specs.Layout.{IsJournal, file_page, is_open};
+ghost use Rattle.redo_journal.specs.Runs.{IsCovered};
 ghost use Rattle.page_store.specs.Fresh.{IsUnmade};
 ghost use Rattle.page_store.specs.Opening.{IsMade};
-ghost use Rattle.page_store.specs.Reading.{IsCounting};
+ghost use Rattle.page_store.specs.Reading.{IsJournalIn};
 ghost use Rattle.page_store.specs.Standing.{page_of};
 
 use crate::journal::{Journal, root_image};
 use crate::making::{MADE, ROOT};
 use mdc_outside::{Disk, Failed};
-use redo_journal::{PAGE_BYTES, ReplayFault, get, read_number, read_page, replay};
+use redo_journal::{HEADER, PAGE_BYTES, ReplayFault, get, read_number, read_page, replay};
 use std::alloc::Global;
 use store_api::Page;
-
-// Where the journal's start stands in the file.
-const START: u64 = 1024;
 
 /// Reads the birth page, or nothing where the file isn't made.
 pub(crate) fn read_birth<D: Disk>(disk: &mut D, end: u64) -> Result<Option<Page>, Failed>
@@ -27,7 +25,7 @@ pub(crate) fn read_birth<D: Disk>(disk: &mut D, end: u64) -> Result<Option<Page>
     requires end { ForSome (D.file disk.old) (λ file. end ≡ length file.bytes) }
     ensures birth { IfOk result (λ birth. ForSome (D.file disk.old) (λ file. MatchOption birth (IsUnmade file.bytes) (λ page. IsMade file.bytes × (page ≡ file_page file.bytes 1)))) }
     ensures same { D.file disk.new ≡ D.file disk.old }
-    ensures runs { Runs D.file D.beside D.attaches D.is_attached D.clock D.moment IsCovered (λ since. since) disk.old disk.new }
+    ensures runs { RunsOf D.Disk IsCovered (λ since. since) disk.old disk.new }
     ensures cause { HasCause result (D.disk_faults disk.old) (D.disk_faults disk.new) }
 {
     if end < 2 * PAGE_BYTES {
@@ -48,17 +46,17 @@ pub(crate) fn read_journal<D: Disk>(
     disk: &mut D,
 ) -> Result<Option<Journal>, ReplayFault>
     requires { IsTrue (D.is_attached disk.old) }
-    ensures counting { IfOk result (λ journal. ForSome (D.file disk.old) (λ file. IsCounting journal file.bytes)) }
+    ensures counting { IfOk result (λ journal. ForSome (D.file disk.old) (λ file. IsJournalIn journal file.bytes)) }
     ensures damaged { IfErr result (λ fault. IsDamaged fault → (fault ≡ ReplayFault.Damaged (record { page = 0; rule = 1 })) × ForSome (D.file disk.old) (λ file. IsTrue (is_open file.bytes) × ¬ IsJournal file.bytes)) }
     ensures device { IsErrOf result ReplayFault.Device → Rose (D.disk_faults disk.old) (D.disk_faults disk.new) }
     ensures same { D.file disk.new ≡ D.file disk.old }
-    ensures runs { Runs D.file D.beside D.attaches D.is_attached D.clock D.moment IsCovered (λ since. since) disk.old disk.new }
+    ensures runs { RunsOf D.Disk IsCovered (λ since. since) disk.old disk.new }
     ensures later { D.disk_faults disk.old ≤ D.disk_faults disk.new }
 {
     match replay(alloc, disk) {
         Ok(None) => Ok(None),
         Ok(Some(images)) => {
-            let start = read_number(disk, START)?;
+            let start = read_number(disk, HEADER)?;
             Ok(Some(Journal { start, images }))
         }
         Err(fault) => Err(fault),
@@ -73,10 +71,10 @@ pub(crate) fn read_root<D: Disk>(
 ) -> Result<Option<Page>, Failed>
     requires attached { IsTrue (D.is_attached disk.old) }
     requires end { ForSome (D.file disk.old) (λ file. end ≡ length file.bytes) }
-    requires counting { ForSome (D.file disk.old) (λ file. IsCounting journal.now file.bytes) }
+    requires counting { ForSome (D.file disk.old) (λ file. IsJournalIn journal.now file.bytes) }
     ensures root { IfOk result (λ root. ForSome (D.file disk.old) (λ file. MatchOption root (length (page_of file.bytes 0) ≢ 4096) (λ page. page ≡ page_of file.bytes 0))) }
     ensures same { D.file disk.new ≡ D.file disk.old }
-    ensures runs { Runs D.file D.beside D.attaches D.is_attached D.clock D.moment IsCovered (λ since. since) disk.old disk.new }
+    ensures runs { RunsOf D.Disk IsCovered (λ since. since) disk.old disk.new }
     ensures cause { HasCause result (D.disk_faults disk.old) (D.disk_faults disk.new) }
 {
     if let Some(image) = root_image(journal) {

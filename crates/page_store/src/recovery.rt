@@ -3,27 +3,26 @@ ghost use Rattle.std.specs.Prelude.{◌≡◌, ◌≢◌, ◌≤◌, IsTrue, IfO
 ghost use Rattle.std.specs.Option.{ForSome};
 ghost use Rattle.mdc_outside.specs.Disk.{all_synced};
 ghost use Rattle.mdc_outside.specs.Outside.{Rose};
-ghost use Rattle.redo_journal.specs.Runs.{Runs, IsCovered};
-ghost use Rattle.page_store.specs.Leaving.{Leaves};
+ghost use Rattle.redo_journal.specs.Bound.{RunsOf};
+ghost use Rattle.redo_journal.specs.Runs.{IsCovered};
+ghost use Rattle.page_store.specs.Bound.{LeavesOf};
 ghost use Rattle.page_store.specs.Opening.{IsAtRest, IsServed, Refuses, StandsAs};
-ghost use Rattle.page_store.specs.Reading.{IsCounting, States};
-ghost use Rattle.page_store.specs.Shape.{is_shape};
+ghost use Rattle.page_store.specs.Reading.{IsJournalIn, States};
 
 use crate::OpenFault;
 use crate::journal::Journal;
 use crate::judging::{damaged, judge};
 use crate::reading::{read_birth, read_journal, read_root};
-use crate::shape::shape_in;
+use crate::shape::{Shape, shape_in};
 use crate::write_through::bring_home;
 use mdc_outside::Disk;
 use redo_journal::end_of;
 use std::alloc::Global;
 
-/// What a file that was opened is: how many extents it may have, how many pages each has, and how many pages there are.
+/// What a file that was opened is: its shape, and how many pages there are.
 #[derive(Clone, Copy, Debug)]
 pub(crate) struct Opened {
-    pub extents: u32,
-    pub extent_pages: u32,
+    pub shape: Shape,
     pub count: u32,
 }
 
@@ -44,14 +43,14 @@ pub(crate) fn recover<D: Disk>(alloc: Global, disk: &mut D) -> Result<Opened, Op
     requires attached { IsTrue (D.is_attached disk.old) }
     requires synced { ForSome (D.file disk.old) (λ file. file.since ≡ all_synced file.bytes) }
     ensures served { IfOk result (λ opened. ForSome (D.file disk.old) (λ file. IsServed file.bytes)) }
-    ensures at_rest { IfOk result (λ opened. ForSome (D.file disk.new) (IsAtRest opened.extents opened.extent_pages opened.count)) }
-    ensures limits { IfOk result (λ opened. IsTrue (is_shape opened.extents opened.extent_pages) × (18 ≤ opened.count) × (opened.count ≤ 262289)) }
+    ensures at_rest { IfOk result (λ opened. ForSome (D.file disk.new) (IsAtRest opened.shape.extents opened.shape.extent_pages opened.count)) }
+    ensures limits { IfOk result (λ opened. (18 ≤ opened.count) × (opened.count ≤ 262289)) }
     ensures refused { IfErr result (λ fault. ForSome (D.file disk.old) (λ file. Refuses fault file.bytes)) }
     ensures untouched { IfErr result (λ fault. fault ≢ OpenFault.Device → D.file disk.new ≡ D.file disk.old) }
     ensures never { IsErrOf result OpenFault.Exists → ⊥ }
     ensures device { IsErrOf result OpenFault.Device → Rose (D.disk_faults disk.old) (D.disk_faults disk.new) }
     ensures later { D.disk_faults disk.old ≤ D.disk_faults disk.new }
-    ensures leaves { Leaves D.file D.beside D.attaches D.is_attached D.clock D.moment (λ before image. StandsAs before.bytes image) disk.old disk.new }
+    ensures leaves { LeavesOf D.Disk (λ before image. StandsAs before.bytes image) disk.old disk.new }
 {
     let found = inspect(alloc, disk)?;
     let opened = found.opened;
@@ -65,13 +64,13 @@ pub(crate) fn recover<D: Disk>(alloc: Global, disk: &mut D) -> Result<Opened, Op
 // Reads what the file stands for, and judges it.
 fn inspect<D: Disk>(alloc: Global, disk: &mut D) -> Result<Found, OpenFault>
     requires { IsTrue (D.is_attached disk.old) }
-    ensures served { IfOk result (λ found. ForSome (D.file disk.old) (λ file. IsServed file.bytes × IsCounting found.journal file.bytes × States found.opened file.bytes)) }
-    ensures limits { IfOk result (λ found. IsTrue (is_shape found.opened.extents found.opened.extent_pages) × (18 ≤ found.opened.count) × (found.opened.count ≤ 262289)) }
+    ensures served { IfOk result (λ found. ForSome (D.file disk.old) (λ file. IsServed file.bytes × IsJournalIn found.journal file.bytes × States found.opened file.bytes)) }
+    ensures limits { IfOk result (λ found. (18 ≤ found.opened.count) × (found.opened.count ≤ 262289)) }
     ensures refused { IfErr result (λ fault. ForSome (D.file disk.old) (λ file. Refuses fault file.bytes)) }
     ensures never { IsErrOf result OpenFault.Exists → ⊥ }
     ensures device { IsErrOf result OpenFault.Device → Rose (D.disk_faults disk.old) (D.disk_faults disk.new) }
     ensures same { D.file disk.new ≡ D.file disk.old }
-    ensures runs { Runs D.file D.beside D.attaches D.is_attached D.clock D.moment IsCovered (λ since. since) disk.old disk.new }
+    ensures runs { RunsOf D.Disk IsCovered (λ since. since) disk.old disk.new }
     ensures later { D.disk_faults disk.old ≤ D.disk_faults disk.new }
 {
     let end = end_of(disk)?;
@@ -87,11 +86,7 @@ fn inspect<D: Disk>(alloc: Global, disk: &mut D) -> Result<Found, OpenFault>
     };
     match judge(end, shape, &journal, &root) {
         Ok(count) => {
-            let opened = Opened {
-                extents: shape.extents,
-                extent_pages: shape.extent_pages,
-                count,
-            };
+            let opened = Opened { shape, count };
             Ok(Found { opened, journal })
         }
         Err(fault) => Err(fault),

@@ -7,13 +7,13 @@ ghost use Rattle.page_store.specs.Opening.{IsRoot};
 use crate::fresh::first_count;
 use crate::number::number_at;
 use crate::shape::Shape;
-use store_api::Page;
+use store_api::{Page, stated_count};
 
 /// The page count that page 0 states, or nothing where the page hasn't its form.
 pub(crate) fn count_in(page: &Page, shape: Shape) -> Option<u32>
     ensures { MatchOption result (IsRoot shape.extents shape.extent_pages page.now → ⊥) (λ count. IsRoot shape.extents shape.extent_pages page.now × (count ≡ stated_in page.now) × (18 ≤ count) × (count ≤ 262289)) }
 {
-    let count = number_at(page, 8);
+    let count = stated_count(page);
     let first = first_count(shape.extents);
     if !page.starts_with(b"ROOT") || count < first {
         return None;

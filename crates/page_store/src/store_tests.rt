@@ -1,13 +1,12 @@
 // A store in the file of a host in memory, and what a crash leaves of it.
-ghost use Rattle.std.specs.Prelude.{◌≡◌, ◌≤◌, false, None, IsTrue, IfOk, OnOk};
+ghost use Rattle.std.specs.Prelude.{◌≡◌, ◌<◌, ◌≤◌, length, false, None, IsTrue, IfOk, OnOk};
 ghost use Rattle.std.specs.Bool.{IsFalse};
 
-use crate::number::number_at;
 use crate::{FileStore, OpenFault, make};
 use mdc_outside::{Call, Disk, Host, MemHost};
 use std::alloc::Global;
 use std::test::Fail;
-use store_api::{Page, Pages, Store};
+use store_api::{Page, Pages, Store, stated_count};
 
 // A call that the store can't take now.
 #[derive(Clone, Copy, Debug)]
@@ -33,6 +32,7 @@ fn made(alloc: Global) -> Result<MemHost, Fail> {
 fn opened<H: Host + Drop>(alloc: Global, mut host: H) -> Result<FileStore<H>, OpenFault>
     ensures going { IfOk result (λ store. (⟦<FileStore<H> as Pages>⟧.state store).ended ≡ false) }
     ensures unmarked { IfOk result (λ store. (⟦<FileStore<H> as Pages>⟧.state store).marked ≡ None) }
+    ensures unchanged { IfOk result (λ store. (⟦<FileStore<H> as Pages>⟧.state store).work ≡ (⟦<FileStore<H> as Pages>⟧.state store).base) }
 {
     host.attach("table", false)?;
     match FileStore::open(alloc, host, 8) {
@@ -68,6 +68,7 @@ fn put<S: Pages>(store: &mut S, p: u32, page: &Page) -> Result<(), Fail>
     requires { (S.state store.old).ended ≡ false }
     ensures going { (S.state store.new).ended ≡ false }
     ensures marked { (S.state store.new).marked ≡ (S.state store.old).marked }
+    ensures base { (S.state store.new).base ≡ (S.state store.old).base }
 {
     if p >= store.count() {
         return Err(Refused)?;
@@ -81,6 +82,7 @@ fn fill<S: Pages>(store: &mut S, p: u32, byte: u8) -> Result<(), Fail>
     requires { (S.state store.old).ended ≡ false }
     ensures going { (S.state store.new).ended ≡ false }
     ensures marked { (S.state store.new).marked ≡ (S.state store.old).marked }
+    ensures base { (S.state store.new).base ≡ (S.state store.old).base }
 {
     put(store, p, &[byte; 4096])
 }
@@ -95,7 +97,7 @@ fn commit<S: Store>(store: &mut S) -> Result<(), Fail>
         return Err(Refused)?;
     }
     store.fetch(0)?;
-    if number_at(store.page(), 8) != store.count() {
+    if stated_count(store.page()) != store.count() {
         return Err(Refused)?;
     }
     store.prepare()?;
@@ -240,5 +242,77 @@ fn a_store_goes_back_and_grows(rt: HostRuntime) -> Result<(), Fail> {
     let mut store = opened(rt.alloc(), store.close())?;
     assert_eq!(rt; store.count(), 20);
     assert!(rt; is_filled(&mut store, 19, 0)?);
+    Ok(())
+}
+
+// Whether each byte of a page of the base is this one.
+fn is_committed<S: Store>(store: &mut S, p: u32, byte: u8) -> Result<bool, Fail>
+    requires going { (S.state store.old).ended ≡ false }
+    requires within { p < length (S.state store.old).base }
+    ensures going { (S.state store.new).ended ≡ false }
+    ensures marked { (S.state store.new).marked ≡ (S.state store.old).marked }
+{
+    store.committed(p)?;
+    Ok(*store.page() == [byte; 4096])
+}
+
+// Whether page 5 has sevens in the work, still zeros in the base, and counts as written, once sevens are written over it.
+fn changes_only_the_work<S: Store>(store: &mut S) -> Result<bool, Fail>
+    requires going { (S.state store.old).ended ≡ false }
+    requires unchanged { (S.state store.old).work ≡ (S.state store.old).base }
+    ensures going { (S.state store.new).ended ≡ false }
+    ensures marked { (S.state store.new).marked ≡ (S.state store.old).marked }
+{
+    if store.count() <= 5 || store.written() != 0 {
+        return Err(Refused)?;
+    }
+    fill(store, 5, 7)?;
+    let is_counted = store.written() >= 1;
+    let is_as_it_was = is_committed(store, 5, 0)?;
+    Ok(is_counted && is_as_it_was && is_filled(store, 5, 7)?)
+}
+
+// Whether what is written behind a mark stays when the mark is dropped, and is gone after `rollback`.
+fn keeps_and_rolls_back<S: Store>(store: &mut S) -> Result<bool, Fail>
+    requires going { (S.state store.old).ended ≡ false }
+    requires unmarked { (S.state store.old).marked ≡ None }
+    ensures { (S.state store.new).ended ≡ false }
+{
+    store.mark();
+    fill(store, 5, 9)?;
+    store.keep()?;
+    let is_kept = is_filled(store, 5, 9)?;
+    store.rollback();
+    let is_uncounted = store.written() == 0;
+    Ok(is_kept && is_uncounted && is_filled(store, 5, 0)?)
+}
+
+// Tells bytes.
+fn tell<S: Store>(store: &mut S, bytes: &[u8]) -> Result<(), Fail>
+    requires { (S.state store.old).ended ≡ false }
+{
+    store.tell(bytes)?;
+    Ok(())
+}
+
+#[test]
+fn a_store_writes_keeps_rolls_back_and_tells(rt: HostRuntime) -> Result<(), Fail> {
+    let mut store = opened(rt.alloc(), made(rt.alloc())?)?;
+    assert!(rt; changes_only_the_work(&mut store)?);
+    assert!(rt; keeps_and_rolls_back(&mut store)?);
+    tell(&mut store, b"OK\n")?;
+    let host = store.close();
+    assert_eq!(rt; host.said(), b"OK\n".as_slice());
+    Ok(())
+}
+
+#[test]
+fn a_commit_that_changes_no_page_makes_no_call(rt: HostRuntime) -> Result<(), Fail> {
+    let mut store = opened(rt.alloc(), made(rt.alloc())?)?;
+    // Page 0 lies in the cache from then on.
+    page_of(&mut store, 0)?;
+    let begun = store.host.calls();
+    commit(&mut store)?;
+    assert_eq!(rt; store.host.calls(), begun);
     Ok(())
 }

@@ -1,14 +1,13 @@
-ghost use Rattle.std.specs.Prelude.{◌≡◌, ◌≤◌, None, true, OnOk};
+ghost use Rattle.std.specs.Prelude.{◌≡◌, ◌≤◌, IsTrue, None, true, OnOk};
 ghost use Rattle.mdc_outside.specs.Moments.{HasCause};
 
-use crate::recovery::recover;
-use crate::{OpenFault, make};
-use mdc_outside::{Disk, Failed};
+use crate::{FileStore, OpenFault, make};
+use mdc_outside::{Disk, Failed, Host};
 use redo_journal::{Images, open_gate, write_journal};
 use std::alloc::Global;
 use std::io::{self, Cursor, Read, Seek, SeekFrom, Write};
 use std::test::Fail;
-use store_api::{Damage, Page};
+use store_api::{Damage, Page, Pages};
 
 // A disk over bytes in memory, which tells nothing.
 #[derive(Drop)]
@@ -85,12 +84,31 @@ impl Disk for Scratch {
     }
 }
 
-// An empty file.
-fn blank(alloc: Global) -> Scratch {
+impl Host for Scratch {
+    ghost use Rattle.std.specs.Prelude.{refl};
+
+    ghost tape = { λ _. None };
+
+    ghost say_faults = { λ _. 0 };
+
+    ghost lies_beside = { λ _. (refl, refl) };
+
+    fn say(&mut self, _bytes: &[u8]) -> Result<(), Failed> {
+        Ok(())
+    }
+}
+
+// A disk whose file has these bytes.
+fn disk_of(bytes: Vec<u8>) -> Scratch {
     Scratch {
-        bytes: Cursor::new(Vec::new(alloc)),
+        bytes: Cursor::new(bytes),
         faults: 0,
     }
+}
+
+// An empty file.
+fn blank(alloc: Global) -> Scratch {
+    disk_of(Vec::new(alloc))
 }
 
 // Makes a database of 16 extents of two pages.
@@ -142,10 +160,21 @@ fn a_database_is_made_once(rt: HostRuntime) -> Result<(), Fail> {
     Ok(())
 }
 
-// How large a recovered database may grow, and how many pages it has.
-fn recovered(alloc: Global, disk: &mut Scratch) -> Result<(u32, u32, u32), OpenFault> {
-    let opened = recover(alloc, disk)?;
-    Ok((opened.extents, opened.extent_pages, opened.count))
+// How many extents the database in a file may have, how many pages each has, and how many pages there are.
+type Sizes = (u32, u32, u32);
+
+// Opens the file of a host, and closes it: its sizes, or why it isn't opened, and the host.
+fn opened<H: Host>(alloc: Global, host: H) -> (Result<Sizes, OpenFault>, H)
+    requires { IsTrue (H.is_attached host) }
+{
+    match FileStore::open(alloc, host, 8) {
+        Ok(store) => {
+            let (extents, extent_pages) = store.shape();
+            let count = store.count();
+            (Ok((extents, extent_pages, count)), store.close())
+        }
+        Err(unopened) => (Err(unopened.fault), unopened.host),
+    }
 }
 
 // A root page that states so many pages.
@@ -170,11 +199,12 @@ fn leave_journal(alloc: Global, disk: &mut Scratch, start: u32) -> Result<(), Fa
 }
 
 #[test]
-fn a_made_database_is_recovered(rt: HostRuntime) -> Result<(), Fail> {
-    let mut disk = blank(rt.alloc());
-    assert_eq!(rt; recovered(rt.alloc(), &mut disk), Err(OpenFault::Unmade));
+fn a_made_database_is_opened(rt: HostRuntime) -> Result<(), Fail> {
+    let (outcome, mut disk) = opened(rt.alloc(), blank(rt.alloc()));
+    assert_eq!(rt; outcome, Err(OpenFault::Unmade));
     assert_eq!(rt; make_small(&mut disk), Ok(()));
-    assert_eq!(rt; recovered(rt.alloc(), &mut disk), Ok((16, 2, 18)));
+    let (outcome, _) = opened(rt.alloc(), disk);
+    assert_eq!(rt; outcome, Ok((16, 2, 18)));
     Ok(())
 }
 
@@ -183,7 +213,8 @@ fn a_journal_is_brought_home(rt: HostRuntime) -> Result<(), Fail> {
     let mut disk = blank(rt.alloc());
     assert_eq!(rt; make_small(&mut disk), Ok(()));
     leave_journal(rt.alloc(), &mut disk, 86)?;
-    assert_eq!(rt; recovered(rt.alloc(), &mut disk), Ok((16, 2, 20)));
+    let (outcome, mut disk) = opened(rt.alloc(), disk);
+    assert_eq!(rt; outcome, Ok((16, 2, 20)));
     assert_eq!(rt; bytes_at(&mut disk, 512)?, [0; 16]);
     assert_eq!(rt; bytes_at(&mut disk, 85 * 4096)?, [7; 16]);
     Ok(())
@@ -194,12 +225,45 @@ fn a_journal_within_the_pages_is_refused(rt: HostRuntime) -> Result<(), Fail> {
     let mut disk = blank(rt.alloc());
     assert_eq!(rt; make_small(&mut disk), Ok(()));
     leave_journal(rt.alloc(), &mut disk, 85)?;
+    let (outcome, mut disk) = opened(rt.alloc(), disk);
     let damage = Damage { page: 0, rule: 1 };
-    assert_eq!(rt;
-        recovered(rt.alloc(), &mut disk),
-        Err(OpenFault::Damaged(damage))
-    );
+    assert_eq!(rt; outcome, Err(OpenFault::Damaged(damage)));
     assert_eq!(rt; bytes_at(&mut disk, 512)?[0], 0x4f);
+    Ok(())
+}
+
+// The file without what is behind so many bytes.
+fn cut_off(alloc: Global, disk: &Scratch, end: usize) -> Result<Scratch, Fail> {
+    let bytes = disk.bytes.get_ref();
+    let left = &bytes[..end.min(bytes.len())];
+    Ok(disk_of(left.to_vec(alloc)?))
+}
+
+// Why a made database is refused that ends within this file page.
+fn refusal_at(file_page: u32) -> OpenFault {
+    match file_page {
+        0..=1 => OpenFault::Unmade,
+        2..=66 => OpenFault::Damaged(Damage { page: 0, rule: 1 }),
+        _ => OpenFault::Damaged(Damage {
+            page: file_page - 66,
+            rule: 1,
+        }),
+    }
+}
+
+#[test]
+fn a_file_that_is_cut_off_is_refused_for_its_first_page_that_is_not_whole(
+    rt: HostRuntime,
+) -> Result<(), Fail> {
+    let mut disk = blank(rt.alloc());
+    assert_eq!(rt; make_small(&mut disk), Ok(()));
+    for n in 0..84u32 {
+        for more in [0, 4095] {
+            let left = cut_off(rt.alloc(), &disk, n as usize * 4096 + more)?;
+            let (outcome, _) = opened(rt.alloc(), left);
+            assert_eq!(rt; outcome, Err(refusal_at(n)));
+        }
+    }
     Ok(())
 }
 
@@ -208,17 +272,14 @@ fn each_refusal_has_its_cause(rt: HostRuntime) -> Result<(), Fail> {
     let mut disk = blank(rt.alloc());
     assert_eq!(rt; make_small(&mut disk), Ok(()));
     disk.write(66 * 4096, &root_of(2, 18))?;
-    assert_eq!(rt;
-        recovered(rt.alloc(), &mut disk),
-        Err(OpenFault::Version(2))
-    );
+    let (outcome, mut disk) = opened(rt.alloc(), disk);
+    assert_eq!(rt; outcome, Err(OpenFault::Version(2)));
     disk.write(66 * 4096, &root_of(1, 20))?;
+    let (outcome, mut disk) = opened(rt.alloc(), disk);
     let damage = Damage { page: 18, rule: 1 };
-    assert_eq!(rt;
-        recovered(rt.alloc(), &mut disk),
-        Err(OpenFault::Damaged(damage))
-    );
+    assert_eq!(rt; outcome, Err(OpenFault::Damaged(damage)));
     disk.write(4096, b"m")?;
-    assert_eq!(rt; recovered(rt.alloc(), &mut disk), Err(OpenFault::NotMdc));
+    let (outcome, _) = opened(rt.alloc(), disk);
+    assert_eq!(rt; outcome, Err(OpenFault::NotMdc));
     Ok(())
 }

@@ -1,11 +1,11 @@
 // The calls by which images reach the file, whole or not at all.
-ghost use Rattle.std.specs.Prelude.{◌≡◌, ◌≤◌, ◌<◌, IsTrue, length, OnOk, IsErrOf, IsErr};
+ghost use Rattle.std.specs.Prelude.{◌≡◌, ◌≤◌, ◌<◌, [], IsTrue, length, OnOk, IsErrOf, IsErr};
 ghost use Rattle.std.specs.Option.{ForSome};
 ghost use Rattle.std.specs.List.{All};
 ghost use Rattle.mdc_outside.specs.Moments.{HasCause};
-ghost use Rattle.page_store.specs.Leaving.{Leaves};
-ghost use Rattle.page_store.specs.Commit.{Both, IsReadyFor, IsCounting, IsClosed, IsCommitted, IsJournaled, Stands, StandsStill, StandsEither, HomeStays, RestsWith, pages_with};
-ghost use Rattle.page_store.specs.Standing.{IsFormed};
+ghost use Rattle.page_store.specs.Bound.{LeavesOf};
+ghost use Rattle.page_store.specs.Commit.{Both, IsReadyFor, IsCounting, IsClosed, IsCommitted, IsJournaled, StandsStill, StandsEither, HomeStays, RestsWith, pages_with};
+ghost use Rattle.page_store.specs.Standing.{IsFormed, Stands};
 
 use mdc_outside::{Disk, Failed};
 use redo_journal::{Images, close_gate, home, open_gate, write_journal};
@@ -19,16 +19,18 @@ pub(crate) enum Halt {
     BehindGate,
 }
 
-/// Writes images into the file, if there are any, by way of a journal that starts at this file page. It takes no memory.
+/// Writes images into the file by way of a journal that starts at this file page. Where there are none, it makes no call
+/// of the disk. It takes no memory.
 pub(crate) fn write_any<D: Disk>(disk: &mut D, start: u32, images: &Images) -> Result<(), Halt>
     requires attached { IsTrue (D.is_attached disk.old) }
     requires ready { ForSome (D.file disk.old) (IsReadyFor start images.now) }
     requires behind_gates { 66 ≤ start }
     requires named { All (λ image. image.0 < start) images.now }
+    ensures quiet { images.now ≡ [] → disk.new ≡ disk.old }
     ensures committed { OnOk result (Both (D.file disk.old) (D.file disk.new) (IsCommitted images.now)) }
     ensures stays { IsErrOf result Halt.BeforeHome → Both (D.file disk.old) (D.file disk.new) (λ before after. HomeStays before.bytes after.bytes) }
     ensures counts { IsErrOf result Halt.BehindGate → Both (D.file disk.old) (D.file disk.new) (RestsWith images.now) }
-    ensures leaves { Leaves D.file D.beside D.attaches D.is_attached D.clock D.moment (StandsEither images.now) disk.old disk.new }
+    ensures leaves { LeavesOf D.Disk (StandsEither images.now) disk.old disk.new }
     ensures cause { HasCause result (D.disk_faults disk.old) (D.disk_faults disk.new) }
 {
     if images.len() == 0 {
@@ -46,7 +48,7 @@ fn write_through<D: Disk>(disk: &mut D, start: u32, images: &Images) -> Result<(
     ensures committed { OnOk result (Both (D.file disk.old) (D.file disk.new) (IsCommitted images.now)) }
     ensures stays { IsErrOf result Halt.BeforeHome → Both (D.file disk.old) (D.file disk.new) (λ before after. HomeStays before.bytes after.bytes) }
     ensures counts { IsErrOf result Halt.BehindGate → Both (D.file disk.old) (D.file disk.new) (RestsWith images.now) }
-    ensures leaves { Leaves D.file D.beside D.attaches D.is_attached D.clock D.moment (StandsEither images.now) disk.old disk.new }
+    ensures leaves { LeavesOf D.Disk (StandsEither images.now) disk.old disk.new }
     ensures cause { HasCause result (D.disk_faults disk.old) (D.disk_faults disk.new) }
 {
     match commit_to_journal(disk, start, images) {
@@ -66,7 +68,7 @@ fn commit_to_journal<D: Disk>(disk: &mut D, start: u32, images: &Images) -> Resu
     requires few { length images.now < 4294967296 }
     ensures counts { OnOk result (Both (D.file disk.old) (D.file disk.new)
         (λ before after. IsCounting images.now after × Stands before.bytes (pages_with images.now before.bytes) after.bytes)) }
-    ensures leaves { Leaves D.file D.beside D.attaches D.is_attached D.clock D.moment (λ before. IsJournaled images.now before.bytes) disk.old disk.new }
+    ensures leaves { LeavesOf D.Disk (λ before. IsJournaled images.now before.bytes) disk.old disk.new }
     ensures cause { HasCause result (D.disk_faults disk.old) (D.disk_faults disk.new) }
 {
     write_journal(disk, start, images)?;
@@ -79,7 +81,7 @@ pub(crate) fn bring_home<D: Disk>(disk: &mut D, images: &Images) -> Result<(), F
     requires counts { ForSome (D.file disk.old) (IsCounting images.now) }
     requires formed { ForSome (D.file disk.old) (λ file. IsFormed file.bytes) }
     ensures closed { OnOk result (ForSome (D.file disk.new) IsClosed) }
-    ensures leaves { Leaves D.file D.beside D.attaches D.is_attached D.clock D.moment StandsStill disk.old disk.new }
+    ensures leaves { LeavesOf D.Disk StandsStill disk.old disk.new }
     ensures cause { HasCause result (D.disk_faults disk.old) (D.disk_faults disk.new) }
 {
     home(disk, images)?;

@@ -13,6 +13,7 @@ use Rattle.mdc_outside.specs.Disk.{File, Since, torn, overwritten, settled}
 use Rattle.mdc_outside.specs.Moments.{Beside}
 use Rattle.redo_journal.specs.Images.{Numbered, AreRising, AreImages, IsPageImage}
 use Rattle.redo_journal.specs.Layout.{IsReady, HoldsHome, home_page, torn_home}
+use Rattle.redo_journal.specs.Pieces.{placed, homed}
 use Rattle.redo_journal.specs.Runs.{Runs, IsCovered, Between}
 use Rattle.redo_journal.proofs.Covering.{covers_torn, covers_through, covers_itself}
 use Rattle.redo_journal.proofs.Composing.{runs_then_covered}
@@ -150,3 +151,57 @@ home_settled (Ok done) images i (Some file) new le home synced = λ after is.
     let stands = home file refl in
     record { settled = rw settles refl; home = rw settles (rw whole at stands) }
 home_settled (Err e) images i told new le home synced = synced
+
+-- the images of two lists, one list after the other
+homed-append : (xs ys : Numbered) (bytes : List ℕ) → homed (xs ++ ys) bytes ≡ homed ys (homed xs bytes)
+homed-append [] ys bytes = refl
+homed-append (x ∷ xs) ys bytes = homed-append xs ys (placed (4096 * (66 + x.0)) x.1 bytes)
+
+-- the bytes with one image more
+homed_next : (images : Numbered) (i number place end : ℕ) (page old before first second : List ℕ) → slice_get images i ≡ Some (number, page) → place ≡ 4096 * (66 + number)
+    → end ≡ length before → before ≡ homed (take i images) old → first ≡ before ++ replicate (place - end) 0 → second ≡ overwritten place page first
+    → second ≡ homed (take (i + 1) images) old
+homed_next images i number place end page old before first second at place_is end_is before_is first_is second_is =
+    second_is
+    ∙ (ap (overwritten place page) (first_is ∙ ap (λ n. before ++ replicate (place - n) 0) end_is)
+    ∙ (ap (λ p. placed p page before) place_is
+    ∙ (ap (λ bytes. placed (4096 * (66 + number)) page bytes) before_is
+    ∙ (sym (homed-append (take i images) ((number, page) ∷ []) old) ∙ ap (λ xs. homed xs old) (sym (images_next images i (number, page) at))))))
+
+-- no image is home yet
+pub homed_none : (images : Numbered) (old new : Option File) → new ≡ old → Between old new (λ before after. after ≡ homed (take 0 images) before)
+homed_none images old new same = record {
+  holds = λ before after is_before is_after.
+      let both : Some after ≡ Some before = sym is_after ∙ (same ∙ is_before) in
+      let is : after ≡ before = cc in
+      ap (λ f. f.bytes) is;
+}
+
+module _ {D : Type 0} {file : D → Option File} {aside : D → Beside} {attaches : D → Option (List (List ℕ × Bool))} {is_attached : D → Bool} {clock : D → ℕ} {moment : D → ℕ → List ℕ → List ℕ → Type 0} where
+  -- the same of a file
+  pub homed_step : {Within0 Within1 : Since → Since → Type 0} {a0 a1 : Since → Since} {start old middle new : D} (images : Numbered) (i number place end : ℕ) (page : List ℕ)
+      → slice_get images i ≡ Some (number, page) → place ≡ 4096 * (66 + number)
+      → Runs file aside attaches is_attached clock moment Within0 a0 start old → Between (file start) (file old) (λ before after. after ≡ homed (take i images) before)
+      → Runs file aside attaches is_attached clock moment Within1 a1 old middle → Between (file old) (file middle) (λ before after. after ≡ before ++ replicate (place - end) 0)
+      → Between (file middle) (file new) (λ before after. after ≡ overwritten place page before) → ForSome (file old) (λ f. end ≡ length f.bytes)
+      → Between (file start) (file new) (λ before after. after ≡ homed (take (i + 1) images) before)
+  homed_step images i number place end page at place_is r0 home r1 filled put size = record {
+    holds = λ before after is_before is_after.
+        let f0 = r0.told before is_before in
+        let f1 = r1.told f0.0 f0.1 in
+        homed_next images i number place end page before.bytes f0.0.bytes f1.0.bytes after.bytes at place_is (size f0.0 f0.1)
+        (home.holds before f0.0 is_before f0.1) (filled.holds f0.0 f1.0 f0.1 f1.1) (put.holds f1.0 after f1.1 is_after);
+  }
+
+-- the sync leaves the bytes
+pub homed_settled : {T E : Type 0} (result : Result T E) (images : Numbered) (i : ℕ) (start told new : Option File) → length images ≤ i
+    → Between start told (λ before after. after ≡ homed (take i images) before)
+    → OnOk result (new ≡ option_map settled told) → OnOk result (Between start new (λ before after. after ≡ homed images before))
+homed_settled (Ok done) images i start None new le home synced = record { holds = λ before after is_before is_after. absurd (cc) }
+homed_settled (Ok done) images i start (Some file) new le home synced = record {
+  holds = λ before after is_before is_after.
+      let settles : after ≡ settled file = mapped settled (Some file) new file after synced refl is_after in
+      let whole : take i images ≡ images = take_all i images le in
+      ap (λ f. f.bytes) settles ∙ (home.holds before file is_before refl ∙ ap (λ xs. homed xs before.bytes) whole);
+}
+homed_settled (Err e) images i start told new le home synced = synced

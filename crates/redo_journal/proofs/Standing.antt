@@ -75,6 +75,7 @@ pub journal_stands : (start : ℕ) (images : Numbered) (place next : ℕ) (zeros
     → third ≡ take next second ++ page_bytes images ++ after_pages
     → last ≡ overwritten 1024 (header start (length images)) third
     → (start_of last ≡ start) × (journal_of last ≡ images) × (get_or last 512 0 ≡ get_or old 512 0)
+    × (take (4096 * index_pages (length images)) (drop (4096 * start) last) ≡ index_bytes (index_pages (length images)) images)
 journal_stands start images place next zeros old first second third last after_index after_pages all start_fits few behind long place_is next_is reach is_first is_second is_third is_last =
     let P : ℕ = index_pages (length images) in
     let index : List ℕ = index_bytes (index_pages (length images)) images in
@@ -117,4 +118,8 @@ journal_stands start images place next zeros old first second third last after_i
     ∙ (ap (λ xs. get_or xs 512 0) (whole ∙ append_assoc (take place first) (index_bytes (index_pages (length images)) images) (page_bytes images ++ after_pages))
     ∙ (byte_before place 512 first (index_bytes (index_pages (length images)) images ++ (page_bytes images ++ after_pages)) (omega arith) reach
     ∙ (ap (λ xs. get_or xs 512 0) is_first ∙ get_or_append_left old zeros 0 512 (omega arith))))) in
-    (start_is, journal_is, gate)
+    let index_is : take (4096 * index_pages (length images)) (drop (4096 * start) last) ≡ index_bytes (index_pages (length images)) images =
+    ap (λ n. take (4096 * index_pages (length images)) (drop n last)) (sym place_is)
+    ∙ (ap (take (4096 * index_pages (length images))) (from_place place (omega arith) ∙ body)
+    ∙ take_at (index_bytes (index_pages (length images)) images) (page_bytes images ++ after_pages) (4096 * index_pages (length images)) size) in
+    (start_is, journal_is, gate, index_is)

@@ -56,6 +56,7 @@ module _ {D : Type 0} {file : D → Option File} {aside : D → Beside} {attache
         starts = stands.0;
         images = stands.1;
         within = omega (arith, ap length bytes, ap length made, long_made);
+        index = stands.3;
         closed = ap (λ b. nat_eq b 79) stands.2 ∙ closed before.0 before.1;
       }
   written_stands (Err e) start images end place next piece all start_fits few behind place_is next_is piece_is piece_size ready closed same ends whole r1 filled r2 index r3 pages r4 put synced = synced

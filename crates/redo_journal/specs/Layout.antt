@@ -4,6 +4,7 @@ use Rattle.std.specs.List.{All}
 use Rattle.byteorder.specs.Endian.{big_number}
 use Rattle.mdc_outside.specs.Disk.{File, Since, all_synced, torn}
 use Rattle.redo_journal.specs.Images.{Numbered, AreRising}
+use Rattle.redo_journal.specs.Pieces.{index_bytes}
 
 -- the bytes of file page n
 abbrev pub file_page : List ℕ → ℕ → List ℕ
@@ -59,6 +60,8 @@ pub record HoldsJournal (start : ℕ) (listed : Numbered) (file : File) : Type 0
   pub starts : start_of file.bytes ≡ start
   pub images : journal_of file.bytes ≡ listed
   pub within : 4096 * (start + index_pages (length listed) + length listed) ≤ length file.bytes
+  -- behind the last number of the index stand zeros
+  pub index : take (4096 * index_pages (length listed)) (drop (4096 * start) file.bytes) ≡ index_bytes (index_pages (length listed)) listed
   pub closed : IsFalse (is_open file.bytes)
 
 -- each image stands in its home page, and all is on the disk

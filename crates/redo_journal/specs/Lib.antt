@@ -1,3 +1,4 @@
+pub mod Bound
 pub mod Faults
 pub mod Images
 pub mod Layout

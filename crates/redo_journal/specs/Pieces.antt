@@ -1,7 +1,8 @@
 -- The bytes of a journal, piece by piece.
-use Rattle.std.specs.Prelude.{◌≡◌, ℕ, zero, suc, ◌*◌, List, [], ◌++◌, length, take, drop}
+use Rattle.std.specs.Prelude.{◌≡◌, ℕ, zero, suc, ◌+◌, ◌-◌, ◌*◌, List, [], ◌∷◌, ◌++◌, length, take, drop, replicate}
 use Rattle.std.specs.List.{flat_map}
 use Rattle.byteorder.specs.Endian.{big_bytes}
+use Rattle.mdc_outside.specs.Disk.{overwritten}
 use Rattle.store_api.specs.StoreState.{zero_page}
 use Rattle.redo_journal.specs.Images.{Numbered}
 
@@ -33,3 +34,12 @@ Replaces at piece old new = (rest : List ℕ) × (new ≡ take at old ++ piece +
 -- the start and the number of images, as they stand in the file
 abbrev pub header : ℕ → ℕ → List ℕ
 header start n = big_bytes 4 start ++ big_bytes 4 n
+
+-- the bytes, with a piece from a place on; where they end before it, zeros stand up to it
+abbrev pub placed : ℕ → List ℕ → List ℕ → List ℕ
+placed at piece bytes = overwritten at piece (bytes ++ replicate (at - length bytes) 0)
+
+-- the bytes, with each image in its home page
+abbrev pub homed : Numbered → List ℕ → List ℕ
+homed [] bytes = bytes
+homed (image ∷ images) bytes = homed images (placed (4096 * (66 + image.0)) image.1 bytes)

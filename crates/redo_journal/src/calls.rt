@@ -3,7 +3,8 @@ ghost use Rattle.std.specs.Prelude.{◌≡◌, ◌≤◌, ◌+◌, ℕ, length, 
 ghost use Rattle.std.specs.Option.{option_map, ForSome};
 ghost use Rattle.mdc_outside.specs.Disk.{torn, written, settled};
 ghost use Rattle.mdc_outside.specs.Moments.{HasCause};
-ghost use Rattle.redo_journal.specs.Runs.{Runs, IsWithin, IsCovered};
+ghost use Rattle.redo_journal.specs.Bound.{RunsOf};
+ghost use Rattle.redo_journal.specs.Runs.{IsWithin, IsCovered};
 
 use mdc_outside::{Disk, Failed};
 
@@ -14,7 +15,7 @@ pub fn put<D: Disk>(disk: &mut D, at: u64, bytes: &[u8]) -> Result<(), Failed>
     requires attached { IsTrue (D.is_attached disk.old) }
     requires within { ForSome (D.file disk.old) (λ file. at ≤ length file.bytes) }
     ensures written { OnOk result (D.file disk.new ≡ option_map (written at bytes.now) (D.file disk.old)) }
-    ensures runs { Runs D.file D.beside D.attaches D.is_attached D.clock D.moment IsCovered (torn at (length bytes.now)) disk.old disk.new }
+    ensures runs { RunsOf D.Disk IsCovered (torn at (length bytes.now)) disk.old disk.new }
     ensures cause { HasCause result (D.disk_faults disk.old) (D.disk_faults disk.new) }
 {
     disk.write(at, bytes)
@@ -26,7 +27,7 @@ pub fn put<D: Disk>(disk: &mut D, at: u64, bytes: &[u8]) -> Result<(), Failed>
 pub fn settle<D: Disk>(disk: &mut D) -> Result<(), Failed>
     requires { IsTrue (D.is_attached disk.old) }
     ensures settled { OnOk result (D.file disk.new ≡ option_map settled (D.file disk.old)) }
-    ensures runs { Runs D.file D.beside D.attaches D.is_attached D.clock D.moment IsWithin (λ since. since) disk.old disk.new }
+    ensures runs { RunsOf D.Disk IsWithin (λ since. since) disk.old disk.new }
     ensures cause { HasCause result (D.disk_faults disk.old) (D.disk_faults disk.new) }
 {
     disk.sync()
@@ -37,7 +38,7 @@ pub fn end_of<D: Disk>(disk: &mut D) -> Result<u64, Failed>
     requires { IsTrue (D.is_attached disk.old) }
     ensures end { IfOk result (λ n. ForSome (D.file disk.old) (λ file. n ≡ length file.bytes)) }
     ensures same { D.file disk.new ≡ D.file disk.old }
-    ensures runs { Runs D.file D.beside D.attaches D.is_attached D.clock D.moment IsCovered (λ since. since) disk.old disk.new }
+    ensures runs { RunsOf D.Disk IsCovered (λ since. since) disk.old disk.new }
     ensures cause { HasCause result (D.disk_faults disk.old) (D.disk_faults disk.new) }
 {
     disk.len()
@@ -50,7 +51,7 @@ pub fn get<D: Disk>(disk: &mut D, at: u64, out: &mut [u8]) -> Result<(), Failed>
     requires within { ForSome (D.file disk.old) (λ file. at + length out.old ≤ length file.bytes) }
     ensures read { OnOk result (ForSome (D.file disk.old) (λ file. out.new ≡ take (length out.old) (drop at file.bytes))) }
     ensures same { D.file disk.new ≡ D.file disk.old }
-    ensures runs { Runs D.file D.beside D.attaches D.is_attached D.clock D.moment IsCovered (λ since. since) disk.old disk.new }
+    ensures runs { RunsOf D.Disk IsCovered (λ since. since) disk.old disk.new }
     ensures cause { HasCause result (D.disk_faults disk.old) (D.disk_faults disk.new) }
 {
     disk.read(at, out)

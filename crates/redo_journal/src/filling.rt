@@ -3,10 +3,12 @@ ghost use Rattle.std.specs.Prelude.{◌≡◌, ◌≤◌, ◌-◌, ◌++◌, len
 ghost use Rattle.std.specs.Option.{ForSome};
 ghost use Rattle.mdc_outside.specs.Disk.{torn};
 ghost use Rattle.mdc_outside.specs.Moments.{HasCause};
-ghost use Rattle.redo_journal.specs.Runs.{Runs, IsCovered, Between};
+ghost use Rattle.redo_journal.specs.Bound.{RunsOf};
+ghost use Rattle.redo_journal.specs.Runs.{IsCovered, Between};
 
 use crate::calls::put;
-use crate::page::{PAGE_BYTES, zeros};
+use crate::layout::PAGE_BYTES;
+use crate::page::zeros;
 use mdc_outside::{Disk, Failed};
 
 /// Writes zeros from the file's end up to a place, where the file ends before it. They are on the disk after a `settle`.
@@ -16,7 +18,7 @@ pub fn fill<D: Disk>(disk: &mut D, from: u64, to: u64) -> Result<(), Failed>
     requires attached { IsTrue (D.is_attached disk.old) }
     requires end { ForSome (D.file disk.old) (λ file. from ≡ length file.bytes) }
     ensures filled { OnOk result (Between (D.file disk.old) (D.file disk.new) (λ old new. new ≡ old ++ replicate (to - from) 0)) }
-    ensures runs { Runs D.file D.beside D.attaches D.is_attached D.clock D.moment IsCovered (torn from (to - from)) disk.old disk.new }
+    ensures runs { RunsOf D.Disk IsCovered (torn from (to - from)) disk.old disk.new }
     ensures cause { HasCause result (D.disk_faults disk.old) (D.disk_faults disk.new) }
 {
     let mut end = from;

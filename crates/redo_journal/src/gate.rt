@@ -3,14 +3,13 @@ ghost use Rattle.std.specs.Prelude.{◌≡◌, [], ◌∷◌, IsTrue, IsFalse, O
 ghost use Rattle.std.specs.Option.{option_map, ForSome};
 ghost use Rattle.mdc_outside.specs.Disk.{torn, written, settled};
 ghost use Rattle.mdc_outside.specs.Moments.{HasCause};
+ghost use Rattle.redo_journal.specs.Bound.{RunsOf};
 ghost use Rattle.redo_journal.specs.Layout.{IsReady, is_open};
-ghost use Rattle.redo_journal.specs.Runs.{Runs, IsWithin};
+ghost use Rattle.redo_journal.specs.Runs.{IsWithin};
 
 use crate::calls::{put, settle};
+use crate::layout::GATE;
 use mdc_outside::{Disk, Failed};
-
-// Where the gate stands in the file.
-pub(crate) const GATE: u64 = 512;
 
 pub(crate) const OPEN: u8 = 0x4f;
 
@@ -22,7 +21,7 @@ pub fn open_gate<D: Disk>(disk: &mut D) -> Result<(), Failed>
     requires ready { ForSome (D.file disk.old) IsReady }
     ensures written { OnOk result (D.file disk.new ≡ option_map (λ file. settled (written 512 (79 ∷ []) file)) (D.file disk.old)) }
     ensures open { OnOk result (ForSome (D.file disk.new) (λ file. IsTrue (is_open file.bytes))) }
-    ensures runs { Runs D.file D.beside D.attaches D.is_attached D.clock D.moment IsWithin (torn 512 1) disk.old disk.new }
+    ensures runs { RunsOf D.Disk IsWithin (torn 512 1) disk.old disk.new }
     ensures cause { HasCause result (D.disk_faults disk.old) (D.disk_faults disk.new) }
 {
     set_gate(disk, OPEN)
@@ -34,7 +33,7 @@ pub fn close_gate<D: Disk>(disk: &mut D) -> Result<(), Failed>
     requires ready { ForSome (D.file disk.old) IsReady }
     ensures written { OnOk result (D.file disk.new ≡ option_map (λ file. settled (written 512 (0 ∷ []) file)) (D.file disk.old)) }
     ensures closed { OnOk result (ForSome (D.file disk.new) (λ file. IsFalse (is_open file.bytes))) }
-    ensures runs { Runs D.file D.beside D.attaches D.is_attached D.clock D.moment IsWithin (torn 512 1) disk.old disk.new }
+    ensures runs { RunsOf D.Disk IsWithin (torn 512 1) disk.old disk.new }
     ensures cause { HasCause result (D.disk_faults disk.old) (D.disk_faults disk.new) }
 {
     set_gate(disk, CLOSED)
@@ -45,7 +44,7 @@ fn set_gate<D: Disk>(disk: &mut D, state: u8) -> Result<(), Failed>
     requires attached { IsTrue (D.is_attached disk.old) }
     requires ready { ForSome (D.file disk.old) IsReady }
     ensures written { OnOk result (D.file disk.new ≡ option_map (λ file. settled (written 512 (state ∷ []) file)) (D.file disk.old)) }
-    ensures runs { Runs D.file D.beside D.attaches D.is_attached D.clock D.moment IsWithin (torn 512 1) disk.old disk.new }
+    ensures runs { RunsOf D.Disk IsWithin (torn 512 1) disk.old disk.new }
     ensures cause { HasCause result (D.disk_faults disk.old) (D.disk_faults disk.new) }
 {
     put(disk, GATE, &[state])?;

@@ -52,6 +52,14 @@ impl Images {
         (*number, page)
     }
 
+    /// Takes room for so many more images, so that none is copied while they are put. The list stays.
+    pub fn reserve(&mut self, n: usize) -> Result<(), Memory>
+        ensures { self.new ≡ self.old }
+    {
+        self.images.reserve(n)?;
+        Ok(())
+    }
+
     /// Puts an image last. After `Memory` the list is as before.
     pub fn push(&mut self, p: u32, image: &Page) -> Result<(), Memory>
         requires { All (λ before. before.0 < p) self.old }

@@ -3,20 +3,19 @@ ghost use Rattle.std.specs.Prelude.{◌≡◌, ◌≤◌, ◌<◌, ◌+◌, ◌*
 ghost use Rattle.std.specs.Option.{ForSome};
 ghost use Rattle.mdc_outside.specs.Disk.{torn};
 ghost use Rattle.mdc_outside.specs.Moments.{HasCause};
+ghost use Rattle.redo_journal.specs.Bound.{RunsOf};
 ghost use Rattle.redo_journal.specs.Images.{AreRising};
 ghost use Rattle.redo_journal.specs.Layout.{IsReady, HoldsJournal, index_pages, is_open, torn_journal};
 ghost use Rattle.redo_journal.specs.Pieces.{Replaces, header, index_bytes, page_bytes};
-ghost use Rattle.redo_journal.specs.Runs.{Runs, IsWithin, IsCovered, Between};
+ghost use Rattle.redo_journal.specs.Runs.{IsWithin, IsCovered, Between};
 
 use crate::Images;
 use crate::calls::{end_of, put, settle};
 use crate::filling::fill;
-use crate::page::{NUMBERS, PAGE_BYTES, index_page};
+use crate::layout::{HEADER, NUMBERS, PAGE_BYTES, index_len};
+use crate::page::index_page;
 use byteorder::{BigEndian, ByteOrder};
 use mdc_outside::{Disk, Failed};
-
-// Where the journal's start and number stand in the file.
-pub(crate) const HEADER: u64 = 1024;
 
 /// Writes a journal that starts at this file page, and has all on the disk.
 pub fn write_journal<D: Disk>(disk: &mut D, start: u32, images: &Images) -> Result<(), Failed>
@@ -27,25 +26,18 @@ pub fn write_journal<D: Disk>(disk: &mut D, start: u32, images: &Images) -> Resu
     requires few { length images.now < 2 ^ 32 }
     ensures written { OnOk result (ForSome (D.file disk.new) (HoldsJournal start images.now)) }
     ensures rising { OnOk result (AreRising images.now) }
-    ensures runs { Runs D.file D.beside D.attaches D.is_attached D.clock D.moment IsWithin (torn_journal start (length images.now)) disk.old disk.new }
+    ensures runs { RunsOf D.Disk IsWithin (torn_journal start (length images.now)) disk.old disk.new }
     ensures cause { HasCause result (D.disk_faults disk.old) (D.disk_faults disk.new) }
 {
     let end = end_of(disk)?;
     let index = u64::from(start) * PAGE_BYTES;
-    let pages = index + index_len(images) * PAGE_BYTES;
+    let number = images.len() as u32;
+    let pages = index + index_len(number) * PAGE_BYTES;
     fill(disk, end, index)?;
     write_index(disk, index, images)?;
     write_pages(disk, pages, images)?;
-    put(disk, HEADER, &header(start, images.len() as u32))?;
+    put(disk, HEADER, &header(start, number))?;
     settle(disk)
-}
-
-// How many index pages there are.
-fn index_len(images: &Images) -> u64
-    requires { length images.now < 2 ^ 32 }
-    ensures { result ≡ index_pages (length images.now) }
-{
-    images.len().div_ceil(NUMBERS) as u64
 }
 
 // The start and the number, as they stand in the file.
@@ -65,10 +57,10 @@ fn write_index<D: Disk>(disk: &mut D, place: u64, images: &Images) -> Result<(),
     requires low { place < 2 ^ 48 }
     requires few { length images.now < 2 ^ 32 }
     ensures index { OnOk result (Between (D.file disk.old) (D.file disk.new) (Replaces place (index_bytes (index_pages (length images.now)) images.now))) }
-    ensures runs { Runs D.file D.beside D.attaches D.is_attached D.clock D.moment IsCovered (torn place (4096 * index_pages (length images.now))) disk.old disk.new }
+    ensures runs { RunsOf D.Disk IsCovered (torn place (4096 * index_pages (length images.now))) disk.old disk.new }
     ensures cause { HasCause result (D.disk_faults disk.old) (D.disk_faults disk.new) }
 {
-    for k in 0..index_len(images) {
+    for k in 0..index_len(images.len() as u32) {
         let page = index_page(images, k as usize * NUMBERS);
         put(disk, place + k * PAGE_BYTES, &page)?;
     }
@@ -82,7 +74,7 @@ fn write_pages<D: Disk>(disk: &mut D, place: u64, images: &Images) -> Result<(),
     requires low { place < 2 ^ 48 }
     requires few { length images.now < 2 ^ 32 }
     ensures pages { OnOk result (Between (D.file disk.old) (D.file disk.new) (Replaces place (page_bytes images.now))) }
-    ensures runs { Runs D.file D.beside D.attaches D.is_attached D.clock D.moment IsCovered (torn place (4096 * length images.now)) disk.old disk.new }
+    ensures runs { RunsOf D.Disk IsCovered (torn place (4096 * length images.now)) disk.old disk.new }
     ensures cause { HasCause result (D.disk_faults disk.old) (D.disk_faults disk.new) }
 {
     for i in 0..images.len() {

@@ -6,7 +6,8 @@
 //!
 //! The calls that these are made of are public too, for crates above that write a file of pages: `put`, `settle`, `get`
 //! and `end_of` are the calls of a disk, and `fill`, `read_number` and `read_page` what is made of them. Each says by the
-//! one relation `Runs` what it may tear, so that calls one after another compose.
+//! one relation `Runs` what it may tear, so that calls one after another compose. `FIRST_PAGE`, `HEADER` and `PAGE_BYTES`
+//! say where things lie in the file.
 #![tactic(auto)]
 
 mod calls;
@@ -15,6 +16,7 @@ mod gate;
 mod home_pages;
 mod images;
 mod journal;
+mod layout;
 mod page;
 mod replaying;
 
@@ -24,7 +26,8 @@ pub use gate::{close_gate, open_gate};
 pub use home_pages::home;
 pub use images::Images;
 pub use journal::write_journal;
-pub use page::{PAGE_BYTES, zeros};
+pub use layout::{FIRST_PAGE, HEADER, PAGE_BYTES};
+pub use page::zeros;
 pub use replaying::{ReplayFault, read_number, read_page, replay};
 
 #[cfg(test)]

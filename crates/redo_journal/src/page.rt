@@ -1,27 +1,19 @@
 // The bytes of one page.
 ghost use Rattle.std.specs.Prelude.{◌≡◌, ◌≤◌, ◌<◌, ◌+◌, ◌*◌, ◌++◌, length, take, drop, replicate};
 ghost use Rattle.byteorder.specs.Endian.{big_bytes};
-ghost use Rattle.store_api.specs.StoreState.{zero_page};
 ghost use Rattle.redo_journal.specs.Pieces.{chunk, index_page};
 
 use crate::Images;
+use crate::layout::NUMBERS;
 use byteorder::{BigEndian, ByteOrder};
-use store_api::Page;
-
-/// How many bytes a page has.
-pub const PAGE_BYTES: u64 = 4096;
-
-/// How many page numbers stand in an index page.
-pub(crate) const NUMBERS: usize = 1024;
-
-static ZEROS: Page = [0; 4096];
+use store_api::{Page, blank_page};
 
 /// So many zeros, at most a page.
 pub fn zeros(n: usize) -> &'static [u8]
     requires { n ≤ 4096 }
     ensures { result.now ≡ replicate n 0 }
 {
-    &ZEROS[..n]
+    &blank_page()[..n]
 }
 
 /// The index page with the numbers of the images from this place on.
@@ -29,21 +21,13 @@ pub(crate) fn index_page(images: &Images, first: usize) -> Page
     requires { first ≤ length images.now }
     ensures { result ≡ index_page (chunk first images.now) }
 {
-    let mut page = blank_page();
+    let mut page = *blank_page();
     let count = (images.len() - first).min(NUMBERS);
     for k in 0..count {
         let (number, _) = images.at(first + k);
         put_number(&mut page, k, number);
     }
     page
-}
-
-// A page of zeros.
-#[tactic(auto, unfolding(store_api::specs::StoreState::zero_page))]
-fn blank_page() -> Page
-    ensures { result ≡ zero_page }
-{
-    [0; 4096]
 }
 
 // Writes a number in its place of an index page.

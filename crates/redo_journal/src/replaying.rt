@@ -4,16 +4,16 @@ ghost use Rattle.std.specs.Option.{ForSome};
 ghost use Rattle.byteorder.specs.Endian.{big_number};
 ghost use Rattle.mdc_outside.specs.Moments.{HasCause};
 ghost use Rattle.mdc_outside.specs.Outside.{Rose};
-ghost use Rattle.redo_journal.specs.Layout.{Finds, IsJournal, entries, index_pages, is_open};
+ghost use Rattle.redo_journal.specs.Bound.{RunsOf};
 ghost use Rattle.redo_journal.specs.Faults.{IsDamaged};
 ghost use Rattle.redo_journal.specs.Images.{AreRising};
-ghost use Rattle.redo_journal.specs.Runs.{Runs, IsCovered};
+ghost use Rattle.redo_journal.specs.Layout.{Finds, IsJournal, entries, index_pages, is_open};
+ghost use Rattle.redo_journal.specs.Runs.{IsCovered};
 
 use crate::Images;
 use crate::calls::{end_of, get};
-use crate::gate::{GATE, OPEN};
-use crate::journal::HEADER;
-use crate::page::PAGE_BYTES;
+use crate::gate::OPEN;
+use crate::layout::{FIRST_PAGE, GATE, HEADER, PAGE_BYTES, index_len};
 use byteorder::{BigEndian, ByteOrder};
 use mdc_outside::{Disk, Failed};
 use mdc_values::Memory;
@@ -28,7 +28,7 @@ pub fn read_number<D: Disk>(disk: &mut D, at: u64) -> Result<u32, Failed>
     requires within { ForSome (D.file disk.old) (λ file. at + 4 ≤ length file.bytes) }
     ensures number { IfOk result (λ n. ForSome (D.file disk.old) (λ file. n ≡ big_number 4 (drop at file.bytes))) }
     ensures same { D.file disk.new ≡ D.file disk.old }
-    ensures runs { Runs D.file D.beside D.attaches D.is_attached D.clock D.moment IsCovered (λ since. since) disk.old disk.new }
+    ensures runs { RunsOf D.Disk IsCovered (λ since. since) disk.old disk.new }
     ensures cause { HasCause result (D.disk_faults disk.old) (D.disk_faults disk.new) }
 {
     let mut bytes = [0; 4];
@@ -44,7 +44,7 @@ pub fn read_page<D: Disk>(disk: &mut D, at: u64) -> Result<Page, Failed>
     requires within { ForSome (D.file disk.old) (λ file. at + 4096 ≤ length file.bytes) }
     ensures page { IfOk result (λ page. ForSome (D.file disk.old) (λ file. page ≡ take 4096 (drop at file.bytes))) }
     ensures same { D.file disk.new ≡ D.file disk.old }
-    ensures runs { Runs D.file D.beside D.attaches D.is_attached D.clock D.moment IsCovered (λ since. since) disk.old disk.new }
+    ensures runs { RunsOf D.Disk IsCovered (λ since. since) disk.old disk.new }
     ensures cause { HasCause result (D.disk_faults disk.old) (D.disk_faults disk.new) }
 {
     let mut page = [0; 4096];
@@ -106,16 +106,18 @@ fn read_images<D: Disk>(
     ensures damaged { IfErr result (λ fault. IsDamaged fault → (fault ≡ ReplayFault.Damaged (record { page = 0; rule = 1 })) × ForSome (D.file disk.old) (λ file. ¬ AreRising (entries number (drop index file.bytes) (drop pages file.bytes)))) }
     ensures device { IsErrOf result ReplayFault.Device → Rose (D.disk_faults disk.old) (D.disk_faults disk.new) }
     ensures same { D.file disk.new ≡ D.file disk.old }
-    ensures runs { Runs D.file D.beside D.attaches D.is_attached D.clock D.moment IsCovered (λ since. since) disk.old disk.new }
+    ensures runs { RunsOf D.Disk IsCovered (λ since. since) disk.old disk.new }
     ensures later { D.disk_faults disk.old ≤ D.disk_faults disk.new }
 {
     let mut images = Images::new(alloc);
+    // All of the images lie within the file, so its length bounds the room.
+    images.reserve(number as usize)?;
     for k in 0..u64::from(number) {
         let p = read_number(disk, index + 4 * k)?;
         if !images.rise_to(p) {
             return Err(DAMAGED);
         }
-        let page = read_page(disk, pages + 4096 * k)?;
+        let page = read_page(disk, pages + PAGE_BYTES * k)?;
         images.push(p, &page)?;
     }
     Ok(images)
@@ -127,7 +129,7 @@ fn is_gate_open<D: Disk>(disk: &mut D, end: u64) -> Result<bool, Failed>
     requires end { ForSome (D.file disk.old) (λ file. end ≡ length file.bytes) }
     ensures gate { IfOk result (λ state. ForSome (D.file disk.old) (λ file. state ≡ is_open file.bytes)) }
     ensures same { D.file disk.new ≡ D.file disk.old }
-    ensures runs { Runs D.file D.beside D.attaches D.is_attached D.clock D.moment IsCovered (λ since. since) disk.old disk.new }
+    ensures runs { RunsOf D.Disk IsCovered (λ since. since) disk.old disk.new }
     ensures cause { HasCause result (D.disk_faults disk.old) (D.disk_faults disk.new) }
 {
     let mut gate = [0];
@@ -137,14 +139,6 @@ fn is_gate_open<D: Disk>(disk: &mut D, end: u64) -> Result<bool, Failed>
     Ok(gate[0] == OPEN)
 }
 
-// How many index pages hold so many numbers.
-fn index_len(number: u32) -> u64
-    ensures within { result < 2 ^ 32 }
-    ensures pages { result ≡ index_pages number }
-{
-    u64::from(number.div_ceil(1024))
-}
-
 /// The images of the journal, or nothing where the gate isn't open. It changes nothing in the file.
 pub fn replay<D: Disk>(alloc: Global, disk: &mut D) -> Result<Option<Images>, ReplayFault>
     requires { IsTrue (D.is_attached disk.old) }
@@ -152,7 +146,7 @@ pub fn replay<D: Disk>(alloc: Global, disk: &mut D) -> Result<Option<Images>, Re
     ensures damaged { IfErr result (λ fault. IsDamaged fault → (fault ≡ ReplayFault.Damaged (record { page = 0; rule = 1 })) × ForSome (D.file disk.old) (λ file. IsTrue (is_open file.bytes) × ¬ IsJournal file.bytes)) }
     ensures device { IsErrOf result ReplayFault.Device → Rose (D.disk_faults disk.old) (D.disk_faults disk.new) }
     ensures same { D.file disk.new ≡ D.file disk.old }
-    ensures runs { Runs D.file D.beside D.attaches D.is_attached D.clock D.moment IsCovered (λ since. since) disk.old disk.new }
+    ensures runs { RunsOf D.Disk IsCovered (λ since. since) disk.old disk.new }
     ensures later { D.disk_faults disk.old ≤ D.disk_faults disk.new }
 {
     let end = end_of(disk)?;
@@ -166,7 +160,7 @@ pub fn replay<D: Disk>(alloc: Global, disk: &mut D) -> Result<Option<Images>, Re
     let number = read_number(disk, HEADER + 4)?;
     let index = u64::from(start) * PAGE_BYTES;
     let pages = index + index_len(number) * PAGE_BYTES;
-    if start < 66 || pages + u64::from(number) * PAGE_BYTES > end {
+    if u64::from(start) < FIRST_PAGE || pages + u64::from(number) * PAGE_BYTES > end {
         return Err(DAMAGED);
     }
     match read_images(alloc, disk, index, pages, number) {

@@ -1,6 +1,5 @@
 -- How the items given go on over the pieces of a script.
-use Rattle.std.proofs.Common.{◌≡◌, ◌≤◌, ◌<◌, ◌+◌, ◌-◌, ◌⊎◌, inl, inr, ℕ, true, false, List, ◌++◌, Option, Some, None, IfSome, IfNone, Result, Ok, Err, OnErr, is_some, take, drop, length, slice_range, sym, ap, ◌∙◌, subst, arith, append_assoc}
-use Rattle.std.proofs.lemmas.Bool.{cases_lt}
+use Rattle.std.proofs.Common.{◌≡◌, ◌≤◌, ◌<◌, ◌+◌, ◌-◌, ◌⊎◌, inl, inr, ℕ, true, false, List, [], ◌++◌, Option, Some, None, IfSome, IfNone, Result, Ok, Err, OnErr, is_some, take, drop, length, slice_range, sym, ap, ◌∙◌, subst, arith, append_assoc}
 use Rattle.std.specs.Result.{IsErrAnd}
 use Rattle.std.proofs.lemmas.Result.{err_from_is_err_and}
 use Rattle.std.proofs.lemmas.List.{append-nil, take-append-drop}
@@ -9,7 +8,7 @@ use Rattle.mdc_outside.specs.Outside.{Rose}
 use Rattle.sql_reader.specs.declared.statements.Read.{Read}
 use Rattle.sql_reader.specs.Item.{item_of}
 use Rattle.sql_reader.specs.Gives.{GivesOne, IsItemIn, Keeps}
-use Rattle.sql_reader.specs.Progress.{Progress, Given, IsGivenAt, Took}
+use Rattle.sql_reader.specs.Progress.{Progress, Given, IsGivenAt, IsLastRead, Took}
 use Rattle.sql_reader.specs.Scan.{EndsPiece, IsLast}
 use Rattle.sql_reader.proofs.Items.{closes_last, one_closing, closes_piece, items_found, piece_items, reads_last}
 use Rattle.sql_reader.proofs.Scanning.{take_piece}
@@ -68,6 +67,26 @@ ended held bytes start old found e of at unfinished last item given g =
     subst (λ l. Reads l (given ++ items_found found)) (take-append-drop old.past old.taken ∙ sym of)
     (reads_last (take old.past old.taken) (drop old.past old.taken) last.closed given (items_found found) last.cut last.piece (piece_items (drop old.past old.taken) found has) (gave old given unfinished g))
 
+-- Nothing was read, or the last read came once each closed statement was given.
+abbrev pub ReadLast : {Object : Type 0} → Object → Object → Progress → List ℕ → Type 0
+ReadLast old_source source old taken = ((source ≡ old_source) × (taken ≡ old.taken)) ⊎ IsLastRead old taken
+
+-- it is so of the same bytes
+pub read_last_of : {Object : Type 0} {old_source source : Object} {old : Progress} (taken other : List ℕ) → other ≡ taken → ReadLast old_source source old taken → ReadLast old_source source old other
+read_last_of {old_source = old_source} {source = source} {old = old} taken other e last = subst (ReadLast old_source source old) (sym e) last
+
+-- one more read
+pub read_more : {Object : Type 0} (old_source source : Object) (old : Progress) (now new : List ℕ) → ((more : List ℕ) × (now ≡ old.taken ++ more)) → ((given : List Item) → Given old given → Closes now given)
+    → ((piece : List ℕ) × (new ≡ now ++ piece) × (length piece ≤ 4096)) → ReadLast old_source source old new
+read_more old_source source old now new grown all read =
+    inr (record { before = now; more = grown.0; piece = read.0; begins = grown.1; is = read.1; short = read.2; given = all })
+
+-- what was taken begins with what was taken before
+grown_last : {Object : Type 0} {old_source source : Object} {old : Progress} {taken : List ℕ} → ReadLast old_source source old taken → (more : List ℕ) × (taken ≡ old.taken ++ more)
+grown_last {old = old} (inl same) = ([], same.1 ∙ sym (append-nil old.taken))
+grown_last {old = old} (inr last) =
+    (last.more ++ last.piece, last.is ∙ (ap (λ l. l ++ last.piece) last.begins ∙ append_assoc old.taken last.more last.piece))
+
 -- How far a call is between two reads: what it took, and whether a closed statement waited.
 pub record IsUnderWay (Object : Type 0) (old_source source : Object) (old_left left : Option (List ℕ)) (old_faults faults : ℕ) (old now : Progress) : Type 0 where
   pub unfinished : now.finished ≡ false
@@ -75,7 +94,8 @@ pub record IsUnderWay (Object : Type 0) (old_source source : Object) (old_left l
   pub took : Took old_left old.taken left now.taken
   pub keeps : Keeps old now
   pub unread : ((source ≡ old_source) × (now.taken ≡ old.taken)) ⊎ ((given : List Item) → Given old given → Closes old.taken given)
-  pub count : old_faults ≤ faults
+  pub last : ReadLast old_source source old now.taken
+  pub count : faults ≡ old_faults
 
 -- all that was taken is given, up to the last piece
 pub record IsThrough (old_left left : Option (List ℕ)) (old_faults faults : ℕ) (old now : Progress) : Type 0 where
@@ -83,7 +103,8 @@ pub record IsThrough (old_left left : Option (List ℕ)) (old_faults faults : �
   pub keeps : Keeps old now
   pub all_old : (given : List Item) → Given old given → Closes old.taken given
   pub all_now : (given : List Item) → Given old given → Closes now.taken given
-  pub count : old_faults ≤ faults
+  pub grown : (more : List ℕ) × (now.taken ≡ old.taken ++ more)
+  pub count : faults ≡ old_faults
 
 -- no more is closed than what was given
 nothing_waits : (taken : List ℕ) (given closed : List Item) → Closes taken given → Closes taken closed → length given < length closed → ⊥
@@ -113,6 +134,7 @@ through {old_left = old_left} {left = left} {old = old} {now = now} new found un
     let all : (given : List Item) → Given old given → Closes new.taken given = λ given g.
     subst (λ l. Closes l given) (take-append-drop new.past new.taken)
     (closes_last (take new.past new.taken) (drop new.past new.taken) last.closed given last.cut last.piece (gave new given unfinished (keeps given (under.keeps given g)))) in
+    let under_grown : (more : List ℕ) × (now.taken ≡ old.taken ++ more) = grown_last under.last in
     record {
       took = subst (λ l. Took old_left old.taken left l) (sym same) under.took;
       keeps = λ given g. keeps given (under.keeps given g);
@@ -121,6 +143,7 @@ through {old_left = old_left} {left = left} {old = old} {now = now} new found un
         | inr before ↦ before
       ];
       all_now = all;
+      grown = (under_grown.0, same ∙ under_grown.1);
       count = under.count;
     }
 
@@ -132,13 +155,9 @@ took_more (Some bytes) second third old now new a b =
     let more : Took (Some rest) now third new = subst (λ o. Took o now third new) a.3 b in
     (a.0 ++ more.0, more.1, a.2 ∙ (ap (λ l. a.0 ++ l) more.2 ∙ sym (append_assoc a.0 more.0 more.1)), more.3, more.4 ∙ (ap (λ l. l ++ more.0) a.4 ∙ append_assoc old a.0 more.0))
 
--- a count that rose, rose since before
-pub rose_since : (old before now : ℕ) → old ≤ before → before ≤ now → Rose before now → Rose old now
-rose_since old before now a b (inl rose) = inl (omega (arith, rose))
-rose_since old before now a b (inr full) = elim (cases_lt old before) [
-  | inl less ↦ inl (omega arith)
-  | inr same ↦ inr (omega arith)
-]
+-- a count that rose since as many, rose since before
+pub rose_since : (old before now : ℕ) → before ≡ old → Rose before now → Rose old now
+rose_since old before now same rose = subst (λ n. Rose n now) same rose
 
 -- at the end of the script nothing is given, and the reader is done
 pub ends_all : (old now new : Progress) (found : Option Read) → Keeps old now → IfNone found ((new.finished ≡ true) × Keeps now new)
@@ -153,6 +172,19 @@ passed_on result inner is stop and was e =
     let first : result ≡ Err p.0 = p.1 in
     let second : p.0 ≡ is = p.2 in
     cc
+
+-- the same the other way round
+pub passed_over : {A B E : Type 0} (result : Result A E) (inner : Result B E) (is stop : E) → IsErrAnd result (λ e. e ≡ is) → inner ≡ Err is → inner ≡ Err stop → result ≡ Err stop
+passed_over result inner is stop and was e =
+    let p = err_from_is_err_and result and in
+    let first : result ≡ Err p.0 = p.1 in
+    let second : p.0 ≡ is = p.2 in
+    cc
+
+-- a call that succeeded counted no fault
+pub uncounted : {A E : Type 0} (result : Result A E) (stop : E) (value : A) (old before now : ℕ) → result ≡ Ok value → before ≡ old → (result ≡ Err stop) ⊎ (now ≡ before) → now ≡ old
+uncounted result stop value old before now ok e (inl err) = absurd (cc)
+uncounted result stop value old before now ok e (inr same) = same ∙ e
 
 -- what holds of each result holds of an error
 pub on_err : {A E : Type 0} (result : Result A E) (P : Type 0) → P → OnErr result P

@@ -103,8 +103,8 @@ scan_stopped held bytes scanned count to e more stopped =
     subst (λ b. place_after to b ≡ None) (get_or-drop scanned held count 0) stops
 
 -- what passes the limit was at it before, and is its front
-pub at_limit : (limit size count : ℕ) (old piece new : List ℕ) → new ≡ old ++ piece → length new ≤ length old + count → limit < length new → length old ≤ limit → count ≤ size
-    → size ≡ max 1 (min (limit - length old) 4096) → take limit new ≡ old
-at_limit limit size count old piece new e grown passed within fits is =
+pub at_limit : (limit most size count : ℕ) (old piece new : List ℕ) → new ≡ old ++ piece → length new ≤ length old + count → limit < length new → length old ≤ limit → count ≤ size
+    → size ≡ max 1 (min (limit - length old) most) → take limit new ≡ old
+at_limit limit most size count old piece new e grown passed within fits is =
     let full : length old ≡ limit = omega arith in
     ap (take limit) e ∙ take_at old piece limit full

@@ -1,10 +1,14 @@
 -- Each piece has one statement, or none.
-use Rattle.std.proofs.Common.{◌≡◌, ◌≢◌, inl, inr, ℕ, true, false, IsTrue, List, [], ◌∷◌, ◌++◌, ◌<◌, ◌-◌, length, take, drop, arith, length-drop, refl, sym, ap, ◌∙◌, subst}
+use Rattle.std.proofs.Common.{◌≡◌, ◌≢◌, ◌⊎◌, inl, inr, ℕ, true, false, IsTrue, List, [], ◌∷◌, ◌++◌, ◌<◌, ◌-◌, length, take, drop, arith, length-drop, refl, sym, ap, ◌∙◌, subst}
 use Rattle.std.proofs.lemmas.List.{take_all}
 use Rattle.std.proofs.lemmas.Bool.{cases_eq, cases_Bool, both_ways}
 use Rattle.mdc_ast.specs.Cutting.{Lacks, BeginsWith, BeginsNoComment, is_blank, Trims}
-use Rattle.sql_reader.specs.Trim.{IsBehindLine, IsComment}
+use Rattle.sql_reader.specs.Trim.{IsComment}
 use Rattle.sql_reader.proofs.Pieces.{heads, tails}
+
+-- the rest stands behind the first line feed, or is empty where there is none
+abbrev pub IsBehindLine : List ℕ → List ℕ → Type 0
+IsBehindLine bytes rest = ((inside : List ℕ) × Lacks 10 inside × (bytes ≡ inside ++ 10 ∷ rest)) ⊎ (Lacks 10 bytes × (rest ≡ []))
 
 -- nothing has no statement
 nothing_trims : {statement : List ℕ} → Trims [] statement → statement ≡ []
@@ -15,8 +19,8 @@ dash_no_blank : (b : ℕ) → IsTrue (is_blank b) → b ≡ 45 → ⊥
 dash_no_blank b blank e = both_ways (is_blank 45) refl (subst (λ x. IsTrue (is_blank x)) e blank)
 
 -- two dashes begin a comment
-begins_comment : (b : ℕ) (rest behind : List ℕ) → BeginsNoComment b rest → b ∷ rest ≡ 45 ∷ 45 ∷ behind → ⊥
-begins_comment b rest behind no_comment e = no_comment (heads e) (subst (BeginsWith 45) (sym (tails e)) refl)
+dashes_begin : (b : ℕ) (rest behind : List ℕ) → BeginsNoComment b rest → b ∷ rest ≡ 45 ∷ 45 ∷ behind → ⊥
+dashes_begin b rest behind no_comment e = no_comment (heads e) (subst (BeginsWith 45) (sym (tails e)) refl)
 
 -- a piece that a line feed follows has the statement of what is behind
 pub comment_trims : (bytes rest statement : List ℕ) → IsBehindLine bytes rest → Trims rest statement → Trims (45 ∷ 45 ∷ bytes) statement
@@ -52,7 +56,7 @@ behind_comment (Trims.blank {b = b} blank trims) inside rest e lacks = absurd (d
 behind_comment (Trims.comment {statement = statement} other behind without trims e') inside rest e lacks =
     subst (λ r. Trims r statement) (one_line other inside behind rest without lacks (sym e' ∙ tails (tails e))) trims
 behind_comment (Trims.open_comment without) inside rest e lacks = absurd (has_line inside rest (subst (Lacks 10) (tails (tails e)) without))
-behind_comment (Trims.statement {b = b} {rest = behind} not_blank no_comment) inside rest e lacks = absurd (begins_comment b behind (inside ++ 10 ∷ rest) no_comment e)
+behind_comment (Trims.statement {b = b} {rest = behind} not_blank no_comment) inside rest e lacks = absurd (dashes_begin b behind (inside ++ 10 ∷ rest) no_comment e)
 
 -- an open comment has no statement
 in_open_comment : {bytes statement : List ℕ} → Trims bytes statement → (inside : List ℕ) → bytes ≡ 45 ∷ 45 ∷ inside → Lacks 10 inside → statement ≡ []
@@ -60,14 +64,14 @@ in_open_comment Trims.nothing inside e lacks = refl
 in_open_comment (Trims.blank {b = b} blank trims) inside e lacks = absurd (dash_no_blank b blank (heads e))
 in_open_comment (Trims.comment other behind without trims e') inside e lacks = absurd (has_line other behind (subst (Lacks 10) (sym (tails (tails e)) ∙ e') lacks))
 in_open_comment (Trims.open_comment without) inside e lacks = refl
-in_open_comment (Trims.statement {b = b} {rest = behind} not_blank no_comment) inside e lacks = absurd (begins_comment b behind inside no_comment e)
+in_open_comment (Trims.statement {b = b} {rest = behind} not_blank no_comment) inside e lacks = absurd (dashes_begin b behind inside no_comment e)
 
 -- a statement begins where no blank and no comment does
 at_statement : {bytes statement : List ℕ} → Trims bytes statement → (b : ℕ) (rest : List ℕ) → bytes ≡ b ∷ rest → is_blank b ≡ false → BeginsNoComment b rest → statement ≡ b ∷ rest
 at_statement Trims.nothing b rest e not_blank no_comment = absurd (cc)
 at_statement (Trims.blank {b = c} blank trims) b rest e not_blank no_comment = absurd (both_ways (is_blank b) not_blank (subst (λ x. IsTrue (is_blank x)) (heads e) blank))
-at_statement (Trims.comment {bytes = bytes} inside behind lacks trims e') b rest e not_blank no_comment = absurd (begins_comment b rest bytes no_comment (sym e))
-at_statement (Trims.open_comment {inside = inside} lacks) b rest e not_blank no_comment = absurd (begins_comment b rest inside no_comment (sym e))
+at_statement (Trims.comment {bytes = bytes} inside behind lacks trims e') b rest e not_blank no_comment = absurd (dashes_begin b rest bytes no_comment (sym e))
+at_statement (Trims.open_comment {inside = inside} lacks) b rest e not_blank no_comment = absurd (dashes_begin b rest inside no_comment (sym e))
 at_statement (Trims.statement _ _) b rest e not_blank no_comment = e
 
 -- a piece has one statement
@@ -84,7 +88,7 @@ comment_on Trims.nothing b rest e n = absurd (cc)
 comment_on (Trims.blank {b = c} blank trims) b rest e n = absurd (dash_no_blank c blank (heads e))
 comment_on (Trims.comment inside behind lacks trims e') b rest e n = Trims.comment (b ∷ inside) behind (n, lacks) trims (ap (λ l. b ∷ l) (sym (tails (tails e)) ∙ e'))
 comment_on (Trims.open_comment lacks) b rest e n = Trims.open_comment (n, subst (Lacks 10) (tails (tails e)) lacks)
-comment_on (Trims.statement {b = c} {rest = behind} not_blank no_comment) b rest e n = absurd (begins_comment c behind rest no_comment e)
+comment_on (Trims.statement {b = c} {rest = behind} not_blank no_comment) b rest e n = absurd (dashes_begin c behind rest no_comment e)
 
 -- the statements of the bytes, of the bytes behind a dash and of the bytes in a comment
 record SomeTrims (bytes : List ℕ) : Type 0 where
@@ -110,8 +114,8 @@ dash_more b bytes more = elim (cases_eq b 45) [
 ]
 
 -- the same in a comment
-comment_more : (b : ℕ) (bytes : List ℕ) → SomeTrims bytes → (statement : List ℕ) × Trims (45 ∷ 45 ∷ b ∷ bytes) statement
-comment_more b bytes more = elim (cases_eq b 10) [
+some_comment_more : (b : ℕ) (bytes : List ℕ) → SomeTrims bytes → (statement : List ℕ) × Trims (45 ∷ 45 ∷ b ∷ bytes) statement
+some_comment_more b bytes more = elim (cases_eq b 10) [
   | inl e ↦ (more.plain.0, Trims.comment [] bytes tt more.plain.1 (ap (λ x. x ∷ bytes) e))
   | inr not_line ↦ (more.comment.0, comment_on more.comment.1 b bytes refl not_line)
 ]
@@ -126,17 +130,12 @@ all_trims [] = record {
 all_trims (b ∷ bytes) = let more = all_trims bytes in record {
   plain = plain_more b bytes more;
   dash = dash_more b bytes more;
-  comment = comment_more b bytes more;
+  comment = some_comment_more b bytes more;
 }
 
 -- each piece has a statement, which may be empty
 pub some_trims : (piece : List ℕ) → (statement : List ℕ) × Trims piece statement
 some_trims piece = (all_trims piece).plain
-
--- one byte more that isn't x
-pub Lacks-push : (x : ℕ) (bytes : List ℕ) (b : ℕ) → Lacks x bytes → b ≢ x → Lacks x (bytes ++ b ∷ [])
-Lacks-push x [] b lacks n = (n, tt)
-Lacks-push x (c ∷ bytes) b lacks n = (lacks.0, Lacks-push x bytes b lacks.1 n)
 
 -- what stands behind the two dashes of a comment
 pub comment_bytes : (bytes : List ℕ) → IsComment bytes → bytes ≡ 45 ∷ 45 ∷ drop 2 bytes

@@ -25,6 +25,17 @@ abbrev pub Took : Option (List ℕ) → List ℕ → Option (List ℕ) → List 
 Took None old left new = Unit {0}
 Took (Some bytes) old left new = (piece rest : List ℕ) × (bytes ≡ piece ++ rest) × (left ≡ Some rest) × (new ≡ old ++ piece)
 
+-- What was taken ends with the last read, of at most 4,096 bytes. Each statement that the bytes before it close was given
+-- by then.
+pub record IsLastRead (old : Progress) (taken : List ℕ) : Type 0 where
+  pub before : List ℕ
+  pub more : List ℕ
+  pub piece : List ℕ
+  pub begins : before ≡ old.taken ++ more
+  pub is : taken ≡ before ++ piece
+  pub short : length piece ≤ 4096
+  pub given : (items : List Item) → Given old items → Closes before items
+
 -- more pieces are done with, or the last one is
 abbrev pub Advances : Progress → Progress → Type 0
 Advances old new =

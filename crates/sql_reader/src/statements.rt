@@ -1,10 +1,10 @@
 // The items of a script, as its bytes come in.
 ghost use Rattle.std.specs.Prelude.{◌≡◌, ◌<◌, ◌≤◌, [], ◌∷◌, ◌++◌, ◌+◌, List, ℕ, take, length, vec_len, vec_capacity, slice_range, true, false, ◌⊎◌, IfOk, OnErr, IfSome, IfNone, IsErrOf};
-ghost use Rattle.mdc_ast.specs.Reading.{Item, Reads, Closes};
+ghost use Rattle.mdc_ast.specs.Reading.{Item, Closes};
 ghost use Rattle.mdc_outside.specs.Outside.{Rose};
 ghost use Rattle.sql_reader.specs.Gives.{GivesOne, IsItemIn, Keeps};
 ghost use Rattle.sql_reader.specs.Item.{item_of};
-ghost use Rattle.sql_reader.specs.Progress.{Advances, Given, Took, at_start};
+ghost use Rattle.sql_reader.specs.Progress.{Advances, Given, Took, IsLastRead, at_start};
 ghost use Rattle.sql_reader.specs.Scan.{EndsPiece, IsLast};
 ghost use Rattle.sql_reader.specs.declared.statements.ReadStop.TheVariants as stop;
 
@@ -91,7 +91,8 @@ impl Model for Statements {
 }
 
 impl Statements {
-    /// A reader that took nothing.
+    /// A reader that took nothing. Today it takes memory only from the first read on, so that this always succeeds; no
+    /// clause promises it.
     pub fn new(alloc: Global) -> Result<Statements, Memory>
         ensures { IfOk result (λ statements. statements ≡ at_start) }
     {
@@ -106,7 +107,8 @@ impl Statements {
     }
 
     /// The next item, or `None` at the end of the script. It reads on only where no closed statement waits in what
-    /// it holds, and asks for the byte past the limit only then. After `TooLong` it takes no further call.
+    /// it holds, and asks for the byte past the limit only then. A read that failed is answered `Source` at once. After
+    /// `TooLong` it takes no further call.
     pub fn next<I: Source>(&mut self, source: &mut I) -> Result<Option<Read>, ReadStop>
         requires { length self.old.taken ≤ 67108864 }
 
@@ -114,6 +116,7 @@ impl Statements {
         ensures taken { Took (I.left source.old) self.old.taken (I.left source.new) self.new.taken }
         ensures waiting { (given closed : List Item) → Given self.old given → Closes self.old.taken closed
             → length given < length closed → source.new ≡ source.old }
+        ensures last_read { ((source.new ≡ source.old) × (self.new.taken ≡ self.old.taken)) ⊎ IsLastRead self.old self.new.taken }
 
         // An item is the next one of the script, and `None` comes where there is no other.
         ensures item { IfOk result (λ found. IfSome found (λ read. (given : List Item) → Given self.old given
@@ -123,13 +126,15 @@ impl Statements {
         ensures at_end { self.new.finished ≡ true → (self.old.finished ≡ true) ⊎ IfSome (I.left source.new) (λ bytes. bytes ≡ []) }
         ensures finished { self.old.finished ≡ true → source.new ≡ source.old }
 
-        // A stop comes only once each closed statement was given, and the limit is passed nowhere else.
+        // `Source` and `TooLong` come only once each closed statement was given, and the limit is passed nowhere else.
+        // A read that failed is answered `Source` in that very call.
         ensures source { IsErrOf result ReadStop.Source → Rose (I.read_faults source.old) (I.read_faults source.new)
             × ((given : List Item) → Given self.old given → Closes self.new.taken given) }
         ensures too_long { IsErrOf result ReadStop.TooLong → (67108864 < length self.new.taken)
             × ((given : List Item) → Given self.old given → Closes (take 67108864 self.new.taken) given) }
         ensures within { (length self.new.taken ≤ 67108864) ⊎ IsErrOf result ReadStop.TooLong }
         ensures kept { OnErr result (Keeps self.old self.new) }
+        ensures no_fault { IsErrOf result ReadStop.Source ⊎ (I.read_faults source.new ≡ I.read_faults source.old) }
         ensures count { I.read_faults source.old ≤ I.read_faults source.new }
 
         // With each item a piece more is done with, or the last one is.
@@ -231,6 +236,8 @@ impl Statements {
         ensures source { IsErrOf result ReadStop.Source → (self.new ≡ self.old) × Rose (I.read_faults source.old) (I.read_faults source.new) }
         ensures too_long { IsErrOf result ReadStop.TooLong → (SCRIPT_LIMIT < length self.new.taken) × (take SCRIPT_LIMIT self.new.taken ≡ self.old.taken) }
         ensures memory { IsErrOf result ReadStop.Memory → self.new ≡ self.old }
+        ensures one_read { (piece : List ℕ) × (self.new.taken ≡ self.old.taken ++ piece) × (length piece ≤ READ_SIZE) }
+        ensures no_fault { IsErrOf result ReadStop.Source ⊎ (I.read_faults source.new ≡ I.read_faults source.old) }
         ensures count { I.read_faults source.old ≤ I.read_faults source.new }
     {
         // Room comes first, so that no byte is lost.

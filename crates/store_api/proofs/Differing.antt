@@ -3,8 +3,8 @@ use Rattle.std.proofs.Common.{◌≡◌, ℕ, zero, suc, ◌+◌, ◌-◌, ◌�
 use Rattle.std.specs.Str.{bytes_eq}
 use Rattle.std.proofs.lemmas.List.{length-set}
 use Rattle.std.proofs.lemmas.Slice.Eq.{bytes_eq-Decides}
-use Rattle.store_api.specs.declared.journal.Change.{Change}
-use Rattle.store_api.specs.Journal.{undone}
+use Rattle.store_api.specs.declared.history.Change.{Change}
+use Rattle.store_api.specs.History.{undone}
 use Rattle.store_api.specs.StoreState.{differing}
 
 -- a page counts once at most

@@ -8,9 +8,9 @@ use Rattle.std.proofs.lemmas.Bool.{cases_lt, false≢true, lt-ltb}
 use Rattle.std.proofs.lemmas.Bool.Decides.{Decides-eqb}
 use Rattle.std.specs.List.{position_or_len}
 use Rattle.std.specs.Option.{ForSome}
-use Rattle.store_api.specs.declared.journal.Mark.{Mark}
-use Rattle.store_api.specs.declared.journal.Change.{Change}
-use Rattle.store_api.specs.Journal.{undone, was_at, marked_pages, IsMarkWithin}
+use Rattle.store_api.specs.declared.history.Mark.{Mark}
+use Rattle.store_api.specs.declared.history.Change.{Change}
+use Rattle.store_api.specs.History.{undone, was_at, marked_pages, IsMarkWithin}
 
 -- a front of a list after a write
 pub take-set_any : {X : Type 0} (n : ℕ) (xs : List X) (i : ℕ) (y : X) → take n (set xs i y) ≡ set (take n xs) i y

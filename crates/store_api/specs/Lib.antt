@@ -1,7 +1,7 @@
 pub mod Bound
 pub mod Calls
 pub mod Faults
-pub mod Journal
+pub mod History
 pub mod MemStore
 pub mod Moments
 pub mod StoreState

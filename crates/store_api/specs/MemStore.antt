@@ -2,16 +2,16 @@
 use Rattle.std.specs.Prelude.{ℕ, ◌+◌, ◌-◌, min, true, false, List, [], length, take, Some, None}
 use Rattle.store_api.specs.declared.mem_store.MemStore.{MemStore}
 use Rattle.store_api.specs.StoreState.{StoreState}
-use Rattle.store_api.specs.Journal.{undone, marked_pages, hand_page}
+use Rattle.store_api.specs.History.{undone, marked_pages, hand_page}
 
 -- all but the counts and the time
 abbrev pub state_of : MemStore → StoreState
 state_of s = record {
   is_told = true;
-  base = undone s.journal.items (take s.base_count s.work.items);
+  base = undone s.history.items (take s.base_count s.work.items);
   work = s.work.items;
-  marked = marked_pages s.mark s.journal.items s.work.items;
-  hand = hand_page s.hand s.journal.items s.work.items;
+  marked = marked_pages s.mark s.history.items s.work.items;
+  hand = hand_page s.hand s.history.items s.work.items;
   prepared = s.prepared;
   ended = false;
   told = Some s.told.items;
@@ -21,7 +21,7 @@ state_of s = record {
 
 -- a page for each change and each page that was added, and no more than there are
 abbrev pub written_of : MemStore → ℕ
-written_of s = min (length s.journal.items + (length s.work.items - s.base_count)) (length s.work.items)
+written_of s = min (length s.history.items + (length s.work.items - s.base_count)) (length s.work.items)
 
 -- a store of these pages that was just opened
 abbrev pub opened : List (List ℕ) → StoreState

@@ -1,6 +1,5 @@
 -- What a crash may leave: the pages to which the file then reopens, with the bytes that were told.
 use Rattle.std.specs.Prelude.{◌≡◌, ◌⊎◌, ◌≤◌, ℕ, List, Option, Some, MatchBool, IfSome}
-use Rattle.std.proofs.Common.{inl, inr, arith}
 use Rattle.store_api.specs.StoreState.{StoreState}
 use Rattle.store_api.specs.Calls.{continued, IsFrontOf}
 
@@ -35,41 +34,3 @@ pub record Passes {S : Type 0} (state : S → StoreState) (clock : S → ℕ) (l
   pub adds : (t : ℕ) (pages : Option (List (List ℕ))) (told : List ℕ) → t ≤ clock old → left new (clock old) pages told → left new t pages told
   -- a crash after it
   pub at_rest : (pages : Option (List (List ℕ))) (told : List ℕ) → left new (clock new) pages told → AtRest (state new) pages told
-
--- one of two
-abbrev pub Either : Outcomes → Outcomes → Outcomes
-Either A B pages told = A pages told ⊎ B pages told
-
--- one call after another
-pub Passes-after : {S : Type 0} (state : S → StoreState) (clock : S → ℕ) (left : S → ℕ → Outcomes) (A B : Outcomes) (old middle new : S)
-    → Passes state clock left A old middle → Passes state clock left B middle new → Passes state clock left (Either A B) old new
-Passes-after state clock left A B old middle new first second = record {
-  later = omega (arith, first.later, second.later);
-  since_call = λ pages told now. elim (second.nothing_else (clock old) pages told first.later now) [ inl before ↦ inl (first.since_call pages told before) | inr since ↦ inr (second.since_call pages told since) ];
-  nothing_else = λ t pages told le now. elim (second.nothing_else t pages told (omega (arith, le, first.later)) now) [
-    | inl before ↦ elim (first.nothing_else t pages told le before) [ inl long_before ↦ inl long_before | inr since ↦ inr (second.keeps (clock old) pages told first.later since) ]
-    | inr since ↦ inr (second.adds (clock old) pages told first.later since)
-  ];
-  keeps = λ t pages told le before. second.keeps t pages told (omega (arith, le, first.later)) (first.keeps t pages told le before);
-  adds = λ t pages told le now. elim (second.nothing_else (clock old) pages told first.later now) [
-    | inl before ↦ second.keeps t pages told (omega (arith, le, first.later)) (first.adds t pages told le before)
-    | inr since ↦ second.adds t pages told (omega (arith, le, first.later)) since
-  ];
-  at_rest = second.at_rest;
-}
-
--- the same, with a set that has both
-pub Passes-then : {S : Type 0} {state : S → StoreState} {clock : S → ℕ} {left : S → ℕ → Outcomes} {A B C : Outcomes} {old middle new : S}
-    → Passes state clock left A old middle → Passes state clock left B middle new
-    → ((pages : Option (List (List ℕ))) (told : List ℕ) → A pages told → C pages told) → ((pages : Option (List (List ℕ))) (told : List ℕ) → B pages told → C pages told)
-    → Passes state clock left C old new
-Passes-then {state} {clock} {left} {A} {B} {C} {old} {middle} {new} first second in_first in_second =
-    let both = Passes-after state clock left A B old middle new first second in
-    record {
-      later = both.later;
-      since_call = λ pages told now. elim (both.since_call pages told now) [ inl a ↦ in_first pages told a | inr b ↦ in_second pages told b ];
-      nothing_else = both.nothing_else;
-      keeps = both.keeps;
-      adds = both.adds;
-      at_rest = both.at_rest;
-    }

@@ -1,10 +1,7 @@
 -- What a store of pages is seen as. A page is the list of its bytes.
-use Rattle.std.specs.Prelude.{◌≡◌, ℕ, ◌+◌, Bool, true, false, if◌then◌else◌, List, [], ◌∷◌, length, take, drop, replicate, slice_index_or, Option}
+use Rattle.std.specs.Prelude.{ℕ, ◌+◌, Bool, true, false, if◌then◌else◌, List, [], ◌∷◌, length, take, drop, replicate, slice_index_or, Option}
 use Rattle.std.specs.Int.{from_be_bytes, w32}
 use Rattle.std.specs.Str.{bytes_eq}
-use Rattle.std.proofs.Common.{refl, ap, inl, inr, ◌∙◌, arith}
-use Rattle.std.proofs.lemmas.Bool.{cases_Bool}
-use Rattle.std.proofs.lemmas.Slice.Eq.{bytes_eq-Decides}
 
 -- all that the calls of a store speak of, but for the counts of faults, the clock and the count of pages written
 pub record StoreState : Type 0 where
@@ -55,15 +52,3 @@ abbrev pub differing : List (List ℕ) → List (List ℕ) → ℕ
 differing [] work = length work
 differing (page ∷ base) [] = length (page ∷ base)
 differing (old ∷ base) (new ∷ work) = (if bytes_eq old new then 0 else 1) + differing base work
-
--- where no page differs, the pages are the same
-pub differing-none : (base work : List (List ℕ)) → differing base work ≡ 0 → base ≡ work
-differing-none [] [] none = refl
-differing-none [] (new ∷ work) none = absurd (omega arith)
-differing-none (old ∷ base) [] none = absurd (omega arith)
-differing-none (old ∷ base) (new ∷ work) none =
-    elim (cases_Bool (bytes_eq old new)) [
-      | inl same ↦ (let rest : differing base work ≡ 0 = omega arith in
-          ap (λ page. page ∷ base) ((bytes_eq-Decides old new).0 same) ∙ ap (λ pages. new ∷ pages) (differing-none base work rest))
-      | inr other ↦ absurd (let one = rw other at none in omega (arith, one))
-    ]

@@ -6,13 +6,15 @@
 #![tactic(auto)]
 
 mod fault;
-mod journal;
+mod history;
 mod mem_store;
+mod page;
 mod pages;
 mod store;
 
 pub use fault::{Damage, DeviceFault, Mute, PageFault, StoreFault};
 pub use mem_store::MemStore;
+pub use page::{blank_page, stated_count};
 pub use pages::{MAX_PAGES, Page, Pages};
 pub use store::Store;
 

@@ -1,19 +1,18 @@
 // A store in memory, for tests.
 ghost use Rattle.std.specs.Prelude.{◌≡◌, ◌≤◌, IsTrue, vec_len};
 ghost use Rattle.std.specs.Option.{ForSome};
-ghost use Rattle.store_api.specs.Journal.{IsMarkWithin, is_hand_within};
-ghost use Rattle.store_api.specs.StoreState.{zero_page};
+ghost use Rattle.store_api.specs.History.{IsMarkWithin, is_hand_within};
 ghost use Rattle.store_api.specs.declared.pages.TheConstants.{MAX_PAGES};
 
-use crate::journal::{Change, Mark, go_back, oldest_change};
-use crate::{DeviceFault, MAX_PAGES, Mute, Page, PageFault, Pages, Store};
+use crate::history::{Change, Mark, go_back, oldest_change};
+use crate::{DeviceFault, MAX_PAGES, Mute, Page, PageFault, Pages, Store, blank_page};
 use std::alloc::Global;
 
 /// Where the page at hand lies.
 #[derive(Clone, Copy, Debug)]
 enum Hand {
     Work(usize),
-    Journal(usize),
+    History(usize),
 }
 
 /// A store that keeps its pages in memory, with what undoing the changes since the last commit needs. It meets no fault
@@ -21,7 +20,7 @@ enum Hand {
 #[derive(Debug, Drop)]
 pub struct MemStore {
     work: Vec<Page>,
-    journal: Vec<Change>,
+    history: Vec<Change>,
     base_count: usize,
     mark: Option<Mark>,
     hand: Option<Hand>,
@@ -31,8 +30,8 @@ pub struct MemStore {
     say_faults: u64,
     ghost few: { vec_len work ≤ MAX_PAGES },
     ghost based: { base_count ≤ vec_len work },
-    ghost mark_within: { ForSome mark (IsMarkWithin base_count (vec_len journal) (vec_len work)) },
-    ghost hand_within: { IsTrue (is_hand_within hand (vec_len journal) (vec_len work)) },
+    ghost mark_within: { ForSome mark (IsMarkWithin base_count (vec_len history) (vec_len work)) },
+    ghost hand_within: { IsTrue (is_hand_within hand (vec_len history) (vec_len work)) },
 }
 
 impl MemStore {
@@ -48,7 +47,7 @@ impl MemStore {
         let base_count = base.len();
         MemStore {
             work: base,
-            journal: Vec::new(alloc),
+            history: Vec::new(alloc),
             base_count,
             mark: None,
             hand: None,
@@ -103,7 +102,7 @@ impl Pages for MemStore {
     fn page(&self) -> &Page {
         match self.hand {
             Some(Hand::Work(at)) => &self.work[at],
-            Some(Hand::Journal(at)) => &self.journal[at].was,
+            Some(Hand::History(at)) => &self.history[at].was,
             None => unreachable!(),
         }
     }
@@ -113,7 +112,7 @@ impl Pages for MemStore {
         self.prepared = false;
         let page = p as usize;
         let was = self.work[page];
-        self.journal.push(Change { page, was })?;
+        self.history.push(Change { page, was })?;
         self.work[page] = *bytes;
         Ok(())
     }
@@ -122,7 +121,7 @@ impl Pages for MemStore {
         self.hand = None;
         self.prepared = false;
         let count = self.work.len() + n as usize;
-        self.work.resize(count, blank_page())?;
+        self.work.resize(count, *blank_page())?;
         Ok(())
     }
 
@@ -130,7 +129,7 @@ impl Pages for MemStore {
         self.hand = None;
         self.prepared = false;
         self.mark = Some(Mark {
-            changes: self.journal.len(),
+            changes: self.history.len(),
             count: self.work.len(),
         });
     }
@@ -145,7 +144,7 @@ impl Pages for MemStore {
         self.hand = None;
         self.prepared = false;
         if let Some(mark) = self.mark.take() {
-            go_back(&mut self.work, &mut self.journal, mark);
+            go_back(&mut self.work, &mut self.history, mark);
         }
     }
 }
@@ -153,7 +152,7 @@ impl Pages for MemStore {
 impl Store for MemStore {
     fn written(&self) -> u32 {
         let grown = self.work.len() - self.base_count;
-        let changed = self.journal.len().saturating_add(grown);
+        let changed = self.history.len().saturating_add(grown);
         changed.min(self.work.len()) as u32
     }
 
@@ -162,8 +161,8 @@ impl Store for MemStore {
         self.fetched.push(p)?;
         let page = p as usize;
         // The oldest change of a page has what the base has.
-        self.hand = match oldest_change(&self.journal, page) {
-            Some(at) => Some(Hand::Journal(at)),
+        self.hand = match oldest_change(&self.history, page) {
+            Some(at) => Some(Hand::History(at)),
             None => Some(Hand::Work(page)),
         };
         Ok(())
@@ -179,7 +178,7 @@ impl Store for MemStore {
         self.hand = None;
         self.prepared = false;
         self.mark = None;
-        self.journal.clear();
+        self.history.clear();
         self.base_count = self.work.len();
         Ok(())
     }
@@ -192,7 +191,7 @@ impl Store for MemStore {
             changes: 0,
             count: self.base_count,
         };
-        go_back(&mut self.work, &mut self.journal, base);
+        go_back(&mut self.work, &mut self.history, base);
     }
 
     fn tell(&mut self, bytes: &[u8]) -> Result<(), Mute> {
@@ -203,12 +202,4 @@ impl Store for MemStore {
         }
         Ok(())
     }
-}
-
-// A page of zeros.
-#[tactic(auto, unfolding(crate::specs::StoreState::zero_page))]
-fn blank_page() -> Page
-    ensures { result ≡ zero_page }
-{
-    [0; 4096]
 }

@@ -6,7 +6,7 @@ ghost use Rattle.store_api.specs.StoreState.{page_at};
 ghost use Rattle.store_api.specs.Bound.{Passing, KeepingFaults};
 ghost use Rattle.store_api.specs.Moments.{OnlyBase};
 
-use crate::{MemStore, Page, PageFault, Pages, Store};
+use crate::{MemStore, Page, PageFault, Pages, Store, blank_page, stated_count};
 use std::alloc::{AllocError, Global};
 use std::test::Fail;
 
@@ -197,5 +197,26 @@ fn what_is_told_comes_in_order(rt: HostRuntime) -> Result<(), Fail> {
     assert_eq!(rt; store.tell(b"OK\n"), Ok(()));
     assert_eq!(rt; store.tell(b"1 ROWS\n"), Ok(()));
     assert_eq!(rt; store.told(), b"OK\n1 ROWS\n".as_slice());
+    Ok(())
+}
+
+// A page with these bytes from its byte 8 on, and others about them.
+fn counting(bytes: [u8; 4]) -> Page {
+    let mut page = *blank_page();
+    page[7] = 5;
+    page[8] = bytes[0];
+    page[9] = bytes[1];
+    page[10] = bytes[2];
+    page[11] = bytes[3];
+    page[12] = 6;
+    page
+}
+
+#[test]
+fn a_page_states_its_count_in_the_bytes_8_to_11(rt: HostRuntime) -> Result<(), Fail> {
+    assert_eq!(rt; stated_count(blank_page()), 0);
+    assert_eq!(rt; stated_count(&counting([0, 0, 0, 20])), 20);
+    assert_eq!(rt; stated_count(&counting([0, 4, 0, 145])), 262_289);
+    assert_eq!(rt; stated_count(&counting([1, 2, 3, 4])), 16_909_060);
     Ok(())
 }

@@ -1,10 +1,8 @@
 // Calls of a store. Each tests first what it requires.
-ghost use Rattle.std.specs.Prelude.{◌≡◌, false, drop, None, IsSome, OnOk};
-ghost use Rattle.byteorder.specs.Endian.{big_number};
+ghost use Rattle.std.specs.Prelude.{◌≡◌, false, None, IsSome, OnOk};
 
 use crate::stop::Stop;
-use byteorder::{BigEndian, ByteOrder};
-use store_api::{Page, Pages, Store};
+use store_api::{Page, Pages, Store, stated_count};
 
 /// Brings a page of the work to hand.
 pub fn fetch<S: Pages>(store: &mut S, p: u32) -> Result<(), Stop>
@@ -50,11 +48,4 @@ pub fn commit<S: Store>(store: &mut S) -> Result<(), Stop>
     store.prepare()?;
     store.commit()?;
     Ok(())
-}
-
-// How many pages there are, as this page 0 states it.
-fn stated_count(root: &Page) -> u32
-    ensures { result ≡ big_number 4 (drop 8 root.now) }
-{
-    BigEndian::read_u32(&root[8..])
 }

@@ -20,7 +20,7 @@ use stop::Stop;
 fn main(rt: HostRuntime) -> Result<(), Stop> {
     let words = words(&rt)?;
     let Some(plan) = plan_of(&words) else {
-        println!(rt; "usage: store_bench open|hot|cold|commit SIZE TIMES")?;
+        println!(rt; "usage: store_bench open|hot|cold|commit|undo SIZE TIMES")?;
         return Ok(());
     };
     let host = FileHost::new(rt.alloc(), rt.clone()?, rt.stdout());
@@ -36,6 +36,7 @@ fn carry_out<H: Host + Drop>(alloc: Global, host: H, plan: Plan) -> Result<u64, 
         What::Hot => work::hot(alloc, host, plan.size, plan.times),
         What::Cold => work::cold(alloc, host, plan.size, plan.times),
         What::Commit => work::commit(alloc, host, plan.size, plan.times),
+        What::Undo => work::undo(alloc, host, plan.size, plan.times),
     }
 }
 

@@ -11,6 +11,8 @@ pub enum What {
     Cold,
     /// Write so many pages, and commit them.
     Commit,
+    /// Write so many pages under a mark, and go back to it.
+    Undo,
 }
 
 /// What to do, of what size, and how often.
@@ -40,6 +42,7 @@ fn what_of(word: &str) -> Option<What> {
         "hot" => Some(What::Hot),
         "cold" => Some(What::Cold),
         "commit" => Some(What::Commit),
+        "undo" => Some(What::Undo),
         _ => None,
     }
 }

@@ -48,6 +48,14 @@ pub fn commit<H: Host + Drop>(alloc: Global, host: H, pages: u32, times: u32) ->
     fetch_around(&mut store, MANY, MANY)
 }
 
+/// Writes so many pages under a mark, over pages that were written before it, and goes back to the mark.
+pub fn undo<H: Host + Drop>(alloc: Global, host: H, pages: u32, times: u32) -> Result<u64, Stop> {
+    let mut store = made(alloc, host, MANY)?;
+    write_pages(&mut store, pages, &[5; 4096])?;
+    undo_times(&mut store, pages, times)?;
+    fetch_around(&mut store, MANY, MANY)
+}
+
 // Fetches so many pages, from page 0 again after each round of that many.
 fn fetch_around<S: Pages>(store: &mut S, round: u32, pages: u32) -> Result<u64, Stop>
     requires going { (S.state store.old).ended ≡ false }
@@ -82,8 +90,32 @@ fn commit_pages<S: Store>(store: &mut S, pages: u32, bytes: &Page) -> Result<(),
     ensures going { OnOk result ((S.state store.new).ended ≡ false) }
     ensures unmarked { OnOk result ((S.state store.new).marked ≡ None) }
 {
+    write_pages(store, pages, bytes)?;
+    calls::commit(store)
+}
+
+// Goes back so many times over so many pages.
+fn undo_times<S: Pages>(store: &mut S, pages: u32, times: u32) -> Result<(), Stop>
+    requires going { (S.state store.old).ended ≡ false }
+    requires unmarked { (S.state store.old).marked ≡ None }
+    ensures { (S.state store.new).ended ≡ false }
+{
+    for _ in 0..times {
+        store.mark();
+        write_pages(store, pages, &[7; 4096])?;
+        store.undo();
+    }
+    Ok(())
+}
+
+// Writes these bytes over each of so many pages behind page 0.
+fn write_pages<S: Pages>(store: &mut S, pages: u32, bytes: &Page) -> Result<(), Stop>
+    requires { (S.state store.old).ended ≡ false }
+    ensures going { (S.state store.new).ended ≡ false }
+    ensures marked { (S.state store.new).marked ≡ (S.state store.old).marked }
+{
     for i in 0..pages {
         calls::write(store, i + 1, bytes)?;
     }
-    calls::commit(store)
+    Ok(())
 }

@@ -8,15 +8,14 @@ use super::page_map::PageMap;
 use mdc_values::Memory;
 use redo_journal::Images;
 use std::alloc::Global;
-use store_api::Page;
-
-static ZEROS: Page = [0; 4096];
+use store_api::{Page, blank_page};
 
 /// The images of the changed pages below a number.
 pub(super) fn changed_below(alloc: Global, changed: &PageMap, base: u32) -> Result<Images, Memory>
     ensures { IfOk result (HoldsBelow base (image_at base changed.now)) }
 {
     let mut images = Images::new(alloc);
+    images.reserve(changed.len())?;
     for (p, page) in changed.range(..base) {
         images.push(*p, &**page)?;
     }
@@ -34,6 +33,7 @@ pub(super) fn add_grown(
     requires grown { base ≤ count }
     ensures { OnOk result (HoldsBelow count (image_at base changed.now) images.new) }
 {
+    images.reserve((count - base) as usize)?;
     for p in base..count {
         images.push(p, page_or_zeros(changed, p))?;
     }
@@ -48,12 +48,4 @@ fn page_or_zeros(changed: &PageMap, p: u32) -> &Page
         Some(page) => &**page,
         None => blank_page(),
     }
-}
-
-// A page of zeros.
-#[tactic(auto, unfolding(store_api::specs::StoreState::zero_page))]
-fn blank_page() -> &'static Page
-    ensures { result.now ≡ zero_page }
-{
-    &ZEROS
 }

@@ -1,11 +1,12 @@
 // Pages under their numbers.
 ghost use Rattle.std.specs.Prelude.{◌≡◌, ◌≤◌, ◌+◌, Some, OnOk, OnErr};
 ghost use Rattle.std.specs.BTreeMap.{btree_map_len, IsUnchanged};
-ghost use Rattle.page_store.specs.PageMaps.{PutsPage};
+ghost use Rattle.page_store.specs.PageMaps.{PutsPage, bytes_in};
 
 use mdc_values::Memory;
 use std::alloc::Global;
 use std::collections::BTreeMap;
+use std::collections::btree_map::Entry;
 use store_api::Page;
 
 /// Pages under their numbers.
@@ -17,11 +18,18 @@ pub(super) fn put(alloc: Global, pages: &mut PageMap, p: u32, bytes: &Page) -> R
     ensures err { OnErr result (IsUnchanged pages.old pages.new) }
     ensures kept { btree_map_len pages.new ≤ btree_map_len pages.old + 1 }
 {
-    if let Some(page) = pages.get_mut(&p) {
-        **page = *bytes;
-        return Ok(());
+    match pages.entry(p)? {
+        Entry::Occupied(entry) => overwrite(entry.into_mut(), bytes),
+        Entry::Vacant(entry) => {
+            entry.insert(Box::new(alloc, *bytes)?);
+        }
     }
-    let page = Box::new(alloc, *bytes)?;
-    pages.insert(p, page)?;
     Ok(())
+}
+
+// Writes over the bytes in a box.
+fn overwrite(page: &mut Box<Page>, bytes: &Page)
+    ensures { bytes_in page.new ≡ bytes.now }
+{
+    **page = *bytes;
 }

@@ -9,6 +9,7 @@ use super::page_map::{PageMap, put};
 use mdc_values::Memory;
 use std::alloc::Global;
 use std::collections::BTreeMap;
+use std::collections::btree_map::Entry;
 use store_api::Page;
 
 /// How each page that was written since the mark was at it: with these bytes, or as at the last commit.
@@ -37,24 +38,13 @@ pub(super) fn save_and_put(
     ensures before { KeepsMark saved.old changed.old saved.new changed.new }
     ensures over { IsOver saved.new changed.new }
 {
-    if saved.contains_key(&p) {
-        return put(alloc, changed, p, bytes);
-    }
-    let page = Box::new(alloc, *bytes)?;
-    // Room is made first, so that what the page was can be saved once it is taken out.
-    saved.insert(p, None)?;
-    let was = changed.insert(p, page)?;
-    put_saved(saved, p, was);
-    Ok(())
-}
-
-// Saves how a page was, which has its place already.
-fn put_saved(saved: &mut SavedMap, p: u32, was: Option<Box<Page>>)
-    requires { IsSome (get nat_cmp saved.old p) }
-    ensures { Updates nat_cmp saved.old saved.new p (Some was) }
-{
-    if let Some(place) = saved.get_mut(&p) {
-        *place = was;
+    match saved.entry(p)? {
+        Entry::Occupied(_) => put(alloc, changed, p, bytes),
+        Entry::Vacant(place) => {
+            let was = changed.insert(p, Box::new(alloc, *bytes)?)?;
+            place.insert(was);
+            Ok(())
+        }
     }
 }
 

@@ -1,5 +1,5 @@
-use Rattle.std.proofs.Common.{◌≡◌, ◌∙◌, sym, map, string_bytes}
-use Rattle.clap.specs.Words.{app_of, fault_of, is_simple, is_simple_and_free, subcommand_of, subcommand_rows_of}
+use Rattle.std.proofs.Common.{◌∙◌, map, string_bytes}
+use Rattle.clap.specs.Words.{app_of, subcommand_rows_of}
 use Rattle.mdc_shell.proofs.Asking.{parsed_finds, refused_is_other}
 use Rattle.mdc_shell.proofs.command.parsed.Goals as goal
 

@@ -1,7 +1,7 @@
-use Rattle.std.proofs.Common.{◌<◌, length, Some, refl, ap, ◌∙◌}
+use Rattle.std.proofs.Common.{◌<◌, length, refl, ap, ◌∙◌, true}
 use Rattle.std.specs.Option.{ForSome, option_map}
 use Rattle.mdc_outside.specs.Disk.{opened}
-use Rattle.mdc_shell.proofs.Creating.{both_made, call_and_make, opens_as_it_was, quiet_call}
+use Rattle.mdc_shell.proofs.Creating.{both_made, call_and_make, left_by_attach, left_by_making, opens_as_it_was, quiet_call, stays_opened}
 use Rattle.mdc_shell.proofs.create.make_at.Goals as goal
 
 pub returns-in_err-attach-clause-crash : goal.returns-in_err-attach-clause-crash
@@ -15,10 +15,20 @@ returns-clause-refused g c = λ before is. c.make.ensures.refused (opened before
 
 pub returns-clause-crash : goal.returns-clause-crash
 returns-clause-crash g c = λ before said is told.
-    call_and_make c.args.shape.extents c.args.shape.extent_pages _ _ _ _ _ _ _ c.attach.ensures.time (g.met.D.Disk.only_now c.args.disk.now) before (opened before) said is told refl
+    call_and_make c.args.shape.extents c.args.shape.extent_pages _ _ _ _ _ _ _ c.attach.ensures.time (g.met.D.Disk.only_now c.args.disk.now) before (opened before) said is told refl refl
     (c.make.ensures.leaves.crash (opened before) said (c.in_ok-attach.ensures.opened ∙ ap (option_map opened) is) (ap (λ b. b.tape) c.attach.ensures.beside ∙ told))
 
 pub returns-clause-exists : goal.returns-clause-exists
 returns-clause-exists g c = λ is.
     let some : ForSome (g.D.Disk.file c.args.disk.now) (λ f. 0 < length f.bytes) = λ before there. c.make.ensures.exists is (opened before) (c.in_ok-attach.ensures.opened ∙ ap (option_map opened) there) in
     (some, c.make.ensures.as_before is ∙ opens_as_it_was _ _ (g.met.D.Disk.sound c.args.disk.now) c.in_ok-attach.ensures.opened some)
+
+pub returns-in_err-attach-clause-told : goal.returns-in_err-attach-clause-told
+returns-in_err-attach-clause-told g c = left_by_attach c.args.shape.extents c.args.shape.extent_pages _ _ true (g.met.D.Disk.sound c.args.disk.now) c.in_err-attach.ensures.file_failed
+
+pub returns-clause-told : goal.returns-clause-told
+returns-clause-told g c = left_by_making c.args.shape.extents c.args.shape.extent_pages _ _ _ c.in_ok-attach.ensures.opened
+    (λ before is. let left = c.make.ensures.leaves.told before is in (left.0, left.1, left.2))
+
+pub returns-clause-untouched : goal.returns-clause-untouched
+returns-clause-untouched g c = stays_opened _ _ _ (g.met.D.Disk.sound c.args.disk.now) c.in_ok-attach.ensures.opened c.make.ensures.untouched

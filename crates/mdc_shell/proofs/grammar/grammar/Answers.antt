@@ -1,7 +1,7 @@
 use Rattle.std.proofs.Common.{◌≡◌, ◌∙◌, ap, ap₂, rules, codes}
 use Rattle.clap.specs.Words.{App, app_of, rule_of, with_rule, with_subcommand}
 use Rattle.std.proofs.lemmas.Result.{IfOk-weaker}
-use Rattle.mdc_shell.specs.Grammar.{bare_app, create_app, mdc_app, required_rule, run_app}
+use Rattle.mdc_shell.specs.Grammar.{bare_app, create_app, required_rule, run_app}
 use Rattle.mdc_shell.proofs.grammar.grammar.Goals as goal
 
 pub returns : goal.returns

@@ -1,4 +1,4 @@
-use Rattle.std.proofs.Common.{◌≡◌, ◌∙◌, List, ℕ, [], Err, inl, arith, map, string_bytes, subst, ap, sym}
+use Rattle.std.proofs.Common.{◌∙◌, [], Err, inl, arith, map, string_bytes}
 use Rattle.mdc_shell.specs.declared.status.Stop.TheVariants.{Memory}
 use Rattle.mdc_shell.proofs.Creating.{crash_nothing, crash_of_line}
 use Rattle.mdc_shell.proofs.Ends.{runs_to}

@@ -8,7 +8,9 @@ use Rattle.mdc_ast.specs.Answer.{text_of}
 use Rattle.mdc_shell.specs.Session.{turn}
 use Rattle.sql_reader.specs.Item.{item_of}
 use Rattle.mdc_shell.specs.Reader.{stop_of}
-use Rattle.mdc_shell.proofs.Told.{took_nothing, takes_nothing, took_more}
+use Rattle.mdc_shell.specs.Status.{served_by}
+use Rattle.mdc_shell.proofs.Told.{took_nothing, takes_nothing}
+use Rattle.sql_reader.proofs.Giving.{took_more}
 use Rattle.mdc_shell.proofs.session.serve.Goals as goal
 
 pub returns-in_err-statements-clause-runs : goal.returns-in_err-statements-clause-runs
@@ -36,7 +38,7 @@ returns-in_err-read-clause-runs g c =
     let p = err_from_is_err_and c.from_residual-in_err-read.result c.from_residual-in_err-read.ensures.1 in
     let closed = c.one_closing.ensures.some c.next.new.self.taken in
     let ended = still_ended g.I.Source.left c.loop-session.input c.next.new.source c.loop-session.statements.finished c.next.new.self.finished inv.at_end said.at_end said.finished in
-    let took = took_more _ _ _ _ _ inv.took said.taken in
+    let took = took_more _ _ _ _ _ _ inv.took said.taken in
     rw (p.1, p.2) (runs_to _ _ _ _ _ _ (Err (stop_of c.in_err-read.field-0.0)) took inv.given.4 (λ rest is.
     ends_reading c.in_err-read.field-0.0 c.next.new.self.taken rest items
     (λ e. (said.source (ap Err e)).1 items inv.given.1)
@@ -62,7 +64,7 @@ loop-session-preserved g c =
         refused_goes items item _ _ _ inv.given.2 inv.given.3 answer.refused,
         tape_goes items item _ _ _ _ inv.given.2 inv.given.4 answer.said,
       );
-      took = took_more _ _ _ _ _ inv.took said.taken;
+      took = took_more _ _ _ _ _ _ inv.took said.taken;
       limit = elim said.within [ inl fits ↦ fits | inr e ↦ cc ];
       at_end = ended;
       reads = omega arith;
@@ -85,7 +87,7 @@ returns-in_err-answer-clause-runs g c =
     let p = err_from_is_err_and c.from_residual-in_err-answer.result c.from_residual-in_err-answer.ensures.1 in
     let closed = c.one_closing.ensures.some c.next.new.self.taken in
     let ended = still_ended g.I.Source.left c.loop-session.input c.next.new.source c.loop-session.statements.finished c.next.new.self.finished inv.at_end said.at_end said.finished in
-    let took = took_more _ _ _ _ _ inv.took said.taken in
+    let took = took_more _ _ _ _ _ _ inv.took said.taken in
     rw (p.1, p.2) (runs_to_part _ _ _ _ _ _ _ _ (Err c.in_err-answer.field-0.0) took inv.given.4 answer.part (λ rest part unsaid is e.
     ends_answering c.in_err-answer.field-0.0 c.next.new.self.taken rest _ (elim answer.cause [ inl e ↦ inl cc | inr e ↦ inr cc ]) (elim said.within [ inl fits ↦ fits | inr e ↦ cc ])
     (stops_within c.next.new.self.finished _ rest _ c.next.new.self.past (items ++ item ∷ []) closed.0 (found items inv.given.1)
@@ -101,9 +103,9 @@ returns-clause-runs g c =
     let P : Bool → Type 0 = λ finished. IsGivenAt finished c.next.new.self.taken c.next.new.self.past items in
     let reads = subst P end.0 (end.1 items inv.given.1) in
     let ended = still_ended g.I.Source.left c.loop-session.input c.next.new.source c.loop-session.statements.finished c.next.new.self.finished inv.at_end said.at_end said.finished end.0 in
-    let took = took_more _ _ _ _ _ inv.took said.taken in
-    runs_to _ _ _ _ _ _ (Ok c.loop-session.session.refused) took inv.given.4 (λ rest is.
-    (items, reads, nothing_left _ rest ended is, refl, inv.given.3, elim said.within [ inl fits ↦ fits | inr e ↦ cc ]))
+    let took = took_more _ _ _ _ _ _ inv.took said.taken in
+    runs_to _ _ _ _ _ _ (Ok c.by_refusal.result) took inv.given.4 (λ rest is.
+    (items, reads, nothing_left _ rest ended is, refl, c.by_refusal.ensures ∙ ap served_by inv.given.3, elim said.within [ inl fits ↦ fits | inr e ↦ cc ]))
 
 pub loop-session-smaller : goal.loop-session-smaller
 loop-session-smaller g c =

@@ -1,18 +1,18 @@
 -- The sync has all on the disk, so what is found then is what the file read as before.
-use Rattle.std.proofs.Common.{inl, inr, ap, ◌∙◌}
+use Rattle.std.proofs.Common.{inl, inr, refl, ap, ◌∙◌}
 use Rattle.std.proofs.lemmas.Result.{IfOk-weaker, IfErr-weaker}
 use Rattle.mdc_outside.specs.Disk.{settled}
-use Rattle.redo_journal.proofs.Composing.{runs_within}
+use Rattle.page_store.specs.declared.fault.OpenFault.TheVariants.{Device}
 use Rattle.page_store.specs.Opened.{bytes_of}
 use Rattle.page_store.proofs.Calls.{sound_image}
 use Rattle.page_store.proofs.Leaving.{runs_leave}
-use Rattle.page_store.proofs.Openings.{opens, on_ok, on_err, settled_bytes, settled_told}
+use Rattle.page_store.proofs.Openings.{opens, on_ok, if_err, if_err_as, settled_bytes, settled_told}
 use Rattle.page_store.proofs.opening.come_to_rest.Goals as goal
 
 pub returns-in_err-settle-clause-opens_or_leaves : goal.returns-in_err-settle-clause-opens_or_leaves
 returns-in_err-settle-clause-opens_or_leaves g c =
-    on_err c.from_residual.result (inr (runs_leave c.settle.ensures.runs
-    (λ f is. sound_image _ f (g.met.D.Disk.sound c.settle.new.disk) is) (λ before image is left. left)))
+    let leaves = runs_leave c.settle.ensures.runs (λ f is. sound_image _ f (g.met.D.Disk.sound c.settle.new.disk) is) (λ before image is left. left) in
+    if_err_as c.from_residual.result Device _ c.from_residual.ensures.1 (inr (inl refl, leaves))
 
 pub returns-clause-served : goal.returns-clause-served
 returns-clause-served g c = IfOk-weaker c.recover.result _ _ (λ opened served file is. served (settled file) (settled_told file c.in_ok-settle.ensures.settled is)) c.recover.ensures.served
@@ -27,4 +27,4 @@ pub returns-clause-opens : goal.returns-clause-opens
 returns-clause-opens g c = on_ok c.recover.result (opens c.in_ok-settle.ensures.settled c.settle.ensures.runs c.recover.ensures.leaves)
 
 pub returns-clause-opens_or_leaves : goal.returns-clause-opens_or_leaves
-returns-clause-opens_or_leaves g c = on_err c.recover.result (inl (opens c.in_ok-settle.ensures.settled c.settle.ensures.runs c.recover.ensures.leaves))
+returns-clause-opens_or_leaves g c = if_err c.recover.result (λ fault. inl (opens c.in_ok-settle.ensures.settled c.settle.ensures.runs c.recover.ensures.leaves))

@@ -1,6 +1,7 @@
 use Rattle.std.proofs.Common.{◌≡◌, ◌≤◌, ◌-◌, ◌++◌, replicate, max}
 use Rattle.mdc_outside.specs.Disk.{torn}
-use Rattle.redo_journal.specs.Runs.{Runs, IsCovered, Between}
+use Rattle.redo_journal.specs.Bound.{RunsOf}
+use Rattle.redo_journal.specs.Runs.{IsCovered, Between}
 use Rattle.redo_journal.proofs.filling.fill.Given as goal
 
 -- zeros stand up to the end so far
@@ -8,7 +9,7 @@ abbrev pub invariant-loop-end : goal.invariant-loop-end
 invariant-loop-end g l = record {
   low : l.from ≤ l.end;
   high : l.end ≤ max l.from l.to;
-  runs : Runs g.D.Disk.file g.D.Disk.beside g.D.Disk.attaches g.D.Disk.is_attached g.D.Disk.clock g.D.Disk.moment IsCovered (torn l.from (l.to - l.from)) l.initial.disk l.disk;
+  runs : RunsOf g.D.Disk IsCovered (torn l.from (l.to - l.from)) l.initial.disk l.disk;
   filled : Between (g.D.Disk.file l.initial.disk) (g.D.Disk.file l.disk) (λ old new. new ≡ old ++ replicate (l.end - l.from) 0);
   faults : g.D.Disk.disk_faults l.initial.disk ≤ g.D.Disk.disk_faults l.disk;
 }

@@ -5,7 +5,7 @@ use Rattle.redo_journal.proofs.Composing.{runs_within, runs_then_settle}
 use Rattle.redo_journal.proofs.Covers.{runs_wider}
 use Rattle.redo_journal.proofs.Rising.{All-at}
 use Rattle.redo_journal.proofs.Steps.{zeros_reach, written_between}
-use Rattle.redo_journal.proofs.Places.{home_covers, home_longest, home_step, home_settled, runs_gap, runs_image}
+use Rattle.redo_journal.proofs.Places.{home_covers, home_longest, home_step, home_settled, homed_none, homed_step, homed_settled, runs_gap, runs_image}
 use Rattle.redo_journal.proofs.home_pages.home.Goals as goal
 
 pub returns-in_err-end-clause-runs : goal.returns-in_err-end-clause-runs
@@ -20,6 +20,7 @@ loop-i-init g c = record {
       let longest : f.since.longest ≡ length f.bytes = ap (λ s. s.longest) (c.requires.ready f is).synced in
       omega (arith, c.in_ok-end.ensures.end f is, (home_covers c.args.images.now f.since).longest);
   home = λ f is k d lt. absurd (omega arith);
+  bytes = homed_none c.args.images.now _ _ c.end_of.ensures.same;
   faults = omega arith;
 }
 
@@ -47,11 +48,17 @@ loop-i-preserved g c =
       grown = λ f is. omega (arith, c.loop-i.invariant.grown f is);
       short = λ f is. omega (arith, c.loop-i.invariant.short f is, home_longest c.args.images.now f.since c.loop-i.i (c.at-number.result.0, c.at-number.result.1.now) c.at-number.ensures);
       home = λ f is. (step f is).0;
+      bytes = homed_step c.args.images.now c.loop-i.i c.at-number.result.0 ((66 + c.from.result) * 4096) c.loop-i.end c.at-number.result.1.now c.at-number.ensures (omega arith)
+          c.loop-i.invariant.runs c.loop-i.invariant.bytes c.fill.ensures.runs c.in_ok-fill.ensures.filled
+          (written_between _ _ ((66 + c.from.result) * 4096) c.at-number.result.1.now c.in_ok-put.ensures.written) c.loop-i.invariant.size;
       faults = search rules;
     }
 
 pub returns-clause-home : goal.returns-clause-home
 returns-clause-home g c = home_settled c.settle.result c.args.images.now c.loop-i.i _ _ (omega arith) c.loop-i.invariant.home c.settle.ensures.settled
+
+pub returns-clause-written : goal.returns-clause-written
+returns-clause-written g c = homed_settled c.settle.result c.args.images.now c.loop-i.i _ _ _ (omega arith) c.loop-i.invariant.bytes c.settle.ensures.settled
 
 pub returns-clause-runs : goal.returns-clause-runs
 returns-clause-runs g c = runs_then_settle c.loop-i.invariant.runs c.settle.ensures.runs

@@ -2,7 +2,7 @@
 use Rattle.std.proofs.Common.{◌≡◌, ◌+◌, ◌*◌, drop, arith, ap, ◌∙◌, sym, refl, subst, inl, inr}
 use Rattle.redo_journal.specs.Images.{AreRising}
 use Rattle.redo_journal.specs.Layout.{entries, index_pages, number_of}
-use Rattle.redo_journal.proofs.replaying.replay.Goals.{then-start-lt66-via-then-start-lt66, then-start-lt66-via-else-start-lt66+then-pages-from}
+use Rattle.redo_journal.proofs.replaying.replay.Goals.{then-from-lt-FIRST_PAGE-via-then-from-lt-FIRST_PAGE, then-from-lt-FIRST_PAGE-via-else-from-lt-FIRST_PAGE+then-pages-from}
 use Rattle.redo_journal.proofs.Entries.{outside_file, journal_read}
 use Rattle.redo_journal.proofs.Steps.{runs_on}
 use Rattle.redo_journal.proofs.replaying.replay.Goals as goal
@@ -22,8 +22,8 @@ returns-in_err-start-clause-runs g c = runs_on (runs_on c.end_of.ensures.runs c.
 pub returns-in_err-number-clause-runs : goal.returns-in_err-number-clause-runs
 returns-in_err-number-clause-runs g c = runs_on (runs_on (runs_on c.end_of.ensures.runs c.is_gate_open.ensures.runs) c.read_number.ensures.runs) c.read_number-2.ensures.runs
 
-pub returns-then-start-lt66-clause-runs : goal.returns-then-start-lt66-clause-runs
-returns-then-start-lt66-clause-runs g c = runs_on (runs_on (runs_on c.end_of.ensures.runs c.is_gate_open.ensures.runs) c.read_number.ensures.runs) c.read_number-2.ensures.runs
+pub returns-then-from-lt-FIRST_PAGE-clause-runs : goal.returns-then-from-lt-FIRST_PAGE-clause-runs
+returns-then-from-lt-FIRST_PAGE-clause-runs g c = runs_on (runs_on (runs_on c.end_of.ensures.runs c.is_gate_open.ensures.runs) c.read_number.ensures.runs) c.read_number-2.ensures.runs
 
 pub returns-in-Err-clause-runs : goal.returns-in-Err-clause-runs
 returns-in-Err-clause-runs g c = runs_on (runs_on (runs_on (runs_on c.end_of.ensures.runs c.is_gate_open.ensures.runs) c.read_number.ensures.runs) c.read_number-2.ensures.runs) c.read_images.ensures.runs
@@ -31,8 +31,8 @@ returns-in-Err-clause-runs g c = runs_on (runs_on (runs_on (runs_on c.end_of.ens
 pub returns-in-Ok-clause-runs : goal.returns-in-Ok-clause-runs
 returns-in-Ok-clause-runs g c = runs_on (runs_on (runs_on (runs_on c.end_of.ensures.runs c.is_gate_open.ensures.runs) c.read_number.ensures.runs) c.read_number-2.ensures.runs) c.read_images.ensures.runs
 
-pub returns-then-start-lt66-clause-damaged : goal.returns-then-start-lt66-clause-damaged
-returns-then-start-lt66-clause-damaged g c = λ damaged. (
+pub returns-then-from-lt-FIRST_PAGE-clause-damaged : goal.returns-then-from-lt-FIRST_PAGE-clause-damaged
+returns-then-from-lt-FIRST_PAGE-clause-damaged g c = λ damaged. (
   refl,
   λ x is.
       let told1 = c.end_of.ensures.same ∙ is in
@@ -44,9 +44,9 @@ returns-then-start-lt66-clause-damaged g c = λ damaged. (
       let number = c.in_ok-number.ensures.number x told3 in
       let yes = c.if-not-branch.false in (
         cc,
-        outside_file x.bytes c.in_ok-start.start c.in_ok-number.number c.index_len.result c.in_ok-end.end start number c.index_len.ensures.pages size (elim c.then-start-lt66.branch [
-          | then-start-lt66-via-then-start-lt66 w ↦ inl (omega arith)
-          | then-start-lt66-via-else-start-lt66+then-pages-from w ↦ inr (omega arith)
+        outside_file x.bytes c.in_ok-start.start c.in_ok-number.number c.index_len.result c.in_ok-end.end start number c.index_len.ensures.pages size (elim c.then-from-lt-FIRST_PAGE.branch [
+          | then-from-lt-FIRST_PAGE-via-then-from-lt-FIRST_PAGE w ↦ inl (omega arith)
+          | then-from-lt-FIRST_PAGE-via-else-from-lt-FIRST_PAGE+then-pages-from w ↦ inr (omega arith)
         ]),
       ),
 )

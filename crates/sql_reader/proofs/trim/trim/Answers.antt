@@ -1,8 +1,8 @@
 use Rattle.std.proofs.Common.{◌≡◌, true, false, sym, subst, ◌∙◌, ℕ, ap, arith, length, length-take, length-drop}
 use Rattle.mdc_ast.specs.Cutting.{is_blank}
-use Rattle.sql_reader.specs.Trim.{IsBehindLine, IsComment}
+use Rattle.sql_reader.specs.Trim.{IsComment}
 use Rattle.sql_reader.proofs.Fronts.{length-after_line, line_ends}
-use Rattle.sql_reader.proofs.Trimming.{behind_trims, blank_trims, empty_trims, statement_trims}
+use Rattle.sql_reader.proofs.Trimming.{IsBehindLine, behind_trims, blank_trims, empty_trims, statement_trims}
 use Rattle.sql_reader.proofs.trim.trim.Goals as goal
 
 pub loop-first-preserved-then-is_blank : goal.loop-first-preserved-then-is_blank

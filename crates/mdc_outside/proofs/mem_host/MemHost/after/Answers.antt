@@ -4,9 +4,10 @@ use Rattle.std.specs.List.{list_any}
 use Rattle.mdc_outside.specs.Disk.{IsImage, all_synced, file_at_first}
 use Rattle.mdc_outside.specs.declared.call.Entry.{Entry}
 use Rattle.mdc_outside.specs.Contents.{contents_of}
-use Rattle.mdc_outside.specs.Replay.{replay, at_first, since_within}
+use Rattle.mdc_outside.specs.Points.{IsLeftAt}
+use Rattle.mdc_outside.specs.Replay.{replay, at_first, may_leave, since_within}
 use Rattle.mdc_outside.specs.Aftermath.{tape_after, makes_file, torn_bytes, MayBeLeft, IsLeft, IsLeftWithin}
-use Rattle.mdc_outside.proofs.Aftermaths.{tape-replay, after-tape, there-replay, first-there, after-there, after-absent, after-bytes, after-moment, first-bytes, first-since, image-torn_bytes, moment-within}
+use Rattle.mdc_outside.proofs.Aftermaths.{tape-replay, after-tape, there-replay, first-there, after-there, after-absent, after-bytes, after-both, first-bytes, first-since, image-torn_bytes, left-within, moment-at}
 use Rattle.mdc_outside.proofs.mem_host.MemHost.after.Goals as goal
 
 -- the tape that was said before the call
@@ -58,8 +59,9 @@ returns-clause-bytes c =
     } in
     after-bytes c.resume.result c.args.fill c.args.call past c.tear.new.bytes.items c.in_ok-tape.tape.items c.resume.ensures.fresh c.resume.ensures.bytes within
 
-pub returns-clause-moment : goal.returns-clause-moment
-returns-clause-moment c =
+-- what is left is left at the point of the call
+left-at : (c : goal.After-resume) → IsLeftAt c.args.self.now (c.args.call - 1) c.tear.new.bytes.items c.in_ok-tape.tape.items
+left-at c =
     let past = c.args.self.now in
     let n = c.args.call - 1 in
     let before : c.split_at.result.0.now ≡ take n past.entries = c.split_at.ensures.front ∙ (ap (take n) c.deref.ensures.value ∙ ap (λ past. take n past.entries) c.self.view_is) in
@@ -74,5 +76,17 @@ returns-clause-moment c =
     let P : List Entry → Type 0 = λ calls. IsImage (replay start calls).file.since c.in_ok-bytes.bytes.items in
     let within : IsImage (since_within c.index.result.now.event (replay start (take n past.entries)).file.since) c.tear.new.bytes.items =
     rw torn (image-torn_bytes c.args.fill c.index.result.now.event (replay start (take n past.entries)).file.since c.in_ok-bytes.bytes.items (subst P before image)) in
-    let may = moment-within past n c.index.result.now c.tear.new.bytes.items (omega arith) entry c.resume.ensures.range within in
-    after-moment c.resume.result past n c.tear.new.bytes.items c.in_ok-tape.tape.items c.resume.ensures.fresh c.resume.ensures.bytes (rw (said-before c) may)
+    rw (said-before c) (left-within past n c.index.result.now c.tear.new.bytes.items (omega arith) entry c.resume.ensures.range within)
+
+pub returns-clause-within : goal.returns-clause-within
+returns-clause-within c =
+    let at = IsLeftAt c.args.self.now (c.args.call - 1) in
+    after-both c.resume.result at c.tear.new.bytes.items c.in_ok-tape.tape.items c.resume.ensures.fresh c.resume.ensures.bytes (left-at c)
+
+pub returns-clause-moment : goal.returns-clause-moment
+returns-clause-moment c =
+    let past = c.args.self.now in
+    let n = c.args.call - 1 in
+    let last : c.args.call ≤ length past.entries = c.requires.last in
+    let may : may_leave past n c.tear.new.bytes.items c.in_ok-tape.tape.items = moment-at past n c.tear.new.bytes.items c.in_ok-tape.tape.items (omega arith) (left-at c) in
+    after-both c.resume.result (may_leave past n) c.tear.new.bytes.items c.in_ok-tape.tape.items c.resume.ensures.fresh c.resume.ensures.bytes may

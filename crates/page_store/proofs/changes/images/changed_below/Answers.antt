@@ -9,7 +9,8 @@ use Rattle.std.specs.BTreeMap.Range.{range_contains}
 use Rattle.std.proofs.lemmas.Map.Iter.{rest_more, rest_all}
 use Rattle.page_store.specs.Changes.{HoldsBelow}
 use Rattle.page_store.specs.PageMaps.{image_at}
-use Rattle.page_store.proofs.Imaged.{images_of, below_base, rising_images, below_next, HoldsBelow-entries}
+use Rattle.redo_journal.proofs.Entries.{below_next}
+use Rattle.page_store.proofs.Imaged.{images_of, below_base, rising_images, HoldsBelow-entries}
 use Rattle.page_store.proofs.changes.images.changed_below.Goals as goal
 
 pub push-requires : goal.push-requires

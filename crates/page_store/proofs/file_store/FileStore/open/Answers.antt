@@ -1,5 +1,5 @@
 -- The host tells what it told before, and the desk has nothing on it.
-use Rattle.std.proofs.Common.{ap, sym, ◌∙◌}
+use Rattle.std.proofs.Common.{ap, ◌∙◌}
 use Rattle.page_store.proofs.Openings.{shown_as_before, still_told}
 use Rattle.page_store.proofs.file_store.FileStore.open.Goals as goal
 

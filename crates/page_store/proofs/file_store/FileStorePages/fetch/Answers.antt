@@ -20,4 +20,4 @@ returns-clause-time g c =
     let going = still_going c.self.inside.host c.self.inside.desk c.args.self.now c.self.view_is c.requires.going in
     rw (← c.self.view_is) (keeps_base (record { host = c.self.inside.host; desk = c.self.inside.desk }) (record { host = c.fetch.new.disk; desk = c.fetch.new.self })
     (runs_leave (runs_within c.fetch.ensures.runs) (λ f is. sound_image _ f (g.met.H.Disk.sound c.fetch.new.disk) is) (λ before image is left. left))
-    (g.met.H.Disk.only_now c.fetch.new.disk) (c.self.invariant.kept going) going c.fetch.ensures.still_kept c.fetch.ensures.going_on)
+    (g.met.H.Disk.only_now c.fetch.new.disk) (c.self.invariant.kept going) going c.fetch.ensures.still_kept c.fetch.ensures.going_on c.fetch.ensures.shape)

@@ -19,4 +19,4 @@ returns-clause-time g c =
     let kept = c.self.invariant.kept going in
     rw (← c.self.view_is) (stays g.H.Disk.file g.H.Disk.beside g.H.Disk.attaches g.H.Disk.is_attached g.H.Disk.clock g.H.Disk.moment c.self.inside.host c.self.inside.desk c.mark.new.self
     (λ f is. sound_image _ f (g.met.H.Disk.sound c.self.inside.host) is) (g.met.H.Disk.only_now c.self.inside.host) (g.met.H.Disk.earlier c.self.inside.host)
-    kept going (c.mark.ensures.kept _ kept) c.mark.ensures.halt)
+    kept going (c.mark.ensures.kept _ kept) c.mark.ensures.halt c.mark.ensures.shape)

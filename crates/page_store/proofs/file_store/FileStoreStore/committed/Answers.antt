@@ -23,4 +23,4 @@ returns-clause-time g c =
     let going = still_going c.self.inside.host c.self.inside.desk c.args.self.now c.self.view_is c.requires.going in
     rw (← c.self.view_is) (keeps_base (record { host = c.self.inside.host; desk = c.self.inside.desk }) (record { host = c.committed.new.disk; desk = c.committed.new.self })
     (runs_leave (runs_within c.committed.ensures.runs) (λ f is. sound_image _ f (g.met.H.Disk.sound c.committed.new.disk) is) (λ before image is left. left))
-    (g.met.H.Disk.only_now c.committed.new.disk) (c.self.invariant.kept going) going c.committed.ensures.still_kept c.committed.ensures.going_on)
+    (g.met.H.Disk.only_now c.committed.new.disk) (c.self.invariant.kept going) going c.committed.ensures.still_kept c.committed.ensures.going_on c.committed.ensures.shape)

@@ -1,4 +1,4 @@
-use Rattle.std.proofs.Common.{[], None, inl, inr}
+use Rattle.std.proofs.Common.{[], None, inl, inr, refl}
 use Rattle.page_store.specs.Desk.{IsKept}
 use Rattle.page_store.proofs.Desks.{kept_with}
 use Rattle.page_store.proofs.Telling.{tells_ok, tells_err, tells_pass, front_of, front_of_nothing}
@@ -31,9 +31,9 @@ returns-clause-time g c =
       | inl whole ↦ tells_pass g.H.Disk.file g.H.Disk.beside g.H.Disk.attaches g.H.Disk.clock g.H.Disk.moment
           (record { host = c.self.inside.host; desk = c.self.inside.desk }) (record { host = c.say.new.host; desk = record c.self.inside.desk { hand = None } })
           c.args.bytes.now c.args.bytes.now (front_of c.args.bytes.now) c.say.ensures.file c.say.ensures.part whole
-          (g.met.H.Disk.only_now c.self.inside.host) (g.met.H.Disk.only_now c.say.new.host) (g.met.H.Disk.earlier c.self.inside.host) kept going kept_now going
+          (g.met.H.Disk.only_now c.self.inside.host) (g.met.H.Disk.only_now c.say.new.host) (g.met.H.Disk.earlier c.self.inside.host) kept going kept_now going refl
       | inr nothing ↦ tells_pass g.H.Disk.file g.H.Disk.beside g.H.Disk.attaches g.H.Disk.clock g.H.Disk.moment
           (record { host = c.self.inside.host; desk = c.self.inside.desk }) (record { host = c.say.new.host; desk = record c.self.inside.desk { hand = None } })
           c.args.bytes.now [] (front_of_nothing c.args.bytes.now) c.say.ensures.file c.say.ensures.part nothing
-          (g.met.H.Disk.only_now c.self.inside.host) (g.met.H.Disk.only_now c.say.new.host) (g.met.H.Disk.earlier c.self.inside.host) kept going kept_now going
+          (g.met.H.Disk.only_now c.self.inside.host) (g.met.H.Disk.only_now c.say.new.host) (g.met.H.Disk.earlier c.self.inside.host) kept going kept_now going refl
     ])

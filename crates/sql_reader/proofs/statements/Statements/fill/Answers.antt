@@ -1,5 +1,5 @@
 use Rattle.std.proofs.Common.{◌≡◌, ◌≤◌, ◌<◌, ◌+◌, ◌-◌, ℕ, length, min, max, arith, ap, ◌∙◌, length-append, length-take}
-use Rattle.sql_reader.specs.declared.statements.TheConstants.{SCRIPT_LIMIT}
+use Rattle.sql_reader.specs.declared.statements.TheConstants.{READ_SIZE, SCRIPT_LIMIT}
 use Rattle.sql_reader.proofs.Scanning.{at_limit}
 use Rattle.sql_reader.proofs.statements.Statements.fill.Goals as goal
 
@@ -12,5 +12,5 @@ returns-then-len-gt-SCRIPT_LIMIT-clause-too_long g c _ =
     let within : length c.reserve.new.self.items ≤ SCRIPT_LIMIT = omega (arith, ap length same, c.requires.within) in
     let passed : SCRIPT_LIMIT < length c.append.new.held.items = omega arith in
     let grown : length c.append.new.held.items ≤ length c.reserve.new.self.items + c.in_ok-count.count = omega (arith, ap length c.append.ensures, length-append {A = ℕ}, length-take {A = ℕ}) in
-    let room : c.clamp-size.result ≡ max 1 (min (SCRIPT_LIMIT - length c.reserve.new.self.items) 4096) = omega (arith, c.clamp-size.ensures, c.len-room.ensures) in
-    (passed, at_limit SCRIPT_LIMIT c.clamp-size.result c.in_ok-count.count c.reserve.new.self.items _ c.append.new.held.items c.append.ensures grown passed within size room ∙ same)
+    let room : c.clamp-size.result ≡ max 1 (min (SCRIPT_LIMIT - length c.reserve.new.self.items) READ_SIZE) = omega (arith, c.clamp-size.ensures, c.len-room.ensures) in
+    (passed, at_limit SCRIPT_LIMIT READ_SIZE c.clamp-size.result c.in_ok-count.count c.reserve.new.self.items _ c.append.new.held.items c.append.ensures grown passed within size room ∙ same)

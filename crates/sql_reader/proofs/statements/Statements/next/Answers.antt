@@ -1,9 +1,9 @@
-use Rattle.std.proofs.Common.{Ok, sym, subst, ap, ◌∙◌, inr, arith}
+use Rattle.std.proofs.Common.{Ok, sym, subst, ap, ◌∙◌, inl, inr, arith}
 use Rattle.mdc_ast.specs.Reading.{Closes}
 use Rattle.sql_reader.specs.Gives.{Keeps}
 use Rattle.sql_reader.specs.Progress.{Given, Took}
 use Rattle.sql_reader.specs.declared.statements.ReadStop.TheVariants as stop
-use Rattle.sql_reader.proofs.Giving.{none_waits, on_err, passed_on, ends_all, rose_since, through, took_more, waits}
+use Rattle.sql_reader.proofs.Giving.{none_waits, on_err, passed_on, passed_over, ends_all, read_last_of, read_more, rose_since, through, took_more, uncounted, waits}
 use Rattle.sql_reader.proofs.statements.Statements.next.Goals as goal
 
 pub returns-in_err-read-clause-waiting : goal.returns-in_err-read-clause-waiting
@@ -26,7 +26,7 @@ pub returns-in_err-fill-clause-source : goal.returns-in_err-fill-clause-source
 returns-in_err-fill-clause-source g c is =
     let all = through c.next_closed.new.self c.in_ok-read.field-0 c.loop-read.invariant.0 c.next_closed.ensures.same.0 c.next_closed.ensures.same.1 c.in_default.is c.in_ok-read.ensures.none in
     let failed = c.fill.ensures.source (passed_on c.from_residual-in_err-fill.result c.fill.result c.in_err-fill.field-0.0 stop.Source c.from_residual-in_err-fill.ensures.1 c.in_err-fill.was is) in (
-      rose_since (g.I.Source.read_faults c.args.source.now) (g.I.Source.read_faults c.loop-read.source) (g.I.Source.read_faults c.fill.new.source) all.count c.fill.ensures.count failed.1,
+      rose_since (g.I.Source.read_faults c.args.source.now) (g.I.Source.read_faults c.loop-read.source) (g.I.Source.read_faults c.fill.new.source) all.count failed.1,
       λ given h. subst (λ p. Closes p.taken given) (sym failed.0) (all.all_now given h),
     )
 
@@ -73,7 +73,8 @@ loop-read-preserved g c =
         took = took_more (g.I.Source.left c.args.source.now) (g.I.Source.left c.loop-read.source) (g.I.Source.left c.fill.new.source) c.args.self.now.taken c.next_closed.new.self.taken c.fill.new.self.taken all.took c.fill.ensures.taken;
         keeps = λ given h. c.fill.ensures.kept given (all.keeps given h);
         unread = inr all.all_old;
-        count = omega (arith, all.count, c.fill.ensures.count);
+        last = read_more c.args.source.now c.fill.new.source c.args.self.now c.next_closed.new.self.taken c.fill.new.self.taken all.grown all.all_now c.fill.ensures.one_read;
+        count = uncounted c.fill.result stop.Source _ _ (g.I.Source.read_faults c.loop-read.source) (g.I.Source.read_faults c.fill.new.source) c.in_ok-fill.was all.count c.fill.ensures.no_fault;
       },
       omega (arith, c.loop-read.invariant.1, c.next_closed.ensures.past, c.fill.ensures.open.1),
     )
@@ -88,3 +89,43 @@ returns-in_err-last-clause-kept g c =
     let all = through c.next_closed.new.self c.in_ok-read.field-0 c.loop-read.invariant.0 c.next_closed.ensures.same.0 c.next_closed.ensures.same.1 c.in_default.is c.in_ok-read.ensures.none in
     on_err c.from_residual-in_err-last.result (Keeps c.args.self.now c.next_last.new.self)
     (λ given h. subst (λ p. Given p given) (sym c.in_err-last.ensures.err) (c.fill.ensures.kept given (all.keeps given h)))
+
+pub returns-in_err-read-clause-last_read : goal.returns-in_err-read-clause-last_read
+returns-in_err-read-clause-last_read g c =
+    read_last_of c.loop-read.self.taken c.next_closed.new.self.taken c.next_closed.ensures.same.0 c.loop-read.invariant.0.last
+
+pub returns-in-Some-clause-last_read : goal.returns-in-Some-clause-last_read
+returns-in-Some-clause-last_read g c =
+    read_last_of c.loop-read.self.taken c.next_closed.new.self.taken c.next_closed.ensures.same.0 c.loop-read.invariant.0.last
+
+pub returns-in_err-fill-clause-last_read : goal.returns-in_err-fill-clause-last_read
+returns-in_err-fill-clause-last_read g c =
+    let all = through c.next_closed.new.self c.in_ok-read.field-0 c.loop-read.invariant.0 c.next_closed.ensures.same.0 c.next_closed.ensures.same.1 c.in_default.is c.in_ok-read.ensures.none in
+    read_more c.args.source.now c.fill.new.source c.args.self.now c.next_closed.new.self.taken c.fill.new.self.taken all.grown all.all_now c.fill.ensures.one_read
+
+pub returns-in_err-last-clause-last_read : goal.returns-in_err-last-clause-last_read
+returns-in_err-last-clause-last_read g c =
+    let all = through c.next_closed.new.self c.in_ok-read.field-0 c.loop-read.invariant.0 c.next_closed.ensures.same.0 c.next_closed.ensures.same.1 c.in_default.is c.in_ok-read.ensures.none in
+    read_last_of c.fill.new.self.taken c.next_last.new.self.taken c.next_last.ensures.same.0
+    (read_more c.args.source.now c.fill.new.source c.args.self.now c.next_closed.new.self.taken c.fill.new.self.taken all.grown all.all_now c.fill.ensures.one_read)
+
+pub returns-then-not-branch-clause-last_read : goal.returns-then-not-branch-clause-last_read
+returns-then-not-branch-clause-last_read g c =
+    let all = through c.next_closed.new.self c.in_ok-read.field-0 c.loop-read.invariant.0 c.next_closed.ensures.same.0 c.next_closed.ensures.same.1 c.in_default.is c.in_ok-read.ensures.none in
+    read_last_of c.fill.new.self.taken c.next_last.new.self.taken c.next_last.ensures.same.0
+    (read_more c.args.source.now c.fill.new.source c.args.self.now c.next_closed.new.self.taken c.fill.new.self.taken all.grown all.all_now c.fill.ensures.one_read)
+
+pub returns-in_err-fill-clause-no_fault : goal.returns-in_err-fill-clause-no_fault
+returns-in_err-fill-clause-no_fault g c =
+    elim c.fill.ensures.no_fault [
+      | inl failed ↦ inl (passed_over c.from_residual-in_err-fill.result c.fill.result c.in_err-fill.field-0.0 stop.Source c.from_residual-in_err-fill.ensures.1 c.in_err-fill.was failed)
+      | inr same ↦ inr (same ∙ c.loop-read.invariant.0.count)
+    ]
+
+pub returns-in_err-last-clause-no_fault : goal.returns-in_err-last-clause-no_fault
+returns-in_err-last-clause-no_fault g c =
+    inr (uncounted c.fill.result stop.Source _ _ (g.I.Source.read_faults c.loop-read.source) (g.I.Source.read_faults c.fill.new.source) c.in_ok-fill.was c.loop-read.invariant.0.count c.fill.ensures.no_fault)
+
+pub returns-then-not-branch-clause-no_fault : goal.returns-then-not-branch-clause-no_fault
+returns-then-not-branch-clause-no_fault g c =
+    inr (uncounted c.fill.result stop.Source _ _ (g.I.Source.read_faults c.loop-read.source) (g.I.Source.read_faults c.fill.new.source) c.in_ok-fill.was c.loop-read.invariant.0.count c.fill.ensures.no_fault)

@@ -8,5 +8,5 @@ returns-in-Some-clause-undone c =
     let mark = c.in-Some.mark in
     let was : s.mark ≡ Some mark = sym c.take.ensures.value ∙ c.in-Some.is in
     let within = s.mark_within mark was in
-    let base = base-at_mark s.base_count mark.count mark.changes s.journal.items s.work.items within.behind_base in
+    let base = base-at_mark s.base_count mark.count mark.changes s.history.items s.work.items within.behind_base in
     rw (c.go_back.ensures.pages, c.go_back.ensures.changes, c.take.ensures.after, was, base) refl

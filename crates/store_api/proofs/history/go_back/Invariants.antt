@@ -1,6 +1,6 @@
 use Rattle.std.proofs.Common.{◌≡◌, ◌≤◌, min, take, drop, vec_len}
-use Rattle.store_api.specs.Journal.{undone, at_mark}
-use Rattle.store_api.proofs.journal.go_back.Given as goal
+use Rattle.store_api.specs.History.{undone, at_mark}
+use Rattle.store_api.proofs.history.go_back.Given as goal
 
 abbrev pub invariant-loop-mark : goal.invariant-loop-mark
 invariant-loop-mark l = record {

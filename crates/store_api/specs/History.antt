@@ -1,9 +1,9 @@
 -- What the store in memory keeps for going back: the pages that were written over.
 use Rattle.std.specs.Prelude.{ℕ, zero, suc, ◌≤◌, Bool, true, List, [], ◌∷◌, take, drop, slice_set, Option, Some, None, nat_lt}
-use Rattle.store_api.specs.declared.journal.Change.{Change}
-use Rattle.store_api.specs.declared.journal.Mark.{Mark}
+use Rattle.store_api.specs.declared.history.Change.{Change}
+use Rattle.store_api.specs.declared.history.Mark.{Mark}
 use Rattle.store_api.specs.declared.mem_store.Hand.{Hand}
-use Rattle.store_api.specs.declared.mem_store.Hand.TheVariants.{Work, Journal}
+use Rattle.store_api.specs.declared.mem_store.Hand.TheVariants.{Work, History}
 use Rattle.store_api.specs.StoreState.{page_at}
 
 -- the pages before the changes, of which the first is the oldest
@@ -36,10 +36,10 @@ was_at (change ∷ changes) (suc i) = was_at changes i
 abbrev pub hand_page : Option Hand → List Change → List (List ℕ) → Option (List ℕ)
 hand_page None changes pages = None
 hand_page (Some (Work at)) changes pages = Some (page_at pages at)
-hand_page (Some (Journal at)) changes pages = Some (was_at changes at)
+hand_page (Some (History at)) changes pages = Some (was_at changes at)
 
 -- the page at hand is there
 abbrev pub is_hand_within : Option Hand → ℕ → ℕ → Bool
 is_hand_within None changes pages = true
 is_hand_within (Some (Work at)) changes pages = nat_lt at pages
-is_hand_within (Some (Journal at)) changes pages = nat_lt at changes
+is_hand_within (Some (History at)) changes pages = nat_lt at changes

@@ -1,8 +1,8 @@
 use Rattle.std.proofs.Common.{◌≤◌, ◌∷◌, [], length, take, drop, refl, sym, ap, ◌∙◌, arith}
 use Rattle.std.proofs.lemmas.List.{take-append-le, take_all, drop_all, set_past}
-use Rattle.store_api.specs.Journal.{undone}
+use Rattle.store_api.specs.History.{undone}
 use Rattle.store_api.proofs.Undone.{undone-last}
-use Rattle.store_api.proofs.journal.go_back.Goals as goal
+use Rattle.store_api.proofs.history.go_back.Goals as goal
 
 pub loop-mark-init : goal.loop-mark-init
 loop-mark-init c =

@@ -1,9 +1,9 @@
 use Rattle.std.proofs.Common.{◌≡◌, false, None}
-use Rattle.store_bench.proofs.work.commit_pages.Given as goal
+use Rattle.store_bench.proofs.work.undo_times.Given as goal
 
 -- the store goes on, and has no mark
-abbrev pub invariant-loop-i : goal.invariant-loop-i
-invariant-loop-i g l = record {
+abbrev pub invariant-loop : goal.invariant-loop
+invariant-loop g l = record {
   going : (g.S.Pages.state l.store).ended ≡ false;
   unmarked : (g.S.Pages.state l.store).marked ≡ None;
 }

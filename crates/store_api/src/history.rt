@@ -1,6 +1,6 @@
 // What a store in memory keeps for going back.
 ghost use Rattle.std.specs.Prelude.{◌≡◌, ◌<◌, ◌≤◌, ◌==◌, IfSome, length, min, take, position, vec_len};
-ghost use Rattle.store_api.specs.Journal.{at_mark};
+ghost use Rattle.store_api.specs.History.{at_mark};
 
 use crate::Page;
 

@@ -1,0 +1,8 @@
+-- The parts of a formed file are those of a served one.
+use Rattle.std.proofs.Common.{length, arith, ◌≤◌}
+use Rattle.page_store.proofs.laws.formed_is_served.Goals as goal
+
+pub returns : goal.returns
+returns c = λ file formed root version.
+    let long : 8192 ≤ length file = omega (arith, formed.whole) in
+    ((long, formed.made), formed.birth, record { journal = formed.journal; root = root }, formed.whole, version)

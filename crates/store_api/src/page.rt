@@ -1,0 +1,23 @@
+// What a page holds.
+ghost use Rattle.std.specs.Prelude.{◌≡◌};
+ghost use Rattle.store_api.specs.StoreState.{stated_in, zero_page};
+
+use crate::Page;
+
+static ZEROS: Page = [0; 4096];
+
+/// Lends a page of zeros.
+#[tactic(auto, unfolding(crate::specs::StoreState::zero_page))]
+pub fn blank_page() -> &'static Page
+    ensures { result.now ≡ zero_page }
+{
+    &ZEROS
+}
+
+/// The page count that a page 0 states: the number in its bytes 8 to 11, of which the first is the highest. `prepare`
+/// requires that it is the number of pages.
+pub fn stated_count(page: &Page) -> u32
+    ensures { result ≡ stated_in page.now }
+{
+    u32::from_be_bytes([page[8], page[9], page[10], page[11]])
+}
