@@ -1,0 +1,20 @@
+//! Words that the contracts of all layers share: a count of faults that rises, a first part of a list, and what a run of
+//! calls leaves of what a crash may leave.
+//!
+//! It promises that each of them composes: for no call, for one call after another, and for a wider statement. It stands
+//! on nothing.
+#![tactic(auto)]
+
+ghost use Rattle.std.specs.Prelude.{◌≤◌};
+ghost use Rattle.mdc_words.specs.Faults.{Rose};
+
+/// Counts one fault more. A count at its last number stands still.
+pub fn count_fault(faults: &mut u64)
+    ensures rose { Rose faults.old faults.new }
+    ensures later { faults.old ≤ faults.new }
+{
+    *faults = faults.saturating_add(1);
+}
+
+#[cfg(test)]
+mod tests;
