@@ -1,23 +1,29 @@
 // A file of the system, or one in memory, and standard output.
-ghost use Rattle.std.specs.Prelude.{◌≡◌, ◌↔◌, ◌||◌, None, false, is_some, refl, IsOk, IsTrue, OnOk};
+ghost use Rattle.std.specs.Prelude.{◌≡◌, ◌↔◌, ◌||◌, None, false, is_some, refl, IsFalse, IsOk, IsTrue, OnOk};
 ghost use Rattle.std.specs.Io.KnownBytes.{Appends};
+ghost use Rattle.host_edge.specs.Attached.{has_lost};
 
 use crate::faults::counted;
 use crate::positioned;
+use crate::real_file::RealFile;
 use mdc_outside::{Disk, Failed, Host};
 use std::alloc::Global;
 use std::fs::{self, OpenFile, OpenOptions};
-use std::io::{self, Cursor, ErrorKind, Write};
+use std::io::{self, Cursor, ErrorKind, Read, Seek, Write};
 use std::path::Path;
 use std::rt::Files;
 
 // The path of the scratch file.
 const SCRATCH: &str = "-";
 
+// The folder that lies in no other.
+const ROOT: &str = "/";
+
 /// The files of the system, and standard output. Each reply is written through before `say` answers. Under the path `-`
 /// lies a scratch file in memory, which is there once it was made and lasts as long as the host.
 #[derive(Drop)]
 pub struct FileHost<R: Files, W> {
+    alloc: Global,
     files: R,
     output: W,
     attached: Option<Attached<R::File>>,
@@ -30,7 +36,7 @@ pub struct FileHost<R: Files, W> {
 // What is attached.
 #[derive(Drop)]
 enum Attached<F> {
-    File(F),
+    File(RealFile<F>),
     Scratch,
 }
 
@@ -42,6 +48,7 @@ impl<R: Files + Drop, W: Write + Drop> FileHost<R, W> {
         ensures say_count { ⟦<FileHost<R, W> as Host>⟧.say_faults result ≡ 0 }
     {
         FileHost {
+            alloc,
             files,
             output,
             attached: None,
@@ -75,10 +82,10 @@ impl<R: Files + Drop, W: Write + Drop> Disk for FileHost<R, W> {
     ghost earlier = { λ _ _ _ _ _ _ _ may. may };
 
     fn attach(&mut self, path: &str, make: bool) -> Result<(), Failed> {
-        let found = if path == SCRATCH {
-            scratch(&mut self.has_scratch, make)
-        } else {
-            open(&self.files, path, make)
+        let found = match check(&self.attached) {
+            Err(error) => Err(error),
+            Ok(()) if path == SCRATCH => scratch(&mut self.has_scratch, make),
+            Ok(()) => open(self.alloc, &self.files, path, make),
         };
         self.attached = Some(counted(&mut self.disk_faults, found)?);
         Ok(())
@@ -86,7 +93,7 @@ impl<R: Files + Drop, W: Write + Drop> Disk for FileHost<R, W> {
 
     fn len(&mut self) -> Result<u64, Failed> {
         let outcome = match self.attached.as_mut().unwrap() {
-            Attached::File(file) => positioned::len(file),
+            Attached::File(file) => file.len(),
             Attached::Scratch => positioned::len(&mut self.scratch),
         };
         counted(&mut self.disk_faults, outcome)
@@ -94,7 +101,7 @@ impl<R: Files + Drop, W: Write + Drop> Disk for FileHost<R, W> {
 
     fn read(&mut self, at: u64, out: &mut [u8]) -> Result<(), Failed> {
         let outcome = match self.attached.as_mut().unwrap() {
-            Attached::File(file) => positioned::read_at(file, at, out),
+            Attached::File(file) => file.read_at(at, out),
             Attached::Scratch => positioned::read_at(&mut self.scratch, at, out),
         };
         counted(&mut self.disk_faults, outcome)
@@ -102,15 +109,15 @@ impl<R: Files + Drop, W: Write + Drop> Disk for FileHost<R, W> {
 
     fn write(&mut self, at: u64, bytes: &[u8]) -> Result<(), Failed> {
         let outcome = match self.attached.as_mut().unwrap() {
-            Attached::File(file) => positioned::write_at(file, at, bytes),
+            Attached::File(file) => file.write_at(at, bytes),
             Attached::Scratch => positioned::write_at(&mut self.scratch, at, bytes),
         };
         counted(&mut self.disk_faults, outcome)
     }
 
     fn sync(&mut self) -> Result<(), Failed> {
-        let outcome = match self.attached.as_ref().unwrap() {
-            Attached::File(file) => file.sync_all(),
+        let outcome = match self.attached.as_mut().unwrap() {
+            Attached::File(file) => file.sync(),
             Attached::Scratch => Ok(()),
         };
         counted(&mut self.disk_faults, outcome)
@@ -130,6 +137,16 @@ impl<R: Files + Drop, W: Write + Drop> Host for FileHost<R, W> {
     }
 }
 
+// Fails where a sync of the attached file has failed: opened anew, it may seem whole.
+fn check<F: Read + Write + Seek + OpenFile>(attached: &Option<Attached<F>>) -> io::Result<()>
+    ensures { IsOk result ↔ IsFalse (has_lost attached.now) }
+{
+    match attached {
+        Some(Attached::File(file)) => file.check(),
+        Some(Attached::Scratch) | None => Ok(()),
+    }
+}
+
 // The scratch file, if it is there or is to be made.
 fn scratch<F: Drop>(is_there: &mut bool, make: bool) -> io::Result<Attached<F>>
     ensures there { is_there.new ≡ (is_there.old || make) }
@@ -143,26 +160,25 @@ fn scratch<F: Drop>(is_there: &mut bool, make: bool) -> io::Result<Attached<F>>
     }
 }
 
-// The file at the path, or the empty one that is made there. A sync of a file doesn't reach its name, so the folder of a
-// file that may be new is synced too.
-fn open<R: Files>(files: &R, path: &str, make: bool) -> io::Result<Attached<R::File>> {
+// The file at the path, or the empty one that is made there. A sync of a file doesn't reach its name, so the folder in
+// which the name of a file that may be new stands is synced too. Where the path is a link, that is the folder it leads to.
+fn open<R: Files>(
+    alloc: Global,
+    files: &R,
+    path: &str,
+    make: bool,
+) -> io::Result<Attached<R::File>> {
     let file = OpenOptions::new()
         .read(true)
         .write(true)
         .create(make)
         .open(files, path)?;
     if make {
-        fs::open(files, folder_of(path))?.sync_all()?;
+        let name = files.canonicalize(alloc, path)?;
+        let folder = name.parent().unwrap_or(Path::new(ROOT));
+        fs::open(files, folder)?.sync_all()?;
     }
-    Ok(Attached::File(file))
-}
-
-// The folder that the path lies in.
-fn folder_of(path: &str) -> &str {
-    match Path::new(path).parent() {
-        Some(folder) if !folder.as_str().is_empty() => folder.as_str(),
-        _ => ".",
-    }
+    Ok(Attached::File(RealFile::new(file)))
 }
 
 // Writes all of the bytes, past any buffer.
@@ -172,6 +188,3 @@ fn write_through<W: Write>(output: &mut W, bytes: &[u8]) -> io::Result<()>
     output.write_all(bytes)?;
     output.flush()
 }
-
-#[cfg(test)]
-mod tests;

@@ -1,7 +1,10 @@
-pub mod Answer
+pub mod Classes
 pub mod Cutting
-pub mod Database
 pub mod Grammar
+pub mod Phrases
+pub mod Places
 pub mod Reading
-pub mod Step
+pub mod Rules
 pub mod Tokens
+pub mod Truth
+pub mod meaning

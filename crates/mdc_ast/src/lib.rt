@@ -1,15 +1,29 @@
 //! What a statement is: plain data for statements, definitions, rows and answers, seen by contracts field by field.
 //!
-//! Its `specs` say how a script spells statements (`Cutting`, `Tokens`, `Grammar`, `Reading`), what a statement does to
-//! plain lists of rows (`Database`, `Step`), and how its answer is written (`Answer`). It stands on `mdc_values`.
+//! Its `specs` say how a script is cut into pieces (`Cutting`), which tokens bytes have (`Tokens`), what the grammar is, as
+//! data (`Rules`, `Phrases`, `Grammar`), and what a piece says, a statement or a refusal with its place (`Places`,
+//! `Reading`); and what statements mean to plain lists of rows (`meaning`, `Truth`). It stands on `mdc_values`.
 #![tactic(auto)]
 
-mod answer;
+mod bound;
 mod definition;
 mod name;
+mod predicate;
+mod refusal;
+mod reply;
+mod row;
+mod span;
 mod statement;
 
-pub use answer::{Outcome, Refusal, Reply};
-pub use definition::{ColumnDef, Row};
+pub use bound::{Bound, BoundItem, BoundOperand, BoundOut, BoundSelect, BoundSet};
+pub use definition::{ColumnDef, GenExpr, GenKind, IndexDef, KeyPart, Roots, TableDef};
 pub use name::Name;
-pub use statement::{ColumnText, InsertItem, OutList, Select, Stmt, TypeText};
+pub use predicate::{Atom, AtomText, Pred, PredText, Right, Test, TestText};
+pub use refusal::Refusal;
+pub use reply::{Outcome, Reply};
+pub use row::{Cell, Row};
+pub use span::{Cut, Span};
+pub use statement::{
+    ColumnText, GenText, InsertItem, KeyText, Operand, Out, OutList, PlanMode, RolloutMode, Select,
+    SetItem, SetText, Sign, Stmt, TypeText,
+};

@@ -1,10 +1,10 @@
 -- What a crash in the midst of recorded calls leaves is one of their moments.
-use Rattle.std.proofs.Common.{◌≡◌, ◌≤◌, ◌<◌, ◌+◌, ℕ, Bool, true, false, List, [], ◌∷◌, ◌++◌, ◌||◌, Option, Some, None, Result, Ok, Err, IfOk, IsTrue, IsFalse, is_some, subst, take, drop, length, get_or, fold, arith, refl, sym, ap, ◌∙◌, inl}
+use Rattle.std.proofs.Common.{◌≡◌, ◌≤◌, ◌<◌, ◌+◌, ℕ, Bool, true, false, List, [], ◌∷◌, ◌++◌, ◌||◌, Option, Some, None, Result, Ok, Err, IfOk, IsTrue, IsFalse, is_some, subst, take, drop, length, get_or, fold, arith, refl, sym, ap, ◌∙◌}
 use Rattle.std.specs.List.{list_any}
 use Rattle.std.proofs.lemmas.List.{length-replicate, length-take, drop_all, take_more, drop_more, drop-append-le, append-nil}
-use Rattle.mdc_outside.specs.Disk.{Since, IsImage, AreBytes, file_at_first, all_synced, torn}
-use Rattle.mdc_outside.specs.Replay.{Past, State, state_of, fresh, replay, step, at_first, may_leave, since_within, piece_within}
-use Rattle.mdc_outside.specs.Aftermath.{filled, torn_bytes, torn_by, bytes_after, tape_after, since_all, EndsSynced, PutsNothing, MayBeLeft, IsLeft, IsLeftWithin, makes_file}
+use Rattle.mdc_outside.specs.Disk.{Since, IsImage, file_at_first, all_synced, torn}
+use Rattle.mdc_outside.specs.Replay.{Past, State, host_state, fresh, replay, entry_step, at_first, may_leave, since_within, piece_within}
+use Rattle.mdc_outside.specs.Aftermath.{filled, torn_bytes, torn_by, bytes_after, tape_after, since_all, EndsSynced, PutsNothing, MayBeLeft, IsLeftByCalls, IsLeftWithin, makes_file}
 use Rattle.mdc_outside.specs.Contents.{contents_of}
 use Rattle.mdc_outside.specs.Points.{IsLeftAt}
 use Rattle.mdc_outside.specs.ReplayLaws.{image-overwritten, image-synced}
@@ -39,64 +39,64 @@ image-torn_all fill (entry ∷ entries) since bytes is =
 -- what the calls since a sync leave, with those before it
 pub replay-append : (state : State) (before since : List Entry) → replay state (before ++ since) ≡ replay (replay state before) since
 replay-append state [] since = refl
-replay-append state (entry ∷ before) since = replay-append (step entry state) before since
+replay-append state (entry ∷ before) since = replay-append (entry_step entry state) before since
 
 -- the bytes after one call
-bytes-step : (event : Event) (done : Bool) (state : State) → (step (record { event = event; done = done }) state).file.bytes ≡ bytes_after state.file.bytes (record { event = event; done = done })
-bytes-step (Attach path make) true state = refl
-bytes-step (Attach path make) false state = refl
-bytes-step Len true state = refl
-bytes-step Len false state = refl
-bytes-step (Read at) true state = refl
-bytes-step (Read at) false state = refl
-bytes-step (Write at piece) true state = refl
-bytes-step (Write at piece) false state = refl
-bytes-step Sync true state = refl
-bytes-step Sync false state = refl
-bytes-step (Say piece) true state = refl
-bytes-step (Say piece) false state = refl
+bytes-entry_step : (event : Event) (done : Bool) (state : State) → (entry_step (record { event = event; done = done }) state).file.bytes ≡ bytes_after state.file.bytes (record { event = event; done = done })
+bytes-entry_step (Attach path make) true state = refl
+bytes-entry_step (Attach path make) false state = refl
+bytes-entry_step Len true state = refl
+bytes-entry_step Len false state = refl
+bytes-entry_step (Read at) true state = refl
+bytes-entry_step (Read at) false state = refl
+bytes-entry_step (Write at piece) true state = refl
+bytes-entry_step (Write at piece) false state = refl
+bytes-entry_step Sync true state = refl
+bytes-entry_step Sync false state = refl
+bytes-entry_step (Say piece) true state = refl
+bytes-entry_step (Say piece) false state = refl
 
 -- the bytes after the calls
 pub bytes-replay : (state : State) (entries : List Entry) → (replay state entries).file.bytes ≡ fold bytes_after state.file.bytes entries
 bytes-replay state [] = refl
 bytes-replay state (entry ∷ entries) =
-    bytes-replay (step entry state) entries ∙ ap (λ bytes. fold bytes_after bytes entries) (bytes-step entry.event entry.done state)
+    bytes-replay (entry_step entry state) entries ∙ ap (λ bytes. fold bytes_after bytes entries) (bytes-entry_step entry.event entry.done state)
 
 -- the tape after one call
-tape-step : (event : Event) (done : Bool) (state : State) → (step (record { event = event; done = done }) state).tape ≡ tape_after state.tape (record { event = event; done = done })
-tape-step (Attach path make) true state = refl
-tape-step (Attach path make) false state = refl
-tape-step Len true state = refl
-tape-step Len false state = refl
-tape-step (Read at) true state = refl
-tape-step (Read at) false state = refl
-tape-step (Write at piece) true state = refl
-tape-step (Write at piece) false state = refl
-tape-step Sync true state = refl
-tape-step Sync false state = refl
-tape-step (Say piece) true state = refl
-tape-step (Say piece) false state = refl
+tape-entry_step : (event : Event) (done : Bool) (state : State) → (entry_step (record { event = event; done = done }) state).tape ≡ tape_after state.tape (record { event = event; done = done })
+tape-entry_step (Attach path make) true state = refl
+tape-entry_step (Attach path make) false state = refl
+tape-entry_step Len true state = refl
+tape-entry_step Len false state = refl
+tape-entry_step (Read at) true state = refl
+tape-entry_step (Read at) false state = refl
+tape-entry_step (Write at piece) true state = refl
+tape-entry_step (Write at piece) false state = refl
+tape-entry_step Sync true state = refl
+tape-entry_step Sync false state = refl
+tape-entry_step (Say piece) true state = refl
+tape-entry_step (Say piece) false state = refl
 
 -- the tape after the calls
 pub tape-replay : (state : State) (entries : List Entry) → (replay state entries).tape ≡ fold tape_after state.tape entries
 tape-replay state [] = refl
 tape-replay state (entry ∷ entries) =
-    tape-replay (step entry state) entries ∙ ap (λ tape. fold tape_after tape entries) (tape-step entry.event entry.done state)
+    tape-replay (entry_step entry state) entries ∙ ap (λ tape. fold tape_after tape entries) (tape-entry_step entry.event entry.done state)
 
 -- whether the file is there after one call
-there-step : (event : Event) (done : Bool) (state : State) → (step (record { event = event; done = done }) state).file.is_there ≡ state.file.is_there || makes_file (record { event = event; done = done })
-there-step (Attach path make) true state = sym (or-true state.file.is_there)
-there-step (Attach path make) false state = sym (or-false state.file.is_there)
-there-step Len true state = sym (or-false state.file.is_there)
-there-step Len false state = sym (or-false state.file.is_there)
-there-step (Read at) true state = sym (or-false state.file.is_there)
-there-step (Read at) false state = sym (or-false state.file.is_there)
-there-step (Write at piece) true state = sym (or-true state.file.is_there)
-there-step (Write at piece) false state = sym (or-true state.file.is_there)
-there-step Sync true state = sym (or-false state.file.is_there)
-there-step Sync false state = sym (or-false state.file.is_there)
-there-step (Say piece) true state = sym (or-false state.file.is_there)
-there-step (Say piece) false state = sym (or-false state.file.is_there)
+there-entry_step : (event : Event) (done : Bool) (state : State) → (entry_step (record { event = event; done = done }) state).file.is_there ≡ state.file.is_there || makes_file (record { event = event; done = done })
+there-entry_step (Attach path make) true state = sym (or-true state.file.is_there)
+there-entry_step (Attach path make) false state = sym (or-false state.file.is_there)
+there-entry_step Len true state = sym (or-false state.file.is_there)
+there-entry_step Len false state = sym (or-false state.file.is_there)
+there-entry_step (Read at) true state = sym (or-false state.file.is_there)
+there-entry_step (Read at) false state = sym (or-false state.file.is_there)
+there-entry_step (Write at piece) true state = sym (or-true state.file.is_there)
+there-entry_step (Write at piece) false state = sym (or-true state.file.is_there)
+there-entry_step Sync true state = sym (or-false state.file.is_there)
+there-entry_step Sync false state = sym (or-false state.file.is_there)
+there-entry_step (Say piece) true state = sym (or-false state.file.is_there)
+there-entry_step (Say piece) false state = sym (or-false state.file.is_there)
 
 -- whether it is there after one of two
 or-assoc : (a b c : Bool) → (a || b) || c ≡ a || (b || c)
@@ -107,8 +107,8 @@ or-assoc false b c = refl
 pub there-replay : (state : State) (entries : List Entry) → (replay state entries).file.is_there ≡ state.file.is_there || list_any makes_file entries
 there-replay state [] = sym (or-false state.file.is_there)
 there-replay state (entry ∷ entries) =
-    there-replay (step entry state) entries
-    ∙ (ap (λ there. there || list_any makes_file entries) (there-step entry.event entry.done state) ∙ or-assoc state.file.is_there (makes_file entry) (list_any makes_file entries))
+    there-replay (entry_step entry state) entries
+    ∙ (ap (λ there. there || list_any makes_file entries) (there-entry_step entry.event entry.done state) ∙ or-assoc state.file.is_there (makes_file entry) (list_any makes_file entries))
 
 -- the file that a host begins with is there if it has one
 pub first-there : (first : Option (List ℕ)) → (file_at_first first).is_there ≡ is_some first
@@ -125,7 +125,7 @@ left-after fill first before since synced nothing state bytes all =
     (image-torn_all fill since (all_synced (fold bytes_after first before)) (fold bytes_after first before) (image-synced (fold bytes_after first before)))
 
 -- what the crash leaves, it may leave
-pub allowed-left : (fill : Option ℕ) (first : List ℕ) (entries : List Entry) (bytes : List ℕ) → IsLeft fill first entries bytes → MayBeLeft first entries bytes
+pub allowed-left : (fill : Option ℕ) (first : List ℕ) (entries : List Entry) (bytes : List ℕ) → IsLeftByCalls fill first entries bytes → MayBeLeft first entries bytes
 allowed-left fill first entries bytes left = rw (left.all, left.torn) (left-after fill first left.before left.since left.synced left.nothing)
 
 -- one more call behind those since a sync
@@ -169,13 +169,13 @@ synced-more calls i entry inside is sync =
     rw grown (synced-grown (take i calls))
 
 -- what may be left within a call may be left at its point of the record
-pub left-within : (past : Past) (n : ℕ) (entry : Entry) (image : List ℕ) → n < length past.entries → entry ≡ get_or past.entries n entry → AreBytes image
+pub left-within : (past : Past) (n : ℕ) (entry : Entry) (image : List ℕ) → n < length past.entries → entry ≡ get_or past.entries n entry
     → IsImage (since_within entry.event (replay (at_first past.first past.heard) (take n past.entries)).file.since) image
     → IsLeftAt past n image (replay (at_first past.first past.heard) (take n past.entries)).tape
-left-within past n entry image inside is bytes left =
+left-within past n entry image inside is left =
     let here : drop n past.entries ≡ entry ∷ drop (n + 1) past.entries = drop_more past.entries n entry inside ∙ ap (λ entry. entry ∷ drop (n + 1) past.entries) (sym is) in
     let before = replay (at_first past.first past.heard) (take n past.entries) in
-    rw here (record { left = left; byte = bytes; said = ([], piece_within entry.event, refl, sym (append-nil before.tape)) })
+    rw here (record { left = left; said = ([], piece_within entry.event, refl, sym (append-nil before.tape)) })
 
 -- and since the calls before it
 pub moment-at : (past : Past) (n : ℕ) (image tape : List ℕ) → n < length past.entries → IsLeftAt past n image tape → may_leave past n image tape
@@ -198,30 +198,30 @@ after-tape (Err e) tape before is same = tt
 
 -- what holds of these bytes and this tape holds of the file and the tape of the host that is left
 pub after-both : {E : Type 0} (result : Result Past E) (fact : List ℕ → List ℕ → Type 0) (bytes tape : List ℕ) → IfOk result (λ host. host ≡ fresh host.first tape) → IfOk result (λ host. (file_at_first host.first).bytes ≡ bytes)
-    → fact bytes tape → IfOk result (λ host. fact (state_of host).file.bytes (state_of host).tape)
+    → fact bytes tape → IfOk result (λ host. fact (host_state host).file.bytes (host_state host).tape)
 after-both (Ok host) fact bytes tape is same may =
-    let image : (state_of host).file.bytes ≡ bytes = ap (λ past. (state_of past).file.bytes) is ∙ same in
-    let said : (state_of host).tape ≡ tape = ap (λ past. (state_of past).tape) is in
+    let image : (host_state host).file.bytes ≡ bytes = ap (λ past. (host_state past).file.bytes) is ∙ same in
+    let said : (host_state host).tape ≡ tape = ap (λ past. (host_state past).tape) is in
     rw (image, said) may
 after-both (Err e) fact bytes tape is same may = tt
 
 -- the file that was there is there in the host that is left
 pub after-there : {E : Type 0} (result : Result Past E) (before there : Bool) (tape : List ℕ) → IfOk result (λ host. host ≡ fresh host.first tape) → IfOk result (λ host. IsTrue there → IsTrue (file_at_first host.first).is_there)
-    → before ≡ there → IfOk result (λ host. IsTrue before → IsTrue (state_of host).file.is_there)
-after-there (Ok host) before there tape is same e = λ was. rw (ap (λ past. (state_of past).file.is_there) is) (same (subst IsTrue e was))
+    → before ≡ there → IfOk result (λ host. IsTrue before → IsTrue (host_state host).file.is_there)
+after-there (Ok host) before there tape is same e = λ was. rw (ap (λ past. (host_state past).file.is_there) is) (same (subst IsTrue e was))
 after-there (Err e) before there tape is same _ = tt
 
 -- one that wasn't there and has no bytes isn't there
 pub after-absent : {E : Type 0} (result : Result Past E) (before there : Bool) (bytes tape : List ℕ) → IfOk result (λ host. host ≡ fresh host.first tape) → IfOk result (λ host. (file_at_first host.first).bytes ≡ bytes)
     → IfOk result (λ host. IsFalse there → bytes ≡ [] → IsFalse (file_at_first host.first).is_there)
-    → before ≡ there → IfOk result (λ host. IsFalse before → (state_of host).file.bytes ≡ [] → IsFalse (state_of host).file.is_there)
+    → before ≡ there → IfOk result (λ host. IsFalse before → (host_state host).file.bytes ≡ [] → IsFalse (host_state host).file.is_there)
 after-absent (Ok host) before there bytes tape is has same e = λ was none.
-    let image : (state_of host).file.bytes ≡ bytes = ap (λ past. (state_of past).file.bytes) is ∙ has in
-    rw (ap (λ past. (state_of past).file.is_there) is) (same (subst IsFalse e was) (sym image ∙ none))
+    let image : (host_state host).file.bytes ≡ bytes = ap (λ past. (host_state past).file.bytes) is ∙ has in
+    rw (ap (λ past. (host_state past).file.is_there) is) (same (subst IsFalse e was) (sym image ∙ none))
 after-absent (Err e) before there bytes tape is has same _ = tt
 
 -- the file of the host that is left has these bytes
 pub after-bytes : {E : Type 0} (result : Result Past E) (fill : Option ℕ) (call : ℕ) (past : Past) (bytes tape : List ℕ) → IfOk result (λ host. host ≡ fresh host.first tape) → IfOk result (λ host. (file_at_first host.first).bytes ≡ bytes)
-    → IsLeftWithin fill call past bytes → IfOk result (λ host. IsLeftWithin fill call past (state_of host).file.bytes)
-after-bytes (Ok host) fill call past bytes tape is same left = rw (ap (λ past. (state_of past).file.bytes) is ∙ same) left
+    → IsLeftWithin fill call past bytes → IfOk result (λ host. IsLeftWithin fill call past (host_state host).file.bytes)
+after-bytes (Ok host) fill call past bytes tape is same left = rw (ap (λ past. (host_state past).file.bytes) is ∙ same) left
 after-bytes (Err e) fill call past bytes tape is same left = tt

@@ -3,13 +3,15 @@ use Rattle.std.proofs.Common.{◌≡◌, ◌⊎◌, ℕ, Bool, true, false, List
 use Rattle.std.proofs.lemmas.List.{append-nil}
 use Rattle.mdc_outside.specs.Disk.{Since, IsTorn, IsUnsettled, Becomes, written, settled, opened}
 use Rattle.mdc_outside.specs.Outside.{Takes, TakesPart}
-use Rattle.mdc_outside.specs.Moments.{Elapses}
-use Rattle.mdc_outside.specs.Replay.{Past, State, state_of, beside_of, may_leave, step, after_done, after_failed, since_within, piece_within, called, attaches_in, with_attach, IsAnswered, IsSaid}
+use Rattle.mdc_outside.specs.Moments.{IsWithinCall, LeavesEachPart}
+use Rattle.mdc_words.specs.Time.{OverTime}
+use Rattle.mdc_words.proofs.TimeLemmas.{over_time_none}
+use Rattle.mdc_outside.specs.Replay.{Past, State, host_state, beside_of, may_leave, entry_step, after_done, after_failed, since_within, piece_within, called, attaches_in, with_attach, IsAnswered, IsSaid}
 use Rattle.mdc_outside.specs.ReplayLaws.{sound, image-torn}
 use Rattle.mdc_outside.specs.declared.call.Event.{Event}
 use Rattle.mdc_outside.specs.declared.call.Event.TheVariants.{Attach, Len, Read, Write, Sync, Say}
 use Rattle.mdc_outside.specs.declared.source.Failed.{Failed}
-use Rattle.mdc_outside.proofs.Replaying.{state-called, attaches-called, elapses-called, elapses-nothing}
+use Rattle.mdc_outside.proofs.Replaying.{state-called, attaches-called, over_time-called, over_time-with_disk_faults, over_time-with_say_faults, leaves_each-called}
 
 -- the call tears nothing and says nothing
 abbrev pub IsMild : Event → Type 0
@@ -44,8 +46,8 @@ on_err (Ok x) fact = tt
 on_err (Err e) fact = fact
 
 -- the file after a done call
-pub state-done : (event : Event) (old new : Past) → new ≡ called event true old → state_of new ≡ after_done event (state_of old)
-state-done event old new is = ap state_of is ∙ state-called event true old
+pub state-done : (event : Event) (old new : Past) → new ≡ called event true old → host_state new ≡ after_done event (host_state old)
+state-done event old new is = ap host_state is ∙ state-called event true old
 
 -- a failed call that tears nothing changes nothing
 mild-failed : (event : Event) (state : State) → IsMild event → after_failed event state ≡ state
@@ -57,12 +59,12 @@ mild-failed Sync state mild = refl
 mild-failed (Say piece) state mild = absurd mild
 
 -- the same of the host
-pub same-failed : (event : Event) (old new : Past) (e : Failed) → IsMild event → IsAnswered event (Err e) old new → state_of new ≡ state_of old
-same-failed event old new e mild (inl is) = ap state_of is ∙ (state-called event false old ∙ mild-failed event (state_of old) mild)
-same-failed event old new e mild (inr is) = ap state_of is
+pub same-failed : (event : Event) (old new : Past) (e : Failed) → IsMild event → IsAnswered event (Err e) old new → host_state new ≡ host_state old
+same-failed event old new e mild (inl is) = ap host_state is ∙ (state-called event false old ∙ mild-failed event (host_state old) mild)
+same-failed event old new e mild (inr is) = ap host_state is
 
 -- a call that only reads changes nothing
-pub same-read : (event : Event) (result : Result (Unit {0}) Failed) (old new : Past) → IsReading event → IsAnswered event result old new → state_of new ≡ state_of old
+pub same-read : (event : Event) (result : Result (Unit {0}) Failed) (old new : Past) → IsReading event → IsAnswered event result old new → host_state new ≡ host_state old
 same-read (Attach path make) result old new reading is = absurd reading
 same-read Len (Ok done) old new reading is = state-done Len old new is
 same-read Len (Err e) old new reading is = same-failed Len old new e tt is
@@ -84,24 +86,24 @@ same-attaches event (Err e) old new none (inl is) = ap (λ past. attaches_in pas
 same-attaches event (Err e) old new none (inr is) = ap (λ past. attaches_in past.entries) is
 
 -- a silent call keeps the tape
-silent-step : (event : Event) (done : Bool) (state : State) → IsSilent event → (step (record { event = event; done = done }) state).tape ≡ state.tape
-silent-step (Attach path make) true state silent = refl
-silent-step (Attach path make) false state silent = refl
-silent-step Len true state silent = refl
-silent-step Len false state silent = refl
-silent-step (Read at) true state silent = refl
-silent-step (Read at) false state silent = refl
-silent-step (Write at bytes) true state silent = refl
-silent-step (Write at bytes) false state silent = refl
-silent-step Sync true state silent = refl
-silent-step Sync false state silent = refl
-silent-step (Say piece) done state silent = absurd silent
+silent-entry_step : (event : Event) (done : Bool) (state : State) → IsSilent event → (entry_step (record { event = event; done = done }) state).tape ≡ state.tape
+silent-entry_step (Attach path make) true state silent = refl
+silent-entry_step (Attach path make) false state silent = refl
+silent-entry_step Len true state silent = refl
+silent-entry_step Len false state silent = refl
+silent-entry_step (Read at) true state silent = refl
+silent-entry_step (Read at) false state silent = refl
+silent-entry_step (Write at bytes) true state silent = refl
+silent-entry_step (Write at bytes) false state silent = refl
+silent-entry_step Sync true state silent = refl
+silent-entry_step Sync false state silent = refl
+silent-entry_step (Say piece) done state silent = absurd silent
 
 -- what lies beside the disk after a silent call
 silent-called : (event : Event) (done : Bool) (old : Past) → IsSilent event → beside_of (called event done old) ≡ beside_of old
 silent-called event done old silent =
-    let tape : (state_of (called event done old)).tape ≡ (state_of old).tape =
-    ap (λ state. state.tape) (state-called event done old) ∙ silent-step event done (state_of old) silent in
+    let tape : (host_state (called event done old)).tape ≡ (host_state old).tape =
+    ap (λ state. state.tape) (state-called event done old) ∙ silent-entry_step event done (host_state old) silent in
     ap (λ tape. record { tape = Some tape; say_faults = old.say_faults }) tape
 
 -- a silent call keeps what lies beside the disk
@@ -130,49 +132,50 @@ mild-piece (Say piece) mild = absurd mild
 
 -- over it there are the moments of the file as it was
 pub mild-time : (event : Event) (result : Result (Unit {0}) Failed) (old new : Past) → IsMild event → IsAnswered event result old new
-    → Elapses (Some (state_of old).file) (Some (state_of old).tape) [] (length old.entries) (length new.entries) (may_leave old) (may_leave new)
+    → OverTime (λ past. length past.entries) may_leave (IsWithinCall (Some (host_state old).file) (Some (host_state old).tape) []) old new
 mild-time event (Ok done) old new mild is =
-    rw is (elapses-called event true old (state_of old).file [] (mild-since event (state_of old).file.since mild) (mild-piece event mild))
+    rw is (over_time-called event true old (host_state old).file [] (mild-since event (host_state old).file.since mild) (mild-piece event mild))
 mild-time event (Err e) old new mild (inl is) =
-    rw is (elapses-called event false old (state_of old).file [] (mild-since event (state_of old).file.since mild) (mild-piece event mild))
-mild-time event (Err e) old new mild (inr is) = rw is (elapses-nothing old)
+    rw is (over_time-with_disk_faults new.disk_faults (over_time-called event false old (host_state old).file [] (mild-since event (host_state old).file.since mild) (mild-piece event mild)))
+mild-time event (Err e) old new mild (inr is) = rw is (over_time-with_disk_faults new.disk_faults over_time_none)
 
 -- after a sync that succeeded
-pub sync-settled : (result : Result (Unit {0}) Failed) (old new : Past) → IsAnswered Sync result old new → OnOk result (Some (state_of new).file ≡ Some (settled (state_of old).file))
+pub sync-settled : (result : Result (Unit {0}) Failed) (old new : Past) → IsAnswered Sync result old new → OnOk result (Some (host_state new).file ≡ Some (settled (host_state old).file))
 sync-settled (Ok done) old new is = ap (λ state. Some state.file) (state-done Sync old new is)
 sync-settled (Err e) old new is = tt
 
 -- after a sync that failed
-pub sync-unsettled : (result : Result (Unit {0}) Failed) (old new : Past) → IsAnswered Sync result old new → OnErr result (Becomes (Some (state_of old).file) IsUnsettled (Some (state_of new).file))
+pub sync-unsettled : (result : Result (Unit {0}) Failed) (old new : Past) → IsAnswered Sync result old new → OnErr result (Becomes (Some (host_state old).file) IsUnsettled (Some (host_state new).file))
 sync-unsettled (Ok done) old new is = tt
 sync-unsettled (Err e) old new is =
-    ((state_of old).file, ap (λ state. Some state.file) (same-failed Sync old new e tt is), ((state_of old).file.bytes, (sound old).image, refl))
+    ((host_state old).file, ap (λ state. Some state.file) (same-failed Sync old new e tt is), ((host_state old).file.bytes, (sound old).image, refl))
 
 -- after a write that succeeded
 pub write-written : (at : ℕ) (piece : List ℕ) (result : Result (Unit {0}) Failed) (old new : Past) → IsAnswered (Write at piece) result old new
-    → OnOk result (Some (state_of new).file ≡ Some (written at piece (state_of old).file))
+    → OnOk result (Some (host_state new).file ≡ Some (written at piece (host_state old).file))
 write-written at piece (Ok done) old new is = ap (λ state. Some state.file) (state-done (Write at piece) old new is)
 write-written at piece (Err e) old new is = tt
 
 -- after a write that failed
 pub write-torn : (at : ℕ) (piece : List ℕ) (result : Result (Unit {0}) Failed) (old new : Past) → IsAnswered (Write at piece) result old new
-    → OnErr result (Becomes (Some (state_of old).file) (λ old new. IsTorn at (length piece) old new ⊎ (new ≡ old)) (Some (state_of new).file))
+    → OnErr result (Becomes (Some (host_state old).file) (λ old new. IsTorn at (length piece) old new ⊎ (new ≡ old)) (Some (host_state new).file))
 write-torn at piece (Ok done) old new is = tt
 write-torn at piece (Err e) old new (inl is) = (
-  (after_failed (Write at piece) (state_of old)).file,
-  ap (λ state. Some state.file) (ap state_of is ∙ state-called (Write at piece) false old),
-  inl ((state_of old).file.bytes, image-torn (state_of old).file.since (state_of old).file.bytes at (length piece) (sound old).image, refl),
+  (after_failed (Write at piece) (host_state old)).file,
+  ap (λ state. Some state.file) (ap host_state is ∙ state-called (Write at piece) false old),
+  inl ((host_state old).file.bytes, image-torn (host_state old).file.since (host_state old).file.bytes at (length piece) (sound old).image, refl),
 )
-write-torn at piece (Err e) old new (inr is) = ((state_of old).file, ap (λ past. Some (state_of past).file) is, inr refl)
+write-torn at piece (Err e) old new (inr is) = ((host_state old).file, ap (λ past. Some (host_state past).file) is, inr refl)
 
 -- over a write there are the moments of the file as it is after it
 pub write-time : (at : ℕ) (piece : List ℕ) (result : Result (Unit {0}) Failed) (old new : Past) → IsAnswered (Write at piece) result old new
-    → Elapses (Some (state_of new).file) (Some (state_of old).tape) [] (length old.entries) (length new.entries) (may_leave old) (may_leave new)
+    → OverTime (λ past. length past.entries) may_leave (IsWithinCall (Some (host_state new).file) (Some (host_state old).tape) []) old new
 write-time at piece (Ok done) old new is =
-    rw is (elapses-called (Write at piece) true old (state_of (called (Write at piece) true old)).file [] (ap (λ state. state.file.since) (state-called (Write at piece) true old)) refl)
+    rw is (over_time-called (Write at piece) true old (host_state (called (Write at piece) true old)).file [] (ap (λ state. state.file.since) (state-called (Write at piece) true old)) refl)
 write-time at piece (Err e) old new (inl is) =
-    rw is (elapses-called (Write at piece) false old (state_of (called (Write at piece) false old)).file [] (ap (λ state. state.file.since) (state-called (Write at piece) false old)) refl)
-write-time at piece (Err e) old new (inr is) = rw is (elapses-nothing old)
+    rw is (over_time-with_disk_faults new.disk_faults
+    (over_time-called (Write at piece) false old (host_state (called (Write at piece) false old)).file [] (ap (λ state. state.file.since) (state-called (Write at piece) false old)) refl))
+write-time at piece (Err e) old new (inr is) = rw is (over_time-with_disk_faults new.disk_faults over_time_none)
 
 -- the attaches after an attach that was recorded
 attach-called : (path : List ℕ) (make done : Bool) (old : Past) → attaches_in (called (Attach path make) done old).entries ≡ attaches_in old.entries ++ (path, make) ∷ []
@@ -189,22 +192,22 @@ attach-listed_failed path make old new e (inl is) = inl (ap Some (ap (λ past. a
 attach-listed_failed path make old new e (inr is) = inr (ap (λ past. Some (attaches_in past.entries)) is)
 
 -- the tape after a say
-pub say-takes : (piece : List ℕ) (result : Result (Unit {0}) Failed) (old new : Past) → IsSaid piece result old new → OnOk result (Takes (Some (state_of old).tape) piece (Some (state_of new).tape))
+pub say-takes : (piece : List ℕ) (result : Result (Unit {0}) Failed) (old new : Past) → IsSaid piece result old new → OnOk result (Takes (Some (host_state old).tape) piece (Some (host_state new).tape))
 say-takes piece (Ok done) old new is = ap (λ state. Some state.tape) (state-done (Say piece) old new is)
 say-takes piece (Err e) old new is = tt
 
 -- the tape after a say that failed
-pub say-takes_part : (piece : List ℕ) (result : Result (Unit {0}) Failed) (old new : Past) → IsSaid piece result old new → OnErr result (TakesPart (Some (state_of old).tape) piece (Some (state_of new).tape))
+pub say-takes_part : (piece : List ℕ) (result : Result (Unit {0}) Failed) (old new : Past) → IsSaid piece result old new → OnErr result (TakesPart (Some (host_state old).tape) piece (Some (host_state new).tape))
 say-takes_part piece (Ok done) old new is = tt
 say-takes_part piece (Err e) old new (inl is) =
-    ([], piece, refl, ap (λ state. Some state.tape) (ap state_of is ∙ state-called (Say piece) false old) ∙ ap Some (sym (append-nil (state_of old).tape)))
-say-takes_part piece (Err e) old new (inr is) = ([], piece, refl, ap (λ past. Some (state_of past).tape) is ∙ ap Some (sym (append-nil (state_of old).tape)))
+    ([], piece, refl, ap (λ state. Some state.tape) (ap host_state is ∙ state-called (Say piece) false old) ∙ ap Some (sym (append-nil (host_state old).tape)))
+say-takes_part piece (Err e) old new (inr is) = ([], piece, refl, ap (λ past. Some (host_state past).tape) is ∙ ap Some (sym (append-nil (host_state old).tape)))
 
 -- a say keeps the file
-pub say-file : (piece : List ℕ) (result : Result (Unit {0}) Failed) (old new : Past) → IsSaid piece result old new → (state_of new).file ≡ (state_of old).file
+pub say-file : (piece : List ℕ) (result : Result (Unit {0}) Failed) (old new : Past) → IsSaid piece result old new → (host_state new).file ≡ (host_state old).file
 say-file piece (Ok done) old new is = ap (λ state. state.file) (state-done (Say piece) old new is)
-say-file piece (Err e) old new (inl is) = ap (λ state. state.file) (ap state_of is ∙ state-called (Say piece) false old)
-say-file piece (Err e) old new (inr is) = ap (λ past. (state_of past).file) is
+say-file piece (Err e) old new (inl is) = ap (λ state. state.file) (ap host_state is ∙ state-called (Say piece) false old)
+say-file piece (Err e) old new (inr is) = ap (λ past. (host_state past).file) is
 
 -- a say adds no attach
 pub say-attaches : (piece : List ℕ) (result : Result (Unit {0}) Failed) (old new : Past) → IsSaid piece result old new → attaches_in new.entries ≡ attaches_in old.entries
@@ -212,21 +215,29 @@ say-attaches piece (Ok done) old new is = ap (λ past. attaches_in past.entries)
 say-attaches piece (Err e) old new (inl is) = ap (λ past. attaches_in past.entries) is ∙ unadded (Say piece) false old refl
 say-attaches piece (Err e) old new (inr is) = ap (λ past. attaches_in past.entries) is
 
--- over a say there are the moments of each first part of its piece
+-- over a say there are at most the moments of each first part of its piece
 pub say-time : (piece : List ℕ) (result : Result (Unit {0}) Failed) (old new : Past) → IsSaid piece result old new
-    → OnOk result (Elapses (Some (state_of old).file) (Some (state_of old).tape) piece (length old.entries) (length new.entries) (may_leave old) (may_leave new))
-say-time piece (Ok done) old new is = rw is (elapses-called (Say piece) true old (state_of old).file piece refl refl)
-say-time piece (Err e) old new is = tt
+    → OverTime (λ past. length past.entries) may_leave (IsWithinCall (Some (host_state old).file) (Some (host_state old).tape) piece) old new
+say-time piece (Ok done) old new is = rw is (over_time-called (Say piece) true old (host_state old).file piece refl refl)
+say-time piece (Err e) old new (inl is) =
+    rw is (over_time-with_say_faults new.say_faults (over_time-called (Say piece) false old (host_state old).file piece refl refl))
+say-time piece (Err e) old new (inr is) = rw is (over_time-with_say_faults new.say_faults over_time_none)
 
--- the same after a fault, or there are none
-pub say-time_failed : (piece : List ℕ) (result : Result (Unit {0}) Failed) (old new : Past) → IsSaid piece result old new
-    → OnErr result (Elapses (Some (state_of old).file) (Some (state_of old).tape) piece (length old.entries) (length new.entries) (may_leave old) (may_leave new)
-    ⊎ Elapses (Some (state_of old).file) (Some (state_of old).tape) [] (length old.entries) (length new.entries) (may_leave old) (may_leave new))
-say-time_failed piece (Ok done) old new is = tt
-say-time_failed piece (Err e) old new (inl is) = inl (rw is (elapses-called (Say piece) false old (state_of old).file piece refl refl))
-say-time_failed piece (Err e) old new (inr is) = inr (rw is (elapses-nothing old))
+-- and each of them is there
+pub say-parts : (piece : List ℕ) (result : Result (Unit {0}) Failed) (old new : Past) → IsSaid piece result old new
+    → OnOk result (LeavesEachPart (Some (host_state old).file) (Some (host_state old).tape) piece (may_leave new (length old.entries)))
+say-parts piece (Ok done) old new is = rw is (leaves_each-called (Say piece) true old (host_state old).file piece refl refl)
+say-parts piece (Err e) old new is = tt
+
+-- after a fault too, or there are none
+pub say-parts_failed : (piece : List ℕ) (result : Result (Unit {0}) Failed) (old new : Past) → IsSaid piece result old new
+    → OnErr result (LeavesEachPart (Some (host_state old).file) (Some (host_state old).tape) piece (may_leave new (length old.entries))
+    ⊎ OverTime (λ past. length past.entries) may_leave (IsWithinCall (Some (host_state old).file) (Some (host_state old).tape) []) old new)
+say-parts_failed piece (Ok done) old new is = tt
+say-parts_failed piece (Err e) old new (inl is) = inl (rw is (leaves_each-called (Say piece) false old (host_state old).file piece refl refl))
+say-parts_failed piece (Err e) old new (inr is) = inr (rw is (over_time-with_say_faults new.say_faults over_time_none))
 
 -- the file after an attach that failed
 pub attach-file_failed : (path : List ℕ) (make : Bool) (old new : Past) (e : Failed) → IsAnswered (Attach path make) (Err e) old new
-    → Becomes (Some (state_of old).file) (λ old new. (new ≡ old) ⊎ (IsTrue make × (new ≡ opened old))) (Some (state_of new).file)
-attach-file_failed path make old new e is = ((state_of old).file, ap (λ state. Some state.file) (same-failed (Attach path make) old new e tt is), inl refl)
+    → Becomes (Some (host_state old).file) (λ old new. (new ≡ old) ⊎ (IsTrue make × (new ≡ opened old))) (Some (host_state new).file)
+attach-file_failed path make old new e is = ((host_state old).file, ap (λ state. Some state.file) (same-failed (Attach path make) old new e tt is), inl refl)

@@ -72,7 +72,7 @@ abbrev pub MayBeLeft : List ℕ → List Entry → List ℕ → Type 0
 MayBeLeft first entries bytes = (state : State) → state.file.bytes ≡ first → state.file.since ≡ all_synced first → IsImage (replay state entries).file.since bytes
 
 -- What a crash after these calls leaves: what was written up to a sync, and in the ranges written since what each holds.
-pub record IsLeft (fill : Option ℕ) (first : List ℕ) (entries : List Entry) (bytes : List ℕ) : Type 0 where
+pub record IsLeftByCalls (fill : Option ℕ) (first : List ℕ) (entries : List Entry) (bytes : List ℕ) : Type 0 where
   pub before : List Entry
   pub since : List Entry
   pub all : entries ≡ before ++ since
@@ -85,5 +85,5 @@ pub record IsLeftWithin (fill : Option ℕ) (call : ℕ) (past : Past) (bytes : 
   pub left : List ℕ
   pub entry : Entry
   pub is : slice_get past.entries (call - 1) ≡ Some entry
-  pub before : IsLeft fill (file_at_first past.first).bytes (take (call - 1) past.entries) left
+  pub before : IsLeftByCalls fill (file_at_first past.first).bytes (take (call - 1) past.entries) left
   pub torn : bytes ≡ torn_bytes fill left entry.event

@@ -48,10 +48,6 @@ pub record IsImage (since : Since) (image : List ℕ) : Type 0 where
   pub no_longer : length image ≤ since.longest
   pub kept : (i : ℕ) → i < length since.synced → IsInNone i since.ranges → slice_index image i ≡ slice_index since.synced i
 
--- the numbers are bytes
-abbrev pub AreBytes : List ℕ → Type 0
-AreBytes image = (i : ℕ) → slice_index image i < 256
-
 -- the bytes, with these in place of those from there on
 abbrev pub overwritten : ℕ → List ℕ → List ℕ → List ℕ
 overwritten at piece bytes = take at bytes ++ piece ++ drop (at + length piece) bytes

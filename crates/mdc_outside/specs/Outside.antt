@@ -1,9 +1,5 @@
--- What calls to the outside do to what it tells, and how faults are counted (docs/ARCHITECTURE.md, "The outside").
-use Rattle.std.specs.Prelude.{◌≡◌, ◌⊎◌, ◌<◌, ℕ, List, ◌++◌, Option, Some, None}
-
--- A count of faults rose. It is kept in 64 bits, and stands still at the last number.
-abbrev pub Rose : ℕ → ℕ → Type 0
-Rose before now = (before < now) ⊎ (before ≡ 18446744073709551615)
+-- What calls to the outside do to what it tells (docs/ARCHITECTURE.md, "The outside").
+use Rattle.std.specs.Prelude.{◌≡◌, ℕ, List, ◌++◌, Option, Some, None}
 
 -- where the bytes left are told, a piece came off their front; where they aren't, they stay untold
 abbrev pub Gives : Option (List ℕ) → List ℕ → Option (List ℕ) → Type 0

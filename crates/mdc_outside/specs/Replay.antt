@@ -50,20 +50,20 @@ after_failed Sync state = state
 after_failed (Say piece) state = state
 
 -- after the call
-abbrev pub step : Entry → State → State
-step entry state = if entry.done then after_done entry.event state else after_failed entry.event state
+abbrev pub entry_step : Entry → State → State
+entry_step entry state = if entry.done then after_done entry.event state else after_failed entry.event state
 
 -- after the calls, the first of them first
 abbrev pub replay : State → List Entry → State
 replay state [] = state
-replay state (entry ∷ entries) = replay (step entry state) entries
+replay state (entry ∷ entries) = replay (entry_step entry state) entries
 
 -- a crash within one of the calls, or after the last, may leave this
-abbrev pub Leaves : State → List Entry → List ℕ → List ℕ → Type 0
-Leaves state [] image tape = IsMoment state.file.since state.tape [] image tape
-Leaves state (entry ∷ entries) image tape =
+abbrev pub ReplayLeaves : State → List Entry → List ℕ → List ℕ → Type 0
+ReplayLeaves state [] image tape = IsMoment state.file.since state.tape [] image tape
+ReplayLeaves state (entry ∷ entries) image tape =
     IsMoment (since_within entry.event state.file.since) state.tape (piece_within entry.event) image tape
-    ⊎ Leaves (step entry state) entries image tape
+    ⊎ ReplayLeaves (entry_step entry state) entries image tape
 
 -- the attaches, with the path and `make` of this call if it is one
 abbrev pub with_attach : Event → List (List ℕ × Bool) → List (List ℕ × Bool)
@@ -94,8 +94,8 @@ abbrev pub at_first : Option (List ℕ) → List ℕ → State
 at_first first heard = record { file = file_at_first first; tape = heard }
 
 -- after the last call so far
-abbrev pub state_of : Past → State
-state_of past = replay (at_first past.first past.heard) past.entries
+abbrev pub host_state : Past → State
+host_state past = replay (at_first past.first past.heard) past.entries
 
 -- before the call of this number, counted from 1
 abbrev pub state_before : ℕ → Past → State
@@ -103,11 +103,11 @@ state_before call past = replay (at_first past.first past.heard) (take (call - 1
 
 -- what lies beside the disk
 abbrev pub beside_of : Past → Beside
-beside_of past = record { tape = Some (state_of past).tape; say_faults = past.say_faults }
+beside_of past = record { tape = Some (host_state past).tape; say_faults = past.say_faults }
 
 -- a crash since so many calls may leave this
 abbrev pub may_leave : Past → ℕ → List ℕ → List ℕ → Type 0
-may_leave past t image tape = Leaves (replay (at_first past.first past.heard) (take t past.entries)) (drop t past.entries) image tape
+may_leave past t image tape = ReplayLeaves (replay (at_first past.first past.heard) (take t past.entries)) (drop t past.entries) image tape
 
 -- a host that was made of this file and tape, with no call yet
 abbrev pub fresh : Option (List ℕ) → List ℕ → Past

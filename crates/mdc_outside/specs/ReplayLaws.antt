@@ -4,7 +4,8 @@ use Rattle.std.proofs.Math.Seq.{take-length, drop-length}
 use Rattle.std.proofs.lemmas.List.{append-nil, get_or_append_left, get_or-append_right}
 use Rattle.mdc_outside.specs.Disk.{Since, IsSound, IsImage, IsOutside, all_synced, file_at_first, torn, overwritten, settled}
 use Rattle.mdc_outside.specs.Moments.{IsMoment}
-use Rattle.mdc_outside.specs.Replay.{Past, State, state_of, at_first, may_leave, replay, step, after_done, after_failed, since_within, piece_within, Leaves}
+use Rattle.mdc_words.specs.Time.{ReachesBack}
+use Rattle.mdc_outside.specs.Replay.{Past, State, host_state, at_first, may_leave, replay, entry_step, after_done, after_failed, since_within, piece_within, ReplayLeaves}
 use Rattle.mdc_outside.specs.declared.call.Event.{Event}
 use Rattle.mdc_outside.specs.declared.call.Event.TheVariants.{Attach, Len, Read, Write, Sync, Say}
 use Rattle.mdc_outside.specs.declared.call.Entry.{Entry}
@@ -85,14 +86,14 @@ sound-failed Sync state is = is
 sound-failed (Say piece) state is = is
 
 -- a call keeps a file sound
-pub sound-step : (event : Event) (done : Bool) (state : State) → IsSound state.file → IsSound (step (record { event = event; done = done }) state).file
-sound-step event true state is = sound-done event state is
-sound-step event false state is = sound-failed event state is
+pub sound-entry_step : (event : Event) (done : Bool) (state : State) → IsSound state.file → IsSound (entry_step (record { event = event; done = done }) state).file
+sound-entry_step event true state is = sound-done event state is
+sound-entry_step event false state is = sound-failed event state is
 
 -- calls keep a file sound
 pub sound-replay : (state : State) (entries : List Entry) → IsSound state.file → IsSound (replay state entries).file
 sound-replay state [] is = is
-sound-replay state (entry ∷ entries) is = sound-replay (step entry state) entries (sound-step entry.event entry.done state is)
+sound-replay state (entry ∷ entries) is = sound-replay (entry_step entry state) entries (sound-entry_step entry.event entry.done state is)
 
 -- the file that a disk has at first is sound
 pub sound-first : (first : Option (List ℕ)) → IsSound (file_at_first first)
@@ -100,31 +101,31 @@ sound-first None = record { image = image-synced []; absent = λ no. refl }
 sound-first (Some bytes) = record { image = image-synced bytes; absent = λ no. cc }
 
 -- the file is one that a crash may leave as it reads
-pub sound : (past : Past) → IsSound (state_of past).file
+pub sound : (past : Past) → IsSound (host_state past).file
 sound past = sound-replay (at_first past.first past.heard) past.entries (sound-first past.first)
 
 -- since the last call there is what may be left now
-pub only_now : (past : Past) (image tape : List ℕ) → may_leave past (length past.entries) image tape ↔ IsMoment (state_of past).file.since (state_of past).tape [] image tape
+pub only_now : (past : Past) (image tape : List ℕ) → may_leave past (length past.entries) image tape ↔ IsMoment (host_state past).file.since (host_state past).tape [] image tape
 only_now past image tape = rw (take-length past.entries, drop-length past.entries) (λ may. may, λ may. may)
 
 -- what may be left after some of the calls may be left since the first
-earlier_than : (state : State) (entries : List Entry) (t : ℕ) (image tape : List ℕ) → Leaves (replay state (take t entries)) (drop t entries) image tape → Leaves state entries image tape
+earlier_than : (state : State) (entries : List Entry) (t : ℕ) (image tape : List ℕ) → ReplayLeaves (replay state (take t entries)) (drop t entries) image tape → ReplayLeaves state entries image tape
 earlier_than state [] zero image tape may = may
 earlier_than state [] (suc t) image tape may = may
 earlier_than state (entry ∷ entries) zero image tape may = may
-earlier_than state (entry ∷ entries) (suc t) image tape may = inr (earlier_than (step entry state) entries t image tape may)
+earlier_than state (entry ∷ entries) (suc t) image tape may = inr (earlier_than (entry_step entry state) entries t image tape may)
 
 -- what may be left since a call may be left since an earlier one
-earlier_since : (state : State) (entries : List Entry) (s t : ℕ) (image tape : List ℕ) → s ≤ t → Leaves (replay state (take t entries)) (drop t entries) image tape → Leaves (replay state (take s entries)) (drop s entries) image tape
+earlier_since : (state : State) (entries : List Entry) (s t : ℕ) (image tape : List ℕ) → s ≤ t → ReplayLeaves (replay state (take t entries)) (drop t entries) image tape → ReplayLeaves (replay state (take s entries)) (drop s entries) image tape
 earlier_since state [] zero t image tape le may = earlier_than state [] t image tape may
 earlier_since state [] (suc s) zero image tape le may = may
 earlier_since state [] (suc s) (suc t) image tape le may = may
 earlier_since state (entry ∷ entries) zero t image tape le may = earlier_than state (entry ∷ entries) t image tape may
 earlier_since state (entry ∷ entries) (suc s) zero image tape le may = absurd (omega arith)
-earlier_since state (entry ∷ entries) (suc s) (suc t) image tape le may = earlier_since (step entry state) entries s t image tape (omega arith) may
+earlier_since state (entry ∷ entries) (suc s) (suc t) image tape le may = earlier_since (entry_step entry state) entries s t image tape (omega arith) may
 
 -- the moments since a time are among those since an earlier one
-pub earlier : (past : Past) (s t : ℕ) (image tape : List ℕ) → s ≤ t → t ≤ length past.entries → may_leave past t image tape → may_leave past s image tape
+pub earlier : (past : Past) → ReachesBack (λ past. length past.entries) may_leave past
 earlier past s t image tape le within may = earlier_since (at_first past.first past.heard) past.entries s t image tape le may
 
 -- nothing is a first part of nothing
@@ -138,10 +139,10 @@ before_call : (event : Event) (state : State) (image tape : List ℕ) → IsMome
 before_call (Attach path make) state image tape m = m
 before_call Len state image tape m = m
 before_call (Read at) state image tape m = m
-before_call (Write at bytes) state image tape m = record { left = image-torn state.file.since image at (length bytes) m.left; byte = m.byte; said = m.said }
+before_call (Write at bytes) state image tape m = record { left = image-torn state.file.since image at (length bytes) m.left; said = m.said }
 before_call Sync state image tape m = m
 before_call (Say piece) state image tape m =
-    record { left = m.left; byte = m.byte; said = ([], piece, refl, m.said.3 ∙ ap (λ part. state.tape ++ part) (part-nil m.said.0 m.said.1 m.said.2)) }
+    record { left = m.left; said = ([], piece, refl, m.said.3 ∙ ap (λ part. state.tape ++ part) (part-nil m.said.0 m.said.1 m.said.2)) }
 
 -- what may be left after a call that was done may be left within it
 after_done_call : (event : Event) (state : State) (image tape : List ℕ) → IsImage state.file.since state.file.bytes
@@ -151,10 +152,10 @@ after_done_call (Attach path make) state image tape was m = m
 after_done_call Len state image tape was m = m
 after_done_call (Read at) state image tape was m = m
 after_done_call (Write at bytes) state image tape was m = m
-after_done_call Sync state image tape was m = record { left = image-before_sync state.file.since state.file.bytes image was m.left; byte = m.byte; said = m.said }
+after_done_call Sync state image tape was m = record { left = image-before_sync state.file.since state.file.bytes image was m.left; said = m.said }
 after_done_call (Say piece) state image tape was m =
     let none = part-nil m.said.0 m.said.1 m.said.2 in
-    record { left = m.left; byte = m.byte; said = (piece, [], sym (append-nil piece), m.said.3 ∙ (ap (λ part. state.tape ++ piece ++ part) none ∙ append-nil (state.tape ++ piece))) }
+    record { left = m.left; said = (piece, [], sym (append-nil piece), m.said.3 ∙ (ap (λ part. state.tape ++ piece ++ part) none ∙ append-nil (state.tape ++ piece))) }
 
 -- what may be left after a call that failed may be left within it
 after_failed_call : (event : Event) (state : State) (image tape : List ℕ)
@@ -169,31 +170,31 @@ after_failed_call (Say piece) state image tape m = before_call (Say piece) state
 
 -- what may be left after a call may be left within it
 after_call : (event : Event) (done : Bool) (state : State) (image tape : List ℕ) → IsImage state.file.since state.file.bytes
-    → IsMoment (step (record { event = event; done = done }) state).file.since (step (record { event = event; done = done }) state).tape [] image tape
+    → IsMoment (entry_step (record { event = event; done = done }) state).file.since (entry_step (record { event = event; done = done }) state).tape [] image tape
     → IsMoment (since_within event state.file.since) state.tape (piece_within event) image tape
 after_call event true state image tape was m = after_done_call event state image tape was m
 after_call event false state image tape was m = after_failed_call event state image tape m
 
 -- one more call adds what may be left within it, and nothing else
 leaves_grown : (state : State) (entries : List Entry) (entry : Entry) (image tape : List ℕ) → IsSound state.file
-    → Leaves state (entries ++ entry ∷ []) image tape
-    ↔ (Leaves state entries image tape ⊎ IsMoment (since_within entry.event (replay state entries).file.since) (replay state entries).tape (piece_within entry.event) image tape)
+    → ReplayLeaves state (entries ++ entry ∷ []) image tape
+    ↔ (ReplayLeaves state entries image tape ⊎ IsMoment (since_within entry.event (replay state entries).file.since) (replay state entries).tape (piece_within entry.event) image tape)
 leaves_grown state [] entry image tape is = (
   elim [ inl within ↦ inr within | inr now ↦ inr (after_call entry.event entry.done state image tape is.image now) ],
   elim [ inl now ↦ inl (before_call entry.event state image tape now) | inr within ↦ inl within ],
 )
 leaves_grown state (first ∷ entries) entry image tape is =
-    let rest = leaves_grown (step first state) entries entry image tape (sound-step first.event first.done state is) in (
+    let rest = leaves_grown (entry_step first state) entries entry image tape (sound-entry_step first.event first.done state is) in (
       elim [ inl within ↦ inl (inl within) | inr more ↦ elim (rest.0 more) [ inl old ↦ inl (inr old) | inr new ↦ inr new ] ],
       elim [ inl old ↦ elim old [ inl within ↦ inl within | inr more ↦ inr (rest.1 (inl more)) ] | inr new ↦ inr (rest.1 (inr new)) ],
     )
 
 -- the same since each time
 pub leaves_grown_since : (state : State) (entries : List Entry) (entry : Entry) (t : ℕ) (image tape : List ℕ) → IsSound state.file → t ≤ length entries
-    → Leaves (replay state (take t (entries ++ entry ∷ []))) (drop t (entries ++ entry ∷ [])) image tape
-    ↔ (Leaves (replay state (take t entries)) (drop t entries) image tape ⊎ IsMoment (since_within entry.event (replay state entries).file.since) (replay state entries).tape (piece_within entry.event) image tape)
+    → ReplayLeaves (replay state (take t (entries ++ entry ∷ []))) (drop t (entries ++ entry ∷ [])) image tape
+    ↔ (ReplayLeaves (replay state (take t entries)) (drop t entries) image tape ⊎ IsMoment (since_within entry.event (replay state entries).file.since) (replay state entries).tape (piece_within entry.event) image tape)
 leaves_grown_since state [] entry zero image tape is le = leaves_grown state [] entry image tape is
 leaves_grown_since state [] entry (suc t) image tape is le = absurd (omega arith)
 leaves_grown_since state (first ∷ entries) entry zero image tape is le = leaves_grown state (first ∷ entries) entry image tape is
 leaves_grown_since state (first ∷ entries) entry (suc t) image tape is le =
-    leaves_grown_since (step first state) entries entry t image tape (sound-step first.event first.done state is) (omega arith)
+    leaves_grown_since (entry_step first state) entries entry t image tape (sound-entry_step first.event first.done state is) (omega arith)

@@ -1,7 +1,7 @@
 // What a crash in the midst of recorded calls leaves.
 ghost use Rattle.std.specs.Prelude.{◌≡◌, ◌≤◌, ◌||◌, ℕ, true, length, take, drop, fold, ◌∷◌, [], IsTrue, IsFalse, IfOk, OnOk};
 ghost use Rattle.std.specs.List.{list_any};
-ghost use Rattle.mdc_outside.specs.Aftermath.{filled, torn_by, torn_bytes, bytes_after, tape_after, EndsSynced, PutsNothing, MayBeLeft, IsLeft, makes_file};
+ghost use Rattle.mdc_outside.specs.Aftermath.{filled, torn_by, torn_bytes, bytes_after, tape_after, EndsSynced, PutsNothing, MayBeLeft, IsLeftByCalls, makes_file};
 ghost use Rattle.mdc_outside.specs.declared.call.Event.TheVariants.{Sync};
 
 use crate::call::{Entry, Event};
@@ -16,7 +16,7 @@ pub fn left_after(
     calls: &[Entry],
     fill: Option<u8>,
 ) -> Result<Vec<u8>, AllocError>
-    ensures left { IfOk result (λ bytes. IsLeft fill first.now calls.now bytes.items) }
+    ensures left { IfOk result (λ bytes. IsLeftByCalls fill first.now calls.now bytes.items) }
     ensures allowed { IfOk result (λ bytes. MayBeLeft first.now calls.now bytes.items) }
 {
     let (before, since) = calls.split_at(synced_calls(calls));

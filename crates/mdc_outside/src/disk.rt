@@ -1,8 +1,10 @@
 // The disk beneath the engine: one file, and what a crash may leave of it at each moment.
-ghost use Rattle.std.specs.Prelude.{◌≡◌, ◌⊎◌, ◌↔◌, ◌≤◌, ◌+◌, [], ℕ, Bool, false, List, Option, take, drop, length, IsTrue, IfOk, IfSome, OnOk, OnErr};
+ghost use Rattle.std.specs.Prelude.{◌≡◌, ◌⊎◌, ◌↔◌, ◌≤◌, ◌+◌, [], ℕ, Bool, false, List, Option, take, drop, length, IsErr, IsTrue, IfOk, IfSome, OnOk, OnErr};
 ghost use Rattle.std.specs.Option.{option_map, ForSome};
 ghost use Rattle.mdc_outside.specs.Disk.{File, IsSound, Becomes, IsTorn, IsUnsettled, opened, written, settled};
-ghost use Rattle.mdc_outside.specs.Moments.{Beside, IsMoment, WhereTold, Elapses, HasCause, Adds};
+ghost use Rattle.mdc_outside.specs.Moments.{Beside, IsMoment, WhereTold, IsWithinCall, Adds};
+ghost use Rattle.mdc_words.specs.Faults.{CountsFault};
+ghost use Rattle.mdc_words.specs.Time.{OverTime, ReachesBack};
 
 use crate::Failed;
 
@@ -22,7 +24,7 @@ pub trait Disk {
     /// Whether a file is attached.
     ghost is_attached: { Self → Bool };
 
-    /// How many calls of the disk have failed. It never falls.
+    /// How many calls of the disk have failed. It never falls, and only a call that fails adds to it.
     ghost disk_faults: { Self → ℕ };
 
     /// The time. It never falls, and goes on over the calls of the disk and of what lies beside it.
@@ -42,8 +44,8 @@ pub trait Disk {
         // A disk whose memory runs out can't add to what it tells.
         ensures listed_failed { OnErr result (Adds (attaches self.old) (path.now, make) (attaches self.new) ⊎ (attaches self.new ≡ attaches self.old)) }
         ensures beside { beside self.new ≡ beside self.old }
-        ensures cause { HasCause result (disk_faults self.old) (disk_faults self.new) }
-        ensures time { Elapses (file self.old) (beside self.old).tape [] (clock self.old) (clock self.new) (moment self.old) (moment self.new) };
+        ensures cause { CountsFault (IsErr result) (disk_faults self.old) (disk_faults self.new) }
+        ensures time { OverTime clock moment (IsWithinCall (file self.old) (beside self.old).tape []) self.old self.new };
 
     /// Answers the length.
     fn len(&mut self) -> Result<u64, Failed>
@@ -53,8 +55,8 @@ pub trait Disk {
         ensures attached { is_attached self.new ≡ is_attached self.old }
         ensures listed { attaches self.new ≡ attaches self.old }
         ensures beside { beside self.new ≡ beside self.old }
-        ensures cause { HasCause result (disk_faults self.old) (disk_faults self.new) }
-        ensures time { Elapses (file self.old) (beside self.old).tape [] (clock self.old) (clock self.new) (moment self.old) (moment self.new) };
+        ensures cause { CountsFault (IsErr result) (disk_faults self.old) (disk_faults self.new) }
+        ensures time { OverTime clock moment (IsWithinCall (file self.old) (beside self.old).tape []) self.old self.new };
 
     /// Fills `out` with the bytes from a place on.
     fn read(&mut self, at: u64, out: &mut [u8]) -> Result<(), Failed>
@@ -65,8 +67,8 @@ pub trait Disk {
         ensures attached { is_attached self.new ≡ is_attached self.old }
         ensures listed { attaches self.new ≡ attaches self.old }
         ensures beside { beside self.new ≡ beside self.old }
-        ensures cause { HasCause result (disk_faults self.old) (disk_faults self.new) }
-        ensures time { Elapses (file self.old) (beside self.old).tape [] (clock self.old) (clock self.new) (moment self.old) (moment self.new) };
+        ensures cause { CountsFault (IsErr result) (disk_faults self.old) (disk_faults self.new) }
+        ensures time { OverTime clock moment (IsWithinCall (file self.old) (beside self.old).tape []) self.old self.new };
 
     /// Writes over what is there, and past the end. After `Failed` what was written since the last sync may hold any
     /// bytes until a sync succeeds, or the call came to nothing.
@@ -78,9 +80,9 @@ pub trait Disk {
         ensures attached { is_attached self.new ≡ is_attached self.old }
         ensures listed { attaches self.new ≡ attaches self.old }
         ensures beside { beside self.new ≡ beside self.old }
-        ensures cause { HasCause result (disk_faults self.old) (disk_faults self.new) }
+        ensures cause { CountsFault (IsErr result) (disk_faults self.old) (disk_faults self.new) }
         // The file has the new range after it.
-        ensures time { Elapses (file self.new) (beside self.old).tape [] (clock self.old) (clock self.new) (moment self.old) (moment self.new) };
+        ensures time { OverTime clock moment (IsWithinCall (file self.new) (beside self.old).tape []) self.old self.new };
 
     /// After it, a crash leaves what a read gives. After `Failed` what was written since the last sync may hold any
     /// bytes.
@@ -91,8 +93,8 @@ pub trait Disk {
         ensures attached { is_attached self.new ≡ is_attached self.old }
         ensures listed { attaches self.new ≡ attaches self.old }
         ensures beside { beside self.new ≡ beside self.old }
-        ensures cause { HasCause result (disk_faults self.old) (disk_faults self.new) }
-        ensures time { Elapses (file self.old) (beside self.old).tape [] (clock self.old) (clock self.new) (moment self.old) (moment self.new) };
+        ensures cause { CountsFault (IsErr result) (disk_faults self.old) (disk_faults self.new) }
+        ensures time { OverTime clock moment (IsWithinCall (file self.old) (beside self.old).tape []) self.old self.new };
 
     /// The file is one that a crash may leave as it reads.
     ghost sound: { (disk : Self) → IfSome (file disk) IsSound };
@@ -102,5 +104,5 @@ pub trait Disk {
         → moment disk (clock disk) image tape ↔ IsMoment file.since said [] image tape) };
 
     /// What a crash may leave since a time, it may leave since an earlier one.
-    ghost earlier: { (disk : Self) (s t : ℕ) (image tape : List ℕ) → s ≤ t → t ≤ clock disk → moment disk t image tape → moment disk s image tape };
+    ghost earlier: { (disk : Self) → ReachesBack clock moment disk };
 }

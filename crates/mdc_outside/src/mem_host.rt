@@ -1,10 +1,11 @@
 // A host in memory, for tests.
-ghost use Rattle.std.specs.Prelude.{◌≡◌, ◌≢◌, ◌≤◌, ◌-◌, slice_get, ◌++◌, ◌∷◌, [], true, false, Ok, Some, length, IsTrue, IsFalse, IfOk, OnOk, OnErr, vec_items};
+ghost use Rattle.std.specs.Prelude.{◌≡◌, ◌≢◌, ◌≤◌, ◌-◌, slice_get, ◌++◌, ◌∷◌, [], true, false, Ok, Some, length, IsErr, IsTrue, IsFalse, IfOk, OnOk, OnErr, vec_items};
 ghost use Rattle.std.specs.Option.{option_map};
 
 use crate::call::{Call, Entry, Event};
 use crate::{Disk, Failed, Host, aftermath, contents};
 use mdc_values::{Chars, Memory};
+use mdc_words::count_fault;
 use std::alloc::Global;
 use std::marker::Model;
 
@@ -46,17 +47,24 @@ impl Model for MemHost {
 }
 
 impl MemHost {
-    ghost use Rattle.mdc_outside.specs.Moments.{HasCause, WhereTold};
+    ghost use Rattle.mdc_outside.specs.Moments.{WhereTold};
+    ghost use Rattle.mdc_words.specs.Faults.{CountsFault};
     ghost use Rattle.mdc_outside.specs.Calls.{call_of};
-    ghost use Rattle.mdc_outside.specs.Disk.{file_at_first, AreBytes};
+    ghost use Rattle.mdc_outside.specs.Disk.{file_at_first};
     ghost use Rattle.mdc_outside.specs.Aftermath.{IsLeftWithin};
     ghost use Rattle.mdc_outside.specs.Points.{IsLeftAt};
-    ghost use Rattle.mdc_outside.specs.Replay.{state_of, state_before, fresh, with_disk_faults, with_file, IsQuiet, IsRecorded, IsAnswered, IsSaid};
+    ghost use Rattle.mdc_outside.specs.Replay.{host_state, state_before, fresh, with_disk_faults, with_file, IsQuiet, IsRecorded, IsAnswered, IsSaid};
     ghost use Rattle.mdc_outside.specs.declared.call.Event.TheVariants.{Attach, Len, Read, Write, Sync, Say};
 
-    /// A host with an empty tape and one file, or none.
+    /// A host with an empty tape and one file, all of it on the disk, or none. Nothing is attached, and no call counted.
     pub fn new(alloc: Global, file: Option<Vec<u8>>, fails: Vec<u64>) -> MemHost
+        ensures file { ⟦<MemHost as Disk>⟧.file result ≡ Some (file_at_first (option_map vec_items file)) }
         ensures tape { ⟦<MemHost as Host>⟧.tape result ≡ Some [] }
+        ensures listed { ⟦<MemHost as Disk>⟧.attaches result ≡ Some [] }
+        ensures detached { ⟦<MemHost as Disk>⟧.is_attached result ≡ false }
+        ensures disk_count { ⟦<MemHost as Disk>⟧.disk_faults result ≡ 0 }
+        ensures say_count { ⟦<MemHost as Host>⟧.say_faults result ≡ 0 }
+        ensures clock { ⟦<MemHost as Disk>⟧.clock result ≡ 0 }
         ensures fresh { result ≡ fresh (option_map vec_items file) [] }
     {
         MemHost {
@@ -107,12 +115,12 @@ impl MemHost {
         requires last { call ≤ ⟦<MemHost as Disk>⟧.clock self.now }
         ensures fresh { IfOk result (λ host. host ≡ fresh host.first host.heard) }
         ensures tape { IfOk result (λ host. host.heard ≡ (state_before call self.now).tape) }
-        ensures there { IfOk result (λ host. IsTrue (state_before call self.now).file.is_there → IsTrue (state_of host).file.is_there) }
-        ensures absent { IfOk result (λ host. IsFalse (state_before call self.now).file.is_there → (state_of host).file.bytes ≡ [] → IsFalse (state_of host).file.is_there) }
-        ensures bytes { IfOk result (λ host. IsLeftWithin fill call self.now (state_of host).file.bytes) }
+        ensures there { IfOk result (λ host. IsTrue (state_before call self.now).file.is_there → IsTrue (host_state host).file.is_there) }
+        ensures absent { IfOk result (λ host. IsFalse (state_before call self.now).file.is_there → (host_state host).file.bytes ≡ [] → IsFalse (host_state host).file.is_there) }
+        ensures bytes { IfOk result (λ host. IsLeftWithin fill call self.now (host_state host).file.bytes) }
         ensures moment { IfOk result (λ host. WhereTold (⟦<MemHost as Disk>⟧.file host) (⟦<MemHost as Disk>⟧.beside host).tape
             (λ file tape. ⟦<MemHost as Disk>⟧.moment self.now (call - 1) file.bytes tape)) }
-        ensures within { IfOk result (λ host. IsLeftAt self.now (call - 1) (state_of host).file.bytes (state_of host).tape) }
+        ensures within { IfOk result (λ host. IsLeftAt self.now (call - 1) (host_state host).file.bytes (host_state host).tape) }
     {
         let n = call as usize - 1;
         let (before, _) = self.entries.split_at(n);
@@ -133,7 +141,6 @@ impl MemHost {
     ) -> Result<MemHost, Memory>
         ensures fresh { IfOk result (λ host. host ≡ fresh host.first tape.items) }
         ensures bytes { IfOk result (λ host. (file_at_first host.first).bytes ≡ bytes.items) }
-        ensures range { AreBytes bytes.items }
         ensures there { IfOk result (λ host. IsTrue was_there → IsTrue (file_at_first host.first).is_there) }
         ensures absent { IfOk result (λ host. IsFalse was_there → bytes.items ≡ [] → IsFalse (file_at_first host.first).is_there) }
     {
@@ -157,7 +164,7 @@ impl MemHost {
 
     // Lends the bytes of the file.
     fn bytes(&self) -> &[u8]
-        ensures { result.now ≡ (state_of self.now).file.bytes }
+        ensures { result.now ≡ (host_state self.now).file.bytes }
     {
         contents::bytes_of(&self.first, &self.changed)
     }
@@ -174,12 +181,12 @@ impl MemHost {
     fn answer(&mut self, outcome: Result<bool, Memory>) -> Result<(), Failed>
         ensures ok { OnOk result ((outcome ≡ Ok true) × (self.new ≡ self.old)) }
         ensures err { OnErr result ((outcome ≢ Ok true) × (self.new ≡ with_disk_faults self.new.disk_faults self.old)) }
-        ensures cause { HasCause result self.old.disk_faults self.new.disk_faults }
+        ensures cause { CountsFault (IsErr result) self.old.disk_faults self.new.disk_faults }
     {
         if let Ok(true) = outcome {
             return Ok(());
         }
-        self.disk_faults = self.disk_faults.saturating_add(1);
+        count_fault(&mut self.disk_faults);
         Err(Failed)
     }
 
@@ -187,7 +194,7 @@ impl MemHost {
     fn note(&mut self, event: Event) -> Result<(), Failed>
         requires { IsQuiet event }
         ensures answer { IsAnswered event result self.old self.new }
-        ensures cause { HasCause result self.old.disk_faults self.new.disk_faults }
+        ensures cause { CountsFault (IsErr result) self.old.disk_faults self.new.disk_faults }
     {
         let done = self.begin();
         let outcome = self.try_note(event, done);
@@ -207,8 +214,8 @@ impl MemHost {
     // Makes an attach.
     fn open(&mut self, path: &str, make: bool) -> Result<(), Failed>
         ensures answer { IsAnswered (Attach path.now make) result self.old self.new }
-        ensures there { OnOk result (make ≡ false → IsTrue (state_of self.old).file.is_there) }
-        ensures cause { HasCause result self.old.disk_faults self.new.disk_faults }
+        ensures there { OnOk result (make ≡ false → IsTrue (host_state self.old).file.is_there) }
+        ensures cause { CountsFault (IsErr result) self.old.disk_faults self.new.disk_faults }
     {
         let done = self.begin() && (make || self.is_there);
         let outcome = self.try_open(path, make, done);
@@ -236,9 +243,9 @@ impl MemHost {
 
     // Makes a write.
     fn put(&mut self, at: u64, bytes: &[u8]) -> Result<(), Failed>
-        requires { at ≤ length (state_of self.old).file.bytes }
+        requires { at ≤ length (host_state self.old).file.bytes }
         ensures answer { IsAnswered (Write at bytes.now) result self.old self.new }
-        ensures cause { HasCause result self.old.disk_faults self.new.disk_faults }
+        ensures cause { CountsFault (IsErr result) self.old.disk_faults self.new.disk_faults }
     {
         let done = self.begin();
         let outcome = self.try_write(at, bytes, done);
@@ -247,7 +254,7 @@ impl MemHost {
 
     // Records a write, and writes the bytes where it is done.
     fn try_write(&mut self, at: u64, bytes: &[u8], done: bool) -> Result<bool, Memory>
-        requires { at ≤ length (state_of self.old).file.bytes }
+        requires { at ≤ length (host_state self.old).file.bytes }
         ensures recorded { IsRecorded (Write at bytes.now) result self.old self.new }
         ensures done { IfOk result (λ recorded. recorded ≡ done) }
     {
@@ -270,13 +277,13 @@ impl MemHost {
     // Makes a say.
     fn utter(&mut self, bytes: &[u8]) -> Result<(), Failed>
         ensures said { IsSaid bytes.now result self.old self.new }
-        ensures cause { HasCause result self.old.say_faults self.new.say_faults }
+        ensures cause { CountsFault (IsErr result) self.old.say_faults self.new.say_faults }
     {
         let done = self.begin();
         if let Ok(true) = self.try_say(bytes, done) {
             return Ok(());
         }
-        self.say_faults = self.say_faults.saturating_add(1);
+        count_fault(&mut self.say_faults);
         Err(Failed)
     }
 
@@ -296,10 +303,10 @@ impl MemHost {
 }
 
 impl Disk for MemHost {
-    ghost use Rattle.mdc_outside.specs.Replay.{state_of, beside_of, may_leave, attaches_in};
+    ghost use Rattle.mdc_outside.specs.Replay.{host_state, beside_of, may_leave, attaches_in};
     ghost use Rattle.mdc_outside.specs.ReplayLaws.{sound, only_now, earlier};
 
-    ghost file = { λ host. Some (state_of host).file };
+    ghost file = { λ host. Some (host_state host).file };
 
     ghost beside = { beside_of };
 
@@ -347,9 +354,9 @@ impl Disk for MemHost {
 
 impl Host for MemHost {
     ghost use Rattle.std.specs.Prelude.{refl};
-    ghost use Rattle.mdc_outside.specs.Replay.{state_of};
+    ghost use Rattle.mdc_outside.specs.Replay.{host_state};
 
-    ghost tape = { λ host. Some (state_of host).tape };
+    ghost tape = { λ host. Some (host_state host).tape };
 
     ghost say_faults = { λ host. host.say_faults };
 

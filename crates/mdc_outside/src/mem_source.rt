@@ -2,6 +2,7 @@
 ghost use Rattle.std.specs.Prelude.{◌≡◌, ◌≤◌, ◌<◌, [], ℕ, List, Some, drop, take, length};
 
 use crate::{Failed, Source};
+use mdc_words::count_fault;
 
 /// A source that keeps its script in memory. It gives at most `step` bytes a read, and fails the reads whose numbers,
 /// counted from 1, stand in `fails`.
@@ -18,10 +19,11 @@ pub struct MemSource {
 }
 
 impl MemSource {
-    /// A source with all of the bytes left.
+    /// A source with all of the bytes left, and no fault counted.
     pub fn new(bytes: Vec<u8>, step: usize, fails: Vec<u64>) -> MemSource
         requires { 0 < step }
-        ensures { ⟦<MemSource as Source>⟧.left result ≡ Some bytes.items }
+        ensures left { ⟦<MemSource as Source>⟧.left result ≡ Some bytes.items }
+        ensures count { ⟦<MemSource as Source>⟧.read_faults result ≡ 0 }
     {
         MemSource {
             bytes,
@@ -42,7 +44,7 @@ impl Source for MemSource {
     fn read(&mut self, out: &mut [u8]) -> Result<usize, Failed> {
         self.calls = self.calls.saturating_add(1);
         if self.fails.contains(&self.calls) {
-            self.faults = self.faults.saturating_add(1);
+            count_fault(&mut self.faults);
             return Err(Failed);
         }
         let (_, rest) = self.bytes.as_slice().split_at(self.at);

@@ -1,6 +1,7 @@
 // Where a script comes from.
 ghost use Rattle.std.specs.Prelude.{◌<◌, ◌≤◌, ◌≡◌, ℕ, List, [], Option, length, take, IfOk, IfSome, OnOk, OnErr};
-ghost use Rattle.mdc_outside.specs.Outside.{Rose, Gives};
+ghost use Rattle.mdc_outside.specs.Outside.{Gives};
+ghost use Rattle.mdc_words.specs.Faults.{Rose};
 
 /// A call to the outside that failed. The count of faults of the object that was called rose.
 #[derive(Clone, Copy, Debug, PartialEq, Eq)]

@@ -1,6 +1,6 @@
 -- Lists of values that are there only if no earlier element is at fault, as a loop makes them.
 use Rattle.std.proofs.Common.{List, ◌++◌, Result, Ok, Err}
-use Rattle.mdc_ast.specs.declared.name.Name.{Name}
+use Rattle.first_ast.specs.declared.name.Name.{Name}
 
 -- what is done already, before what is left
 abbrev pub ahead_if_ok : {X : Type 0} → List X → Result (List X) Name → Result (List X) Name

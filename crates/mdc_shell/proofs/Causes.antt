@@ -1,7 +1,7 @@
 -- What a refusal says behind its number.
 use Rattle.std.proofs.Common.{◌≡◌, ℕ, List, ◌++◌, codes, refl, append_assoc}
-use Rattle.mdc_ast.specs.declared.answer.Refusal.{Refusal}
-use Rattle.mdc_ast.specs.Answer.{cause_text}
+use Rattle.first_ast.specs.declared.answer.Refusal.{Refusal}
+use Rattle.first_ast.specs.Answer.{cause_text}
 
 -- a refusal of number 31 names the column
 pub cause_out_of_range : (refusal : Refusal) → refusal.number ≡ 31 → cause_text refusal ≡ codes "out of range for " ++ refusal.name.0

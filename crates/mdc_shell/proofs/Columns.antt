@@ -4,9 +4,9 @@ use Rattle.std.proofs.lemmas.Iterator.Adapters.{position_from-zero}
 use Rattle.std.specs.List.{list_any, position, position_from}
 use Rattle.std.specs.Option.{option_map}
 use Rattle.std.specs.Str.{bytes_eq}
-use Rattle.mdc_ast.specs.declared.name.Name.{Name}
-use Rattle.mdc_ast.specs.declared.statement.ColumnText.{ColumnText}
-use Rattle.mdc_ast.specs.Step.{place_of, has_twice}
+use Rattle.first_ast.specs.declared.name.Name.{Name}
+use Rattle.first_ast.specs.declared.statement.ColumnText.{ColumnText}
+use Rattle.first_ast.specs.Step.{place_of, has_twice}
 
 -- a place counted from one further on
 one_on : (n : ℕ) (found : Option ℕ) → option_map (λ place. n + 1 + place) found ≡ option_map (λ place. n + place) (option_map (λ place. place + 1) found)

@@ -1,12 +1,12 @@
 -- The ends of a run, each as the relation on what is told.
 use Rattle.std.proofs.Common.{◌≡◌, ◌≢◌, ◌⊎◌, ◌<◌, ◌≤◌, ℕ, List, [], ◌++◌, length, take, Bool, true, false, if◌then◌else◌, Option, Some, None, Result, Ok, Err, refl, sym, ◌∙◌, ap, subst, inl, inr, append_assoc, arith, IfSome}
-use Rattle.mdc_ast.specs.Reading.{Item, Reads, Closes, none}
+use Rattle.first_ast.specs.Reading.{Item, Reads, Closes, none}
 use Rattle.mdc_outside.specs.Outside.{Takes, TakesPart}
-use Rattle.mdc_ast.specs.Cutting.{nothing}
-use Rattle.sql_reader.specs.Progress.{Given, IsGivenAt, Took, at_start}
+use Rattle.first_ast.specs.Cutting.{nothing}
+use Rattle.first_reader.specs.Progress.{Given, IsGivenAt, Took, at_start}
 use Rattle.mdc_shell.specs.Reader.{stop_of}
-use Rattle.sql_reader.specs.declared.statements.ReadStop.{ReadStop}
-use Rattle.sql_reader.specs.declared.statements.ReadStop.TheVariants as read
+use Rattle.first_reader.specs.declared.statements.ReadStop.{ReadStop}
+use Rattle.first_reader.specs.declared.statements.ReadStop.TheVariants as read
 use Rattle.mdc_shell.specs.Run.{RunsFrom, IsDone, StopsWithin, SaysClosed, SaysPart}
 use Rattle.mdc_shell.specs.Session.{outcomes, texts, has_refusal}
 use Rattle.mdc_shell.specs.Status.{served_by, status_of}

@@ -3,8 +3,9 @@ pub mod Before
 pub mod Causes
 pub mod ClapWords
 pub mod Columns
-pub mod Creating
+pub mod CreateLemmas
 pub mod Ends
+pub mod LeavingLemmas
 pub mod LineTexts
 pub mod Onto
 pub mod Places

@@ -1,7 +1,7 @@
 -- A line of texts, written one text after the other.
 use Rattle.std.proofs.Common.{◌≡◌, ◌∙◌, ◌≤◌, ℕ, List, [], ◌∷◌, ◌++◌, refl, ap, sym, map, drop, length, append_assoc}
 use Rattle.std.proofs.lemmas.List.{drop_all}
-use Rattle.mdc_ast.specs.Step.{line}
+use Rattle.first_ast.specs.Step.{line}
 
 -- what comes in a line behind its first text
 abbrev pub rest_of_line : List (List ℕ) → List ℕ

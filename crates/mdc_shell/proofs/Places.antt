@@ -1,7 +1,7 @@
 -- Rows at places, before and after a row is put.
 use Rattle.std.proofs.Common.{◌≡◌, ◌∙◌, ◌<◌, ◌+◌, ℕ, zero, suc, List, [], ◌∷◌, ◌++◌, Option, Some, None, refl, ap, sym, subst, length, get_or, arith, rules}
 use Rattle.std.specs.Prelude.{IsSome, slice_get}
-use Rattle.mdc_ast.specs.declared.definition.Row.{Row}
+use Rattle.first_ast.specs.declared.definition.Row.{Row}
 use Rattle.mdc_shell.specs.declared.cells.Place.{Place}
 use Rattle.mdc_shell.specs.Place.{row_in, row_at, Keeps, rows_at, with_found, HasNumber, AreNumbered}
 

@@ -2,13 +2,13 @@
 use Rattle.std.proofs.Common.{◌≡◌, ◌∙◌, ◌+◌, ℕ, List, [], ◌∷◌, ◌++◌, Some, ap, sym, length, map, codes, arith, length-append}
 use Rattle.std.specs.Fmt.{decimal}
 use Rattle.std.specs.List.{flat_map}
-use Rattle.mdc_values.specs.Value.{printed}
+use Rattle.mdc_values.specs.Printing.{printed}
 use Rattle.mdc_values.specs.declared.value.Value.{Value}
-use Rattle.mdc_ast.specs.declared.name.Name.{Name}
-use Rattle.mdc_ast.specs.declared.definition.ColumnDef.{ColumnDef}
-use Rattle.mdc_ast.specs.declared.definition.Row.{Row}
-use Rattle.mdc_ast.specs.Database.{PlainTable}
-use Rattle.mdc_ast.specs.Step.{with_rows, line, lines_of}
+use Rattle.first_ast.specs.declared.name.Name.{Name}
+use Rattle.first_ast.specs.declared.definition.ColumnDef.{ColumnDef}
+use Rattle.first_ast.specs.declared.definition.Row.{Row}
+use Rattle.first_ast.specs.Database.{PlainTable}
+use Rattle.first_ast.specs.Step.{with_rows, line, lines_of}
 use Rattle.mdc_shell.specs.declared.cells.Place.{Place}
 use Rattle.mdc_shell.specs.Place.{row_at, Keeps, rows_at, AreNumbered}
 use Rattle.mdc_shell.proofs.Places.{rows_at-kept, rows_at-more, AreNumbered-kept, AreNumbered-more, length-rows_at}

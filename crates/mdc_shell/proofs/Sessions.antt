@@ -3,11 +3,11 @@ use Rattle.std.proofs.Common.{◌≡◌, ℕ, List, [], ◌∷◌, ◌++◌, Boo
 use Rattle.std.proofs.lemmas.List.{append-nil}
 use Rattle.std.proofs.lemmas.Grind.{flat_map-append}
 use Rattle.std.proofs.lemmas.List.Folds.{list_any-append}
-use Rattle.mdc_ast.specs.declared.answer.Outcome.{Outcome}
-use Rattle.mdc_ast.specs.Answer.{text_of}
-use Rattle.mdc_ast.specs.Database.{Database, empty_database}
-use Rattle.mdc_ast.specs.Reading.{Item}
-use Rattle.sql_reader.specs.Progress.{Progress, Advances}
+use Rattle.first_ast.specs.declared.answer.Outcome.{Outcome}
+use Rattle.first_ast.specs.Answer.{text_of}
+use Rattle.first_ast.specs.Database.{Database, empty_database}
+use Rattle.first_ast.specs.Reading.{Item}
+use Rattle.first_reader.specs.Progress.{Progress, Advances}
 use Rattle.mdc_outside.specs.Outside.{Takes}
 use Rattle.mdc_shell.proofs.Told.{takes_more}
 use Rattle.mdc_shell.specs.Session.{turn, after, outcomes, outcomes_from, texts, is_refusal, has_refusal}

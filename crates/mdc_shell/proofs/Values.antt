@@ -3,9 +3,9 @@ use Rattle.std.proofs.Common.{◌≡◌, ◌∙◌, ◌≤◌, ℕ, List, [], �
 use Rattle.std.proofs.lemmas.Bool.{cases_lt}
 use Rattle.std.proofs.lemmas.List.{drop_all}
 use Rattle.mdc_values.specs.declared.value.Value.{Value}
-use Rattle.mdc_ast.specs.declared.definition.ColumnDef.{ColumnDef}
-use Rattle.mdc_ast.specs.declared.statement.InsertItem.{InsertItem}
-use Rattle.mdc_ast.specs.Step.{values_of}
+use Rattle.first_ast.specs.declared.definition.ColumnDef.{ColumnDef}
+use Rattle.first_ast.specs.declared.statement.InsertItem.{InsertItem}
+use Rattle.first_ast.specs.Step.{values_of}
 use Rattle.mdc_shell.proofs.Before.{ahead_if_ok}
 
 -- no items give no values

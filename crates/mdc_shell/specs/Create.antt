@@ -1,11 +1,11 @@
 -- What `create FILE EXTENTS PAGES` does to its file and its tape, for each status (README.md, "Limits and statuses").
-use Rattle.std.specs.Prelude.{◌≡◌, ◌⊎◌, ◌<◌, ℕ, Bool, true, List, ◌++◌, Option, Some, length, codes}
+use Rattle.std.specs.Prelude.{◌≡◌, ◌⊎◌, ◌<◌, ℕ, Bool, true, List, Option, Some, length, codes}
 use Rattle.std.specs.Option.{ForSome}
-use Rattle.mdc_outside.specs.Disk.{File, IsImage}
+use Rattle.mdc_outside.specs.Disk.{File}
 use Rattle.mdc_outside.specs.Moments.{Adds}
 use Rattle.mdc_outside.specs.Outside.{Takes, TakesPart}
 use Rattle.page_store.specs.Empty.{IsEmptyDatabase}
-use Rattle.page_store.specs.Fresh.{HoldsFresh, IsBlank, IsOfMaking, fresh_file}
+use Rattle.page_store.specs.Fresh.{HoldsFresh, IsOfMaking}
 use Rattle.mdc_shell.specs.Status.{IsCreateStatus}
 
 -- what is said once the database is made
@@ -51,22 +51,6 @@ pub record Creates (extents extent_pages : ℕ) (file new_file : Option File) (t
   pub failed : status ≡ 3 → (new_tape ≡ tape) × StaysWhereFull file new_file × IsLeftByMaking extents extent_pages file new_file
   -- 8: nothing is said, and the file is as it was
   pub memory : status ≡ 8 → (new_tape ≡ tape) × (new_file ≡ file)
-
--- the tape has a first part of the line more than what was said before
-abbrev pub HasPart : List ℕ → List ℕ → List ℕ → Type 0
-HasPart line said tape = (part unsaid : List ℕ) × (line ≡ part ++ unsaid) × (tape ≡ said ++ part)
-
--- What a crash within a create leaves. Where no byte could be left before, the image isn't made or is the whole, and it is
--- the whole where something was said. Where the file had a byte, the image is one that could be left before.
-pub record LeftByCreate (extents extent_pages : ℕ) (before : File) (said image tape : List ℕ) : Type 0 where
-  pub left : IsOfMaking extents extent_pages before image
-  pub told : IsBlank before → (tape ≡ said) ⊎ ((image ≡ fresh_file extents extent_pages) × HasPart made_line said tape)
-  pub full : 0 < length before.bytes → IsImage before.since image × HasPart exists_line said tape
-
--- the same at each of these moments, where the file and the tape are told
-abbrev pub LeavesByCreate : ℕ → ℕ → Option File → Option (List ℕ) → (List ℕ → List ℕ → Type 0) → Type 0
-LeavesByCreate extents extent_pages file tape moment = (before : File) (said : List ℕ) → file ≡ Some before → tape ≡ Some said
-    → (image taken : List ℕ) → moment image taken → LeftByCreate extents extent_pages before said image taken
 
 -- the path is attached once more, and made where it wasn't there, or not at all
 abbrev pub MayAttach : Option (List (List ℕ × Bool)) → List ℕ → Option (List (List ℕ × Bool)) → Type 0

@@ -2,15 +2,15 @@
 use Rattle.std.specs.Prelude.{List, ◌∷◌, length, ◌==◌, if◌then◌else◌, Option, None, Result, Ok, Err, replicate}
 use Rattle.std.specs.List.{list_all}
 use Rattle.mdc_values.specs.declared.value.Value.{Value}
-use Rattle.mdc_ast.specs.declared.name.Name.{Name}
-use Rattle.mdc_ast.specs.declared.answer.Outcome.{Outcome}
-use Rattle.mdc_ast.specs.declared.answer.Outcome.TheVariants.{Done, Refused}
-use Rattle.mdc_ast.specs.declared.answer.Reply.TheVariants as reply
-use Rattle.mdc_ast.specs.declared.statement.InsertItem.{InsertItem}
-use Rattle.mdc_ast.specs.Database.{Database, PlainTable}
-use Rattle.mdc_ast.specs.Reading.{not_built}
-use Rattle.mdc_ast.specs.Step.{naming, tuples_of, with_rows, is_within_limits, table_of, dims_of}
-use Rattle.mdc_ast.specs.declared.statement.ColumnText.{ColumnText}
+use Rattle.first_ast.specs.declared.name.Name.{Name}
+use Rattle.first_ast.specs.declared.answer.Outcome.{Outcome}
+use Rattle.first_ast.specs.declared.answer.Outcome.TheVariants.{Done, Refused}
+use Rattle.first_ast.specs.declared.answer.Reply.TheVariants as reply
+use Rattle.first_ast.specs.declared.statement.InsertItem.{InsertItem}
+use Rattle.first_ast.specs.Database.{Database, PlainTable}
+use Rattle.first_ast.specs.Reading.{not_built}
+use Rattle.first_ast.specs.Step.{naming, tuples_of, with_rows, is_within_limits, table_of, dims_of}
+use Rattle.first_ast.specs.declared.statement.ColumnText.{ColumnText}
 use Rattle.std.specs.Option.{option_map}
 
 -- the table in the first of 16 places, if there is one

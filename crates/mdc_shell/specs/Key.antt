@@ -8,6 +8,7 @@ use Rattle.mdc_values.specs.declared.value.Value.TheVariants as value
 abbrev pub number_of : Option Value → List ℤ
 number_of None = []
 number_of (Some (value.Int number)) = number ∷ []
+number_of (Some value) = []
 
 -- the numbers in the columns of the dimensions
 abbrev pub key_of : List (List ℕ) → List Value → List ℤ

@@ -4,6 +4,7 @@ pub mod Engine
 pub mod Found
 pub mod Grammar
 pub mod Key
+pub mod Leaving
 pub mod Place
 pub mod Reader
 pub mod Run

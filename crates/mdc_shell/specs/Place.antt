@@ -1,6 +1,6 @@
 -- Where rows lie among the cells of a table.
 use Rattle.std.specs.Prelude.{◌≡◌, ℕ, ◌+◌, List, [], ◌∷◌, Option, Some, None, slice_get}
-use Rattle.mdc_ast.specs.declared.definition.Row.{Row}
+use Rattle.first_ast.specs.declared.definition.Row.{Row}
 use Rattle.mdc_shell.specs.declared.cells.Place.{Place}
 
 -- the row in that slot of a cell

@@ -1,6 +1,6 @@
 -- What a reader's stop is to a run.
-use Rattle.sql_reader.specs.declared.statements.ReadStop.{ReadStop}
-use Rattle.sql_reader.specs.declared.statements.ReadStop.TheVariants as read
+use Rattle.first_reader.specs.declared.statements.ReadStop.{ReadStop}
+use Rattle.first_reader.specs.declared.statements.ReadStop.TheVariants as read
 use Rattle.mdc_shell.specs.declared.status.Stop.{Stop}
 use Rattle.mdc_shell.specs.declared.status.Stop.TheVariants.{Unread, TooLong, Memory}
 

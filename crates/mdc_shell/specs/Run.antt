@@ -1,8 +1,8 @@
 -- What a run of a script does to its source and its host, for each status (README.md, "Limits and statuses").
 use Rattle.std.specs.Prelude.{◌≡◌, ◌⊎◌, ◌<◌, ◌≤◌, ℕ, List, [], ◌∷◌, ◌++◌, length, take, if◌then◌else◌, Option, Some, None, IfSome}
-use Rattle.mdc_ast.specs.Answer.{text_of}
-use Rattle.mdc_ast.specs.Database.{Database, empty_database}
-use Rattle.mdc_ast.specs.Reading.{Item, Reads, Closes}
+use Rattle.first_ast.specs.Answer.{text_of}
+use Rattle.first_ast.specs.Database.{Database, empty_database}
+use Rattle.first_ast.specs.Reading.{Item, Reads, Closes}
 use Rattle.mdc_shell.specs.Session.{turn, after, outcomes, texts, has_refusal}
 
 -- a first part of the text of the first item's outcome, and nothing where there is no item

@@ -1,12 +1,12 @@
 -- A session: the items of a script, run one after another from the empty database (docs/SQL.md, "Sessions").
 use Rattle.std.specs.Prelude.{ℕ, List, [], ◌∷◌, Bool, true, false, flat_map}
 use Rattle.std.specs.List.{list_any}
-use Rattle.mdc_ast.specs.declared.answer.Outcome.{Outcome}
-use Rattle.mdc_ast.specs.declared.answer.Outcome.TheVariants as outcome
-use Rattle.mdc_ast.specs.Answer.{text_of}
-use Rattle.mdc_ast.specs.Database.{Database, empty_database}
-use Rattle.mdc_ast.specs.Reading.{Item, Statement, Refused}
-use Rattle.mdc_ast.specs.Step.{step}
+use Rattle.first_ast.specs.declared.answer.Outcome.{Outcome}
+use Rattle.first_ast.specs.declared.answer.Outcome.TheVariants as outcome
+use Rattle.first_ast.specs.Answer.{text_of}
+use Rattle.first_ast.specs.Database.{Database, empty_database}
+use Rattle.first_ast.specs.Reading.{Item, Statement, Refused}
+use Rattle.first_ast.specs.Step.{step}
 
 -- the database after an item, and the item's outcome: a refusal of the reading is its own outcome
 abbrev pub turn : Database → Item → Database × Outcome

@@ -1,10 +1,10 @@
 // How answers are written, as bytes.
 ghost use Rattle.std.specs.Prelude.{◌≡◌, ◌++◌, length, take, OnOk, OnErr, decimal, codes};
-ghost use Rattle.mdc_ast.specs.Answer.{reply_text, refusal_text, cause_text, text_of};
+ghost use Rattle.first_ast.specs.Answer.{reply_text, refusal_text, cause_text, text_of};
 
 use crate::refusals::{NO_TABLE, OUT_OF_RANGE};
+use first_ast::{Outcome, Refusal, Reply};
 use itoa::Buffer;
-use mdc_ast::{Outcome, Refusal, Reply};
 use mdc_values::Memory;
 
 /// Appends the text of a reply. After `Memory` the output is as before.

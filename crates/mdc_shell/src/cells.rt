@@ -3,7 +3,7 @@ ghost use Rattle.std.specs.Prelude.{◌≡◌, ◌<◌, [], length, All, Some, I
 ghost use Rattle.std.specs.HashMap.{values};
 ghost use Rattle.mdc_shell.specs.Place.{row_at, Keeps};
 
-use mdc_ast::Row;
+use first_ast::Row;
 use mdc_values::{List, Memory};
 use std::alloc::Global;
 use std::collections::HashMap;
@@ -26,7 +26,7 @@ pub struct Cells {
 
 impl Model for Cells {
     ghost use Rattle.std.specs.Prelude.{List};
-    ghost use Rattle.mdc_ast.specs.declared.definition.Row.{Row};
+    ghost use Rattle.first_ast.specs.declared.definition.Row.{Row};
 
     ghost Value = { List (List Row) };
 

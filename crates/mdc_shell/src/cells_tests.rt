@@ -1,6 +1,6 @@
 // Where rows are put among the cells.
 use crate::cells::{Cells, Place};
-use mdc_ast::Row;
+use first_ast::Row;
 use mdc_values::List;
 use std::test::Fail;
 

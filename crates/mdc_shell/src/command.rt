@@ -9,10 +9,10 @@ ghost use Rattle.mdc_shell.specs.Words.{IsPlain};
 use crate::grammar::grammar;
 use crate::numeral::number_in;
 use crate::plain::{are_plain, is_path};
-use crate::shape::Shape;
 use clap::ArgMatches;
 use clap::error::ErrorKind;
 use mdc_values::Memory;
+use page_store::Shape;
 use std::alloc::Global;
 
 /// What a command line asks for.
@@ -89,13 +89,7 @@ fn create_of<'w>(path: &'w str, extents: &str, extent_pages: &str) -> Option<Com
     if !is_path(path) {
         return None;
     }
-    let shape = Shape {
-        extents: number_in(extents)?,
-        extent_pages: number_in(extent_pages)?,
-    };
-    if !shape.is_within_limits() {
-        return None;
-    }
+    let shape = Shape::new(number_in(extents)?, number_in(extent_pages)?)?;
     Some(Command::Create { path, shape })
 }
 

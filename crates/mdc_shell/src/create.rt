@@ -1,17 +1,19 @@
 // The command `create`: an empty database in a file.
-ghost use Rattle.std.specs.Prelude.{◌≡◌, ◌⊎◌, ◌≤◌, ◌<◌, ℕ, List, [], Some, length, IsTrue, IsErrOf, OnOk, OnErr};
+ghost use Rattle.std.specs.Prelude.{◌≡◌, ◌≢◌, ◌⊎◌, ◌≤◌, ◌<◌, ℕ, List, Some, length, IsErrOf, OnOk, OnErr};
 ghost use Rattle.std.specs.Option.{ForSome};
 ghost use Rattle.mdc_outside.specs.Disk.{File};
-ghost use Rattle.mdc_outside.specs.Moments.{Elapses};
-ghost use Rattle.mdc_outside.specs.Outside.{Rose, Takes, TakesPart};
+ghost use Rattle.mdc_outside.specs.Moments.{IsWithinCall};
+ghost use Rattle.mdc_outside.specs.Outside.{Takes, TakesPart};
+ghost use Rattle.mdc_words.specs.Faults.{CountsFault};
+ghost use Rattle.mdc_words.specs.Time.{OverTime};
+ghost use Rattle.page_file.specs.Leaving.{LeavesImage};
 ghost use Rattle.page_store.specs.Fresh.{IsOfMaking};
-ghost use Rattle.page_store.specs.Shape.{is_shape};
-ghost use Rattle.mdc_shell.specs.Create.{Completes, Creates, HoldsEmpty, IsLeftByMaking, LeavesByCreate, MayAttach, StaysAsItWas, StaysWhereFull};
+ghost use Rattle.mdc_shell.specs.Create.{Completes, Creates, HoldsEmpty, IsLeftByMaking, MayAttach, StaysAsItWas, StaysWhereFull};
+ghost use Rattle.mdc_shell.specs.Leaving.{LeftByCreate, StaysTold};
 ghost use Rattle.mdc_shell.specs.Status.{status_of_created};
 
-use crate::shape::Shape;
 use mdc_outside::{Disk, Failed, Host};
-use page_store::{OpenFault, make};
+use page_store::{OpenFault, Shape, make};
 
 const MADE: &[u8] = b"OK\n";
 
@@ -33,14 +35,14 @@ pub enum Created {
 /// Makes an empty database in the file at the path, and says so once all of it is on the disk. A file that has a byte
 /// stays as it is.
 pub fn create<H: Host>(host: &mut H, path: &str, shape: Shape) -> Created
-    requires { IsTrue (is_shape shape.extents shape.extent_pages) }
     ensures creates { Creates shape.extents shape.extent_pages (H.file host.old) (H.file host.new) (H.tape host.old) (H.tape host.new) (status_of_created result) }
     ensures attaches { MayAttach (H.attaches host.old) path.now (H.attaches host.new) }
-    ensures crash { LeavesByCreate shape.extents shape.extent_pages (H.file host.old) (H.tape host.old) (H.moment host.new (H.clock host.old)) }
-    ensures failed { result ≡ Created.DiskFailed → Rose (H.disk_faults host.old) (H.disk_faults host.new) }
-    ensures unsaid { result ≡ Created.Unsaid → Rose (H.say_faults host.old) (H.say_faults host.new) }
-    ensures disk { H.disk_faults host.old ≤ H.disk_faults host.new }
-    ensures says { H.say_faults host.old ≤ H.say_faults host.new }
+    ensures disk { CountsFault (result ≡ Created.DiskFailed) (H.disk_faults host.old) (H.disk_faults host.new) }
+    ensures says { CountsFault (result ≡ Created.Unsaid) (H.say_faults host.old) (H.say_faults host.new) }
+    ensures later { H.clock host.old ≤ H.clock host.new }
+    ensures told { StaysTold (H.file host.old) (H.file host.new) × StaysTold (H.tape host.old) (H.tape host.new) }
+    ensures time { (before : File) (said : List ℕ) → H.file host.old ≡ Some before → H.tape host.old ≡ Some said
+        → OverTime H.clock H.moment (LeftByCreate shape.extents shape.extent_pages before said) host.old host.new }
     ensures complete { (result ≡ Created.DiskFailed → ⊥) → (result ≡ Created.Unsaid → ⊥) → Completes (H.file host.old) (status_of_created result) }
 {
     match make_at(host, path, shape) {
@@ -54,20 +56,18 @@ pub fn create<H: Host>(host: &mut H, path: &str, shape: Shape) -> Created
 
 // Attaches the file at the path, and makes an empty database in it.
 fn make_at<D: Disk>(disk: &mut D, path: &str, shape: Shape) -> Result<(), OpenFault>
-    requires { IsTrue (is_shape shape.extents shape.extent_pages) }
     ensures made { OnOk result (HoldsEmpty shape.extents shape.extent_pages (D.file disk.new)) }
     ensures exists { IsErrOf result OpenFault.Exists → StaysAsItWas (D.file disk.old) (D.file disk.new) }
     ensures untouched { StaysWhereFull (D.file disk.old) (D.file disk.new) }
     ensures refused { ForSome (D.file disk.old) (λ file. 0 < length file.bytes → IsErrOf result OpenFault.Exists ⊎ IsErrOf result OpenFault.Device) }
     ensures causes { OnErr result (IsErrOf result OpenFault.Exists ⊎ IsErrOf result OpenFault.Device) }
-    ensures device { IsErrOf result OpenFault.Device → Rose (D.disk_faults disk.old) (D.disk_faults disk.new) }
-    ensures later { D.disk_faults disk.old ≤ D.disk_faults disk.new }
+    ensures disk { CountsFault (IsErrOf result OpenFault.Device) (D.disk_faults disk.old) (D.disk_faults disk.new) }
     ensures attaches { MayAttach (D.attaches disk.old) path.now (D.attaches disk.new) }
     ensures beside { D.beside disk.new ≡ D.beside disk.old }
-    ensures time { D.clock disk.old ≤ D.clock disk.new }
     ensures told { IsLeftByMaking shape.extents shape.extent_pages (D.file disk.old) (D.file disk.new) }
-    ensures crash { (before : File) (said : List ℕ) → D.file disk.old ≡ Some before → (D.beside disk.old).tape ≡ Some said
-        → (image taken : List ℕ) → D.moment disk.new (D.clock disk.old) image taken → IsOfMaking shape.extents shape.extent_pages before image × (taken ≡ said) }
+    ensures later { D.clock disk.old ≤ D.clock disk.new }
+    ensures time { (before : File) (said : List ℕ) → D.file disk.old ≡ Some before → (D.beside disk.old).tape ≡ Some said
+        → OverTime D.clock D.moment (LeavesImage (IsOfMaking shape.extents shape.extent_pages before) said) disk.old disk.new }
 {
     disk.attach(path, true)?;
     make(disk, shape.extents, shape.extent_pages)
@@ -75,14 +75,13 @@ fn make_at<D: Disk>(disk: &mut D, path: &str, shape: Shape) -> Result<(), OpenFa
 
 // Says the line of an end.
 fn end_with<H: Host>(host: &mut H, line: &[u8], end: Created) -> Created
+    requires { end ≢ Created.Unsaid }
     ensures said { ((result ≡ end) × Takes (H.tape host.old) line.now (H.tape host.new)) ⊎ ((result ≡ Created.Unsaid) × TakesPart (H.tape host.old) line.now (H.tape host.new)) }
-    ensures unsaid { result ≡ Created.Unsaid → (end ≡ Created.Unsaid) ⊎ Rose (H.say_faults host.old) (H.say_faults host.new) }
-    ensures says { H.say_faults host.old ≤ H.say_faults host.new }
+    ensures says { CountsFault (result ≡ Created.Unsaid) (H.say_faults host.old) (H.say_faults host.new) }
     ensures file { H.file host.new ≡ H.file host.old }
     ensures attaches { H.attaches host.new ≡ H.attaches host.old }
-    ensures disk { H.disk_faults host.new ≡ H.disk_faults host.old }
-    ensures time { Elapses (H.file host.old) (H.tape host.old) line.now (H.clock host.old) (H.clock host.new) (H.moment host.old) (H.moment host.new)
-        ⊎ Elapses (H.file host.old) (H.tape host.old) [] (H.clock host.old) (H.clock host.new) (H.moment host.old) (H.moment host.new) }
+    ensures disk_count { H.disk_faults host.new ≡ H.disk_faults host.old }
+    ensures time { OverTime H.clock H.moment (IsWithinCall (H.file host.old) (H.tape host.old) line.now) host.old host.new }
 {
     match host.say(line) {
         Ok(()) => end,

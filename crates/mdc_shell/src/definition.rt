@@ -2,9 +2,9 @@
 ghost use Rattle.std.specs.Prelude.{◌≡◌, IfOk, length, map, nat_le, not, ◌&&◌};
 ghost use Rattle.std.specs.List.{list_all, flat_map};
 ghost use Rattle.std.specs.Str.{bytes_eq};
-ghost use Rattle.mdc_ast.specs.Step.{is_short, has_twice, place_of, places_of, dims_of, column_of};
+ghost use Rattle.first_ast.specs.Step.{is_short, has_twice, place_of, places_of, dims_of, column_of};
 
-use mdc_ast::{ColumnDef, ColumnText, Name, TypeText};
+use first_ast::{ColumnDef, ColumnText, Name, TypeText};
 use mdc_values::{Chars, ColType, List, Memory};
 use std::alloc::Global;
 

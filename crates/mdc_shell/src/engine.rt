@@ -1,7 +1,7 @@
 // The engine: a database of one table at most, and what statements do to it.
 ghost use Rattle.std.specs.Prelude.{◌≡◌, IfOk};
-ghost use Rattle.mdc_ast.specs.Database.{empty_database, table_named};
-ghost use Rattle.mdc_ast.specs.Step.{step, create, insert, query};
+ghost use Rattle.first_ast.specs.Database.{empty_database, table_named};
+ghost use Rattle.first_ast.specs.Step.{step, create, insert, query};
 ghost use Rattle.mdc_shell.specs.Engine.{defined};
 
 use crate::definition::{
@@ -9,7 +9,7 @@ use crate::definition::{
 };
 use crate::refusals::{no_table, not_built};
 use crate::table::Table;
-use mdc_ast::{ColumnText, InsertItem, Name, Outcome, Reply, Stmt};
+use first_ast::{ColumnText, InsertItem, Name, Outcome, Reply, Stmt};
 use mdc_values::{List, Memory};
 use std::alloc::Global;
 use std::marker::Model;
@@ -22,7 +22,7 @@ pub struct Engine {
 }
 
 impl Model for Engine {
-    ghost use Rattle.mdc_ast.specs.Database.{Database};
+    ghost use Rattle.first_ast.specs.Database.{Database};
 
     ghost Value = { Database };
 

@@ -1,10 +1,10 @@
 // The values that the tuples of an INSERT give a table's columns.
 ghost use Rattle.std.specs.Prelude.{◌≡◌, Ok, Err, IfOk, MatchResult};
-ghost use Rattle.mdc_ast.specs.Step.{values_of, tuples_of};
+ghost use Rattle.first_ast.specs.Step.{values_of, tuples_of};
 
 use crate::definition::copy_of;
-use mdc_ast::{ColumnDef, InsertItem, Name};
-use mdc_values::{List, Memory, Value, fit};
+use first_ast::{ColumnDef, InsertItem, Name};
+use mdc_values::{List, Memory, Value, ValueFault, fit};
 use std::alloc::Global;
 
 /// The values of all tuples, or the name of the first column whose number is out of range.
@@ -37,8 +37,9 @@ fn values_of(
     let mut values = Vec::with_capacity(alloc, columns.len())?;
     for (column, item) in columns.iter().zip(tuple) {
         let InsertItem::Literal(literal) = item;
-        match fit(column.ty, literal) {
+        match fit(alloc, column.ty, literal) {
             Ok(value) => values.push(value)?,
+            Err(ValueFault::Memory) => return Err(Memory),
             Err(_) => return Ok(Err(copy_of(alloc, &column.name)?)),
         }
     }

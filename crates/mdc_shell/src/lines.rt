@@ -1,10 +1,10 @@
 // The lines of a query: one of names, one for each row, and the number of rows.
 ghost use Rattle.std.specs.Prelude.{◌≡◌, ◌++◌, map, codes, decimal, OnOk};
-ghost use Rattle.mdc_values.specs.Value.{printed};
-ghost use Rattle.mdc_ast.specs.Step.{line};
+ghost use Rattle.mdc_values.specs.Printing.{printed};
+ghost use Rattle.first_ast.specs.Step.{line};
 
+use first_ast::ColumnDef;
 use itoa::Buffer;
-use mdc_ast::ColumnDef;
 use mdc_values::{Memory, Value, print};
 
 /// Appends the line of the columns' names.

@@ -3,9 +3,10 @@
 //!
 //! Its one call is `run` (`program`). For a script it promises, at each status, which bytes were taken and which replies
 //! were said; for a create, what the file holds, what was said, and what a crash leaves at each moment; for all other words,
-//! that nothing is read. `main` only makes the real source and host, of which nothing is told.
+//! that nothing is read. `main` only makes the real source and host, of which nothing is told, and sees to it that no file
+//! is taken for a standard stream.
 //!
-//! It stands on `sql_reader` for the items of a script and on `mdc_ast` for what they mean, on `page_store` for a database
+//! It stands on `first_reader` for the items of a script and on `first_ast` for what they mean, on `page_store` for a database
 //! in a file, on `host_edge` for the real source and host (`mdc_outside`), and on `clap` for the words.
 #![tactic(auto)]
 
@@ -17,8 +18,6 @@ mod command;
 mod create;
 mod definition;
 mod engine;
-#[cfg(test)]
-mod engine_tests;
 mod fitting;
 mod grammar;
 mod lines;
@@ -29,11 +28,10 @@ mod program;
 mod program_tests;
 mod refusals;
 mod session;
-mod shape;
 mod status;
 mod table;
 
-use host_edge::{FileHost, StdinSource};
+use host_edge::{FileHost, StandIns, StdinSource};
 use program::run;
 use status::Status;
 use std::process::ExitCode;
@@ -43,8 +41,12 @@ fn main(rt: HostRuntime) -> ExitCode {
     ExitCode::from(status_of_call(&rt).0)
 }
 
-// Calls the program on the real words, standard input and output. What can't be made for want of memory ends it.
+// Calls the program on the real words, standard input and output. What can't be made for want of memory, or of descriptors,
+// ends it.
 fn status_of_call(rt: &HostRuntime) -> Status {
+    let Ok(_stand_ins) = StandIns::take(rt) else {
+        return Status::MEMORY;
+    };
     let Ok(files) = rt.clone() else {
         return Status::MEMORY;
     };

@@ -1,21 +1,24 @@
 // The program's one call: a command line, a source and a host in, a status and the host out.
-ghost use Rattle.std.specs.Prelude.{◌≡◌, ◌⊎◌, ◌≤◌, List, ℕ, map, string_bytes, IsTrue};
-ghost use Rattle.mdc_outside.specs.Outside.{Rose};
-ghost use Rattle.page_store.specs.Shape.{is_shape};
-ghost use Rattle.mdc_shell.specs.Create.{Completes, Creates, LeavesByCreate, MayAttach};
+ghost use Rattle.std.specs.Prelude.{◌≡◌, ◌⊎◌, ◌≤◌, List, ℕ, Some, map, string_bytes};
+ghost use Rattle.mdc_outside.specs.Disk.{File};
+ghost use Rattle.mdc_outside.specs.Moments.{IsWithinCall};
+ghost use Rattle.mdc_words.specs.Faults.{CountsFault, Rose};
+ghost use Rattle.mdc_words.specs.Time.{OverTime};
+ghost use Rattle.mdc_shell.specs.Create.{Completes, Creates, MayAttach};
+ghost use Rattle.mdc_shell.specs.Leaving.{LeftByCreate, LeftByRun, LeftByScript, StaysTold};
 ghost use Rattle.mdc_shell.specs.Run.{RunsFrom, IsWithin, IsTold};
-ghost use Rattle.mdc_shell.specs.Status.{IsStatus, IsScriptStatus};
+ghost use Rattle.mdc_shell.specs.Status.{IsScriptStatus, IsStatus};
 ghost use Rattle.mdc_shell.specs.Untouched.{IsUntouched};
-ghost use Rattle.mdc_shell.specs.Words.{IsCreateLine, IsNoLine, IsRunLine, SaysUsage};
+ghost use Rattle.mdc_shell.specs.Words.{IsCreateLine, IsNoLine, IsRunLine, SaysUsage, usage};
 
 use crate::command::Command;
 use crate::create::create;
 use crate::session::serve;
-use crate::shape::Shape;
 use crate::status::Status;
+use first_reader::one_closing;
 use mdc_outside::{Failed, Host, Source};
 use mdc_values::Memory;
-use sql_reader::one_closing;
+use page_store::Shape;
 use std::alloc::Global;
 
 /// What a call of `run` ends with: its status, and the host that it was given.
@@ -49,10 +52,6 @@ pub fn run<I: Source, H: Host>(
         → Creates extents extent_pages (H.file host) (H.file result.host) (H.tape host) (H.tape result.host) result.status.0
         × MayAttach (H.attaches host) path (H.attaches result.host) × (input.new ≡ input.old) }
 
-    // What a crash leaves at each moment of a create.
-    ensures crash { (path : List ℕ) (extents extent_pages : ℕ) → IsCreateLine (map string_bytes words.now.items) path extents extent_pages
-        → LeavesByCreate extents extent_pages (H.file host) (H.tape host) (H.moment result.host (H.clock host)) }
-
     // All other words: nothing is read.
     ensures usage { IsNoLine (map string_bytes words.now.items)
         → SaysUsage (H.tape host) (H.tape result.host) result.status.0 × (input.new ≡ input.old) }
@@ -61,13 +60,17 @@ pub fn run<I: Source, H: Host>(
     ensures no_disk { ((path : List ℕ) (extents extent_pages : ℕ) → IsCreateLine (map string_bytes words.now.items) path extents extent_pages → ⊥)
         → IsUntouched H.file H.attaches H.disk_faults host result.host }
 
-    // The outside stops a run only where a call to it failed.
-    ensures failed { result.status.0 ≡ 3 → Rose (H.disk_faults host) (H.disk_faults result.host) }
-    ensures unread { result.status.0 ≡ 4 → Rose (I.read_faults input.old) (I.read_faults input.new) }
-    ensures unsaid { result.status.0 ≡ 5 → Rose (H.say_faults host) (H.say_faults result.host) }
-    ensures disk { H.disk_faults host ≤ H.disk_faults result.host }
-    ensures reads { I.read_faults input.old ≤ I.read_faults input.new }
-    ensures says { H.say_faults host ≤ H.say_faults result.host }
+    // The outside stops a run exactly where a call to it failed: each count of faults rose, or is as it was.
+    ensures disk { CountsFault (result.status.0 ≡ 3) (H.disk_faults host) (H.disk_faults result.host) }
+    ensures reads { CountsFault (result.status.0 ≡ 4) (I.read_faults input.old) (I.read_faults input.new) }
+    ensures says { CountsFault (result.status.0 ≡ 5) (H.say_faults host) (H.say_faults result.host) }
+
+    // Time goes on, so that one run may follow another. What a crash could leave before the run it may leave still, and
+    // each command has moments of its own.
+    ensures later { H.clock host ≤ H.clock result.host }
+    ensures told { StaysTold (H.file host) (H.file result.host) × StaysTold (H.tape host) (H.tape result.host) }
+    ensures time { (before : File) (said : List ℕ) → H.file host ≡ Some before → H.tape host ≡ Some said
+        → OverTime H.clock H.moment (LeftByRun (map string_bytes words.now.items) (I.left input.old) before said) host result.host }
 
     // Where nothing failed, a script within the limit is run to its end, unless memory is wanted.
     ensures complete { IsRunLine (map string_bytes words.now.items)
@@ -100,10 +103,12 @@ fn run_script<I: Source, H: Host>(alloc: Global, input: &mut I, host: H) -> Ende
     ensures runs { RunsFrom (I.left input.old) (H.tape host) (I.left input.new) (H.tape result.host) result.status.0 }
     ensures statuses { IsScriptStatus result.status.0 }
     ensures disk { IsUntouched H.file H.attaches H.disk_faults host result.host }
-    ensures unread { result.status.0 ≡ 4 → Rose (I.read_faults input.old) (I.read_faults input.new) }
-    ensures unsaid { result.status.0 ≡ 5 → Rose (H.say_faults host) (H.say_faults result.host) }
-    ensures reads { I.read_faults input.old ≤ I.read_faults input.new }
-    ensures says { H.say_faults host ≤ H.say_faults result.host }
+    ensures reads { CountsFault (result.status.0 ≡ 4) (I.read_faults input.old) (I.read_faults input.new) }
+    ensures says { CountsFault (result.status.0 ≡ 5) (H.say_faults host) (H.say_faults result.host) }
+    ensures later { H.clock host ≤ H.clock result.host }
+    ensures told { StaysTold (H.tape host) (H.tape result.host) }
+    ensures time { (before : File) (said : List ℕ) → H.file host ≡ Some before → H.tape host ≡ Some said
+        → OverTime H.clock H.moment (LeftByScript (I.left input.old) before said) host result.host }
 {
     let mut host = host;
     let served = serve(alloc, input, &mut host);
@@ -115,14 +120,14 @@ fn run_script<I: Source, H: Host>(alloc: Global, input: &mut I, host: H) -> Ende
 
 // Makes an empty database in the file at the path.
 fn create_file<H: Host>(host: H, path: &str, shape: Shape) -> Ended<H>
-    requires { IsTrue (is_shape shape.extents shape.extent_pages) }
     ensures creates { Creates shape.extents shape.extent_pages (H.file host) (H.file result.host) (H.tape host) (H.tape result.host) result.status.0 }
     ensures attaches { MayAttach (H.attaches host) path.now (H.attaches result.host) }
-    ensures crash { LeavesByCreate shape.extents shape.extent_pages (H.file host) (H.tape host) (H.moment result.host (H.clock host)) }
-    ensures failed { result.status.0 ≡ 3 → Rose (H.disk_faults host) (H.disk_faults result.host) }
-    ensures unsaid { result.status.0 ≡ 5 → Rose (H.say_faults host) (H.say_faults result.host) }
-    ensures disk { H.disk_faults host ≤ H.disk_faults result.host }
-    ensures says { H.say_faults host ≤ H.say_faults result.host }
+    ensures disk { CountsFault (result.status.0 ≡ 3) (H.disk_faults host) (H.disk_faults result.host) }
+    ensures says { CountsFault (result.status.0 ≡ 5) (H.say_faults host) (H.say_faults result.host) }
+    ensures later { H.clock host ≤ H.clock result.host }
+    ensures told { StaysTold (H.file host) (H.file result.host) × StaysTold (H.tape host) (H.tape result.host) }
+    ensures time { (before : File) (said : List ℕ) → H.file host ≡ Some before → H.tape host ≡ Some said
+        → OverTime H.clock H.moment (LeftByCreate shape.extents shape.extent_pages before said) host result.host }
     ensures completes { (Rose (H.disk_faults host) (H.disk_faults result.host) → ⊥)
         → (Rose (H.say_faults host) (H.say_faults result.host) → ⊥)
         → Completes (H.file host) result.status.0 }
@@ -140,8 +145,9 @@ fn say_usage<H: Host>(host: H) -> Ended<H>
     ensures says { SaysUsage (H.tape host) (H.tape result.host) result.status.0 }
     ensures statuses { (result.status.0 ≡ 2) ⊎ (result.status.0 ≡ 5) }
     ensures disk { IsUntouched H.file H.attaches H.disk_faults host result.host }
-    ensures unsaid { result.status.0 ≡ 5 → Rose (H.say_faults host) (H.say_faults result.host) }
-    ensures says_count { H.say_faults host ≤ H.say_faults result.host }
+    ensures says_count { CountsFault (result.status.0 ≡ 5) (H.say_faults host) (H.say_faults result.host) }
+    ensures told { StaysTold (H.tape host) (H.tape result.host) }
+    ensures time { OverTime H.clock H.moment (IsWithinCall (H.file host) (H.tape host) usage) host result.host }
 {
     let mut host = host;
     let status = match host.say(USAGE) {

@@ -1,145 +1,16 @@
-// Worked rows of the whole program, on a source and a host in memory.
+// What no clause of `run` says: how often it speaks, and that memory is there. And its lines and its stops, by hand.
+ghost use Rattle.std.specs.Prelude.{◌≡◌, ◌⊎◌, ◌≤◌, ℕ, List, Option, Some, map, string_bytes};
+ghost use Rattle.mdc_outside.specs.Disk.{File};
+ghost use Rattle.mdc_words.specs.Time.{OverTime};
+ghost use Rattle.mdc_shell.specs.Leaving.{LeftByRun};
+
 use crate::program::{Ended, run};
-use host_edge::FileHost;
-use mdc_outside::{Disk, Host, MemHost, MemSource};
+use mdc_outside::{Host, MemHost, MemSource, Source};
+use page_store::{FileStore, OpenFault};
 use std::alloc::Global;
 use std::test::Fail;
-use std::{env, fs, process};
-
-/// A script, what is said to it, and the status.
-type Row = (&'static str, &'static str, u8);
 
 const T: &str = "CREATE TABLE T (A INTEGER, B INTEGER) ORGANIZE BY DIMENSIONS (A);";
-
-/// Rows behind the table T, whose `OK` isn't written out.
-const ROWS: [Row; 12] = [
-    (
-        "INSERT INTO T VALUES (2, 10), (1, 20); INSERT INTO T VALUES (2, 30); SELECT * FROM T;",
-        "2 ROWS INSERTED\n1 ROWS INSERTED\nA|B\n2|10\n1|20\n2|30\n3 ROWS\n",
-        0,
-    ),
-    ("", "", 0),
-    (" ;\t; -- a comment; of two parts\n;;\r\n", "", 0),
-    (
-        "INSERT INTO T VALUES (-2147483648, 1); INSERT INTO T VALUES (2147483648, 1);",
-        "1 ROWS INSERTED\nERROR 31 out of range for A\n",
-        1,
-    ),
-    (
-        "INSERT INTO T VALUES (1, 2147483647), (1, -2147483649); SELECT * FROM T",
-        "ERROR 31 out of range for B\nA|B\n0 ROWS\n",
-        1,
-    ),
-    (
-        "create table t (A INTEGER, B INTEGER) ORGANIZE BY DIMENSIONS (A); SELECT * FROM T;",
-        "ERROR 14 not built\nA|B\n0 ROWS\n",
-        1,
-    ),
-    // A semicolon in a text and in a comment doesn't cut, and two quotes in a text are no end.
-    (
-        "SELECT 'a;b''c;'; SELECT * FROM T;",
-        "ERROR 14 not built\nA|B\n0 ROWS\n",
-        1,
-    ),
-    ("SELECT * -- all; of it\nFROM T;", "A|B\n0 ROWS\n", 0),
-    ("select*from t", "A|B\n0 ROWS\n", 0),
-    (
-        "INSERT INTO T VALUES (1), (1, 2); INSERT INTO U VALUES (9999999999); SELECT * FROM A_LONGER_NAME_THAN_18;",
-        "ERROR 14 not built\nERROR 21 no table U\nERROR 21 no table A_LONGER_NAME_THAN_18\n",
-        1,
-    ),
-    (
-        "INSERT INTO T VALUES (+1, -0); SELECT * FROM T;",
-        "1 ROWS INSERTED\nA|B\n1|0\n1 ROWS\n",
-        0,
-    ),
-    (
-        "SELECT 'never closed; SELECT * FROM T;",
-        "ERROR 14 not built\n",
-        1,
-    ),
-];
-
-/// How `run -` ends on a script that comes in pieces of at most `step` bytes.
-fn ended_in_steps(
-    alloc: Global,
-    script: Vec<u8>,
-    step: usize,
-    read_fails: &[u64],
-    say_fails: &[u64],
-) -> Result<Ended<MemHost>, Fail> {
-    let words = vec![in alloc;
-        String::from_str(alloc, "run")?,
-        String::from_str(alloc, "-")?,
-    ]?;
-    let mut source = MemSource::new(script, step.max(1), read_fails.to_vec(alloc)?);
-    let host = MemHost::new(alloc, None, say_fails.to_vec(alloc)?);
-    Ok(run(alloc, &words, &mut source, host))
-}
-
-/// The status and the tape of that end.
-fn run_in_steps(
-    alloc: Global,
-    script: Vec<u8>,
-    step: usize,
-    read_fails: &[u64],
-    say_fails: &[u64],
-) -> Result<(u8, Vec<u8>), Fail> {
-    let ended = ended_in_steps(alloc, script, step, read_fails, say_fails)?;
-    Ok((ended.status.0, ended.host.said().to_vec(alloc)?))
-}
-
-#[test]
-fn statements_are_answered_in_any_pieces(rt: HostRuntime) -> Result<(), Fail> {
-    let alloc = rt.alloc();
-    for (script, said, status) in ROWS {
-        let script = format!(in alloc; "{T}{script}")?;
-        let said = format!(in alloc; "OK\n{said}")?;
-        for step in [1, 2, 7, 4096] {
-            let bytes = script.as_bytes().to_vec(alloc)?;
-            let (ended, tape) = run_in_steps(alloc, bytes, step, &[], &[])?;
-            assert_eq!(rt; tape.as_slice(), said.as_bytes(), "{script}");
-            assert_eq!(rt; ended, status, "{script}");
-        }
-    }
-    Ok(())
-}
-
-// No clause says that replies aren't put together into one call.
-#[test]
-fn each_reply_is_said_in_a_call_of_its_own(rt: HostRuntime) -> Result<(), Fail> {
-    let alloc = rt.alloc();
-    let script = format!(in alloc; "{T}SELECT * FROM T; SELECT; ;SELECT * FROM T")?;
-    for step in [7, 4096] {
-        let bytes = script.as_bytes().to_vec(alloc)?;
-        let ended = ended_in_steps(alloc, bytes, step, &[], &[])?;
-        assert_eq!(rt; (ended.status.0, ended.host.calls()), (1, 4));
-    }
-    Ok(())
-}
-
-#[test]
-fn what_fails_stops_the_run(rt: HostRuntime) -> Result<(), Fail> {
-    let alloc = rt.alloc();
-    let script = format!(in alloc; "{T}SELECT * FROM T;SELECT * FROM T;")?;
-    // The second read fails: what closed in the first piece is answered.
-    let first = T.len() + 20;
-    let bytes = script.as_bytes().to_vec(alloc)?;
-    let (status, tape) = run_in_steps(alloc, bytes, first, &[2], &[])?;
-    assert_eq!(rt; status, 4);
-    assert_eq!(rt; tape.as_slice(), b"OK\nA|B\n0 ROWS\n".as_slice());
-    // The first reply can't be said.
-    let bytes = script.as_bytes().to_vec(alloc)?;
-    let (status, tape) = run_in_steps(alloc, bytes, 4096, &[], &[1])?;
-    assert_eq!(rt; status, 5);
-    assert_eq!(rt; tape.as_slice(), b"".as_slice());
-    // The second reply can't be said.
-    let bytes = script.as_bytes().to_vec(alloc)?;
-    let (status, tape) = run_in_steps(alloc, bytes, 4096, &[], &[2])?;
-    assert_eq!(rt; status, 5);
-    assert_eq!(rt; tape.as_slice(), b"OK\n".as_slice());
-    Ok(())
-}
 
 /// Words behind the program's name, cut at each blank: an empty line is one empty word.
 fn words_of(alloc: Global, line: &str) -> Result<Vec<String>, Fail> {
@@ -150,18 +21,94 @@ fn words_of(alloc: Global, line: &str) -> Result<Vec<String>, Fail> {
     Ok(words)
 }
 
-/// The status and the tape of these words on a host without a file, which fails the calls of these numbers, and how many
-/// calls it was given.
-fn run_words(
+/// The status that the words of a line end with, and the host.
+fn run_line<I: Source, H: Host + Drop>(
     alloc: Global,
-    words: &Vec<String>,
-    fails: &[u64],
-) -> Result<(u8, Vec<u8>, u64), Fail> {
+    line: &str,
+    input: &mut I,
+    host: H,
+) -> Result<(u8, H), Fail> {
+    let words = words_of(alloc, line)?;
+    let ended = run(alloc, &words, input, host);
+    Ok((ended.status.0, ended.host))
+}
+
+/// Two command lines on one host, one after the other. Its contract shows that the promise of a run goes on to the next.
+fn run_both<I: Source, H: Host>(
+    alloc: Global,
+    first: &Vec<String>,
+    second: &Vec<String>,
+    input: &mut I,
+    host: H,
+) -> Ended<H>
+    ensures later { H.clock host ≤ H.clock result.host }
+    ensures time { (before : File) (said : List ℕ) → H.file host ≡ Some before → H.tape host ≡ Some said
+        → (middle : File) × (heard : List ℕ) × (script : Option (List ℕ))
+        × OverTime H.clock H.moment (λ image tape. LeftByRun (map string_bytes first.now.items) (I.left input.old) before said image tape
+        ⊎ LeftByRun (map string_bytes second.now.items) script middle heard image tape) host result.host }
+{
+    let between = run(alloc, first, input, host);
+    run(alloc, second, input, between.host)
+}
+
+/// How a run of a script in memory ends.
+#[derive(Debug, Drop)]
+struct Seen {
+    status: u8,
+    tape: Vec<u8>,
+    calls: u64,
+}
+
+/// How `run -` ends on a script that comes in pieces of at most `step` bytes, where these reads and says fail.
+fn run_script(
+    alloc: Global,
+    script: &str,
+    step: usize,
+    read_fails: &[u64],
+    say_fails: &[u64],
+) -> Result<Seen, Fail> {
+    let bytes = script.as_bytes().to_vec(alloc)?;
+    let mut source = MemSource::new(bytes, step.max(1), read_fails.to_vec(alloc)?);
+    let host = MemHost::new(alloc, None, say_fails.to_vec(alloc)?);
+    let (status, host) = run_line(alloc, "run -", &mut source, host)?;
+    Ok(Seen {
+        status,
+        tape: host.said().to_vec(alloc)?,
+        calls: host.calls(),
+    })
+}
+
+// No clause says that replies aren't put together into one call.
+#[test]
+fn each_reply_is_said_in_a_call_of_its_own(rt: HostRuntime) -> Result<(), Fail> {
+    let alloc = rt.alloc();
+    let script = format!(in alloc; "{T}SELECT * FROM T; SELECT; ;SELECT * FROM T")?;
+    for step in [1, 7, 4096] {
+        let seen = run_script(alloc, &script, step, &[], &[])?;
+        assert_eq!(rt; (seen.status, seen.calls), (1, 4));
+    }
+    Ok(())
+}
+
+#[test]
+fn what_fails_stops_a_script(rt: HostRuntime) -> Result<(), Fail> {
+    let alloc = rt.alloc();
+    let script = format!(in alloc; "{T}SELECT * FROM T;SELECT * FROM T;")?;
+    // The first statements close in the first piece, and the second read fails.
+    let unread = run_script(alloc, &script, T.len() + 20, &[2], &[])?;
+    assert_eq!(rt; unread.status, 4);
+    assert_eq!(rt; unread.tape.as_slice(), b"OK\nA|B\n0 ROWS\n".as_slice());
+    let unsaid = run_script(alloc, &script, 4096, &[], &[2])?;
+    assert_eq!(rt; unsaid.status, 5);
+    assert_eq!(rt; unsaid.tape.as_slice(), b"OK\n".as_slice());
+    Ok(())
+}
+
+/// How a line ends on a host with no file, where these calls fail, and the host.
+fn run_words(alloc: Global, line: &str, fails: &[u64]) -> Result<(u8, MemHost), Fail> {
     let mut source = MemSource::new(b"SELECT;".to_vec(alloc)?, 1, Vec::new(alloc));
     let host = MemHost::new(alloc, None, fails.to_vec(alloc)?);
-    let ended = run(alloc, words, &mut source, host);
-    let tape = ended.host.said().to_vec(alloc)?;
-    Ok((ended.status.0, tape, ended.host.calls()))
+    run_line(alloc, line, &mut source, host)
 }
 
 const USAGE: &str = "usage: mdc create FILE EXTENTS PAGES | run FILE | check FILE | work N\n";
@@ -204,15 +151,11 @@ const OTHER_LINES: [&str; 32] = [
 
 #[test]
 fn other_words_are_no_command_line(rt: HostRuntime) -> Result<(), Fail> {
-    let alloc = rt.alloc();
     for line in OTHER_LINES {
-        let (status, tape, calls) = run_words(alloc, &words_of(alloc, line)?, &[])?;
-        assert_eq!(rt; status, 2, "{line}");
-        assert_eq!(rt; tape.as_slice(), USAGE.as_bytes(), "{line}");
-        assert_eq!(rt; calls, 1, "{line}");
+        let (status, host) = run_words(rt.alloc(), line, &[])?;
+        assert_eq!(rt; (status, host.calls()), (2, 1), "{line}");
+        assert_eq!(rt; host.said(), USAGE.as_bytes(), "{line}");
     }
-    let (status, tape, _) = run_words(alloc, &Vec::new(alloc), &[])?;
-    assert_eq!(rt; (status, tape.as_slice()), (2, USAGE.as_bytes()));
     Ok(())
 }
 
@@ -228,37 +171,12 @@ const CREATE_LINES: [&str; 6] = [
 
 #[test]
 fn databases_within_the_limits_are_made(rt: HostRuntime) -> Result<(), Fail> {
-    let alloc = rt.alloc();
     for line in CREATE_LINES {
-        let (status, tape, _) = run_words(alloc, &words_of(alloc, line)?, &[])?;
+        let (status, host) = run_words(rt.alloc(), line, &[])?;
         assert_eq!(rt; status, 0, "{line}");
-        assert_eq!(rt; tape.as_slice(), b"OK\n".as_slice(), "{line}");
+        assert_eq!(rt; host.said(), b"OK\n".as_slice(), "{line}");
     }
     Ok(())
-}
-
-#[test]
-fn what_fails_stops_a_create(rt: HostRuntime) -> Result<(), Fail> {
-    let alloc = rt.alloc();
-    let words = words_of(alloc, "create f 16 2")?;
-    let (_, _, calls) = run_words(alloc, &words, &[])?;
-    // The last call says the line, and those before it are of the disk.
-    for call in 1..calls {
-        let (status, tape, _) = run_words(alloc, &words, &[call])?;
-        assert_eq!(rt; (status, tape.len()), (3, 0), "{call}");
-    }
-    let (status, tape, _) = run_words(alloc, &words, &[calls])?;
-    assert_eq!(rt; (status, tape.len()), (5, 0));
-    Ok(())
-}
-
-/// The bytes of a host's file.
-fn file_of<H: Host>(alloc: Global, host: &mut H, path: &str) -> Result<Vec<u8>, Fail> {
-    host.attach(path, false)?;
-    let end = host.len()?;
-    let mut bytes = vec![in alloc; 0u8; end as usize]?;
-    host.read(0, &mut bytes)?;
-    Ok(bytes)
 }
 
 #[test]
@@ -267,116 +185,38 @@ fn a_file_is_made_once(rt: HostRuntime) -> Result<(), Fail> {
     let words = words_of(alloc, "create f 16 2")?;
     let mut source = MemSource::new(Vec::new(alloc), 1, Vec::new(alloc));
     let host = MemHost::new(alloc, None, Vec::new(alloc));
-    let mut made = run(alloc, &words, &mut source, host);
-    assert_eq!(rt; made.status.0, 0);
-    let first = file_of(alloc, &mut made.host, "f")?;
-    assert_eq!(rt; first.len(), 344_064);
-
-    let mut again = run(alloc, &words, &mut source, made.host);
-    assert_eq!(rt; again.status.0, 6);
-    assert_eq!(rt; again.host.said(), b"OK\nFILE EXISTS\n".as_slice());
-    let second = file_of(alloc, &mut again.host, "f")?;
-    assert_eq!(rt; second.as_slice() == first.as_slice(), true);
+    let ended = run_both(alloc, &words, &words, &mut source, host);
+    assert_eq!(rt; ended.status.0, 6);
+    assert_eq!(rt; ended.host.said(), b"OK\nFILE EXISTS\n".as_slice());
     Ok(())
 }
 
-/// What a create on a file of three bytes gives whose call of this number fails: the status, the tape and the file.
-fn create_over_bytes(alloc: Global, call: u64) -> Result<(u8, Vec<u8>, Vec<u8>), Fail> {
-    let words = words_of(alloc, "create f 16 2")?;
-    let mut source = MemSource::new(Vec::new(alloc), 1, Vec::new(alloc));
-    let host = MemHost::new(alloc, Some(b"abc".to_vec(alloc)?), vec![in alloc; call]?);
-    let mut ended = run(alloc, &words, &mut source, host);
-    let tape = ended.host.said().to_vec(alloc)?;
-    Ok((ended.status.0, tape, file_of(alloc, &mut ended.host, "f")?))
+/// Why the file of a host isn't opened, if it isn't.
+fn refusal_of<H: Host + Drop>(alloc: Global, mut host: H) -> Result<Option<OpenFault>, Fail> {
+    host.attach("f", true)?;
+    match FileStore::open(alloc, host, 8) {
+        Ok(_) => Ok(None),
+        Err(unopened) => Ok(Some(unopened.fault)),
+    }
 }
 
 #[test]
-fn a_file_with_a_byte_outlives_a_disk_that_fails(rt: HostRuntime) -> Result<(), Fail> {
+fn what_fails_stops_a_create(rt: HostRuntime) -> Result<(), Fail> {
     let alloc = rt.alloc();
-    for call in 1..3 {
-        let (status, tape, file) = create_over_bytes(alloc, call)?;
-        assert_eq!(rt; (status, tape.len()), (3, 0), "{call}");
-        assert_eq!(rt; file.as_slice(), b"abc".as_slice(), "{call}");
+    let (_, host) = run_words(alloc, "create f 16 2", &[])?;
+    let calls = host.calls();
+    assert!(rt; calls > 2);
+    // The last call says the line. The last of the disk is the sync behind the write that has the file made.
+    let (status, host) = run_words(alloc, "create f 16 2", &[calls])?;
+    assert_eq!(rt; (status, host.said().len()), (5, 0));
+    assert_eq!(rt; refusal_of(alloc, host)?, None);
+    let (status, host) = run_words(alloc, "create f 16 2", &[calls - 1])?;
+    assert_eq!(rt; (status, host.said().len()), (3, 0));
+    assert_eq!(rt; refusal_of(alloc, host)?, None);
+    for call in 1..calls - 1 {
+        let (status, host) = run_words(alloc, "create f 16 2", &[call])?;
+        assert_eq!(rt; (status, host.said().len()), (3, 0), "{call}");
+        assert_eq!(rt; refusal_of(alloc, host)?, Some(OpenFault::Unmade), "{call}");
     }
-    Ok(())
-}
-
-#[test]
-fn a_real_file_has_the_same_bytes(rt: HostRuntime) -> Result<(), Fail> {
-    let alloc = rt.alloc();
-    let name = format!(in alloc; "mdc-create-{}", process::id(rt.process()))?;
-    let folder = env::temp_dir(&rt)?.join(alloc, name.as_str())?;
-    let path = folder.join(alloc, "data")?;
-    fs::create_dir(&rt, folder.as_path())?;
-    let line = format!(in alloc; "create {} 16 2", path.as_str())?;
-    let words = words_of(alloc, line.as_str())?;
-    let mut source = MemSource::new(Vec::new(alloc), 1, Vec::new(alloc));
-
-    let real = FileHost::new(alloc, rt.clone()?, Vec::new(alloc));
-    assert_eq!(rt; run(alloc, &words, &mut source, real).status.0, 0);
-    let written = fs::read(&rt, path.as_path())?;
-    let again = FileHost::new(alloc, rt.clone()?, Vec::new(alloc));
-    assert_eq!(rt; run(alloc, &words, &mut source, again).status.0, 6);
-    let still = fs::read(&rt, path.as_path())?;
-    fs::remove_file(&rt, path.as_path())?;
-    fs::remove_dir(&rt, folder.as_path())?;
-
-    let memory = MemHost::new(alloc, None, Vec::new(alloc));
-    let mut made = run(alloc, &words, &mut source, memory);
-    let image = file_of(alloc, &mut made.host, "f")?;
-    assert_eq!(rt; written.as_slice() == image.as_slice(), true);
-    assert_eq!(rt; still.as_slice() == image.as_slice(), true);
-    Ok(())
-}
-
-#[test]
-fn a_script_has_64_mebibytes_at_most(rt: HostRuntime) -> Result<(), Fail> {
-    let alloc = rt.alloc();
-    for (bytes, status) in [(67_108_864, 0), (67_108_865, 7)] {
-        let blanks = vec![in alloc; b' '; bytes]?;
-        let (ended, tape) = run_in_steps(alloc, blanks, 4096, &[], &[])?;
-        assert_eq!(rt; (ended, tape.len()), (status, 0));
-    }
-    Ok(())
-}
-
-#[test]
-fn a_statement_has_65536_bytes_at_most(rt: HostRuntime) -> Result<(), Fail> {
-    let alloc = rt.alloc();
-    for (bytes, status) in [(65_536, 0), (65_537, 1)] {
-        let mut script = T.as_bytes().to_vec(alloc)?;
-        script.extend_from_slice(b" SELECT *")?;
-        for _ in 0..bytes - 14 {
-            script.push(b' ')?;
-        }
-        script.extend_from_slice(b"FROM T; ")?;
-        let (ended, _) = run_in_steps(alloc, script, 4096, &[], &[])?;
-        assert_eq!(rt; ended, status, "{bytes}");
-    }
-    Ok(())
-}
-
-#[test]
-fn ten_thousand_statements_are_answered(rt: HostRuntime) -> Result<(), Fail> {
-    let alloc = rt.alloc();
-    let mut script = T.as_bytes().to_vec(alloc)?;
-    let mut said = b"OK\n".to_vec(alloc)?;
-    for row in 0..10_000_u32 {
-        let cell = row % 12;
-        script.extend_from_slice(format!(in alloc;
-            "INSERT INTO T VALUES ({cell}, {row});"
-        )?.as_bytes())?;
-        said.extend_from_slice(b"1 ROWS INSERTED\n")?;
-    }
-    script.extend_from_slice(b"SELECT * FROM T;")?;
-    said.extend_from_slice(b"A|B\n")?;
-    for row in 0..10_000_u32 {
-        let cell = row % 12;
-        said.extend_from_slice(format!(in alloc; "{cell}|{row}\n")?.as_bytes())?;
-    }
-    said.extend_from_slice(b"10000 ROWS\n")?;
-    let (status, tape) = run_in_steps(alloc, script, 4096, &[], &[])?;
-    assert_eq!(rt; status, 0);
-    assert_eq!(rt; tape.as_slice(), said.as_slice());
     Ok(())
 }

@@ -1,10 +1,10 @@
 // The refusals that the engine gives.
 ghost use Rattle.std.specs.Prelude.{◌≡◌, IfOk};
-ghost use Rattle.mdc_ast.specs.Reading.{not_built};
-ghost use Rattle.mdc_ast.specs.Step.{naming};
+ghost use Rattle.first_ast.specs.Reading.{not_built};
+ghost use Rattle.first_ast.specs.Step.{naming};
 
 use crate::definition::copy_of;
-use mdc_ast::{Name, Refusal};
+use first_ast::{Name, Refusal};
 use mdc_values::{Chars, Memory};
 use std::alloc::Global;
 

@@ -1,9 +1,9 @@
 // A table: what it is made of, and its rows by cell, which it shows in order of insertion.
-ghost use Rattle.std.specs.Prelude.{◌≡◌, ◌==◌, [], ◌∷◌, ◌++◌, length, slice_get, flat_map, map, IfOk, OnOk, Ok, Err};
+ghost use Rattle.std.specs.Prelude.{◌≡◌, ◌==◌, [], ◌∷◌, ◌++◌, length, slice_get, flat_map, map, IfOk, OnOk, Ok, Err, Some};
 ghost use Rattle.std.specs.List.{list_all};
 ghost use Rattle.std.specs.Str.{bytes_eq};
-ghost use Rattle.mdc_values.specs.Value.{printed};
-ghost use Rattle.mdc_ast.specs.Step.{line, lines_of, with_rows};
+ghost use Rattle.mdc_values.specs.Printing.{printed};
+ghost use Rattle.first_ast.specs.Step.{line, lines_of, with_rows};
 ghost use Rattle.mdc_shell.specs.Engine.{inserted_into};
 ghost use Rattle.mdc_shell.specs.Key.{key_of, number_of};
 
@@ -12,7 +12,7 @@ use crate::definition::is_same;
 use crate::fitting::tuples_of;
 use crate::lines::{push_count, push_names, push_values};
 use crate::refusals::{not_built, out_of_range};
-use mdc_ast::{ColumnDef, InsertItem, Name, Outcome, Reply, Row};
+use first_ast::{ColumnDef, InsertItem, Name, Outcome, Reply, Row};
 use mdc_values::{Chars, List, Memory, Value};
 use std::alloc::Global;
 use std::marker::Model;
@@ -32,7 +32,7 @@ pub struct Table {
 
 impl Model for Table {
     ghost use Rattle.std.specs.Prelude.{length};
-    ghost use Rattle.mdc_ast.specs.Database.{PlainTable};
+    ghost use Rattle.first_ast.specs.Database.{PlainTable};
 
     ghost Value = { PlainTable };
 
@@ -161,7 +161,19 @@ fn push_number(values: &[Value], place: usize, key: &mut Vec<i64>) -> Result<(),
     ensures { OnOk result (key.new.items ≡ key.old.items ++ number_of (slice_get values.now place)) }
 {
     match values.get(place) {
-        Some(Value::Int(number)) => Ok(key.push(*number)?),
+        Some(value) => push_if_number(value, key),
         None => Ok(()),
+    }
+}
+
+// Appends the number that a value is.
+fn push_if_number(value: &Value, key: &mut Vec<i64>) -> Result<(), Memory>
+    ensures { OnOk result (key.new.items ≡ key.old.items ++ number_of (Some value.now)) }
+{
+    match value {
+        Value::Int(number) => Ok(key.push(*number)?),
+        Value::Null => Ok(()),
+        Value::Text(_) => Ok(()),
+        Value::Day(_) => Ok(()),
     }
 }

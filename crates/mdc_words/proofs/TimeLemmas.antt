@@ -1,5 +1,5 @@
--- `OverTime` of no call, of two runs one after the other, and of a wider statement.
-use Rattle.std.proofs.Common.{ℕ, inl, inr, arith}
+-- `OverTime` of no call, of two runs one after the other, of a wider statement, and of a state that lies above another.
+use Rattle.std.proofs.Common.{◌≡◌, ◌≤◌, ℕ, inl, inr, arith}
 use Rattle.mdc_words.specs.Time.{OverTime, ReachesBack, RestsAt}
 
 module _ {S A B : Type 0} {clock : S → ℕ} {left : S → ℕ → A → B → Type 0} where
@@ -41,3 +41,31 @@ module _ {S A B : Type 0} {clock : S → ℕ} {left : S → ℕ → A → B → 
       | inr meanwhile ↦ within x said meanwhile
     ];
   }
+
+  -- a call in which nothing that is left changes
+  pub over_time_still : {Within : A → B → Type 0} {old new : S} → clock old ≤ clock new
+      → ((t : ℕ) (x : A) (said : B) → t ≤ clock old → left old t x said → left new t x said)
+      → ((t : ℕ) (x : A) (said : B) → t ≤ clock old → left new t x said → left old t x said) → OverTime clock left Within old new
+  over_time_still later on back = record { later = later; keeps = on; only = λ t x said early now. inl (back t x said early now) }
+
+-- What lies above shows what is left below: an image, for one, stands for pages. The time of what lies below is its time.
+pub over_time_shown : {S T A X B : Type 0} {clock : S → ℕ} {left : S → ℕ → A → B → Type 0} {above : T → ℕ} {shown : T → ℕ → X → B → Type 0}
+    {Kind : A → B → Type 0} {Within : X → B → Type 0} (Shows : A → X → Type 0) (old new : S) (before after : T)
+    → above before ≡ clock old → above after ≡ clock new → OverTime clock left Kind old new
+    → ((t : ℕ) (x : X) (said : B) → shown before t x said → (y : A) × left old t y said × Shows y x)
+    → ((t : ℕ) (x : X) (y : A) (said : B) → left old t y said → Shows y x → shown before t x said)
+    → ((t : ℕ) (x : X) (said : B) → shown after t x said → (y : A) × left new t y said × Shows y x)
+    → ((t : ℕ) (x : X) (y : A) (said : B) → left new t y said → Shows y x → shown after t x said)
+    → ((x : X) (y : A) (said : B) → Kind y said → Shows y x → Within x said) → OverTime above shown Within before after
+over_time_shown Shows old new before after same_old same_new below open_old close_old open_new close_new within = record {
+  later = omega (arith, below.later, same_old, same_new);
+  keeps = λ t x said early was.
+      let y = open_old t x said was in
+      close_new t x y.0 said (below.keeps t y.0 said (omega (arith, early, same_old)) y.1) y.2;
+  only = λ t x said early now.
+      let y = open_new t x said now in
+      elim (below.only t y.0 said (omega (arith, early, same_old)) y.1) [
+        | inl past ↦ inl (close_old t x y.0 said past y.2)
+        | inr meanwhile ↦ inr (within x y.0 said meanwhile y.2)
+      ];
+}

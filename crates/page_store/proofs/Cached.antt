@@ -8,8 +8,8 @@ use Rattle.std.proofs.lemmas.Map.Keys.{IsDistinct-head, IsDistinct-tail}
 use Rattle.std.specs.List.{All, AllByRecursion, IsDistinct}
 use Rattle.std.specs.Map.{keys_of, set_value}
 use Rattle.redo_journal.specs.Images.{Numbered, AreRising}
-use Rattle.redo_journal.specs.Layout.{home_page}
-use Rattle.redo_journal.proofs.Rising.{All-rest}
+use Rattle.page_file.specs.Layout.{home_page}
+use Rattle.redo_journal.proofs.RisingLemmas.{All-rest}
 use Rattle.page_store.specs.Standing.{image_of}
 use Rattle.page_store.specs.Cached.{AreHome, renewed}
 

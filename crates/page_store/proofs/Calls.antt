@@ -5,23 +5,15 @@ use Rattle.std.specs.List.{All}
 use Rattle.mdc_outside.specs.Disk.{File, Since, IsImage, IsSound, all_synced, torn, written, settled}
 use Rattle.mdc_outside.specs.Moments.{Beside}
 use Rattle.redo_journal.specs.Images.{Numbered, AreRising}
-use Rattle.redo_journal.specs.Layout.{home_page, is_open, journal_of, torn_journal, torn_home, IsReady, HoldsJournal, HoldsHome}
-use Rattle.redo_journal.specs.Runs.{Runs, IsWithin}
-use Rattle.page_store.specs.Leaving.{Leaves}
+use Rattle.page_file.specs.Layout.{home_page, IsReady}
+use Rattle.redo_journal.specs.Layout.{is_open, journal_of, torn_journal, torn_home, HoldsJournal, HoldsHome}
+use Rattle.page_file.specs.Runs.{Runs, IsWithin}
+use Rattle.page_file.specs.Leaving.{Leaves}
 use Rattle.page_store.specs.Standing.{pages_of, IsFormed, Stands}
 use Rattle.page_store.specs.Commit.{Both, StandsStill, StandsEither, IsReadyFor, IsCounting, IsClosed, IsCommitted, IsJournaled, HomeStays, RestsWith, pages_with}
-use Rattle.page_store.proofs.Leaving.{runs_leave, leaves_then}
+use Rattle.page_file.proofs.LeavesLemmas.{runs_leave, leaves_then, one_file, told_before}
 use Rattle.page_store.proofs.Crashes.{while_home, while_closed}
 use Rattle.page_store.proofs.Committing.{journaled_written, journaled_opened, stands_through, stands_same}
-
--- two files that an option has are one
-pub one_file : {told : Option File} {first second : File} → told ≡ Some first → told ≡ Some second → first ≡ second
-one_file {told} {first} {second} a b = let both : Some first ≡ Some second = sym a ∙ b in cc
-
--- a told file is one of its own images
-pub sound_image : (told : Option File) (file : File) → IfSome told IsSound → told ≡ Some file → IsImage file.since file.bytes
-sound_image None file sound is = absurd (cc)
-sound_image (Some told) file sound is = let same : told ≡ file = cc in subst (λ (f : File). IsImage f.since f.bytes) same sound.image
 
 -- after the gate was written, all is on the disk
 pub synced_gate : (told : Option File) (state : List ℕ) (new : Option File) (after : File) → new ≡ option_map (λ file. settled (written 512 state file)) told → new ≡ Some after → after.since ≡ all_synced after.bytes
@@ -39,18 +31,10 @@ closed_at_rest (Ok done) told new written_gate gate = λ after now. record { syn
 pub stands_with : (images : Numbered) (before half : File) (image : List ℕ) → Stands before.bytes (pages_with images before.bytes) half.bytes → StandsStill half image
     → Stands before.bytes (pages_with images before.bytes) image
 stands_with images before half image counts still =
-    stands_through before.bytes half.bytes image (pages_with images before.bytes) counts.birth
+    stands_through before.bytes half.bytes image (pages_with images before.bytes) counts.birth counts.front
     (stands_same half.bytes image (pages_of half.bytes) (pages_with images before.bytes) counts.pages still)
 
 module _ {D : Type 0} {file : D → Option File} {aside : D → Beside} {attaches : D → Option (List (List ℕ × Bool))} {is_attached : D → Bool} {clock : D → ℕ} {moment : D → ℕ → List ℕ → List ℕ → Type 0} where
-  -- a file that is told now was told before
-  pub left_told : {Kind : File → List ℕ → Type 0} {old new : D} → Leaves file aside attaches is_attached clock moment Kind old new
-      → (after : File) → file new ≡ Some after → (before : File) × (file old ≡ Some before)
-  left_told {Kind} {old} {new} leaves after is = go (file old) refl where
-    go : (told : Option File) → file old ≡ told → (before : File) × (file old ≡ Some before)
-    go None none = absurd (let gone = leaves.untold none in cc)
-    go (Some before) some = (before, some)
-
   -- the file that a run left is an image that the run allows
   pub left_within : {allowed : Since → Since} {old new : D} (before after : File) → ((f : File) → file new ≡ Some f → IsImage f.since f.bytes)
       → Runs file aside attaches is_attached clock moment IsWithin allowed old new → file old ≡ Some before → file new ≡ Some after
@@ -138,7 +122,7 @@ module _ {D : Type 0} {file : D → Option File} {aside : D → Beside} {attache
       let at_home = holds half is_half in
       let torn_gate : IsImage (torn 512 1 (all_synced half.bytes)) image = subst (λ since. IsImage (torn 512 1 since) image) at_home.settled left in
       let in_place : All (λ listed. home_page half.bytes listed.0 ≡ listed.1) (journal_of half.bytes) = subst (λ (xs : Numbered). All (λ listed. home_page half.bytes listed.0 ≡ listed.1) xs) (sym stands.1) at_home.home in
-      stands_through before.bytes half.bytes image (pages_of before.bytes) stands.2.birth
+      stands_through before.bytes half.bytes image (pages_of before.bytes) stands.2.birth stands.2.front
       (stands_same half.bytes image (pages_of half.bytes) (pages_of before.bytes) stands.2.pages (while_closed half.bytes image stands.2.formed stands.0 in_place torn_gate))) in
       leaves_then home gate (λ before image is stands. stands.2) (λ before half image is is_half stands closed. closed before is)
 
@@ -147,7 +131,7 @@ module _ {D : Type 0} {file : D → Option File} {aside : D → Beside} {attache
       → Leaves file aside attaches is_attached clock moment (λ before image. IsTrue (is_open image) × (journal_of image ≡ images) × StandsStill before image) old middle
       → ForSome (file middle) (HoldsHome images) → ForSome (file middle) IsReady
   ready_to_close images {old} {middle} home holds half is_half =
-      let before = left_told home half is_half in
+      let before = told_before home half is_half in
       let kept = home.told before.0 before.1 in
       let same : kept.0 ≡ half = one_file kept.1 is_half in
       let formed = subst (λ (f : File). IsFormed f.bytes) same kept.2.2.formed in
@@ -158,7 +142,7 @@ module _ {D : Type 0} {file : D → Option File} {aside : D → Beside} {attache
       → Both (file old) (file new) (λ before after. IsCounting images after × Stands before.bytes (pages_with images before.bytes) after.bytes)
       → ForSome (file new) (λ after. IsCounting images after × IsFormed after.bytes)
   counts_there images leaves both after now =
-      let before = left_told leaves after now in
+      let before = told_before leaves after now in
       let counts = both.holds before.0 after before.1 now in
       (counts.0, counts.1.formed)
 

@@ -7,8 +7,10 @@ use Rattle.std.specs.List.{All}
 use Rattle.store_api.specs.StoreState.{stated_in, stated_count, page_at, zero_page}
 use Rattle.mdc_outside.specs.Disk.{File, IsImage}
 use Rattle.redo_journal.specs.Images.{Numbered, AreRising}
-use Rattle.redo_journal.specs.Layout.{home_page, is_open}
-use Rattle.redo_journal.proofs.Rising.{All-rest}
+use Rattle.page_file.specs.Layout.{home_page}
+use Rattle.redo_journal.specs.Layout.{is_open}
+use Rattle.redo_journal.proofs.RisingLemmas.{All-rest}
+use Rattle.page_file.proofs.FrontLemmas.{front_stays_itself}
 use Rattle.page_store.specs.Standing.{listed, image_of, page_of, count_of, pages_of, IsFormed, Stands}
 use Rattle.page_store.specs.Changes.{Overlay, laid_over, image_in, HoldsBelow}
 use Rattle.page_store.specs.Opening.{IsAtRest}
@@ -19,7 +21,7 @@ use Rattle.page_store.proofs.LaidOver.{listed-laid_over}
 use Rattle.page_store.proofs.Pages.{page_of-closed, pages_again}
 use Rattle.page_store.proofs.Committing.{unwrap_or-some}
 use Rattle.page_store.proofs.Crashes.{only_itself}
-use Rattle.page_store.proofs.Calls.{one_file}
+use Rattle.page_file.proofs.LeavesLemmas.{one_file}
 
 -- rising numbers from m on and below n are no more than lie between
 few_from : (images : Numbered) (m n : ℕ) → AreRising images → All (λ image. m ≤ image.0) images → All (λ image. image.0 < n) images → m ≤ n → length images + m ≤ n
@@ -41,6 +43,7 @@ stands_closed bytes formed closed = record {
   formed = formed;
   pages = pages_again bytes (home_page bytes) (ap stated_in (page_of-closed bytes 0 closed)) (λ p lt. page_of-closed bytes p closed);
   birth = refl;
+  front = front_stays_itself bytes;
 }
 
 -- a file that is ready for no image has them all
@@ -58,7 +61,7 @@ both_none start images told none ready = record {
 pub stands_none : (start : ℕ) (images : Numbered) (file : File) (image : List ℕ) → IsReadyFor start images file → IsImage file.since image → StandsEither images file image
 stands_none start images file image ready left =
     let itself : image ≡ file.bytes = only_itself file.bytes image (subst (λ since. IsImage since image) ready.synced left) in
-    inl (subst (λ (bytes : List ℕ). Stands file.bytes (pages_of file.bytes) bytes) (sym itself) (record { formed = ready.formed; pages = refl; birth = refl }))
+    inl (subst (λ (bytes : List ℕ). Stands file.bytes (pages_of file.bytes) bytes) (sym itself) (record { formed = ready.formed; pages = refl; birth = refl; front = front_stays_itself file.bytes }))
 
 -- what is there, or else the other
 some_or : (o : Option (List ℕ)) (page : List ℕ) → IsSome (option_or o (Some page))

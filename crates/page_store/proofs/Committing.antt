@@ -5,11 +5,14 @@ use Rattle.std.specs.List.{All}
 use Rattle.store_api.specs.StoreState.{stated_in}
 use Rattle.mdc_outside.specs.Disk.{File, IsImage, all_synced, torn}
 use Rattle.redo_journal.specs.Images.{Numbered, AreRising}
-use Rattle.redo_journal.specs.Layout.{file_page, home_page, is_open, start_of, journal_of, torn_journal, HoldsJournal}
+use Rattle.page_file.specs.Layout.{file_page, home_page, FrontStays}
+use Rattle.redo_journal.specs.Layout.{is_open, start_of, journal_of, torn_journal, HoldsJournal}
+use Rattle.page_file.proofs.FrontLemmas.{front_stays_then}
 use Rattle.page_store.specs.Standing.{listed, image_of, count_of, pages_of, Stands}
 use Rattle.page_store.specs.Commit.{AreFitting, IsReadyFor, IsJournaled, HomeStays, count_with, pages_with}
 use Rattle.page_store.proofs.Listed.{listed_same}
-use Rattle.page_store.proofs.Kept.{same_part, journal_left, same_but_gate}
+use Rattle.page_file.proofs.BytesLemmas.{same_part}
+use Rattle.page_store.proofs.Kept.{journal_left, same_but_gate}
 use Rattle.page_store.proofs.Crashes.{while_written, while_opened}
 
 -- the home pages while a journal is written behind them
@@ -41,12 +44,12 @@ with_stays images file image some stays grown =
     )
 
 -- the same pages, by way of another file
-pub stands_through : (file half image : List ℕ) (all : List (List ℕ)) → file_page half 1 ≡ file_page file 1 → Stands half all image → Stands file all image
-stands_through file half image all birth stands = record { formed = stands.formed; pages = stands.pages; birth = stands.birth ∙ birth }
+pub stands_through : (file half image : List ℕ) (all : List (List ℕ)) → file_page half 1 ≡ file_page file 1 → FrontStays file half → Stands half all image → Stands file all image
+stands_through file half image all birth front stands = record { formed = stands.formed; pages = stands.pages; birth = stands.birth ∙ birth; front = front_stays_then file half image front stands.front }
 
 -- other pages that are the same
 pub stands_same : (file image : List ℕ) (all same : List (List ℕ)) → all ≡ same → Stands file all image → Stands file same image
-stands_same file image all same is stands = record { formed = stands.formed; pages = stands.pages ∙ is; birth = stands.birth }
+stands_same file image all same is stands = record { formed = stands.formed; pages = stands.pages ∙ is; birth = stands.birth; front = stands.front }
 
 -- while the journal is written
 pub journaled_written : (start n : ℕ) (images : Numbered) (before : File) (image : List ℕ) → IsReadyFor start images before
@@ -76,12 +79,12 @@ journaled_opened start images before half image rising ready closed journaled st
     elim (while_opened half.bytes image start images stands.formed closed holds.starts holds.images fitting torn_gate) [
       | inl shut ↦ (
         record {
-          stands = inl (stands_through before.bytes half.bytes image (pages_of before.bytes) stands.birth (stands_same half.bytes image (pages_of half.bytes) (pages_of before.bytes) stands.pages shut.1));
+          stands = inl (stands_through before.bytes half.bytes image (pages_of before.bytes) stands.birth stands.front (stands_same half.bytes image (pages_of half.bytes) (pages_of before.bytes) stands.pages shut.1));
           stays = stays;
         },
         λ opened. absurd (both_ways (is_open image) shut.0 opened),
       )
-      | inr opened ↦ (let whole = stands_through before.bytes half.bytes image (pages_with images before.bytes) stands.birth
+      | inr opened ↦ (let whole = stands_through before.bytes half.bytes image (pages_with images before.bytes) stands.birth stands.front
           (stands_same half.bytes image (pages_with images half.bytes) (pages_with images before.bytes) with_images.1 opened.2) in
           (record { stands = inr whole; stays = stays }, λ gate. (opened.1, whole)))
     ]

@@ -6,10 +6,13 @@ use Rattle.std.proofs.lemmas.List.{ext_get_or}
 use Rattle.store_api.specs.StoreState.{stated_in}
 use Rattle.mdc_outside.specs.Disk.{IsImage, all_synced, torn}
 use Rattle.redo_journal.specs.Images.{Numbered}
-use Rattle.redo_journal.specs.Layout.{file_page, home_page, is_open, start_of, number_of, journal_of, index_pages, torn_journal, torn_home}
+use Rattle.page_file.specs.Layout.{file_page, home_page, FrontStays}
+use Rattle.redo_journal.specs.Layout.{is_open, start_of, number_of, journal_of, index_pages, torn_journal, torn_home}
+use Rattle.redo_journal.proofs.TornLemmas.{front_torn_journal, front_torn_home}
 use Rattle.page_store.specs.Standing.{image_of, page_of, count_of, pages_of, is_made, IsFormed, Stands}
 use Rattle.page_store.specs.Commit.{AreFitting, count_with, pages_with}
-use Rattle.page_store.proofs.Kept.{same_part, same_behind, same_number, same_journal, length-journal_of, home_left, journal_left, outside_home, IsSameButGate, same_but_gate}
+use Rattle.page_file.proofs.BytesLemmas.{same_part, same_behind, same_number}
+use Rattle.page_store.proofs.Kept.{same_journal, length-journal_of, home_left, journal_left, outside_home, IsSameButGate, same_but_gate}
 use Rattle.page_store.proofs.Pages.{page_of-closed, page_of-open, unwrap_or-same, image_of-none, image_of-home, fits, formed_again, pages_again}
 
 -- where all is on the disk, a crash leaves what the file holds
@@ -39,6 +42,7 @@ while_written bytes image start n formed closed some behind left =
         formed = formed_again bytes image (page_of bytes) formed made birth count (omega (arith, kept.0)) (λ opened. absurd (both_ways (is_open image) shut opened));
         pages = pages_again image (page_of bytes) count home;
         birth = birth;
+        front = front_torn_journal start n bytes image (omega arith) left;
       },
     )
 
@@ -53,6 +57,7 @@ stays_closed bytes image formed same closed shut =
       formed = formed_again bytes image (page_of bytes) formed same.made same.birth count whole (λ opened. absurd (both_ways (is_open image) shut opened));
       pages = pages_again image (page_of bytes) count (λ p lt. home p);
       birth = same.birth;
+      front = same.front;
     }
 
 -- an image that is the same but for the gate, which it has open
@@ -73,6 +78,7 @@ stands_open bytes image start images formed same opened starts journal fitting =
           (λ gate. fits image start (length images) (count_with images bytes) images (same.starts ∙ starts) number listed_so count fitting.behind within fitting.rising fitting.named);
       pages = pages_again image (λ p. unwrap_or (image_of images p) (home_page bytes p)) count (λ p lt. home p);
       birth = same.birth;
+      front = same.front;
     }
 
 -- while its gate is opened
@@ -91,10 +97,10 @@ while_opened bytes image start images formed closed starts journal fitting left 
     ]
 
 -- an image of one length that has the same journal and the same pages
-stands_again : (bytes image : List ℕ) → IsFormed bytes → is_made image ≡ is_made bytes → file_page image 1 ≡ file_page bytes 1 → length image ≡ length bytes
+stands_again : (bytes image : List ℕ) → IsFormed bytes → is_made image ≡ is_made bytes → file_page image 1 ≡ file_page bytes 1 → length image ≡ length bytes → FrontStays bytes image
     → start_of image ≡ start_of bytes → number_of image ≡ number_of bytes → journal_of image ≡ journal_of bytes
     → ((p : ℕ) → page_of image p ≡ page_of bytes p) → IsTrue (is_open bytes) → Stands bytes (pages_of bytes) image
-stands_again bytes image formed made birth size starts numbers journal home gate =
+stands_again bytes image formed made birth size front starts numbers journal home gate =
     let fit = formed.journal gate in
     let count : count_of image ≡ count_of bytes = ap stated_in (home 0) in
     let whole : 4096 * (66 + count_of bytes) ≤ length image = omega (arith, formed.whole, size) in
@@ -104,6 +110,7 @@ stands_again bytes image formed made birth size starts numbers journal home gate
           (λ opened. fits image (start_of bytes) (number_of bytes) (count_of bytes) (journal_of bytes) starts numbers journal count fit.behind within fit.journal.rising fit.named);
       pages = pages_again image (page_of bytes) count (λ p lt. home p);
       birth = birth;
+      front = front;
     }
 
 -- while its images are written home
@@ -115,13 +122,13 @@ while_home bytes image formed gate left =
     let whole : 4096 * (66 + count_of bytes) ≤ length bytes = formed.whole in
     let kept = home_left bytes image (journal_of bytes) (count_of bytes) fit.named whole left in
     let size : length image ≡ length bytes = kept.0 in
-    let front : (i : ℕ) → i < 270336 → get_or image i 0 ≡ get_or bytes i 0 = λ i lt. kept.1 i (omega arith) (λ k d less. inl (omega arith)) in
+    let before : (i : ℕ) → i < 270336 → get_or image i 0 ≡ get_or bytes i 0 = λ i lt. kept.1 i (omega arith) (λ k d less. inl (omega arith)) in
     let behind : (i : ℕ) → 4096 * (66 + count_of bytes) ≤ i → i < length bytes → get_or image i 0 ≡ get_or bytes i 0 = λ i le lt.
     kept.1 i lt (λ k d less. inr (omega (arith, fit.named k d less))) in
-    let opened : IsTrue (is_open image) = ap (λ b. nat_eq b 79) (front 512 (omega arith)) ∙ gate in
-    let made : is_made image ≡ is_made bytes = ap (λ b. nat_eq b 77) (front 0 (omega arith)) in
+    let opened : IsTrue (is_open image) = ap (λ b. nat_eq b 79) (before 512 (omega arith)) ∙ gate in
+    let made : is_made image ≡ is_made bytes = ap (λ b. nat_eq b 77) (before 0 (omega arith)) in
     let part : (at k : ℕ) → at + k ≤ 270336 → take k (drop at image) ≡ take k (drop at bytes) = λ at k le.
-    same_part at k image bytes (ap (λ n. min (at + k) n) size) (λ i low high lt. front i (omega arith)) in
+    same_part at k image bytes (ap (λ n. min (at + k) n) size) (λ i low high lt. before i (omega arith)) in
     let birth : file_page image 1 ≡ file_page bytes 1 = part 4096 4096 (omega arith) in
     let starts : start_of image ≡ start_of bytes = same_number 1024 image bytes (part 1024 4 (omega arith)) in
     let numbers : number_of image ≡ number_of bytes = same_number 1028 image bytes (part 1028 4 (omega arith)) in
@@ -134,7 +141,7 @@ while_home bytes image formed gate left =
     same_part (4096 * (66 + p)) 4096 image bytes (ap (λ n. min (4096 * (66 + p) + 4096) n) size) (λ i low high lt.
     kept.1 i lt (outside_home (journal_of bytes) p i (image_of-none (journal_of bytes) p none) low high)))
     ∙ sym (page_of-open bytes p gate))) in
-    (opened, journal, stands_again bytes image formed made birth size starts numbers journal home gate)
+    (opened, journal, stands_again bytes image formed made birth size (front_torn_home (journal_of bytes) bytes image left) starts numbers journal home gate)
 
 -- where the images are in their home pages, the gate changes no page
 same_pages : (bytes image : List ℕ) → IsSameButGate bytes image → IsTrue (is_open bytes) → All (λ listed. home_page bytes listed.0 ≡ listed.1) (journal_of bytes)
@@ -156,4 +163,4 @@ while_closed bytes image formed gate home left =
     let fit = formed.journal gate in
     let long : 8192 ≤ length bytes = omega (arith, formed.whole) in
     let same = same_but_gate bytes image long fit.journal.behind_gates left in
-    stands_again bytes image formed same.made same.birth same.size same.starts same.numbers same.journal (same_pages bytes image same gate home) gate
+    stands_again bytes image formed same.made same.birth same.size same.front same.starts same.numbers same.journal (same_pages bytes image same gate home) gate

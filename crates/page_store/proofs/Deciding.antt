@@ -1,17 +1,18 @@
 -- Whether a file is formed, and of which shape, is decided. So each image that a host may leave is one that its store leaves.
-use Rattle.std.proofs.Common.{◌≡◌, ◌⊎◌, ◌≤◌, ◌<◌, ◌+◌, ◌*◌, ℕ, suc, Bool, IsTrue, List, [], ◌∷◌, length, Option, Some, inl, inr, arith, refl}
+use Rattle.std.proofs.Common.{◌≡◌, ◌⊎◌, ◌≤◌, ◌<◌, ◌+◌, ◌*◌, ℕ, zero, suc, Bool, IsTrue, List, [], ◌∷◌, length, Option, Some, inl, inr, arith, refl, get_or, subst}
 use Rattle.std.specs.List.{All}
 use Rattle.std.proofs.lemmas.Bool.{cases_lt, cases_Bool, both_ways}
 use Rattle.std.proofs.lemmas.Bool.Decides.{not_from_Decides}
 use Rattle.std.proofs.lemmas.Slice.Eq.{bytes_eq-Decides}
 use Rattle.std.proofs.lemmas.List.Elements.{All-nil, All-cons}
 use Rattle.std.specs.Str.{bytes_eq}
-use Rattle.mdc_outside.specs.Disk.{File}
+use Rattle.mdc_outside.specs.Disk.{File, IsOutside}
 use Rattle.redo_journal.specs.Images.{Numbered, AreRising}
-use Rattle.redo_journal.specs.Layout.{file_page, is_open, start_of, number_of, journal_of, index_pages, IsJournal}
+use Rattle.page_file.specs.Layout.{file_page, home_start, IsNoPlaceOfJournal}
+use Rattle.redo_journal.specs.Layout.{is_open, start_of, number_of, journal_of, index_pages, IsJournal}
 use Rattle.page_store.specs.declared.shape.Shape.{Shape}
 use Rattle.page_store.specs.Shape.{IsBirth, is_shape, birth_page, extents_in, extent_pages_in}
-use Rattle.page_store.specs.Standing.{count_of, is_made, IsFitting, IsFormed, IsFormedAs}
+use Rattle.page_store.specs.Standing.{count_of, is_made, IsFitting, IsFormed, IsFormedAs, FrontAgrees, IsStoreImage}
 use Rattle.page_store.specs.FileStore.{left_of, IsLeft}
 
 -- it holds or not
@@ -103,10 +104,43 @@ decided_formed_as shape file =
     (λ all. record { formed = all.0; extents = all.1.0; extent_pages = all.1.1 }) (λ formed. (formed.formed, (formed.extents, formed.extent_pages)))
     (decided_both (decided_formed file) (decided_both (decided_same (extents_in (file_page file 1)) shape.extents) (decided_same (extent_pages_in (file_page file 1)) shape.extent_pages)))
 
+-- one of two
+decided_either : {P Q : Type 0} → Decided P → Decided Q → Decided (P ⊎ Q)
+decided_either (inl p) q = inl (inl p)
+decided_either (inr none) (inl q) = inl (inr q)
+decided_either (inr none) (inr fails) = inr (λ either. elim either [ inl p ↦ none p | inr q ↦ fails q ])
+
+-- a fact on each number below one
+decided_below : (P : ℕ → Type 0) → ((i : ℕ) → Decided (P i)) → (n : ℕ) → Decided ((i : ℕ) → i < n → P i)
+decided_below P each zero = inl (λ i lt. absurd (omega arith))
+decided_below P each (suc n) = decided_as {P = P n × ((i : ℕ) → i < n → P i)}
+    (λ both i lt. elim (cases_lt i n) [
+      | inl below ↦ both.1 i below
+      | inr there ↦ (let same : n ≡ i = omega arith in subst P same both.0)
+    ])
+    (λ all. (all n (omega arith), λ i lt. all i (omega arith))) (decided_both (each n) (decided_below P each n))
+
+-- a place before or behind a range
+decided_outside : (i at count : ℕ) → Decided (IsOutside i (record { at = at; count = count }))
+decided_outside i at count = decided_either (decided_le (suc i) at) (decided_le (at + count) i)
+
+-- what two files have in common before their first home page
+decided_front : (file image : List ℕ) → Decided (FrontAgrees file image)
+decided_front file image = decided_as {P = (i : ℕ) → i < home_start 0 → IsNoPlaceOfJournal i → get_or image i 0 ≡ get_or file i 0}
+    (λ same. record { same = same }) (λ agrees. agrees.same)
+    (decided_below (λ i. IsNoPlaceOfJournal i → get_or image i 0 ≡ get_or file i 0)
+    (λ i. decided_where (decided_both (decided_outside i 512 1) (decided_outside i 1024 8)) (decided_same (get_or image i 0) (get_or file i 0))) (home_start 0))
+
+-- an image of a store's file
+decided_store_image : (shape : Shape) (file image : List ℕ) → Decided (IsStoreImage shape file image)
+decided_store_image shape file image = decided_as {P = IsFormedAs shape image × FrontAgrees file image}
+    (λ both. record { formed = both.0; front = both.1 }) (λ whole. (whole.formed, whole.front))
+    (decided_both (decided_formed_as shape image) (decided_front file image))
+
 -- each image and tape that a host may leave is what its store leaves
 pub each_left : (shape : Shape) (told : Option File) (tape : Option (List ℕ)) (moment : ℕ → List ℕ → List ℕ → Type 0) (file : File) (said : List ℕ) → told ≡ Some file → tape ≡ Some said
-    → (t : ℕ) (image heard : List ℕ) → moment t image heard → IsLeft shape (left_of shape told tape moment t) image heard
-each_left shape told tape moment file said is heard_is t image heard now = elim (decided_formed_as shape image) [
-  | inl formed ↦ inl (formed, (file, is, said, heard_is, image, now, (formed, refl)))
+    → (t : ℕ) (image heard : List ℕ) → moment t image heard → IsLeft shape file.bytes (left_of shape told tape moment t) image heard
+each_left shape told tape moment file said is heard_is t image heard now = elim (decided_store_image shape file.bytes image) [
+  | inl whole ↦ inl (whole, (file, is, said, heard_is, image, now, (whole, refl)))
   | inr fails ↦ inr (file, is, said, heard_is, image, now, fails)
 ]

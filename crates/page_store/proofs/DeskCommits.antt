@@ -7,18 +7,19 @@ use Rattle.store_api.specs.Calls.{Commits, Ends}
 use Rattle.mdc_outside.specs.Disk.{File, IsImage}
 use Rattle.mdc_outside.specs.Moments.{Beside}
 use Rattle.redo_journal.specs.Images.{Numbered}
-use Rattle.redo_journal.specs.Layout.{home_page}
+use Rattle.page_file.specs.Layout.{home_page}
 use Rattle.page_store.specs.declared.desk.Desk.{Desk}
 use Rattle.page_store.specs.declared.write_through.Halt.{Halt}
 use Rattle.page_store.specs.declared.write_through.Halt.TheVariants.{BeforeHome, BehindGate}
-use Rattle.page_store.specs.Leaving.{Leaves}
+use Rattle.page_file.specs.Leaving.{Leaves}
 use Rattle.page_store.specs.Standing.{listed, pages_of, IsFormedAs, Stands}
 use Rattle.page_store.specs.Shape.{extents_in, extent_pages_in}
-use Rattle.page_store.specs.Changes.{Changed, laid_over, unchanged}
+use Rattle.page_store.specs.Changes.{nothing, Changed, laid_over, unchanged}
 use Rattle.page_store.specs.Cached.{renewed}
 use Rattle.page_store.specs.Commit.{Both, IsReadyFor, IsCommitted, StandsEither, HomeStays, RestsWith, pages_with}
-use Rattle.page_store.specs.Desk.{IsKept, IsPrepared, Does, StandsForEither, RestsEither, base_in, base_of, work_of, state_of}
-use Rattle.page_store.proofs.Calls.{one_file, left_told}
+use Rattle.page_store.specs.Desk.{IsKept, IsPrepared, Does, StandsForEither, CommitLeaves, RestsEither, base_in, base_of, work_of, state_of}
+use Rattle.page_file.proofs.LeavesLemmas.{one_file}
+use Rattle.page_file.proofs.LeavesLemmas.{told_before}
 use Rattle.page_store.proofs.Cached.{renewed_home}
 use Rattle.page_store.proofs.Commits.{MakesWork, made_by, ready_for, pages_at_rest, rest_after, work_after, home_after}
 use Rattle.page_store.proofs.LaidOver.{laid_over-again, laid_over-unchanged, length-laid_over}
@@ -28,7 +29,7 @@ use Rattle.page_store.proofs.Listed.{listed_same}
 abbrev pub settled : Numbered → Desk → Desk
 settled images desk = record desk {
   base = length desk.changes.now;
-  changes = record { now = unchanged (length desk.changes.now); marked = None; kept = 0 };
+  changes = nothing (length desk.changes.now);
   cache = renewed images desk.cache;
   hand = None;
   images = None;
@@ -50,7 +51,7 @@ pub leaves_told : {D : Type 0} {file : D → Option File} {aside : D → Beside}
 leaves_told leaves = record {
   untold = leaves.untold;
   forth = λ before is. let after = leaves.told before is in (after.0, after.1);
-  back = λ after now. left_told leaves after now;
+  back = λ after now. told_before leaves after now;
 }
 
 -- each image that a crash leaves after it is of its kind
@@ -89,7 +90,7 @@ same_state s told_a told_b base_a base_b work_a work_b marked_a marked_b told ba
 
 -- a desk whose parts are as after a commit
 pub settled_as : (images : Numbered) (desk : Desk) (count : ℕ) (changes : Changed) (cache : Numbered) (left : Option Numbered) → count ≡ length desk.changes.now
-    → changes ≡ record { now = unchanged count; marked = None; kept = 0 } → cache ≡ renewed images desk.cache → left ≡ None
+    → changes ≡ nothing count → cache ≡ renewed images desk.cache → left ≡ None
     → settled images desk ≡ record desk { base = count; changes = changes; cache = cache; hand = None; images = left }
 settled_as images desk count changes cache left is_count is_changes is_cache none = rw (is_changes, is_cache, none, is_count) refl
 
@@ -134,10 +135,10 @@ module _ (desk : Desk) (told : Option File) (images : Numbered) (kept : IsKept d
       let rest = kept.at_rest file is in
       record { formed = stands.formed; extents = ap extents_in stands.birth ∙ rest.states_extents; extent_pages = ap extent_pages_in stands.birth ∙ rest.states_extent_pages }
 
-  -- what a crash leaves stands for the base or for the work
-  pub stands_either : (file : File) (image : List ℕ) → told ≡ Some file → StandsEither images file image → StandsForEither desk file image
-  stands_either file image is (inl stands) = (shaped file image is stands, inl (stands.pages ∙ stands_base file is))
-  stands_either file image is (inr stands) = (shaped file image is stands, inr (stands.pages ∙ stands_work file is))
+  -- what a crash leaves stands for the base or for the work, and the rest of the file stays
+  pub stands_either : (file : File) (image : List ℕ) → told ≡ Some file → StandsEither images file image → CommitLeaves desk file image
+  stands_either file image is (inl stands) = ((shaped file image is stands, inl (stands.pages ∙ stands_base file is)), stands.front)
+  stands_either file image is (inr stands) = ((shaped file image is stands, inr (stands.pages ∙ stands_work file is)), stands.front)
 
   -- after a commit that failed, the base is as it was, or it is the work
   base_left : (halt : Halt) (before after : File) → told ≡ Some before → FailsBy images halt before after → IsImage after.since after.bytes
@@ -247,6 +248,7 @@ module _ (desk : Desk) (told : Option File) (images : Numbered) (kept : IsKept d
           renewed_home images desk.cache before.0.bytes after.bytes desk.base (length desk.changes.now) (kept.clean before.0 before.1) kept.count.0
           (home_after desk.shape.extents desk.shape.extent_pages desk.base desk.changes.now images before.0 after (kept.at_rest before.0 before.1) (made before.0 before.1) (both.holds before.0 after before.1 now));
       some = omega (arith, kept.some, kept.count.0);
+      based = refl;
       count = (omega (arith, length-replicate {A = Option (List ℕ)} (length desk.changes.now) None), omega (arith, length-replicate {A = Option (List ℕ)} (length desk.changes.now) None, kept.count.1));
       marked = λ changes is. absurd (cc);
       hand = λ some. absurd (cc);

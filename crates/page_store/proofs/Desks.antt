@@ -1,20 +1,23 @@
 -- What the calls on a desk do to what it is seen as.
-use Rattle.std.proofs.Common.{◌≡◌, ◌≤◌, ◌<◌, ◌-◌, ℕ, zero, suc, IsTrue, IsSome, is_some, List, [], ◌∷◌, ◌++◌, length, replicate, set, slice_get, get_or, Option, Some, None, unwrap_or, Result, Ok, Err, arith, refl, sym, ap, subst, ◌∙◌, length-append, le-leb}
+use Rattle.std.proofs.Common.{◌≡◌, ◌≤◌, ◌<◌, ◌-◌, ℕ, zero, suc, IsTrue, IsSome, is_some, List, [], ◌∷◌, ◌++◌, length, replicate, set, slice_get, get_or, Option, Some, None, unwrap_or, Result, Ok, Err, arith, refl, sym, ap, subst, ◌∙◌, length-append, le-leb, leb, false, inl, inr}
 use Rattle.std.specs.Option.{ForSome, option_map}
-use Rattle.std.proofs.lemmas.List.{length-set, length-replicate}
+use Rattle.std.proofs.lemmas.Bool.{cases_lt}
+use Rattle.std.proofs.lemmas.Bool.Decides.{nat_tests}
+use Rattle.std.proofs.lemmas.List.{length-set, length-replicate, set-get_or}
 use Rattle.store_api.specs.StoreState.{zero_page, page_at, seen, differing}
-use Rattle.store_api.specs.Calls.{Fetches, FetchesCommitted, Writes, Grows, RollsBack}
+use Rattle.store_api.specs.Calls.{Fetches, FetchesCommitted, LosesReadiness, Writes, Grows, RollsBack}
 use Rattle.mdc_outside.specs.Disk.{File}
 use Rattle.redo_journal.specs.Images.{Numbered}
-use Rattle.redo_journal.specs.Layout.{home_page}
+use Rattle.page_file.specs.Layout.{home_page}
+use Rattle.page_changes.specs.declared.spares.Spares.{Spares}
 use Rattle.page_store.specs.declared.desk.Desk.{Desk}
 use Rattle.page_store.specs.declared.desk.Hand.{Hand}
 use Rattle.page_store.specs.declared.write_through.Halt.{Halt}
-use Rattle.page_store.specs.Changes.{Overlay, Changed, unchanged, changed_in, laid_over, image_in}
+use Rattle.page_store.specs.Changes.{Overlay, Changed, unchanged, changed_in, nothing, laid_over, image_in}
 use Rattle.page_store.specs.Cached.{AreHome, Leads}
 use Rattle.page_store.specs.Desk.{IsKept, Does, DoesOnOk, base_in, base_of, work_of, page_at_hand, written_in}
 use Rattle.page_store.proofs.Listed.{length-listed, page_at-listed}
-use Rattle.page_store.proofs.LaidOver.{laid_over-set, laid_over-grown, laid_over-unchanged, laid_over-at, differing-laid_over}
+use Rattle.page_store.proofs.LaidOver.{laid_over-set, laid_over-grown, laid_over-unchanged, laid_over-at, differing-laid_over, changed_in-grown}
 
 -- how many pages the base has
 pub length-base_in : (halt : Option Halt) (count : ℕ) (file : List ℕ) → halt ≡ None → length (base_in halt count file) ≡ count
@@ -23,9 +26,9 @@ length-base_in (Some halt) count file going = absurd (cc)
 
 -- the work with pages of zeros more
 pub grown_work : (told : Option File) (desk : Desk) (n : ℕ) → desk.base ≤ length desk.changes.now → desk.halt ≡ None
-    → work_of told desk (desk.changes.now ++ unchanged n) ≡ seen (is_some told) (work_of told desk desk.changes.now ++ replicate n zero_page)
+    → work_of told desk (desk.changes.now ++ replicate n (Some zero_page)) ≡ seen (is_some told) (work_of told desk desk.changes.now ++ replicate n zero_page)
 grown_work None desk n le going =
-    ap (λ k. replicate k []) (omega (arith, length-append desk.changes.now (unchanged n), length-replicate {A = Option (List ℕ)} n None, length-append (replicate (length desk.changes.now) []) (replicate n zero_page), length-replicate {A = List ℕ} (length desk.changes.now) [], length-replicate {A = List ℕ} n zero_page))
+    ap (λ k. replicate k []) (omega (arith, length-append desk.changes.now (replicate n (Some zero_page)), length-replicate {A = Option (List ℕ)} n (Some zero_page), length-append (replicate (length desk.changes.now) []) (replicate n zero_page), length-replicate {A = List ℕ} (length desk.changes.now) [], length-replicate {A = List ℕ} n zero_page))
 grown_work (Some file) desk n le going =
     laid_over-grown desk.changes.now (base_in desk.halt desk.base file.bytes) n (omega (arith, length-base_in desk.halt desk.base file.bytes going))
 
@@ -50,20 +53,15 @@ differing-blank zero many le = omega (arith, length-replicate {A = List ℕ} man
 differing-blank (suc few) zero le = absurd (omega arith)
 differing-blank (suc few) (suc many) le = omega (arith, differing-blank few many (omega arith))
 
--- no more pages have a change than there are
-pub changed_in-length : (changes : Overlay) → changed_in changes ≤ length changes
-changed_in-length [] = omega arith
-changed_in-length (None ∷ changes) = omega (arith, changed_in-length changes)
-changed_in-length (Some page ∷ changes) = omega (arith, changed_in-length changes)
-
 -- how many pages of base and work differ
-pub differing_work : (told : Option File) (desk : Desk) → IsKept desk told → desk.halt ≡ None → changed_in desk.changes.now ≤ desk.changes.kept
+pub differing_work : (told : Option File) (desk : Desk) → IsKept desk told → desk.halt ≡ None → desk.changes.kept ≡ changed_in desk.changes.now
+    → ((p : ℕ) → desk.base ≤ p → p < length desk.changes.now → IsSome (get_or desk.changes.now p None))
     → differing (base_of told desk) (work_of told desk desk.changes.now) ≤ written_in desk
-differing_work None desk kept going enough =
-    omega (arith, kept.count.0, kept.count.1, length-replicate {A = List ℕ} (length desk.changes.now) [], differing-blank desk.base (length desk.changes.now) kept.count.0)
-differing_work (Some file) desk kept going enough =
+differing_work None desk kept going counted grown =
+    omega (arith, kept.count.0, counted, length-replicate {A = List ℕ} (length desk.changes.now) [], differing-blank desk.base (length desk.changes.now) kept.count.0, changed_in-grown desk.base desk.changes.now grown)
+differing_work (Some file) desk kept going counted grown =
     let size : length (base_in desk.halt desk.base file.bytes) ≡ desk.base = length-base_in desk.halt desk.base file.bytes going in
-    omega (arith, size, kept.count.0, kept.count.1, enough, changed_in-length desk.changes.now, differing-laid_over desk.changes.now (base_in desk.halt desk.base file.bytes) (omega (arith, size, kept.count.0)))
+    omega (arith, counted, differing-laid_over desk.changes.now (base_in desk.halt desk.base file.bytes) (omega (arith, size, kept.count.0)) (λ p le lt. grown p (omega (arith, size)) lt))
 
 -- a page came to hand that is the told one, where pages are told
 pub brings_page : (told : Option File) (desk : Desk) (hand : Option Hand) (cache : Numbered) (p : ℕ) (page : List ℕ)
@@ -126,6 +124,7 @@ kept_with told desk hand cache kept clean there = record {
   at_rest = kept.at_rest;
   clean = clean;
   some = kept.some;
+  based = kept.based;
   count = kept.count;
   marked = kept.marked;
   hand = there;
@@ -139,21 +138,21 @@ brings_shown told now desk new p same does tape attaches = let brought = does ta
 
 -- pages of zeros were added
 pub grows : (told : Option File) (desk : Desk) (n : ℕ) (changes : Changed) → desk.base ≤ length desk.changes.now → desk.halt ≡ None
-    → changes ≡ record desk.changes { now = desk.changes.now ++ unchanged n }
+    → changes.now ≡ desk.changes.now ++ replicate n (Some zero_page) → changes.marked ≡ desk.changes.marked
     → Does (Grows n) told desk told (record desk { changes = changes; hand = None; images = None })
-grows None desk n changes le going is tape attaches = let more = grown_work None desk n le going in rw (is, more) refl
-grows (Some file) desk n changes le going is tape attaches = let more = grown_work (Some file) desk n le going in rw (is, more) refl
+grows None desk n changes le going is marked tape attaches = let more = grown_work None desk n le going in rw (is, marked, more) refl
+grows (Some file) desk n changes le going is marked tape attaches = let more = grown_work (Some file) desk n le going in rw (is, marked, more) refl
 
 -- a page was written over
-pub writes : (told : Option File) (desk : Desk) (p : ℕ) (page : List ℕ) (changes : Changed)
+pub writes : (told : Option File) (desk : Desk) (p : ℕ) (page : List ℕ) (changes : Changed) (spares : Spares)
     → changes.now ≡ set desk.changes.now p (Some page) → changes.marked ≡ desk.changes.marked
-    → Does (Writes p page) told desk told (record desk { changes = changes; hand = None; images = None })
-writes None desk p page changes now marked tape attaches = let put = written_work None desk p page in rw (now, marked, put) refl
-writes (Some file) desk p page changes now marked tape attaches = let put = written_work (Some file) desk p page in rw (now, marked, put) refl
+    → Does (Writes p page) told desk told (record desk { changes = changes; spares = spares; hand = None; images = None })
+writes None desk p page changes spares now marked tape attaches = let put = written_work None desk p page in rw (now, marked, put) refl
+writes (Some file) desk p page changes spares now marked tape attaches = let put = written_work (Some file) desk p page in rw (now, marked, put) refl
 
 -- all changes were forgotten
 pub rolls_back : (told : Option File) (desk : Desk) (changes : Changed) → desk.halt ≡ None
-    → changes ≡ record { now = unchanged desk.base; marked = None; kept = 0 }
+    → changes ≡ nothing desk.base
     → Does RollsBack told desk told (record desk { changes = changes; hand = None; images = None })
 rolls_back None desk changes going is tape attaches = let back = unchanged_work None desk going in rw (is, back) refl
 rolls_back (Some file) desk changes going is tape attaches = let back = unchanged_work (Some file) desk going in rw (is, back) refl
@@ -176,3 +175,72 @@ brings_same told now desk new p same does = subst (λ (t : Option File). Does (F
 -- there is a first page
 pub some_first : (p : ℕ) (page : List ℕ) (entries : Numbered) → Leads p page entries → IsSome (option_map (λ entry. entry.1) (slice_get entries 0))
 some_first p page entries (rest, is) = rw is refl
+
+-- a page that has no change lies in the base
+pub unplaced : (desk : Desk) (p : ℕ) → desk.changes.base ≡ desk.base → get_or desk.changes.now p None ≡ None → (desk.changes.base ≤ p → IsSome (get_or desk.changes.now p None))
+    → (p < desk.base) × (image_in desk.base desk.changes.now p ≡ None)
+unplaced desk p based none grown = elim (cases_lt p desk.base) [
+  | inl lt ↦ (let test : leb desk.base p ≡ false = grind (arith, nat_tests) in (lt, rw (none, test) refl))
+  | inr le ↦ (let some = subst IsSome none (grown (omega arith)) in absurd (cc))
+]
+
+-- a desk with nothing at hand, which isn't ready for a commit
+pub kept_bare : (told : Option File) (desk : Desk) → IsKept desk told → IsKept (record desk { hand = None; images = None }) told
+kept_bare told desk kept = record {
+  at_rest = kept.at_rest;
+  clean = kept.clean;
+  some = kept.some;
+  based = kept.based;
+  count = kept.count;
+  marked = kept.marked;
+  hand = λ some. absurd (cc);
+  ready = λ images is. absurd (cc);
+}
+
+-- nothing is at hand, and the desk isn't ready for a commit
+pub bares : (told : Option File) (desk : Desk) (cache : Numbered) → Does LosesReadiness told desk told (record desk { cache = cache; hand = None; images = None })
+bares None desk cache tape attaches = refl
+bares (Some file) desk cache tape attaches = refl
+
+-- a page that is written over itself
+same_over : (told : Option File) (desk : Desk) (p : ℕ) (page : List ℕ) → (IsTrue (is_some told) → page ≡ page_at (work_of told desk desk.changes.now) p) → p < length desk.changes.now
+    → work_of told desk (set desk.changes.now p (Some page)) ≡ work_of told desk desk.changes.now
+same_over None desk p page is lt = ap (λ k. replicate k []) (length-set desk.changes.now p (Some page))
+same_over (Some file) desk p page is lt =
+    laid_over-set desk.changes.now (base_in desk.halt desk.base file.bytes) p page
+    ∙ (ap (set (laid_over desk.changes.now (base_in desk.halt desk.base file.bytes)) p) (is refl)
+    ∙ set-get_or (laid_over desk.changes.now (base_in desk.halt desk.base file.bytes)) p [])
+
+-- a page of the base was written over itself
+pub admits : (told now : Option File) (desk : Desk) (p : ℕ) (page : List ℕ) (changes : Changed) (spares : Spares) (cache : Numbered) → now ≡ told
+    → (IsTrue (is_some told) → page ≡ page_at (work_of told desk desk.changes.now) p) → p < length desk.changes.now
+    → changes.now ≡ set desk.changes.now p (Some page) → changes.marked ≡ desk.changes.marked
+    → Does LosesReadiness told desk now (record desk { changes = changes; spares = spares; cache = cache; hand = None; images = None })
+admits told now desk p page changes spares cache same is lt put marked =
+    subst (λ (t : Option File). Does LosesReadiness told desk t (record desk { changes = changes; spares = spares; cache = cache; hand = None; images = None })) (sym same) (go told is) where
+      go : (t : Option File) → (IsTrue (is_some t) → page ≡ page_at (work_of t desk desk.changes.now) p) → Does LosesReadiness t desk t (record desk { changes = changes; spares = spares; cache = cache; hand = None; images = None })
+      go None at tape attaches = let over = same_over None desk p page at lt in rw (put, marked, over) refl
+      go (Some file) at tape attaches = let over = same_over (Some file) desk p page at lt in rw (put, marked, over) refl
+
+-- a desk with other changes of the same pages, and other clean pages
+pub kept_changed : (told : Option File) (desk : Desk) (changes : Changed) (spares : Spares) (cache : Numbered) → IsKept desk told → length changes.now ≡ length desk.changes.now → changes.marked ≡ desk.changes.marked
+    → changes.base ≡ desk.changes.base → ForSome told (λ file. AreHome file.bytes desk.base cache)
+    → IsKept (record desk { changes = changes; spares = spares; cache = cache; hand = None; images = None }) told
+kept_changed told desk changes spares cache kept size marked based clean = record {
+  at_rest = kept.at_rest;
+  clean = clean;
+  some = kept.some;
+  based = based ∙ kept.based;
+  count = (omega (arith, kept.count.0, size), omega (arith, kept.count.1, size));
+  marked = λ before is. let was = kept.marked before (sym marked ∙ is) in (was.0, omega (arith, was.1, size));
+  hand = λ some. absurd (cc);
+  ready = λ images is. absurd (cc);
+}
+
+-- a page that came first among the clean ones is the page of the work, where it has no change
+pub admitted_page : (told : Option File) (desk : Desk) (p : ℕ) (page other : List ℕ) (entries : Numbered) → desk.halt ≡ None → p < desk.base → p < length desk.changes.now → image_in desk.base desk.changes.now p ≡ None
+    → Leads p other entries → ((file : File) → told ≡ Some file → Leads p (home_page file.bytes p) entries) → option_map (λ entry. entry.1) (slice_get entries 0) ≡ Some page
+    → IsTrue (is_some told) → page ≡ page_at (work_of told desk desk.changes.now) p
+admitted_page told desk p page other entries going low lt none leads home first shown =
+    let both : page ≡ other = let twice : Some page ≡ Some other = sym first ∙ first_page p other entries leads in cc in
+    both ∙ (clean_page told desk p other entries going low leads home shown ∙ same_page told desk p going lt none shown)

@@ -9,7 +9,8 @@ use Rattle.std.proofs.lemmas.List.FromFn.{length-map-range_with_len, get_or-map-
 use Rattle.byteorder.specs.Endian.{big_bytes, big_number}
 use Rattle.byteorder.specs.Numbers.{big_number-reads_back}
 use Rattle.store_api.specs.StoreState.{zero_page, stated_in}
-use Rattle.redo_journal.specs.Layout.{file_page, home_page, is_open, journal_of}
+use Rattle.page_file.specs.Layout.{file_page, home_page}
+use Rattle.redo_journal.specs.Layout.{is_open, journal_of}
 use Rattle.page_store.specs.Shape.{IsBirth, is_shape, map_pages, first_count, birth_page, extents_in, extent_pages_in}
 use Rattle.page_store.specs.Fresh.{zero_pages, gates, root_page, front_with, fresh_file, fresh_len}
 use Rattle.page_store.specs.Standing.{image_of, page_of, count_of, pages_of}

@@ -4,8 +4,8 @@ use Rattle.std.specs.List.{All}
 use Rattle.std.proofs.lemmas.List.{length-take}
 use Rattle.std.proofs.lemmas.Bool.{ne_eqb}
 use Rattle.redo_journal.specs.Images.{Numbered, AreRising}
-use Rattle.redo_journal.specs.Layout.{home_page}
-use Rattle.redo_journal.proofs.Rising.{All-rest}
+use Rattle.page_file.specs.Layout.{home_page}
+use Rattle.redo_journal.proofs.RisingLemmas.{All-rest}
 use Rattle.page_store.specs.Standing.{image_of, counted, page_of}
 
 -- where all numbers are above one, none is 0

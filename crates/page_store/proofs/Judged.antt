@@ -5,7 +5,8 @@ use Rattle.byteorder.specs.Endian.{big_number}
 use Rattle.redo_journal.specs.Images.{Numbered}
 use Rattle.mdc_outside.specs.Disk.{File, all_synced}
 use Rattle.redo_journal.specs.Faults.{IsDamaged}
-use Rattle.redo_journal.specs.Layout.{file_page, is_open, IsJournal}
+use Rattle.page_file.specs.Layout.{file_page}
+use Rattle.redo_journal.specs.Layout.{is_open, IsJournal}
 use Rattle.redo_journal.specs.declared.replaying.ReplayFault.{ReplayFault}
 use Rattle.redo_journal.specs.declared.replaying.ReplayFault.TheVariants as replay
 use Rattle.store_api.specs.StoreState.{stated_in}

@@ -7,32 +7,11 @@ use Rattle.byteorder.specs.Endian.{big_number}
 use Rattle.byteorder.specs.Numbers.{big_from-take}
 use Rattle.mdc_outside.specs.Disk.{Since, IsImage, IsInNone, IsOutside, all_synced, torn}
 use Rattle.redo_journal.specs.Images.{Numbered}
-use Rattle.redo_journal.specs.Layout.{file_page, home_page, entries, start_of, number_of, journal_of, index_pages, torn_home, torn_journal}
+use Rattle.page_file.specs.Layout.{file_page, home_page, FrontStays}
+use Rattle.redo_journal.specs.Layout.{entries, start_of, number_of, journal_of, index_pages, torn_home, torn_journal}
+use Rattle.redo_journal.proofs.TornLemmas.{torn_home-synced, front_torn_gate}
+use Rattle.page_file.proofs.BytesLemmas.{same_part, same_behind, same_number}
 use Rattle.page_store.specs.Standing.{is_made}
-
--- a part whose bytes are the same
-pub same_part : (at k : ℕ) (a b : List ℕ) → min (at + k) (length a) ≡ min (at + k) (length b)
-    → ((i : ℕ) → at ≤ i → i < at + k → i < length b → get_or a i 0 ≡ get_or b i 0) → take k (drop at a) ≡ take k (drop at b)
-same_part at k a b size same =
-    let long : length (take k (drop at a)) ≡ length (take k (drop at b)) =
-    omega (arith, length-take k (drop at a), length-drop at a, length-take k (drop at b), length-drop at b) in
-    ext_get_or 0 (take k (drop at a)) (take k (drop at b)) long (λ i lt.
-    let inside : i < k = omega (arith, length-take k (drop at a)) in
-    let within : at + i < length b = omega (arith, length-take k (drop at b), length-drop at b) in
-    get_or-take k (drop at a) i 0 inside ∙ (get_or-drop at a i 0 ∙ (same (at + i) (omega arith) (omega arith) within
-    ∙ sym (get_or-take k (drop at b) i 0 inside ∙ get_or-drop at b i 0))))
-
--- files of one length whose bytes are the same from a place on
-pub same_behind : (at : ℕ) (a b : List ℕ) → length a ≡ length b → ((i : ℕ) → at ≤ i → i < length b → get_or a i 0 ≡ get_or b i 0)
-    → drop at a ≡ drop at b
-same_behind at a b size same =
-    ext_get_or 0 (drop at a) (drop at b) (omega (arith, length-drop at a, length-drop at b)) (λ i lt.
-    get_or-drop at a i 0 ∙ (same (at + i) (omega arith) (omega (arith, length-drop at a)) ∙ sym (get_or-drop at b i 0)))
-
--- a number is that of its four bytes
-pub same_number : (at : ℕ) (a b : List ℕ) → take 4 (drop at a) ≡ take 4 (drop at b) → big_number 4 (drop at a) ≡ big_number 4 (drop at b)
-same_number at a b same =
-    sym (big_from-take 0 4 4 (drop at a) (omega arith)) ∙ (ap (big_number 4) same ∙ big_from-take 0 4 4 (drop at b) (omega arith))
 
 -- as many entries as were asked for
 length-entries : (n : ℕ) (index pages : List ℕ) → length (entries n index pages) ≡ n
@@ -63,11 +42,6 @@ gate_left bytes image long left = (
     | inr apart ↦ elim apart [ inl before ↦ left.kept i lt (inl before, tt) | inr behind ↦ left.kept i lt (inr (omega arith), tt) ]
   ],
 )
-
--- the home pages that are torn change no byte on the disk
-torn_home-synced : (images : Numbered) (since : Since) → (torn_home images since).synced ≡ since.synced
-torn_home-synced [] since = refl
-torn_home-synced (image ∷ images) since = torn_home-synced images (torn (4096 * (66 + image.0)) 4096 since)
 
 -- home pages below the nth that are torn make the file no longer than they reach
 torn_home-longest : (images : Numbered) (since : Since) (n m : ℕ) → All (λ image. image.0 < n) images → since.longest ≤ m
@@ -114,6 +88,7 @@ outside_home images p i others low high = λ k d lt. elim (cases_order (get_or i
 -- an image that is as the bytes are, but for the gate of the journal
 pub record IsSameButGate (bytes image : List ℕ) : Type 0 where
   pub size : length image ≡ length bytes
+  pub front : FrontStays bytes image
   pub made : is_made image ≡ is_made bytes
   pub birth : file_page image 1 ≡ file_page bytes 1
   pub starts : start_of image ≡ start_of bytes
@@ -132,6 +107,7 @@ same_but_gate bytes image long behind left =
     let numbers : number_of image ≡ number_of bytes = same_number 1028 image bytes (part 1028 4 (omega arith)) in
     record {
       size = size;
+      front = front_torn_gate bytes image left;
       made = ap (λ b. nat_eq b 77) (kept.1 0 (omega arith) (λ same. omega arith));
       birth = part 4096 4096 (omega arith);
       starts = starts;

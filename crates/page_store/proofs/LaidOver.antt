@@ -9,6 +9,7 @@ use Rattle.std.proofs.lemmas.Bool.{cases_lt}
 use Rattle.std.proofs.lemmas.Bool.Decides.{nat_tests}
 use Rattle.redo_journal.specs.Images.{Numbered}
 use Rattle.page_store.specs.Standing.{listed, image_of}
+use Rattle.std.specs.Prelude.{IsSome}
 use Rattle.page_store.specs.Changes.{Overlay, laid_over, unchanged, changed_in, image_in}
 
 -- there are as many pages as the changes tell of
@@ -33,12 +34,12 @@ laid_over-set (Some new ∷ changes) (page ∷ pages) zero x = refl
 laid_over-set (Some new ∷ changes) (page ∷ pages) (suc p) x = ap (λ rest. new ∷ rest) (laid_over-set changes pages p x)
 
 -- pages behind the last one have zeros
-laid_over-behind : (n : ℕ) → laid_over (unchanged n) [] ≡ replicate n zero_page
+laid_over-behind : (n : ℕ) → laid_over (replicate n (Some zero_page)) [] ≡ replicate n zero_page
 laid_over-behind zero = refl
 laid_over-behind (suc n) = ap (λ rest. zero_page ∷ rest) (laid_over-behind n)
 
 -- pages that are added have zeros
-pub laid_over-grown : (changes : Overlay) (pages : List (List ℕ)) (n : ℕ) → length pages ≤ length changes → laid_over (changes ++ unchanged n) pages ≡ laid_over changes pages ++ replicate n zero_page
+pub laid_over-grown : (changes : Overlay) (pages : List (List ℕ)) (n : ℕ) → length pages ≤ length changes → laid_over (changes ++ replicate n (Some zero_page)) pages ≡ laid_over changes pages ++ replicate n zero_page
 laid_over-grown [] [] n le = laid_over-behind n
 laid_over-grown [] (page ∷ pages) n le = absurd (omega arith)
 laid_over-grown (None ∷ changes) [] n le = ap (λ rest. zero_page ∷ rest) (laid_over-grown changes [] n (omega arith))
@@ -64,17 +65,31 @@ one_at_most : (same : Bool) → cond same 0 1 ≤ 1
 one_at_most true = omega arith
 one_at_most false = omega arith
 
--- no more pages differ than have a change or were grown
-pub differing-laid_over : (changes : Overlay) (pages : List (List ℕ)) → length pages ≤ length changes → differing pages (laid_over changes pages) ≤ changed_in changes + (length changes - length pages)
-differing-laid_over [] [] le = omega arith
-differing-laid_over [] (page ∷ pages) le = absurd (omega arith)
-differing-laid_over (None ∷ changes) [] le = omega (arith, length-laid_over changes [])
-differing-laid_over (None ∷ changes) (page ∷ pages) le =
+-- where each has a change, as many have one as there are
+changed_in-all : (changes : Overlay) → ((p : ℕ) → p < length changes → IsSome (get_or changes p None)) → changed_in changes ≡ length changes
+changed_in-all [] all = refl
+changed_in-all (None ∷ changes) all = let wrong = all 0 (omega arith) in absurd (cc)
+changed_in-all (Some page ∷ changes) all = let rest = changed_in-all changes (λ p lt. all (suc p) (omega arith)) in omega (arith, rest)
+
+-- each page that was grown has a change
+pub changed_in-grown : (base : ℕ) (changes : Overlay) → ((p : ℕ) → base ≤ p → p < length changes → IsSome (get_or changes p None)) → length changes - base ≤ changed_in changes
+changed_in-grown zero changes grown = omega (arith, changed_in-all changes (λ p lt. grown p (omega arith) lt))
+changed_in-grown (suc base) [] grown = omega arith
+changed_in-grown (suc base) (None ∷ changes) grown = omega (arith, changed_in-grown base changes (λ p le lt. grown (suc p) (omega arith) (omega arith)))
+changed_in-grown (suc base) (Some page ∷ changes) grown = omega (arith, changed_in-grown base changes (λ p le lt. grown (suc p) (omega arith) (omega arith)))
+
+-- no more pages differ than have a change, where each that was grown has one
+pub differing-laid_over : (changes : Overlay) (pages : List (List ℕ)) → length pages ≤ length changes → ((p : ℕ) → length pages ≤ p → p < length changes → IsSome (get_or changes p None))
+    → differing pages (laid_over changes pages) ≤ changed_in changes
+differing-laid_over [] [] le grown = omega arith
+differing-laid_over [] (page ∷ pages) le grown = absurd (omega arith)
+differing-laid_over (None ∷ changes) [] le grown = let wrong = grown 0 (omega arith) (omega arith) in absurd (cc)
+differing-laid_over (None ∷ changes) (page ∷ pages) le grown =
     let same : bytes_eq page page ≡ true = (bytes_eq-Decides page page).1 refl in
-    rw same (omega (arith, differing-laid_over changes pages (omega arith)))
-differing-laid_over (Some new ∷ changes) [] le = omega (arith, length-laid_over changes [])
-differing-laid_over (Some new ∷ changes) (page ∷ pages) le =
-    omega (arith, one_at_most (bytes_eq page new), differing-laid_over changes pages (omega arith))
+    rw same (omega (arith, differing-laid_over changes pages (omega arith) (λ p low lt. grown (suc p) (omega arith) (omega arith))))
+differing-laid_over (Some new ∷ changes) [] le grown = omega (arith, length-laid_over changes [], changed_in-all changes (λ p lt. grown (suc p) (omega arith) (omega arith)))
+differing-laid_over (Some new ∷ changes) (page ∷ pages) le grown =
+    omega (arith, one_at_most (bytes_eq page new), differing-laid_over changes pages (omega arith) (λ p low lt. grown (suc p) (omega arith) (omega arith)))
 
 -- the order is the same one further on
 le_suc : (a b : ℕ) → leb (suc a) (suc b) ≡ leb a b
@@ -122,19 +137,3 @@ pub listed-laid_over : (base : ℕ) (changes : Overlay) (pages : List (List ℕ)
     → listed (length changes) (λ p. unwrap_or (image_of images p) (page_at pages p)) ≡ laid_over changes pages
 listed-laid_over base changes pages images is_base found =
     sym (fill_by_all (λ p. unwrap_or (image_of images p) (page_at pages p)) (laid_over changes pages) (length changes) [] (length-laid_over changes pages) (λ p lt. listed-laid_over_at base changes pages images is_base found p lt))
-
--- a write makes one page more have a change, at most
-pub changed_in-set : (changes : Overlay) (p : ℕ) (w : Option (List ℕ)) → changed_in (set changes p w) ≤ changed_in changes + 1
-changed_in-set [] zero w = omega arith
-changed_in-set [] (suc p) w = omega arith
-changed_in-set (None ∷ changes) zero None = omega arith
-changed_in-set (None ∷ changes) zero (Some new) = omega arith
-changed_in-set (Some old ∷ changes) zero None = omega arith
-changed_in-set (Some old ∷ changes) zero (Some new) = omega arith
-changed_in-set (None ∷ changes) (suc p) w = changed_in-set changes p w
-changed_in-set (Some old ∷ changes) (suc p) w = omega (arith, changed_in-set changes p w)
-
--- no change
-pub changed_in-unchanged : (n : ℕ) → changed_in (unchanged n) ≡ 0
-changed_in-unchanged zero = refl
-changed_in-unchanged (suc n) = changed_in-unchanged n

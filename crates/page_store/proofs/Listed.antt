@@ -24,37 +24,3 @@ pub listed_same : {X : Type 0} (n : ℕ) (f g : ℕ → X) → ((i : ℕ) → i 
 listed_same n f g same = same_lists (listed n f) (listed n g) (length-listed n f ∙ sym (length-listed n g)) (λ k d lt.
     let below : k < n = omega (arith, length-listed n f) in
     get_or-listed n f k d below ∙ (same k below ∙ sym (get_or-listed n g k d below)))
-
--- each of them
-listed_put_at : (n : ℕ) (f g : ℕ → Option (List ℕ)) (p : ℕ) (w : Option (List ℕ)) → g p ≡ w → ((q : ℕ) → q ≢ p → g q ≡ f q) → (q : ℕ) → q < n → get_or (set (listed n f) p w) q None ≡ g q
-listed_put_at n f g p w here apart q lt =
-    elim (cases_eq q p) [
-      | inl e ↦ (let within : p < length (listed n f) = omega (arith, length-listed n f) in
-          let there : get_or (set (listed n f) p w) p None ≡ g p = rw (get_or-set_same, here) refl in
-          subst (λ (k : ℕ). get_or (set (listed n f) p w) k None ≡ g k) (sym e) there)
-      | inr ne ↦ rw get_or-set_other (get_or-listed n f q None lt ∙ sym (apart q ne))
-    ]
-
--- functions that agree but at one number
-pub listed_put : (n : ℕ) (f g : ℕ → Option (List ℕ)) (p : ℕ) (w : Option (List ℕ)) → g p ≡ w → ((q : ℕ) → q ≢ p → g q ≡ f q) → listed n g ≡ set (listed n f) p w
-listed_put n f g p w here apart =
-    sym (fill_by_all g (set (listed n f) p w) n None (length-set (listed n f) p w ∙ length-listed n f) (λ q lt. listed_put_at n f g p w here apart q lt))
-
--- each of them
-listed_more_at : (n k : ℕ) (f : ℕ → Option (List ℕ)) → ((q : ℕ) → n ≤ q → f q ≡ None) → (q : ℕ) → q < n + k → get_or (listed n f ++ unchanged k) q None ≡ f q
-listed_more_at n k f none q lt =
-    elim (cases_lt q n) [
-      | inl below ↦ (get_or_append_left (listed n f) (unchanged k) None q (omega (arith, length-listed n f)) ∙ get_or-listed n f q None below)
-      | inr behind ↦ (let place : q - n < k = omega arith in
-          get_or-append_right (listed n f) (unchanged k) n q None (length-listed n f) behind ∙ (get_or-replicate k (q - n) None None place ∙ sym (none q behind)))
-    ]
-
--- more pages, for which the function gives nothing
-pub listed_more : (n k : ℕ) (f : ℕ → Option (List ℕ)) → ((q : ℕ) → n ≤ q → f q ≡ None) → listed (n + k) f ≡ listed n f ++ unchanged k
-listed_more n k f none =
-    sym (fill_by_all f (listed n f ++ unchanged k) (n + k) None (omega (arith, length-append (listed n f) (unchanged k), length-listed n f, length-replicate {A = Option (List ℕ)} k None)) (λ q lt. listed_more_at n k f none q lt))
-
--- a function that gives nothing
-pub listed_none : (n : ℕ) (f : ℕ → Option (List ℕ)) → ((p : ℕ) → f p ≡ None) → listed n f ≡ unchanged n
-listed_none n f none =
-    sym (fill_by_all f (unchanged n) n None (length-replicate {A = Option (List ℕ)} n None) (λ p lt. get_or-replicate n p None None lt ∙ sym (none p)))

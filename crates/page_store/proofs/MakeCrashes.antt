@@ -6,16 +6,18 @@ use Rattle.std.proofs.lemmas.Bool.{cases_eq, ne_eqb}
 use Rattle.std.proofs.lemmas.Grind.{same_number_lists}
 use Rattle.mdc_outside.specs.Disk.{File, Since, IsImage, IsSound, all_synced, torn, written, settled}
 use Rattle.mdc_outside.specs.Moments.{Beside}
-use Rattle.redo_journal.specs.Runs.{Runs, IsWithin, IsCovered, Between}
-use Rattle.redo_journal.proofs.Covering.{covered_is_within, covers_through}
-use Rattle.redo_journal.proofs.Composing.{moment_within, runs_within}
-use Rattle.redo_journal.proofs.Steps.{now_holds, was_told, between_then}
-use Rattle.redo_journal.proofs.Written.{mapped}
+use Rattle.mdc_words.proofs.TimeLemmas.{over_time_wider}
+use Rattle.page_file.specs.Runs.{Runs, IsWithin, IsCovered, Between}
+use Rattle.page_file.proofs.CoverLemmas.{covered_is_within, covers_through}
+use Rattle.page_file.proofs.RunsLemmas.{moment_within, runs_within}
+use Rattle.page_file.proofs.BetweenLemmas.{now_holds, between_then}
+use Rattle.page_file.proofs.RunsLemmas.{was_told}
+use Rattle.page_file.proofs.BetweenLemmas.{mapped}
 use Rattle.page_store.specs.Shape.{map_pages}
 use Rattle.page_store.specs.Fresh.{zero_pages, root_page, front_with, file_with, fresh_file, fresh_len, IsUnmade, IsUnmadeOrFresh, IsOfMaking}
-use Rattle.page_store.specs.Leaving.{Leaves}
-use Rattle.page_store.proofs.Calls.{sound_image}
-use Rattle.page_store.proofs.Leaving.{runs_leave, leaves_then}
+use Rattle.page_file.specs.Leaving.{Leaves}
+use Rattle.page_file.proofs.LeavesLemmas.{sound_image}
+use Rattle.page_file.proofs.LeavesLemmas.{runs_leave, leaves_then}
 use Rattle.page_store.proofs.FreshBytes.{length-file_with, same_behind_made}
 
 -- where each image is empty, the file was never longer
@@ -83,15 +85,8 @@ module _ {D : Type 0} {file : D → Option File} {aside : D → Beside} {attache
     told = λ before is.
         let after = run.told before is in
         (after.0, after.1, covers_through (covers_range from total at count before.since low high) after.2);
-    crash = λ before said is tape.
-        let passes = run.crash before said is tape in
-        record {
-          since_call = λ image taken left.
-              moment_within (covered_is_within (torn from total before.since) (torn at count before.since) (covers_range from total at count before.since low high)) (passes.since_call image taken left);
-          nothing_else = passes.nothing_else;
-          keeps = passes.keeps;
-          adds = passes.adds;
-        };
+    crash = λ before said is tape. over_time_wider (run.crash before said is tape) (λ image heard left.
+        moment_within (covered_is_within (torn from total before.since) (torn at count before.since) (covers_range from total at count before.since low high)) left);
     later = run.later;
     attached = run.attached;
     listed = run.listed;

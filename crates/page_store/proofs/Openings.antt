@@ -1,22 +1,29 @@
 -- What opening a database leaves, from the clauses of its sync and of its repair.
-use Rattle.std.proofs.Common.{◌≡◌, ◌≤◌, ℕ, Bool, true, false, List, length, Option, Some, None, is_some, Result, Ok, Err, OnOk, IfErr, IsErrAnd, arith, refl, sym, ap, subst, ◌∙◌, inl, inr}
+use Rattle.std.proofs.Common.{◌≡◌, ◌≤◌, ℕ, Bool, true, false, List, [], length, Option, Some, None, is_some, Result, Ok, Err, OnOk, IfErr, IsErrAnd, arith, refl, sym, ap, subst, ◌∙◌, inl, inr}
 use Rattle.std.specs.Option.{ForSome, option_map}
 use Rattle.std.proofs.lemmas.List.{length-replicate}
 use Rattle.mdc_outside.specs.Disk.{File, settled}
-use Rattle.mdc_outside.specs.Moments.{Beside}
-use Rattle.redo_journal.specs.Runs.{Runs, IsWithin}
-use Rattle.redo_journal.proofs.Steps.{cases_Option}
+use Rattle.std.proofs.Common.{◌↔◌}
+use Rattle.mdc_words.proofs.TimeLemmas.{over_time_wider}
+use Rattle.mdc_outside.specs.Moments.{Beside, IsMoment, WhereTold}
+use Rattle.page_file.specs.Runs.{Runs, IsWithin}
+use Rattle.page_file.proofs.RunsLemmas.{cases_Option}
 use Rattle.page_store.specs.declared.desk.Desk.{Desk}
 use Rattle.page_store.specs.declared.shape.Shape.{Shape}
-use Rattle.page_store.specs.Leaving.{Leaves}
-use Rattle.page_store.specs.Standing.{pages_of, listed}
+use Rattle.page_file.specs.Leaving.{Leaves}
+use Rattle.page_store.specs.FileStore.{left_of}
+use Rattle.page_store.specs.Shape.{extents_in, extent_pages_in}
+use Rattle.page_store.specs.Standing.{pages_of, listed, Stands, IsFormedAs, Reopens}
 use Rattle.page_store.specs.Desk.{IsKept, base_of, base_in, work_of, state_of}
 use Rattle.page_store.specs.Opening.{IsServed, IsAtRest, StandsAs}
-use Rattle.page_store.specs.Opened.{Opens, IsEmptyDesk, IsJustOpened, bytes_of}
+use Rattle.page_store.specs.Opened.{Opens, LeavesBaseSince, IsEmptyDesk, IsJustOpened, bytes_of}
 use Rattle.page_store.proofs.Commits.{pages_at_rest}
 use Rattle.page_store.proofs.Desks.{unchanged_work}
+use Rattle.page_store.proofs.FrontAgreesLemmas.{front_agrees_stays, front_agrees_then, front_agrees_back}
 use Rattle.page_store.proofs.Judged.{served_formed}
-use Rattle.page_store.proofs.Leaving.{nothing_said}
+use Rattle.page_store.proofs.Repairs.{itself_stands}
+use Rattle.mdc_outside.proofs.MomentLemmas.{where_told}
+use Rattle.page_file.proofs.LeavesLemmas.{nothing_said}
 
 -- what holds whatever a call answered
 pub on_ok : {T E : Type 0} (result : Result T E) {P : Type 0} → P → OnOk result P
@@ -46,30 +53,27 @@ module _ {D : Type 0} {file : D → Option File} {aside : D → Beside} {attache
   -- a sync, and then a run that keeps what the file stands for
   pub opens : {old middle new : D} → file middle ≡ option_map settled (file old)
       → Runs file aside attaches is_attached clock moment IsWithin (λ since. since) old middle
+      → WhereTold (file middle) (aside middle).tape (λ f said. (image tape : List ℕ) → moment middle (clock middle) image tape ↔ IsMoment f.since said [] image tape)
       → Leaves file aside attaches is_attached clock moment (λ before image. StandsAs before.bytes image) middle new
       → Opens file aside attaches is_attached clock moment old new
-  opens {old} {middle} {new} synced run leaves = record {
+  opens {old} {middle} {new} synced run only_now leaves = record {
     untold = λ none. leaves.untold (run.untold none);
     told = λ before is. leaves.told (settled before) (settled_told before synced is);
-    crash = λ before said is tape.
-        let passes = run.crash before said is tape in
-        let only = leaves.crash (settled before) said (settled_told before synced is) (ap (λ b. b.tape) run.beside ∙ tape) in (
-          clock middle,
-          record {
-            begun = run.later;
-            passed = leaves.later;
-            since_origin = only.since_call;
-            nothing_else = λ t image heard early left. elim (only.nothing_else t image heard (omega (arith, early, run.later)) left) [
-              | inl half ↦ elim (passes.nothing_else t image heard early half) [
-                | inl past ↦ inl past
-                | inr since ↦ (let now = passes.since_call image heard since in inr (inl (now.left, nothing_said now.said.0 now.said.1 said heard now.said.2 now.said.3)))
-              ]
-              | inr since ↦ inr (inr since)
-            ];
-            keeps = λ t image heard early past. only.keeps t image heard (omega (arith, early, run.later)) (passes.keeps t image heard early past);
-            adds = only.adds;
-          },
-        );
+    crash = λ before said is tape. (
+      middle,
+      record {
+        until = over_time_wider (run.crash before said is tape) (λ image heard moment.
+            (moment.left, nothing_said moment.said.0 moment.said.1 said heard moment.said.2 moment.said.3));
+        at_origin = record {
+          only_rest = λ image heard now.
+              let then = ap (λ b. b.tape) run.beside ∙ tape in
+              let Now : File → List ℕ → Type 0 = λ f s. (image tape : List ℕ) → moment middle (clock middle) image tape ↔ IsMoment f.since s [] image tape in
+              let left = (where_told (file middle) (aside middle).tape (settled before) said Now (settled_told before synced is) then only_now image heard).0 now in
+              (itself_stands (settled before) image refl left.left, nothing_said left.said.0 left.said.1 said heard left.said.2 left.said.3);
+        };
+        since = leaves.crash (settled before) said (settled_told before synced is) (ap (λ b. b.tape) run.beside ∙ tape);
+      },
+    );
     later = omega (arith, run.later, leaves.later);
     attached = leaves.attached ∙ run.attached;
     listed = leaves.listed ∙ run.listed;
@@ -82,7 +86,7 @@ module _ {D : Type 0} {file : D → Option File} {aside : D → Beside} {attache
       → (before : File) → file old ≡ Some before → IsServed before.bytes → base_of (file new) desk ≡ pages_of before.bytes
   served_base desk opened rests going before is served =
       let after = opened.told before is in
-      let stands = after.2 (served_formed before.bytes served) in
+      let stands = after.2.1 (served_formed before.bytes served) in
       ap (λ told. base_of told desk) after.1
       ∙ (ap (λ halt. base_in halt desk.base after.0.bytes) going
       ∙ (sym (pages_at_rest desk.shape.extents desk.shape.extent_pages desk.base after.0 (rests after.0 after.1)) ∙ stands.pages))
@@ -108,6 +112,7 @@ empty_kept told desk empty rests some few =
       at_rest = rests;
       clean = λ file is. rw empty.cache (λ k entry lt. absurd (omega arith));
       some = some;
+      based = ap (λ changes. changes.base) empty.changes;
       count = (omega arith, omega arith);
       marked = λ changes is. (let none = ap (λ changes. changes.marked) empty.changes in absurd (cc));
       hand = λ there. (let none : false ≡ true = rw empty.hand at there in absurd (cc));
@@ -129,3 +134,34 @@ just_opened told tape attaches desk empty =
 pub shown_as_before : (told : Option File) (tape before : Option (List ℕ)) (attaches listed : Option (List (List ℕ × Bool))) (is_told : Bool) (desk : Desk) → IsEmptyDesk desk
     → is_some told ≡ is_told → tape ≡ before → attaches ≡ listed → IsJustOpened is_told before listed (state_of told tape attaches desk)
 shown_as_before told tape before attaches listed is_told desk empty same_told same_tape same_attaches = just_opened told tape attaches desk empty ∙ rw (same_told, same_tape, same_attaches) refl
+
+-- a file that a store serves states its shape
+pub states_shape : (told : Option File) (desk : Desk) (before after : File) → told ≡ Some after → IsKept desk told → IsServed before.bytes → StandsAs before.bytes after.bytes
+    → IsFormedAs desk.shape before.bytes
+states_shape told desk before after is kept served stands =
+    let formed = served_formed before.bytes served in
+    let birth = (stands.1 formed).birth in
+    let rest = kept.at_rest after is in
+    record {
+      formed = formed;
+      extents = ap extents_in (sym birth) ∙ rest.states_extents;
+      extent_pages = ap extent_pages_in (sym birth) ∙ rest.states_extent_pages;
+    }
+
+-- what stands as a file of the store's shape reopens to its pages, also once the file is another that does
+pub stands_reopens : (shape : Shape) (file half image : List ℕ) (pages : Option (List (List ℕ))) → IsFormedAs shape file → Stands file (pages_of file) half → Stands file (pages_of file) image
+    → Reopens shape half image pages → pages ≡ Some (pages_of file)
+stands_reopens shape file half image None formed now stands none =
+    absurd (none (record {
+      formed = record { formed = stands.formed; extents = ap extents_in stands.birth ∙ formed.extents; extent_pages = ap extent_pages_in stands.birth ∙ formed.extent_pages };
+      front = front_agrees_then (front_agrees_back (front_agrees_stays formed.formed now.front)) (front_agrees_stays formed.formed stands.front);
+    }))
+stands_reopens shape file half image (Some all) formed now stands some = ap (λ pages. Some pages) (some.1 ∙ stands.pages)
+
+-- so the store leaves these pages alone, since the host leaves only what stands as the file
+pub leaves_base_since : (shape : Shape) (told : Option File) (tape : Option (List ℕ)) (moment : ℕ → List ℕ → List ℕ → Type 0) (file said : List ℕ) → IsFormedAs shape file
+    → ((after : File) → told ≡ Some after → StandsAs file after.bytes)
+    → LeavesBaseSince moment (left_of shape told tape moment) file said
+leaves_base_since shape told tape moment file said formed now t only pages heard left =
+    let image = only left.4 heard left.5 in
+    (stands_reopens shape file left.0.bytes left.4 pages formed ((now left.0 left.1).1 formed.formed) (image.0.1 formed.formed) left.6, image.1)

@@ -5,7 +5,8 @@ use Rattle.std.proofs.lemmas.Bool.{cases_eq, eq-eqb, ne_eqb}
 use Rattle.std.proofs.lemmas.List.Elements.{All-nil, All-cons}
 use Rattle.store_api.specs.StoreState.{stated_in}
 use Rattle.redo_journal.specs.Images.{Numbered, AreRising}
-use Rattle.redo_journal.specs.Layout.{file_page, home_page, is_open, start_of, number_of, journal_of, index_pages}
+use Rattle.page_file.specs.Layout.{file_page, home_page}
+use Rattle.redo_journal.specs.Layout.{is_open, start_of, number_of, journal_of, index_pages}
 use Rattle.page_store.specs.Standing.{listed, image_of, page_of, count_of, pages_of, is_made, IsFitting, IsFormed}
 use Rattle.page_store.proofs.Listed.{listed_same}
 

@@ -11,7 +11,7 @@ use Rattle.std.specs.Option.{option_map_or}
 use Rattle.lru.specs.LruCache.{LruCache, promoted, put_entries}
 use Rattle.lru.proofs.Pairs.{promoted_absent}
 use Rattle.redo_journal.specs.Images.{Numbered}
-use Rattle.redo_journal.specs.Layout.{home_page}
+use Rattle.page_file.specs.Layout.{home_page}
 use Rattle.page_store.specs.Cached.{AreHome, Leads, unboxed}
 
 -- a page in its box, under its number

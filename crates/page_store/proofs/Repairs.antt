@@ -4,18 +4,19 @@ use Rattle.std.specs.Option.{ForSome}
 use Rattle.std.proofs.lemmas.List.FromFn.{length-map-range_with_len}
 use Rattle.mdc_outside.specs.Disk.{File, Since, IsImage, all_synced}
 use Rattle.mdc_outside.specs.Moments.{Beside}
-use Rattle.redo_journal.specs.Layout.{file_page}
-use Rattle.redo_journal.specs.Runs.{Runs, IsCovered}
-use Rattle.redo_journal.proofs.Composing.{runs_within}
-use Rattle.redo_journal.proofs.Steps.{cases_Option}
-use Rattle.page_store.specs.Leaving.{Leaves}
+use Rattle.page_file.specs.Layout.{file_page}
+use Rattle.page_file.specs.Runs.{Runs, IsCovered}
+use Rattle.page_file.proofs.RunsLemmas.{runs_within}
+use Rattle.page_file.proofs.RunsLemmas.{cases_Option}
+use Rattle.page_file.specs.Leaving.{Leaves}
 use Rattle.page_store.specs.Commit.{IsClosed, StandsStill}
 use Rattle.page_store.specs.Opening.{IsAtRest, StandsAs}
 use Rattle.page_store.specs.Shape.{extents_in, extent_pages_in}
+use Rattle.page_file.proofs.FrontLemmas.{front_stays_itself, front_stays_then}
 use Rattle.page_store.specs.Standing.{Stands, count_of, page_of, pages_of}
-use Rattle.page_store.proofs.Calls.{one_file}
+use Rattle.page_file.proofs.LeavesLemmas.{one_file}
 use Rattle.page_store.proofs.Crashes.{only_itself}
-use Rattle.page_store.proofs.Leaving.{runs_leave, leaves_then, leaves_as}
+use Rattle.page_file.proofs.LeavesLemmas.{runs_leave, leaves_then, leaves_as}
 
 -- what is all on the disk may be left as it is
 left_whole : (bytes : List ℕ) → IsImage (all_synced bytes) bytes
@@ -26,10 +27,11 @@ count_by_pages : (a b : List ℕ) → pages_of a ≡ pages_of b → count_of a �
 count_by_pages a b same = sym (length-map-range_with_len (page_of a) 0 (count_of a)) ∙ (ap length same ∙ length-map-range_with_len (page_of b) 0 (count_of b))
 
 -- an image of a file that is all on the disk stands as that file
-itself_stands : (file : File) (image : List ℕ) → file.since ≡ all_synced file.bytes → IsImage file.since image → StandsAs file.bytes image
-itself_stands file image synced left formed =
+pub itself_stands : (file : File) (image : List ℕ) → file.since ≡ all_synced file.bytes → IsImage file.since image → StandsAs file.bytes image
+itself_stands file image synced left =
     let same : image ≡ file.bytes = only_itself file.bytes image (subst (λ (s : Since). IsImage s image) synced left) in
-    subst (λ (i : List ℕ). Stands file.bytes (pages_of file.bytes) i) (sym same) (record { formed = formed; pages = refl; birth = refl })
+    subst (λ (i : List ℕ). StandsAs file.bytes i) (sym same)
+    (front_stays_itself file.bytes, λ formed. record { formed = formed; pages = refl; birth = refl; front = front_stays_itself file.bytes })
 
 -- a file whose gate was closed, and which stands still, rests with what it stated
 pub rests_still : (before after : File) → IsClosed after → StandsStill before after.bytes
@@ -58,23 +60,19 @@ module _ {D : Type 0} {file : D → Option File} {aside : D → Beside} {attache
       → Leaves file aside attaches is_attached clock moment (λ before image. StandsAs before.bytes image) middle new
       → Leaves file aside attaches is_attached clock moment (λ before image. StandsAs before.bytes image) old new
   keeps_then first second = leaves_then first second (λ before image is kept. kept)
-      (λ before half image is_before is_half kept_first kept_second formed.
-      let one = kept_first formed in
-      let two = kept_second one.formed in
-      record { formed = two.formed; pages = two.pages ∙ one.pages; birth = two.birth ∙ one.birth })
-
-  -- a file that is told was told before
-  pub told_before : {Kind : File → List ℕ → Type 0} {old new : D} → Leaves file aside attaches is_attached clock moment Kind old new
-      → (after : File) → file new ≡ Some after → (before : File) × (file old ≡ Some before)
-  told_before {Kind} {old} {new} leaves after is = elim (cases_Option (file old)) [
-    | inl none ↦ (let untold = leaves.untold none in absurd (cc))
-    | inr some ↦ some
-  ]
+      (λ before half image is_before is_half kept_first kept_second.
+      let front = front_stays_then before.bytes half.bytes image kept_first.0 kept_second.0 in (
+        front,
+        λ formed.
+            let one = kept_first.1 formed in
+            let two = kept_second.1 one.formed in
+            record { formed = two.formed; pages = two.pages ∙ one.pages; birth = two.birth ∙ one.birth; front = front },
+      ))
 
   -- a journal that is brought home keeps what the file stands for
   pub home_keeps : {old new : D} → Leaves file aside attaches is_attached clock moment StandsStill old new
       → Leaves file aside attaches is_attached clock moment (λ before image. StandsAs before.bytes image) old new
-  home_keeps leaves = leaves_as leaves (λ before image is still formed. still)
+  home_keeps leaves = leaves_as leaves (λ before image is still. (still.front, λ formed. still))
 
   -- then it rests
   pub home_rests : {old new : D} → Leaves file aside attaches is_attached clock moment StandsStill old new → ForSome (file new) IsClosed

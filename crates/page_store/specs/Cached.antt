@@ -3,7 +3,7 @@ use Rattle.std.specs.Prelude.{◌≡◌, ◌<◌, ℕ, List, ◌∷◌, map, unw
 use Rattle.std.specs.List.{All}
 use Rattle.std.specs.declared.alloc.Global.{Global}
 use Rattle.redo_journal.specs.Images.{Numbered}
-use Rattle.redo_journal.specs.Layout.{home_page}
+use Rattle.page_file.specs.Layout.{home_page}
 use Rattle.page_store.specs.Standing.{image_of}
 
 -- each page is the home page of its number in this file, which is below the count

@@ -4,8 +4,10 @@ use Rattle.std.specs.List.{All}
 use Rattle.store_api.specs.StoreState.{stated_in}
 use Rattle.mdc_outside.specs.Disk.{File, IsImage, all_synced}
 use Rattle.redo_journal.specs.Images.{Numbered, AreRising}
-use Rattle.redo_journal.specs.Layout.{home_page, is_open, journal_of, index_pages}
+use Rattle.page_file.specs.Layout.{home_page, page_start}
+use Rattle.redo_journal.specs.Layout.{is_open, journal_of, index_pages}
 use Rattle.page_store.specs.Standing.{listed, image_of, count_of, pages_of, IsFormed, Stands}
+use Rattle.page_file.specs.declared.layout.TheConstants.{FIRST_PAGE}
 
 -- how many pages there are with these images, as page 0 then states it
 abbrev pub count_with : Numbered → List ℕ → ℕ
@@ -17,8 +19,8 @@ pages_with images file = listed (count_with images file) (λ p. unwrap_or (image
 
 -- the journal of these images lies behind all pages and within the file, and they name pages
 pub record AreFitting (start : ℕ) (images : Numbered) (file : List ℕ) : Type 0 where
-  pub behind : 66 + count_with images file ≤ start
-  pub within : 4096 * (start + index_pages (length images) + length images) ≤ length file
+  pub behind : FIRST_PAGE + count_with images file ≤ start
+  pub within : page_start (start + index_pages (length images) + length images) ≤ length file
   pub rising : AreRising images
   pub named : All (λ image. image.0 < count_with images file) images
 
@@ -29,8 +31,8 @@ pub record IsReadyFor (start : ℕ) (images : Numbered) (file : File) : Type 0 w
   pub formed : IsFormed file.bytes
   pub closed : IsFalse (is_open file.bytes)
   pub some : 0 < count_of file.bytes
-  pub behind_old : 66 + count_of file.bytes ≤ start
-  pub behind_new : 66 + count_with images file.bytes ≤ start
+  pub behind_old : FIRST_PAGE + count_of file.bytes ≤ start
+  pub behind_new : FIRST_PAGE + count_with images file.bytes ≤ start
   pub named : All (λ image. image.0 < count_with images file.bytes) images
   pub grown : (p : ℕ) → count_of file.bytes ≤ p → p < count_with images file.bytes → IsSome (image_of images p)
 

@@ -1,13 +1,13 @@
 -- What a store has in memory beside its file, and what the two together are seen as.
-use Rattle.std.specs.Prelude.{◌≡◌, ◌⊎◌, ◌≤◌, ◌<◌, ◌+◌, ◌-◌, min, ℕ, Bool, IsSome, is_some, List, [], length, replicate, slice_get, slice_index_or, Option, Some, None, Result, OnOk, OnErr}
+use Rattle.std.specs.Prelude.{◌≡◌, ◌⊎◌, ◌≤◌, ◌<◌, ℕ, Bool, IsSome, is_some, List, [], length, replicate, slice_get, slice_index_or, Option, Some, None, Result, OnOk, OnErr}
 use Rattle.std.specs.Option.{ForSome, option_map}
-use Rattle.store_api.specs.StoreState.{StoreState, stated_count, zero_page}
+use Rattle.store_api.specs.StoreState.{StoreState, stated_count}
 use Rattle.mdc_outside.specs.Disk.{File, IsImage}
 use Rattle.redo_journal.specs.Images.{Numbered}
-use Rattle.redo_journal.specs.Layout.{home_page}
+use Rattle.page_file.specs.Layout.{home_page, FrontStays}
 use Rattle.page_store.specs.declared.desk.Desk.{Desk}
 use Rattle.page_store.specs.declared.desk.Hand.{Hand}
-use Rattle.page_store.specs.declared.desk.Hand.TheVariants.{Changed, Clean, Blank}
+use Rattle.page_store.specs.declared.desk.Hand.TheVariants.{Changed, Clean}
 use Rattle.page_store.specs.declared.write_through.Halt.{Halt}
 use Rattle.page_store.specs.declared.write_through.Halt.TheVariants.{BeforeHome, BehindGate}
 use Rattle.page_store.specs.Standing.{listed, pages_of, IsFormedAs}
@@ -36,7 +36,6 @@ abbrev pub page_at_hand : Option Hand → Overlay → Numbered → Option (List 
 page_at_hand None changes cache = None
 page_at_hand (Some (Changed p)) changes cache = slice_index_or changes p None
 page_at_hand (Some Clean) changes cache = option_map (λ entry. entry.1) (slice_get cache 0)
-page_at_hand (Some Blank) changes cache = Some zero_page
 
 -- what a store is seen as
 abbrev pub state_of : Option File → Option (List ℕ) → Option (List (List ℕ × Bool)) → Desk → StoreState
@@ -68,6 +67,7 @@ pub record IsKept (desk : Desk) (told : Option File) : Type 0 where
   pub at_rest : ForSome told (IsAtRest desk.shape.extents desk.shape.extent_pages desk.base)
   pub clean : ForSome told (λ file. AreHome file.bytes desk.base desk.cache)
   pub some : 18 ≤ desk.base
+  pub based : desk.changes.base ≡ desk.base
   pub count : IsBetween desk.base 262289 (length desk.changes.now)
   pub marked : ForSome desk.changes.marked (λ changes. IsBetween desk.base (length desk.changes.now) (length changes))
   pub hand : IsSome desk.hand → IsSome (page_at_hand desk.hand desk.changes.now desk.cache)
@@ -84,13 +84,17 @@ abbrev pub StandsForEither : Desk → File → List ℕ → Type 0
 StandsForEither desk file image =
     IsFormedAs desk.shape image × ((pages_of image ≡ base_of (Some file) desk) ⊎ (pages_of image ≡ work_of (Some file) desk desk.changes.now))
 
+-- such an image, with all that isn't the store's as it is in the file
+abbrev pub CommitLeaves : Desk → File → List ℕ → Type 0
+CommitLeaves desk file image = StandsForEither desk file image × FrontStays file.bytes image
+
 -- what a crash leaves from now on stands for the base or for the work
 abbrev pub RestsEither : Desk → File → Type 0
 RestsEither desk file = (image : List ℕ) → IsImage file.since image → StandsForEither desk file image
 
 -- how many pages differ from the base, or may differ
 abbrev pub written_in : Desk → ℕ
-written_in desk = min (desk.changes.kept + (length desk.changes.now - desk.base)) 4294967295
+written_in desk = desk.changes.kept
 
 -- a step of a store, whatever is told of the tape and the attaches
 abbrev pub Does : (StoreState → StoreState → Type 0) → Option File → Desk → Option File → Desk → Type 0

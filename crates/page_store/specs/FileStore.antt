@@ -1,10 +1,10 @@
 -- What a store in a file is seen as.
-use Rattle.std.specs.Prelude.{◌≡◌, ◌⊎◌, ℕ, Bool, IsTrue, List, Option, Some, None}
+use Rattle.std.specs.Prelude.{◌≡◌, ◌⊎◌, ◌≤◌, ℕ, Bool, IsTrue, List, Option, Some, None}
 use Rattle.store_api.specs.Moments.{Outcomes}
 use Rattle.mdc_outside.specs.Disk.{File}
 use Rattle.page_store.specs.declared.desk.Desk.{Desk}
 use Rattle.page_store.specs.declared.shape.Shape.{Shape}
-use Rattle.page_store.specs.Standing.{Reopens, IsFormedAs, pages_of}
+use Rattle.page_store.specs.Standing.{Reopens, IsStoreImage, pages_of}
 use Rattle.page_store.specs.Desk.{IsKept}
 
 -- a host, and what the store has in memory beside it
@@ -20,9 +20,16 @@ pub record FitsFile (is_attached : Bool) (told : Option File) (desk : Desk) : Ty
 -- what a crash may leave: an image and a tape that the host may leave, by what the image reopens to
 abbrev pub left_of : Shape → Option File → Option (List ℕ) → (ℕ → List ℕ → List ℕ → Type 0) → ℕ → Outcomes
 left_of shape told tape moment t pages heard =
-    (file : File) × (told ≡ Some file) × (said : List ℕ) × (tape ≡ Some said) × (image : List ℕ) × moment t image heard × Reopens shape image pages
+    (file : File) × (told ≡ Some file) × (said : List ℕ) × (tape ≡ Some said) × (image : List ℕ) × moment t image heard × Reopens shape file.bytes image pages
 
--- An image and a tape of a crash, by what a store leaves: the image is formed, states the shape, and stands for pages that
--- the store leaves with that tape. Or the store leaves a file that doesn't reopen.
-abbrev pub IsLeft : Shape → Outcomes → List ℕ → List ℕ → Type 0
-IsLeft shape left image heard = (IsFormedAs shape image × left (Some (pages_of image)) heard) ⊎ left None heard
+-- what may be left since a time may be left since an earlier one, where that is so of a host
+pub left_of-earlier : (shape : Shape) (told : Option File) (tape : Option (List ℕ)) (moment : ℕ → List ℕ → List ℕ → Type 0) (now : ℕ)
+    → ((s t : ℕ) (image heard : List ℕ) → s ≤ t → t ≤ now → moment t image heard → moment s image heard)
+    → (s t : ℕ) (pages : Option (List (List ℕ))) (heard : List ℕ) → s ≤ t → t ≤ now → left_of shape told tape moment t pages heard → left_of shape told tape moment s pages heard
+left_of-earlier shape told tape moment now back s t pages heard first then left =
+    (left.0, left.1, left.2, left.3, left.4, back s t left.4 heard first then left.5, left.6)
+
+-- An image and a tape of a crash, by what a store leaves: it is an image of the store's file, and stands for pages that the
+-- store leaves with that tape. Or the store leaves a file that doesn't reopen.
+abbrev pub IsLeft : Shape → List ℕ → Outcomes → List ℕ → List ℕ → Type 0
+IsLeft shape file left image heard = (IsStoreImage shape file image × left (Some (pages_of image)) heard) ⊎ left None heard

@@ -5,10 +5,11 @@ use Rattle.mdc_outside.specs.Disk.{File, IsImage, all_synced}
 use Rattle.store_api.specs.StoreState.{zero_page}
 use Rattle.page_store.specs.Shape.{map_pages, first_count, birth_page}
 use Rattle.page_store.specs.Standing.{is_made}
+use Rattle.page_file.specs.Layout.{home_start, page_start}
 
 -- so many pages of zeros, one after the other
 unfoldable pub zero_pages : ℕ → List ℕ
-zero_pages n = replicate (4096 * n) 0
+zero_pages n = replicate (page_start n) 0
 
 -- the first file page of a database: its gates are closed, and this is the made byte
 abbrev pub gates : ℕ → List ℕ
@@ -32,11 +33,11 @@ fresh_file extents extent_pages = file_with 77 extents extent_pages
 
 -- how many bytes it has
 abbrev pub fresh_len : ℕ → ℕ
-fresh_len extents = 4096 * (66 + first_count extents)
+fresh_len extents = home_start (first_count extents)
 
 -- the file is too short for a database, or its made byte isn't open
 abbrev pub IsUnmade : List ℕ → Type 0
-IsUnmade file = (length file < 8192) ⊎ IsFalse (is_made file)
+IsUnmade file = (length file < page_start 2) ⊎ IsFalse (is_made file)
 
 -- what a crash while a database is made leaves: a file that isn't made, or the whole
 abbrev pub IsUnmadeOrFresh : ℕ → ℕ → List ℕ → Type 0

@@ -1,12 +1,16 @@
 -- What opening a database does to its file, and what a store shows that was just opened.
-use Rattle.std.specs.Prelude.{◌≡◌, ◌⊎◌, ◌≤◌, ℕ, Bool, false, List, [], Option, Some, None}
+use Rattle.std.specs.Prelude.{◌≡◌, ◌≤◌, ℕ, Bool, false, List, [], Option, Some, None}
 use Rattle.std.specs.Option.{option_map}
 use Rattle.store_api.specs.StoreState.{StoreState}
+use Rattle.store_api.specs.Moments.{Outcomes}
+use Rattle.mdc_words.specs.Time.{OverTime, RestsAt}
 use Rattle.mdc_outside.specs.Disk.{File, IsImage}
 use Rattle.mdc_outside.specs.Moments.{Beside}
 use Rattle.page_store.specs.declared.desk.Desk.{Desk}
-use Rattle.page_store.specs.Changes.{unchanged}
+use Rattle.page_store.specs.Changes.{nothing, unchanged}
+use Rattle.page_file.specs.Leaving.{LeavesImage}
 use Rattle.page_store.specs.Opening.{StandsAs}
+use Rattle.page_store.specs.Standing.{pages_of}
 
 -- the bytes that a read gives, where the file is told
 abbrev pub bytes_of : Option File → Option (List ℕ)
@@ -16,17 +20,13 @@ bytes_of told = option_map (λ file. file.bytes) told
 abbrev pub CouldBeLeft : File → List ℕ → Type 0
 CouldBeLeft before image = IsImage before.since image
 
--- Time goes on from `before` to `now` over an opening. Since its moment `origin` a crash leaves only images that stand for
--- the pages of the file, with the tape as it was. What may be left since a time before the opening is what could be left
--- then, or an image that could be left of the file as the opening began, or what may be left since `origin`.
-pub record StandsSince (origin : ℕ) (file : File) (said : List ℕ) (before now : ℕ) (past since : ℕ → List ℕ → List ℕ → Type 0) : Type 0 where
-  pub begun : before ≤ origin
-  pub passed : origin ≤ now
-  pub since_origin : (image tape : List ℕ) → since origin image tape → StandsAs file.bytes image × (tape ≡ said)
-  pub nothing_else : (t : ℕ) (image tape : List ℕ) → t ≤ before → since t image tape
-      → past t image tape ⊎ ((CouldBeLeft file image × (tape ≡ said)) ⊎ since origin image tape)
-  pub keeps : (t : ℕ) (image tape : List ℕ) → t ≤ before → past t image tape → since t image tape
-  pub adds : (t : ℕ) (image tape : List ℕ) → t ≤ origin → since origin image tape → since t image tape
+-- Time goes on over an opening. At its origin all of the file was on the disk. Up to it a crash leaves only images that
+-- could be left of the file as the opening began, and from it on only images that stand for the pages of the file, with the
+-- tape as it was.
+pub record StandsSince {D : Type 0} (clock : D → ℕ) (moment : D → ℕ → List ℕ → List ℕ → Type 0) (file : File) (said : List ℕ) (old origin new : D) : Type 0 where
+  pub until : OverTime clock moment (LeavesImage (CouldBeLeft file) said) old origin
+  pub at_origin : RestsAt clock moment (LeavesImage (StandsAs file.bytes) said) origin
+  pub since : OverTime clock moment (LeavesImage (StandsAs file.bytes) said) origin new
 
 -- An opening that had all on the disk at some moment: where the file is told, it stays told, and it and all that a crash
 -- leaves after it stand for the pages that the file stood for; where the tape is told too, so does what a crash leaves at
@@ -36,15 +36,22 @@ pub record Opens {D : Type 0} (file : D → Option File) (aside : D → Beside) 
   pub told : (before : File) → file old ≡ Some before → (after : File) × (file new ≡ Some after) × StandsAs before.bytes after.bytes
       × ((image : List ℕ) → IsImage after.since image → StandsAs before.bytes image)
   pub crash : (before : File) (said : List ℕ) → file old ≡ Some before → (aside old).tape ≡ Some said
-      → (origin : ℕ) × StandsSince origin before said (clock old) (clock new) (moment old) (moment new)
+      → (origin : D) × StandsSince clock moment before said old origin new
   pub later : clock old ≤ clock new
   pub attached : is_attached new ≡ is_attached old
   pub listed : attaches new ≡ attaches old
   pub beside : aside new ≡ aside old
 
+-- Since each time since which a host leaves only images that stand for the pages of this file, with these bytes said, the
+-- store leaves these pages alone.
+abbrev pub LeavesBaseSince : (ℕ → List ℕ → List ℕ → Type 0) → (ℕ → Outcomes) → List ℕ → List ℕ → Type 0
+LeavesBaseSince moment left file said =
+    (t : ℕ) → ((image tape : List ℕ) → moment t image tape → StandsAs file image × (tape ≡ said))
+    → (pages : Option (List (List ℕ))) (told : List ℕ) → left t pages told → (pages ≡ Some (pages_of file)) × (told ≡ said)
+
 -- a desk with nothing on it
 pub record IsEmptyDesk (desk : Desk) : Type 0 where
-  pub changes : desk.changes ≡ record { now = unchanged desk.base; marked = None; kept = 0 }
+  pub changes : desk.changes ≡ nothing desk.base
   pub cache : desk.cache ≡ []
   pub hand : desk.hand ≡ None
   pub images : desk.images ≡ None

@@ -2,7 +2,8 @@
 use Rattle.std.specs.Prelude.{◌≡◌, ◌≢◌, ◌⊎◌, ◌≤◌, ℕ, ◌+◌, ◌-◌, ◌*◌, ◌/◌, IsTrue, IsFalse, List, [], ◌∷◌, length, take, drop}
 use Rattle.byteorder.specs.Endian.{big_number}
 use Rattle.mdc_outside.specs.Disk.{File, all_synced}
-use Rattle.redo_journal.specs.Layout.{file_page, is_open}
+use Rattle.page_file.specs.Layout.{file_page, home_start, page_start, FrontStays}
+use Rattle.redo_journal.specs.Layout.{is_open}
 use Rattle.store_api.specs.StoreState.{stated_in}
 use Rattle.store_api.specs.declared.fault.Damage.{Damage}
 use Rattle.page_store.specs.declared.fault.OpenFault.{OpenFault}
@@ -10,10 +11,11 @@ use Rattle.page_store.specs.declared.fault.OpenFault.TheVariants.{Exists, Unmade
 use Rattle.page_store.specs.Shape.{IsBirth, extents_in, extent_pages_in, first_count}
 use Rattle.page_store.specs.Standing.{IsFitting, IsFormed, Stands, page_of, count_of, pages_of, is_made}
 use Rattle.page_store.specs.Fresh.{IsUnmade}
+use Rattle.page_file.specs.declared.layout.TheConstants.{FIRST_PAGE, PAGE_BYTES}
 
 -- Page 0 is whole and begins with `ROOT`, and its count is that of a new database and of some whole extents.
 pub record IsRoot (extents extent_pages : ℕ) (page : List ℕ) : Type 0 where
-  pub size : length page ≡ 4096
+  pub size : length page ≡ PAGE_BYTES
   pub begins : take 4 page ≡ 82 ∷ 79 ∷ 79 ∷ 84 ∷ []
   pub counts : (used : ℕ) × (used ≤ extents) × (stated_in page ≡ first_count extents + used * extent_pages)
 
@@ -24,7 +26,7 @@ pub record IsRead (file : List ℕ) : Type 0 where
 
 -- no page is missing
 abbrev pub IsWhole : List ℕ → Type 0
-IsWhole file = 4096 * (66 + count_of file) ≤ length file
+IsWhole file = home_start (count_of file) ≤ length file
 
 -- the version that page 0 states
 abbrev pub version_of : List ℕ → ℕ
@@ -32,13 +34,13 @@ version_of file = big_number 4 (drop 4 (page_of file 0))
 
 -- the file is long enough and its made byte is open
 abbrev pub IsMade : List ℕ → Type 0
-IsMade file = (8192 ≤ length file) × IsTrue (is_made file)
+IsMade file = (page_start 2 ≤ length file) × IsTrue (is_made file)
 
 -- what is damaged: page 0, or else the first page that isn't whole
 abbrev pub IsDamage : Damage → List ℕ → Type 0
 IsDamage damage file =
     ((¬ IsRead file) × (damage ≡ record { page = 0; rule = 1 }))
-    ⊎ (IsRead file × (¬ IsWhole file) × (damage ≡ record { page = length file / 4096 - 66; rule = 1 }))
+    ⊎ (IsRead file × (¬ IsWhole file) × (damage ≡ record { page = length file / PAGE_BYTES - FIRST_PAGE; rule = 1 }))
 
 -- the file isn't a database's
 abbrev pub IsOther : List ℕ → Type 0
@@ -57,9 +59,10 @@ IsOfVersion version file =
 abbrev pub IsServed : List ℕ → Type 0
 IsServed file = IsMade file × IsBirth (file_page file 1) × IsRead file × IsWhole file × (version_of file ≡ 1)
 
--- an image that is formed, stands for the same pages as that file and has its birth page, where that file is formed
+-- An image that has all that isn't the store's as it is in that file. Where the file is formed, the image is too, stands
+-- for the same pages and has the file's birth page.
 abbrev pub StandsAs : List ℕ → List ℕ → Type 0
-StandsAs file image = IsFormed file → Stands file (pages_of file) image
+StandsAs file image = FrontStays file image × (IsFormed file → Stands file (pages_of file) image)
 
 -- All is on the disk, the gate is closed, and the file is formed and has so many pages, of a database of this size.
 pub record IsAtRest (extents extent_pages pages : ℕ) (file : File) : Type 0 where

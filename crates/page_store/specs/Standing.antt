@@ -3,9 +3,11 @@ use Rattle.std.specs.Prelude.{◌≡◌, ◌≤◌, ◌<◌, ◌==◌, ℕ, ◌+
 use Rattle.std.specs.List.{All, range_with_len}
 use Rattle.store_api.specs.StoreState.{stated_in}
 use Rattle.redo_journal.specs.Images.{Numbered}
-use Rattle.redo_journal.specs.Layout.{file_page, home_page, is_open, start_of, journal_of, IsJournal}
+use Rattle.page_file.specs.Layout.{file_page, home_page, FrontStays, IsNoPlaceOfJournal, home_start}
+use Rattle.redo_journal.specs.Layout.{is_open, start_of, journal_of, IsJournal}
 use Rattle.page_store.specs.declared.shape.Shape.{Shape}
 use Rattle.page_store.specs.Shape.{IsBirth, extents_in, extent_pages_in}
+use Rattle.page_file.specs.declared.layout.TheConstants.{FIRST_PAGE}
 
 -- what f gives for each number below n, in order
 abbrev pub listed : {X : Type 0} → ℕ → (ℕ → X) → List X
@@ -38,7 +40,7 @@ is_made file = slice_index file 0 == 77
 
 -- the journal lies behind all pages and within the file, and its numbers rise and name pages
 pub record IsFitting (file : List ℕ) : Type 0 where
-  pub behind : 66 + count_of file ≤ start_of file
+  pub behind : FIRST_PAGE + count_of file ≤ start_of file
   pub journal : IsJournal file
   pub named : All (λ image. image.0 < count_of file) (journal_of file)
 
@@ -47,13 +49,14 @@ pub record IsFormed (file : List ℕ) : Type 0 where
   pub made : IsTrue (is_made file)
   pub birth : IsBirth (file_page file 1)
   pub journal : IsTrue (is_open file) → IsFitting file
-  pub whole : 4096 * (66 + count_of file) ≤ length file
+  pub whole : home_start (count_of file) ≤ length file
 
--- the image is formed, stands for these pages, and has the file's birth page
+-- the image is formed, stands for these pages, and has the file's birth page and all else of the file that isn't the store's
 pub record Stands (file : List ℕ) (all : List (List ℕ)) (image : List ℕ) : Type 0 where
   pub formed : IsFormed image
   pub pages : pages_of image ≡ all
   pub birth : file_page image 1 ≡ file_page file 1
+  pub front : FrontStays file image
 
 -- the file is formed, and its birth page states this shape
 pub record IsFormedAs (shape : Shape) (file : List ℕ) : Type 0 where
@@ -61,7 +64,17 @@ pub record IsFormedAs (shape : Shape) (file : List ℕ) : Type 0 where
   pub extents : extents_in (file_page file 1) ≡ shape.extents
   pub extent_pages : extent_pages_in (file_page file 1) ≡ shape.extent_pages
 
--- what opening a file gives a store of this shape: its pages, where it is formed and states that shape, and else nothing
-abbrev pub Reopens : Shape → List ℕ → Option (List (List ℕ)) → Type 0
-Reopens shape file None = ¬ IsFormedAs shape file
-Reopens shape file (Some pages) = IsFormedAs shape file × (pages ≡ pages_of file)
+-- the two have the same bytes before the first home page, but for the journal's gate and its header
+pub record FrontAgrees (one other : List ℕ) : Type 0 where
+  pub same : (i : ℕ) → i < home_start 0 → IsNoPlaceOfJournal i → slice_index other i ≡ slice_index one i
+
+-- an image of a store's file: it is formed, states the store's shape, and has all that isn't the store's as the file has it
+pub record IsStoreImage (shape : Shape) (file image : List ℕ) : Type 0 where
+  pub formed : IsFormedAs shape image
+  pub front : FrontAgrees file image
+
+-- what opening an image of a file gives the store of that file: its pages, where it is an image of the store, and else
+-- nothing
+abbrev pub Reopens : Shape → List ℕ → List ℕ → Option (List (List ℕ)) → Type 0
+Reopens shape file image None = ¬ IsStoreImage shape file image
+Reopens shape file image (Some pages) = IsStoreImage shape file image × (pages ≡ pages_of image)

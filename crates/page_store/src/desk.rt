@@ -1,25 +1,27 @@
 // What a store has in memory beside its host: its changes, clean pages, and where the page at hand lies.
-ghost use Rattle.std.specs.Prelude.{◌≡◌, ◌<◌, ◌≤◌, ◌+◌, IsTrue, IsSome, Option, None, Some, [], length, OnOk, OnErr, IsErrOf};
+ghost use Rattle.std.specs.Prelude.{◌≡◌, ◌<◌, ◌≤◌, ◌+◌, IsTrue, IsSome, Option, None, Some, [], length, slice_index_or, IfOk, OnOk, OnErr, IsErrOf, IsErr};
 ghost use Rattle.std.specs.Option.{ForSome};
+ghost use Rattle.std.specs.Borrow.{sem};
 ghost use Rattle.store_api.specs.Calls.{Fetches, FetchesCommitted, LosesHand, LosesReadiness, Writes, Grows, Marks, Keeps, Undoes, Prepares, Commits, Ends, RollsBack};
 ghost use Rattle.store_api.specs.StoreState.{stated_count, zero_page, differing};
 ghost use Rattle.mdc_outside.specs.Disk.{File};
-ghost use Rattle.mdc_outside.specs.Moments.{HasCause};
-ghost use Rattle.mdc_outside.specs.Outside.{Rose};
-ghost use Rattle.redo_journal.specs.Bound.{RunsOf};
-ghost use Rattle.redo_journal.specs.Runs.{IsCovered};
-ghost use Rattle.page_store.specs.Bound.{LeavesOf};
-ghost use Rattle.page_store.specs.Desk.{IsKept, IsPlaced, Does, DoesOnOk, DoesOnErr, StandsForEither, RestsEither, page_at_hand, base_of, work_of, written_in};
+ghost use Rattle.mdc_words.specs.Faults.{CountsFault};
+ghost use Rattle.page_file.specs.Bound.{RunsOf};
+ghost use Rattle.page_file.specs.Runs.{IsCovered};
+ghost use Rattle.page_file.specs.Bound.{LeavesOf};
+ghost use Rattle.page_store.specs.Desk.{IsKept, IsPlaced, Does, DoesOnOk, DoesOnErr, CommitLeaves, RestsEither, page_at_hand, base_of, work_of, written_in};
 
-use crate::changes::Changes;
+use crate::gathering::images_of;
 use crate::page_cache::PageCache;
 use crate::shape::Shape;
 use crate::write_through::{Halt, write_any};
 use mdc_outside::Disk;
 use mdc_values::Memory;
-use redo_journal::{FIRST_PAGE, Images};
+use page_changes::{Changes, Spares};
+use page_file::FIRST_PAGE;
+use redo_journal::Images;
 use std::alloc::Global;
-use store_api::{DeviceFault, Page, PageFault, blank_page};
+use store_api::{DeviceFault, Page, PageFault};
 
 // The file page of the store's page 0.
 const FIRST: u32 = FIRST_PAGE as u32;
@@ -31,8 +33,6 @@ pub(crate) enum Hand {
     Changed(u32),
     /// First among the clean pages.
     Clean,
-    /// It was grown, and not written since.
-    Blank,
 }
 
 /// What a store has in memory. `base` is how many pages it had at the last commit.
@@ -42,6 +42,7 @@ pub(crate) struct Desk {
     pub(crate) shape: Shape,
     pub(crate) base: u32,
     pub(crate) changes: Changes,
+    pub(crate) spares: Spares,
     pub(crate) cache: PageCache,
     pub(crate) hand: Option<Hand>,
     pub(crate) images: Option<Images>,
@@ -49,6 +50,8 @@ pub(crate) struct Desk {
 }
 
 impl Desk {
+    ghost use Rattle.page_store.specs.LentWork.{LendsWork};
+
     /// Brings a page of the work to hand.
     pub(crate) fn fetch<D: Disk>(&mut self, disk: &mut D, p: u32) -> Result<(), PageFault>
         requires attached { IsTrue (D.is_attached disk.old) }
@@ -57,7 +60,7 @@ impl Desk {
         requires within { p < length self.old.changes.now }
         ensures ok { DoesOnOk result (Fetches p) (D.file disk.old) self.old (D.file disk.new) self.new }
         ensures err { DoesOnErr result LosesHand (D.file disk.old) self.old (D.file disk.new) self.new }
-        ensures device { IsErrOf result PageFault.Device → Rose (D.disk_faults disk.old) (D.disk_faults disk.new) }
+        ensures cause { CountsFault (IsErrOf result PageFault.Device) (D.disk_faults disk.old) (D.disk_faults disk.new) }
         ensures changes { self.new.changes ≡ self.old.changes }
         ensures base { self.new.base ≡ self.old.base }
         ensures shape { self.new.shape ≡ self.old.shape }
@@ -65,7 +68,6 @@ impl Desk {
         ensures still_kept { IsKept self.new (D.file disk.new) }
         ensures same { D.file disk.new ≡ D.file disk.old }
         ensures runs { RunsOf D.Disk IsCovered (λ since. since) disk.old disk.new }
-        ensures later { D.disk_faults disk.old ≤ D.disk_faults disk.new }
     {
         match self.place_of(p) {
             Some(hand) => {
@@ -84,7 +86,7 @@ impl Desk {
         requires within { p < self.old.base }
         ensures ok { DoesOnOk result (FetchesCommitted p) (D.file disk.old) self.old (D.file disk.new) self.new }
         ensures err { DoesOnErr result LosesHand (D.file disk.old) self.old (D.file disk.new) self.new }
-        ensures device { IsErrOf result PageFault.Device → Rose (D.disk_faults disk.old) (D.disk_faults disk.new) }
+        ensures cause { CountsFault (IsErrOf result PageFault.Device) (D.disk_faults disk.old) (D.disk_faults disk.new) }
         ensures changes { self.new.changes ≡ self.old.changes }
         ensures base { self.new.base ≡ self.old.base }
         ensures shape { self.new.shape ≡ self.old.shape }
@@ -92,7 +94,6 @@ impl Desk {
         ensures still_kept { IsKept self.new (D.file disk.new) }
         ensures same { D.file disk.new ≡ D.file disk.old }
         ensures runs { RunsOf D.Disk IsCovered (λ since. since) disk.old disk.new }
-        ensures later { D.disk_faults disk.old ≤ D.disk_faults disk.new }
     {
         self.hand = None;
         self.cache.bring(disk, p)?;
@@ -102,13 +103,12 @@ impl Desk {
 
     // Where the page of the work lies in memory, if it was changed or grown.
     fn place_of(&self, p: u32) -> Option<Hand>
-        requires { p < length self.now.changes.now }
+        requires within { p < length self.now.changes.now }
+        requires based { self.now.changes.base ≡ self.now.base }
         ensures { IsPlaced p self.now result }
     {
         if self.changes.get(p).is_some() {
             Some(Hand::Changed(p))
-        } else if p >= self.base {
-            Some(Hand::Blank)
         } else {
             None
         }
@@ -122,7 +122,6 @@ impl Desk {
         match self.hand {
             Some(Hand::Changed(p)) => self.changes.get(p).unwrap(),
             Some(Hand::Clean) => self.cache.first(),
-            Some(Hand::Blank) => blank_page(),
             None => unreachable!(),
         }
     }
@@ -140,10 +139,52 @@ impl Desk {
     {
         self.hand = None;
         self.images = None;
-        match self.changes.write(p, bytes) {
+        match self.changes.write(&mut self.spares, p, bytes) {
             Ok(()) => Ok(()),
             Err(Memory) => Err(PageFault::Memory),
         }
+    }
+
+    /// Sees to it that a page of the work lies among the changes. The work stays.
+    pub(crate) fn admit<D: Disk>(&mut self, disk: &mut D, p: u32) -> Result<(), PageFault>
+        requires attached { IsTrue (D.is_attached disk.old) }
+        requires going { self.old.halt ≡ None }
+        requires kept { IsKept self.old (D.file disk.old) }
+        requires within { p < length self.old.changes.now }
+        ensures does { Does LosesReadiness (D.file disk.old) self.old (D.file disk.new) self.new }
+        ensures changed { OnOk result (IsSome (slice_index_or self.new.changes.now p None)) }
+        ensures pages { length self.new.changes.now ≡ length self.old.changes.now }
+        ensures written { written_in self.new ≤ written_in self.old + 1 }
+        ensures shape { self.new.shape ≡ self.old.shape }
+        ensures going_on { self.new.halt ≡ None }
+        ensures bare { (self.new.hand ≡ None) × (self.new.images ≡ None) }
+        ensures still_kept { IsKept self.new (D.file disk.new) }
+        ensures cause { CountsFault (IsErrOf result PageFault.Device) (D.disk_faults disk.old) (D.disk_faults disk.new) }
+        ensures same { D.file disk.new ≡ D.file disk.old }
+        ensures runs { RunsOf D.Disk IsCovered (λ since. since) disk.old disk.new }
+    {
+        self.hand = None;
+        self.images = None;
+        if self.changes.get(p).is_some() {
+            return Ok(());
+        }
+        self.cache.bring(disk, p)?;
+        match self.changes.write(&mut self.spares, p, self.cache.first()) {
+            Ok(()) => Ok(()),
+            Err(Memory) => Err(PageFault::Memory),
+        }
+    }
+
+    /// Lends a page that lies among the changes, to be changed in place.
+    pub(crate) fn edit(&mut self, p: u32) -> Result<&mut Page, PageFault>
+        requires within { p < length self.old.changes.now }
+        requires changed { IsSome (slice_index_or self.old.changes.now p None) }
+        ensures* lends { sem 𝓛 (LendsWork p self.entry result) }
+        ensures page { IfOk result (λ page. slice_index_or self.old.changes.now p None ≡ Some page.now) }
+        ensures memory { IsErrOf result PageFault.Device → ⊥ }
+    {
+        let alloc = self.alloc;
+        self.changes.edit(alloc, p)
     }
 
     /// Adds pages of zeros at the end of the work. It takes no memory.
@@ -198,7 +239,7 @@ impl Desk {
     {
         self.hand = None;
         self.images = None;
-        self.changes.undo();
+        self.changes.undo(&mut self.spares);
     }
 
     /// Goes back to the base, and drops a mark. It takes no memory.
@@ -221,8 +262,7 @@ impl Desk {
         ensures enough { (told : Option File) → IsKept self.now told → self.now.halt ≡ None
             → differing (base_of told self.now) (work_of told self.now self.now.changes.now) ≤ result }
     {
-        let grown = self.changes.count() - self.base;
-        self.changes.kept().saturating_add(grown)
+        self.changes.kept()
     }
 
     /// Makes the work ready for `commit`, and takes the memory that it needs.
@@ -241,7 +281,7 @@ impl Desk {
     {
         self.hand = None;
         self.images = None;
-        match self.changes.images(self.alloc, self.base) {
+        match images_of(self.alloc, &mut self.changes, &mut self.spares) {
             Ok(images) => {
                 self.images = Some(images);
                 Ok(())
@@ -266,8 +306,8 @@ impl Desk {
         ensures still_kept { OnOk result (IsKept self.new (D.file disk.new)) }
         ensures written { OnOk result (written_in self.new ≡ 0) }
         ensures quiet { self.old.images ≡ Some [] → disk.new ≡ disk.old }
-        ensures leaves { LeavesOf D.Disk (StandsForEither self.old) disk.old disk.new }
-        ensures cause { HasCause result (D.disk_faults disk.old) (D.disk_faults disk.new) }
+        ensures leaves { LeavesOf D.Disk (CommitLeaves self.old) disk.old disk.new }
+        ensures cause { CountsFault (IsErr result) (D.disk_faults disk.old) (D.disk_faults disk.new) }
     {
         self.hand = None;
         let Some(images) = self.images.take() else {

@@ -1,7 +1,9 @@
 // A store in a database file.
-ghost use Rattle.std.specs.Prelude.{◌≡◌, ◌⊎◌, ◌≤◌, [], OnOk, OnErr};
-ghost use Rattle.mdc_outside.specs.Moments.{Elapses};
-ghost use Rattle.mdc_outside.specs.Outside.{Rose, Takes, TakesPart};
+ghost use Rattle.std.specs.Prelude.{◌≡◌, IsErr, OnOk};
+ghost use Rattle.mdc_words.specs.Faults.{CountsFault};
+ghost use Rattle.mdc_words.specs.Time.{OverTime};
+ghost use Rattle.mdc_outside.specs.Moments.{IsWithinCall};
+ghost use Rattle.mdc_outside.specs.Outside.{Takes, TakesPart};
 
 use crate::desk::Desk;
 use mdc_outside::Host;
@@ -9,7 +11,8 @@ use std::marker::Model;
 use store_api::{DeviceFault, Mute, Page, PageFault, Pages, Store};
 
 /// A store whose base is what the file of its host stands for. It owns the host, and tells bytes through it. Where the
-/// host tells its file, the store tells its pages; it tells no fetches.
+/// host tells its file, the store tells its pages; it tells no fetches. What a crash leaves of the file reopens to pages
+/// where it is formed, states the store's shape, and has all that isn't the store's as the file has it.
 #[derive(Drop)]
 pub struct FileStore<H: Host> {
     pub(crate) host: H,
@@ -28,7 +31,7 @@ impl<H: Host> Model for FileStore<H> {
 
 impl<H: Host> Pages for FileStore<H> {
     ghost use Rattle.page_store.specs.Desk.{state_of, written_in};
-    ghost use Rattle.page_store.specs.FileStore.{left_of};
+    ghost use Rattle.page_store.specs.FileStore.{left_of, left_of-earlier};
 
     ghost state = { λ s. state_of (H.file s.host) (H.beside s.host).tape (H.attaches s.host) s.desk };
 
@@ -41,6 +44,8 @@ impl<H: Host> Pages for FileStore<H> {
     ghost clock = { λ s. H.clock s.host };
 
     ghost left = { λ s. left_of s.desk.shape (H.file s.host) (H.beside s.host).tape (H.moment s.host) };
+
+    ghost earlier = { λ s. left_of-earlier s.desk.shape (H.file s.host) (H.beside s.host).tape (H.moment s.host) (H.clock s.host) (H.earlier s.host) };
 
     fn count(&self) -> u32 {
         self.desk.changes.count()
@@ -56,6 +61,13 @@ impl<H: Host> Pages for FileStore<H> {
 
     fn write(&mut self, p: u32, bytes: &Page) -> Result<(), PageFault> {
         self.desk.write(p, bytes)
+    }
+
+    fn edit(&mut self, p: u32) -> Result<&mut Page, PageFault> {
+        match self.desk.admit(&mut self.host, p) {
+            Ok(()) => self.desk.edit(p),
+            Err(fault) => Err(fault),
+        }
     }
 
     fn grow(&mut self, n: u32) -> Result<(), PageFault> {
@@ -108,14 +120,12 @@ impl<H: Host> Store for FileStore<H> {
 fn say<H: Host>(host: &mut H, bytes: &[u8]) -> Result<(), Mute>
     ensures said { OnOk result (Takes (H.beside host.old).tape bytes.now (H.beside host.new).tape) }
     ensures part { TakesPart (H.beside host.old).tape bytes.now (H.beside host.new).tape }
-    ensures mute { OnErr result (Rose (H.say_faults host.old) (H.say_faults host.new)) }
-    ensures count { H.say_faults host.old ≤ H.say_faults host.new }
+    ensures cause { CountsFault (IsErr result) (H.say_faults host.old) (H.say_faults host.new) }
     ensures file { H.file host.new ≡ H.file host.old }
     ensures attached { H.is_attached host.new ≡ H.is_attached host.old }
     ensures listed { H.attaches host.new ≡ H.attaches host.old }
     ensures disk_count { H.disk_faults host.new ≡ H.disk_faults host.old }
-    ensures time { Elapses (H.file host.old) (H.beside host.old).tape bytes.now (H.clock host.old) (H.clock host.new) (H.moment host.old) (H.moment host.new)
-        ⊎ Elapses (H.file host.old) (H.beside host.old).tape [] (H.clock host.old) (H.clock host.new) (H.moment host.old) (H.moment host.new) }
+    ensures time { OverTime H.clock H.moment (IsWithinCall (H.file host.old) (H.beside host.old).tape bytes.now) host.old host.new }
 {
     match host.say(bytes) {
         Ok(()) => Ok(()),

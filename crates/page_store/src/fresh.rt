@@ -5,7 +5,7 @@ ghost use Rattle.page_store.specs.Shape.{first_count, birth_page};
 ghost use Rattle.page_store.specs.Fresh.{root_page};
 
 use byteorder::{BigEndian, ByteOrder};
-use redo_journal::zeros;
+use page_file::zeros;
 use store_api::{Page, blank_page};
 
 // The version of the format.

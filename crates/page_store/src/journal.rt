@@ -4,7 +4,8 @@ ghost use Rattle.std.specs.List.{All};
 ghost use Rattle.page_store.specs.Standing.{counted, image_of};
 ghost use Rattle.page_store.specs.Reading.{IsJournalIn, IsBehind};
 
-use redo_journal::{FIRST_PAGE, Images};
+use page_file::FIRST_PAGE;
+use redo_journal::Images;
 use store_api::Page;
 
 /// A journal that counts: the file page at which it starts, and its images.

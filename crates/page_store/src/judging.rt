@@ -4,13 +4,16 @@ ghost use Rattle.page_store.specs.Faults.{IsUnserved};
 ghost use Rattle.page_store.specs.Opening.{IsServed, Refuses};
 ghost use Rattle.page_store.specs.Reading.{WasRead};
 ghost use Rattle.page_store.specs.Standing.{count_of};
+ghost use Rattle.page_file.specs.Layout.{home_start};
+ghost use Rattle.page_file.specs.declared.layout.TheConstants.{FIRST_PAGE, PAGE_BYTES};
+ghost use Rattle.store_api.specs.declared.pages.TheConstants.{MAX_PAGES};
 
 use crate::OpenFault;
 use crate::fresh::VERSION;
 use crate::journal::{Journal, is_behind};
 use crate::root::{count_in, version_in};
 use crate::shape::Shape;
-use redo_journal::{FIRST_PAGE, PAGE_BYTES};
+use page_file::{FIRST_PAGE, PAGE_BYTES};
 use store_api::{Damage, Page};
 
 /// The page count of a file of so many bytes, or why it can't be served.
@@ -21,7 +24,7 @@ pub(crate) fn judge(
     root: &Page,
 ) -> Result<u32, OpenFault>
     ensures judged { (file : List ℕ) → WasRead end shape.extents shape.extent_pages journal.now root.now file → MatchResult result (λ count. IsServed file × (count_of file ≡ count)) (λ fault. Refuses fault file) }
-    ensures limits { IfOk result (λ count. (18 ≤ count) × (count ≤ 262289)) }
+    ensures limits { IfOk result (λ count. (18 ≤ count) × (count ≤ MAX_PAGES)) }
     ensures unserved { IfErr result IsUnserved }
 {
     let Some(count) = count_in(root, shape) else {
@@ -42,8 +45,8 @@ pub(crate) fn judge(
 
 // The first page that isn't whole in a file of so many bytes.
 fn first_missing(end: u64, count: u32) -> Option<u32>
-    requires { count ≤ 262289 }
-    ensures { MatchOption result (4096 * (66 + count) ≤ end) (λ page. (end < 4096 * (66 + count)) × (page ≡ end / 4096 - 66)) }
+    requires { count ≤ MAX_PAGES }
+    ensures { MatchOption result (home_start count ≤ end) (λ page. (end < home_start count) × (page ≡ end / PAGE_BYTES - FIRST_PAGE)) }
 {
     let whole = end / PAGE_BYTES;
     if whole >= FIRST_PAGE + u64::from(count) {

@@ -1,6 +1,6 @@
 // What holds of every file, whatever call is made.
 ghost use Rattle.std.specs.Prelude.{◌≡◌, List, ℕ};
-ghost use Rattle.redo_journal.specs.Layout.{file_page};
+ghost use Rattle.page_file.specs.Layout.{file_page};
 ghost use Rattle.page_store.specs.Opening.{IsRoot, IsServed, version_of};
 ghost use Rattle.page_store.specs.Shape.{extents_in, extent_pages_in};
 ghost use Rattle.page_store.specs.Standing.{IsFormed, page_of};

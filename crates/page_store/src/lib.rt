@@ -5,11 +5,11 @@
 //! It stands on `redo_journal`.
 #![tactic(auto)]
 
-mod changes;
 mod desk;
 mod fault;
 mod file_store;
 mod fresh;
+mod gathering;
 mod journal;
 mod judging;
 mod laws;
@@ -28,9 +28,4 @@ pub use file_store::FileStore;
 pub use laws::formed_is_served;
 pub use making::make;
 pub use opening::Unopened;
-pub use shape::is_shape;
-
-#[cfg(test)]
-mod store_tests;
-#[cfg(test)]
-mod tests;
+pub use shape::{Shape, is_shape};

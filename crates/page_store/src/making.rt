@@ -1,20 +1,20 @@
 // How an empty database is made.
-ghost use Rattle.std.specs.Prelude.{◌≡◌, ◌⊎◌, ◌≤◌, ◌<◌, ◌+◌, ◌-◌, ◌*◌, ◌^◌, [], ◌∷◌, ◌++◌, length, IsTrue, IsErrOf, OnOk, OnErr};
+ghost use Rattle.std.specs.Prelude.{◌≡◌, ◌⊎◌, ◌≤◌, ◌<◌, ◌+◌, ◌-◌, ◌*◌, ◌^◌, [], ◌∷◌, ◌++◌, length, IsTrue, IsErrOf, OnOk, OnErr, IsErr};
 ghost use Rattle.std.specs.Option.{option_map, ForSome};
 ghost use Rattle.mdc_outside.specs.Disk.{torn, written, settled};
-ghost use Rattle.mdc_outside.specs.Moments.{HasCause};
-ghost use Rattle.mdc_outside.specs.Outside.{Rose};
-ghost use Rattle.redo_journal.specs.Bound.{RunsOf};
-ghost use Rattle.redo_journal.specs.Runs.{IsWithin, IsCovered, Between};
-ghost use Rattle.page_store.specs.Bound.{LeavesOf};
+ghost use Rattle.mdc_words.specs.Faults.{CountsFault};
+ghost use Rattle.page_file.specs.Bound.{RunsOf};
+ghost use Rattle.page_file.specs.Runs.{IsWithin, IsCovered, Between};
+ghost use Rattle.page_file.specs.Bound.{LeavesOf};
 ghost use Rattle.page_store.specs.Empty.{IsEmptyDatabase};
 ghost use Rattle.page_store.specs.Fresh.{HoldsFresh, IsOfMaking, file_with, fresh_len, front_with, root_page, zero_pages};
 ghost use Rattle.page_store.specs.Shape.{is_shape, first_count, map_pages};
+ghost use Rattle.page_file.specs.Layout.{home_start, page_start};
 
 use crate::OpenFault;
 use crate::fresh::{behind_made, birth_page, first_count, root_page};
 use mdc_outside::{Disk, Failed};
-use redo_journal::{FIRST_PAGE, PAGE_BYTES, end_of, fill, put, settle};
+use page_file::{FIRST_PAGE, PAGE_BYTES, end_of, fill, put, settle};
 
 // The made byte of a whole file.
 pub(crate) const MADE: u8 = 0x4d;
@@ -42,8 +42,7 @@ pub fn make<D: Disk>(disk: &mut D, extents: u32, extent_pages: u32) -> Result<()
     ensures untouched { ForSome (D.file disk.old) (λ file. 0 < length file.bytes → D.file disk.new ≡ D.file disk.old) }
     ensures refused { ForSome (D.file disk.old) (λ file. 0 < length file.bytes → IsErrOf result OpenFault.Exists ⊎ IsErrOf result OpenFault.Device) }
     ensures causes { OnErr result (IsErrOf result OpenFault.Exists ⊎ IsErrOf result OpenFault.Device) }
-    ensures device { IsErrOf result OpenFault.Device → Rose (D.disk_faults disk.old) (D.disk_faults disk.new) }
-    ensures later { D.disk_faults disk.old ≤ D.disk_faults disk.new }
+    ensures cause { CountsFault (IsErrOf result OpenFault.Device) (D.disk_faults disk.old) (D.disk_faults disk.new) }
     ensures leaves { LeavesOf D.Disk (IsOfMaking extents extent_pages) disk.old disk.new }
 {
     if end_of(disk)? > 0 {
@@ -58,7 +57,7 @@ fn write_database<D: Disk>(disk: &mut D, extents: u32, extent_pages: u32) -> Res
     requires empty { ForSome (D.file disk.old) (λ file. length file.bytes ≡ 0) }
     ensures made { OnOk result (ForSome (D.file disk.new) (HoldsFresh extents extent_pages)) }
     ensures leaves { LeavesOf D.Disk (IsOfMaking extents extent_pages) disk.old disk.new }
-    ensures cause { HasCause result (D.disk_faults disk.old) (D.disk_faults disk.new) }
+    ensures cause { CountsFault (IsErr result) (D.disk_faults disk.old) (D.disk_faults disk.new) }
 {
     set_made(disk, UNMADE)?;
     write_pages(disk, extents, extent_pages)?;
@@ -71,7 +70,7 @@ fn set_made<D: Disk>(disk: &mut D, made: u8) -> Result<(), Failed>
     requires attached { IsTrue (D.is_attached disk.old) }
     ensures written { OnOk result (D.file disk.new ≡ option_map (λ file. settled (written 0 (made ∷ []) file)) (D.file disk.old)) }
     ensures runs { RunsOf D.Disk IsWithin (torn 0 1) disk.old disk.new }
-    ensures cause { HasCause result (D.disk_faults disk.old) (D.disk_faults disk.new) }
+    ensures cause { CountsFault (IsErr result) (D.disk_faults disk.old) (D.disk_faults disk.new) }
 {
     put(disk, 0, &[made])?;
     settle(disk)
@@ -83,7 +82,7 @@ fn write_pages<D: Disk>(disk: &mut D, extents: u32, extent_pages: u32) -> Result
     requires begun { ForSome (D.file disk.old) (λ file. file.bytes ≡ 0 ∷ []) }
     ensures written { OnOk result (ForSome (D.file disk.new) (λ file. file.bytes ≡ file_with 0 extents extent_pages)) }
     ensures runs { RunsOf D.Disk IsCovered (torn 1 (fresh_len extents - 1)) disk.old disk.new }
-    ensures cause { HasCause result (D.disk_faults disk.old) (D.disk_faults disk.new) }
+    ensures cause { CountsFault (IsErr result) (D.disk_faults disk.old) (D.disk_faults disk.new) }
 {
     write_front(disk, extents, extent_pages)?;
     write_store(disk, extents)
@@ -94,8 +93,8 @@ fn write_front<D: Disk>(disk: &mut D, extents: u32, extent_pages: u32) -> Result
     requires attached { IsTrue (D.is_attached disk.old) }
     requires begun { ForSome (D.file disk.old) (λ file. file.bytes ≡ 0 ∷ []) }
     ensures written { OnOk result (ForSome (D.file disk.new) (λ file. file.bytes ≡ front_with 0 extents extent_pages)) }
-    ensures runs { RunsOf D.Disk IsCovered (torn 1 270335) disk.old disk.new }
-    ensures cause { HasCause result (D.disk_faults disk.old) (D.disk_faults disk.new) }
+    ensures runs { RunsOf D.Disk IsCovered (torn 1 (home_start 0 - 1)) disk.old disk.new }
+    ensures cause { CountsFault (IsErr result) (D.disk_faults disk.old) (D.disk_faults disk.new) }
 {
     append(disk, 1, behind_made())?;
     append(disk, PAGE_BYTES, &birth_page(extents, extent_pages))?;
@@ -105,10 +104,10 @@ fn write_front<D: Disk>(disk: &mut D, extents: u32, extent_pages: u32) -> Result
 // Writes the pages of an empty store, from the root page on.
 fn write_store<D: Disk>(disk: &mut D, extents: u32) -> Result<(), Failed>
     requires attached { IsTrue (D.is_attached disk.old) }
-    requires end { ForSome (D.file disk.old) (λ file. 270336 ≡ length file.bytes) }
+    requires end { ForSome (D.file disk.old) (λ file. home_start 0 ≡ length file.bytes) }
     ensures written { OnOk result (Between (D.file disk.old) (D.file disk.new) (λ old new. new ≡ old ++ root_page extents ++ zero_pages (16 + map_pages extents))) }
-    ensures runs { RunsOf D.Disk IsCovered (torn 270336 (4096 * first_count extents)) disk.old disk.new }
-    ensures cause { HasCause result (D.disk_faults disk.old) (D.disk_faults disk.new) }
+    ensures runs { RunsOf D.Disk IsCovered (torn (home_start 0) (page_start (first_count extents))) disk.old disk.new }
+    ensures cause { CountsFault (IsErr result) (D.disk_faults disk.old) (D.disk_faults disk.new) }
 {
     append(disk, ROOT * PAGE_BYTES, &root_page(extents))?;
     append_zeros(disk, (ROOT + 1) * PAGE_BYTES, first_count(extents) - 1)
@@ -120,7 +119,7 @@ fn append<D: Disk>(disk: &mut D, end: u64, bytes: &[u8]) -> Result<(), Failed>
     requires end { ForSome (D.file disk.old) (λ file. end ≡ length file.bytes) }
     ensures appended { OnOk result (Between (D.file disk.old) (D.file disk.new) (λ old new. new ≡ old ++ bytes.now)) }
     ensures runs { RunsOf D.Disk IsCovered (torn end (length bytes.now)) disk.old disk.new }
-    ensures cause { HasCause result (D.disk_faults disk.old) (D.disk_faults disk.new) }
+    ensures cause { CountsFault (IsErr result) (D.disk_faults disk.old) (D.disk_faults disk.new) }
 {
     put(disk, end, bytes)
 }
@@ -131,8 +130,8 @@ fn append_zeros<D: Disk>(disk: &mut D, end: u64, pages: u32) -> Result<(), Faile
     requires end { ForSome (D.file disk.old) (λ file. end ≡ length file.bytes) }
     requires low { end < 2 ^ 48 }
     ensures appended { OnOk result (Between (D.file disk.old) (D.file disk.new) (λ old new. new ≡ old ++ zero_pages pages)) }
-    ensures runs { RunsOf D.Disk IsCovered (torn end (4096 * pages)) disk.old disk.new }
-    ensures cause { HasCause result (D.disk_faults disk.old) (D.disk_faults disk.new) }
+    ensures runs { RunsOf D.Disk IsCovered (torn end (page_start pages)) disk.old disk.new }
+    ensures cause { CountsFault (IsErr result) (D.disk_faults disk.old) (D.disk_faults disk.new) }
 {
     fill(disk, end, end + u64::from(pages) * PAGE_BYTES)
 }

@@ -1,25 +1,29 @@
 // How a store opens the database in a file, and gives its host back.
 ghost use Rattle.std.specs.Prelude.{◌≡◌, ◌≢◌, ◌⊎◌, ◌≤◌, ℕ, List, Some, [], IsTrue, false, IfOk, IfErr, OnOk, IsErrOf, is_some};
 ghost use Rattle.std.specs.Option.{ForSome};
+ghost use Rattle.mdc_words.specs.Faults.{CountsFault};
 ghost use Rattle.mdc_outside.specs.Disk.{File};
-ghost use Rattle.mdc_outside.specs.Outside.{Rose};
-ghost use Rattle.redo_journal.specs.Layout.{file_page};
-ghost use Rattle.page_store.specs.Bound.{LeavesOf, OpensOf};
+ghost use Rattle.mdc_words.specs.Time.{RestsAt};
+ghost use Rattle.store_api.specs.Moments.{AtRest};
+ghost use Rattle.page_file.specs.Layout.{file_page};
+ghost use Rattle.page_file.specs.Bound.{LeavesOf};
+ghost use Rattle.page_store.specs.Bound.{OpensOf};
 ghost use Rattle.page_store.specs.Desk.{IsKept, base_of, state_of, written_in};
 ghost use Rattle.page_store.specs.Faults.{MayComeFirst};
 ghost use Rattle.page_store.specs.FileStore.{IsLeft};
-ghost use Rattle.page_store.specs.Opened.{Opens, CouldBeLeft, IsEmptyDesk, IsJustOpened, bytes_of};
+ghost use Rattle.page_store.specs.Opened.{Opens, CouldBeLeft, LeavesBaseSince, IsEmptyDesk, IsJustOpened, bytes_of};
 ghost use Rattle.page_store.specs.Opening.{IsAtRest, IsServed, Refuses};
 ghost use Rattle.page_store.specs.Shape.{is_shape, extents_in, extent_pages_in};
-ghost use Rattle.page_store.specs.Standing.{pages_of};
+ghost use Rattle.page_store.specs.Standing.{IsFormed, pages_of};
+ghost use Rattle.store_api.specs.declared.pages.TheConstants.{MAX_PAGES};
 
-use crate::changes::Changes;
 use crate::desk::Desk;
 use crate::page_cache::PageCache;
 use crate::recovery::{Opened, recover};
 use crate::{FileStore, OpenFault};
 use mdc_outside::{Disk, Host};
-use redo_journal::settle;
+use page_changes::{Changes, Spares};
+use page_file::settle;
 use std::alloc::Global;
 use store_api::Pages;
 
@@ -35,7 +39,7 @@ impl<H: Host> FileStore<H> {
     /// for. `cache` is how many clean pages it may keep in memory.
     ///
     /// It first has all of the file on the disk, and then brings a journal that counts home. At each moment since, a crash
-    /// leaves a file that stands for the same pages.
+    /// leaves a file that stands for the same pages, and has all that isn't the store's as it was.
     ///
     /// It answers the first of these that the file is: `Unmade`, `NotMdc`, `Damaged` or of another `Version`. It answers
     /// `Memory` where memory ran out. The bytes of the file are then as they were. It answers `Device` where the disk
@@ -51,10 +55,13 @@ impl<H: Host> FileStore<H> {
         ensures refused { IfErr result (λ unopened. ForSome (H.file host) (λ file. Refuses unopened.fault file.bytes)) }
         ensures never { IfErr result (λ unopened. unopened.fault ≢ OpenFault.Exists) }
         ensures untouched { IfErr result (λ unopened. unopened.fault ≢ OpenFault.Device → bytes_of (H.file unopened.host) ≡ bytes_of (H.file host)) }
-        ensures device { IfErr result (λ unopened. unopened.fault ≡ OpenFault.Device → Rose (H.disk_faults host) (H.disk_faults unopened.host)) }
-        ensures later { IfOk result (λ store. H.disk_faults host ≤ H.disk_faults store.host) }
-        ensures later_refused { IfErr result (λ unopened. H.disk_faults host ≤ H.disk_faults unopened.host) }
+        ensures count { IfOk result (λ store. H.disk_faults store.host ≡ H.disk_faults host) }
+        ensures cause { IfErr result (λ unopened. CountsFault (unopened.fault ≡ OpenFault.Device) (H.disk_faults host) (H.disk_faults unopened.host)) }
         ensures opens { IfOk result (λ store. OpensOf H.Disk host store.host) }
+        // Since the origin of the opening, and so now, the store leaves its base alone.
+        ensures base_since { IfOk result (λ store. ForSome (H.file host) (λ file. (said : List ℕ)
+            → LeavesBaseSince (H.moment store.host) (⟦<FileStore<H> as Pages>⟧.left store) file.bytes said)) }
+        ensures rests { IfOk result (λ store. RestsAt ⟦<FileStore<H> as Pages>⟧.clock ⟦<FileStore<H> as Pages>⟧.left (AtRest (⟦<FileStore<H> as Pages>⟧.state store)) store) }
         // Where there is no moment at which all was on the disk, a crash leaves what it could leave before. That is so
         // only where the disk failed or memory ran out: no file is judged before it is on the disk.
         ensures opens_or_leaves { IfErr result (λ unopened.
@@ -79,13 +86,22 @@ impl<H: Host> FileStore<H> {
 
     /// Gives the host back. It makes no call of the disk and takes no memory. It may follow a fault of any call.
     ///
+    /// Where no commit has failed, the file holds the base. The host has the counts, the tape and the attaches that the
+    /// store had.
+    ///
     /// What the store leaves at a crash is what the host may leave: where the store never leaves a file that doesn't
     /// reopen, each image of the host is a database of this shape, with pages that the store leaves.
     pub fn close(self) -> H
         ensures same { result ≡ self.host }
+        ensures base { (⟦<FileStore<H> as Pages>⟧.state self).ended ≡ false → ForSome (H.file result) (λ file. IsFormed file.bytes
+            × (pages_of file.bytes ≡ (⟦<FileStore<H> as Pages>⟧.state self).base)) }
+        ensures disk_count { H.disk_faults result ≡ ⟦<FileStore<H> as Pages>⟧.disk_faults self }
+        ensures say_count { H.say_faults result ≡ ⟦<FileStore<H> as Pages>⟧.say_faults self }
+        ensures told { H.tape result ≡ (⟦<FileStore<H> as Pages>⟧.state self).told }
+        ensures attached { H.attaches result ≡ (⟦<FileStore<H> as Pages>⟧.state self).attached }
         ensures left { (file : File) (said : List ℕ) → H.file self.host ≡ Some file → (H.beside self.host).tape ≡ Some said
             → (t : ℕ) (image heard : List ℕ) → H.moment result t image heard
-            → IsLeft self.desk.shape (⟦<FileStore<H> as Pages>⟧.left self t) image heard }
+            → IsLeft self.desk.shape file.bytes (⟦<FileStore<H> as Pages>⟧.left self t) image heard }
     {
         self.host
     }
@@ -102,8 +118,7 @@ fn lay_out<D: Disk>(alloc: Global, disk: &mut D, cache: usize) -> Result<Desk, O
     ensures refused { IfErr result (λ fault. ForSome (D.file disk.old) (λ file. Refuses fault file.bytes)) }
     ensures untouched { IfErr result (λ fault. fault ≢ OpenFault.Device → bytes_of (D.file disk.new) ≡ bytes_of (D.file disk.old)) }
     ensures never { IsErrOf result OpenFault.Exists → ⊥ }
-    ensures device { IsErrOf result OpenFault.Device → Rose (D.disk_faults disk.old) (D.disk_faults disk.new) }
-    ensures later { D.disk_faults disk.old ≤ D.disk_faults disk.new }
+    ensures cause { CountsFault (IsErrOf result OpenFault.Device) (D.disk_faults disk.old) (D.disk_faults disk.new) }
     ensures opens { OnOk result (OpensOf D.Disk disk.old disk.new) }
     ensures opens_or_leaves { IfErr result (λ fault.
         OpensOf D.Disk disk.old disk.new
@@ -126,6 +141,7 @@ fn desk_of(alloc: Global, opened: Opened, cache: PageCache) -> Desk
         shape: opened.shape,
         base: opened.count,
         changes: Changes::new(alloc, opened.count),
+        spares: Spares::new(alloc),
         cache,
         hand: None,
         images: None,
@@ -138,12 +154,11 @@ fn come_to_rest<D: Disk>(alloc: Global, disk: &mut D) -> Result<Opened, OpenFaul
     requires attached { IsTrue (D.is_attached disk.old) }
     ensures served { IfOk result (λ opened. ForSome (D.file disk.old) (λ file. IsServed file.bytes)) }
     ensures at_rest { IfOk result (λ opened. ForSome (D.file disk.new) (IsAtRest opened.shape.extents opened.shape.extent_pages opened.count)) }
-    ensures limits { IfOk result (λ opened. (18 ≤ opened.count) × (opened.count ≤ 262289)) }
+    ensures limits { IfOk result (λ opened. (18 ≤ opened.count) × (opened.count ≤ MAX_PAGES)) }
     ensures refused { IfErr result (λ fault. ForSome (D.file disk.old) (λ file. Refuses fault file.bytes)) }
     ensures untouched { IfErr result (λ fault. fault ≢ OpenFault.Device → bytes_of (D.file disk.new) ≡ bytes_of (D.file disk.old)) }
     ensures never { IsErrOf result OpenFault.Exists → ⊥ }
-    ensures device { IsErrOf result OpenFault.Device → Rose (D.disk_faults disk.old) (D.disk_faults disk.new) }
-    ensures later { D.disk_faults disk.old ≤ D.disk_faults disk.new }
+    ensures cause { CountsFault (IsErrOf result OpenFault.Device) (D.disk_faults disk.old) (D.disk_faults disk.new) }
     ensures opens { OnOk result (OpensOf D.Disk disk.old disk.new) }
     ensures opens_or_leaves { IfErr result (λ fault.
         OpensOf D.Disk disk.old disk.new

@@ -1,29 +1,32 @@
 // The clean pages that are in memory.
-ghost use Rattle.std.specs.Prelude.{◌≡◌, ◌≤◌, ◌<◌, ◌+◌, ◌*◌, ◌==◌, ◌∷◌, [], ℕ, List, Some, nat_eq, length, option_map, slice_get, IsTrue, IsOk, IfOk, OnOk, OnErr, IsErrOf};
+ghost use Rattle.std.specs.Prelude.{◌≡◌, ◌≤◌, ◌<◌, ◌+◌, ◌*◌, ◌==◌, ◌∷◌, [], ℕ, List, Some, nat_eq, length, option_map, slice_get, IsTrue, IsOk, IsErr, IfOk, OnOk, OnErr, IsErrOf};
 ghost use Rattle.std.specs.List.{IsDistinct, list_any};
 ghost use Rattle.std.specs.Map.{keys_of, set_value};
 ghost use Rattle.std.specs.Option.{ForSome};
+ghost use Rattle.mdc_words.specs.Faults.{CountsFault};
 ghost use Rattle.mdc_outside.specs.Disk.{File};
-ghost use Rattle.mdc_outside.specs.Outside.{Rose};
-ghost use Rattle.redo_journal.specs.Bound.{RunsOf};
-ghost use Rattle.redo_journal.specs.Layout.{home_page};
-ghost use Rattle.redo_journal.specs.Runs.{IsCovered};
+ghost use Rattle.page_file.specs.Bound.{RunsOf};
+ghost use Rattle.page_file.specs.Layout.{home_page};
+ghost use Rattle.page_file.specs.Runs.{IsCovered};
 ghost use Rattle.page_store.specs.Cached.{AreHome, Leads, renewed};
 
 use lru::LruCache;
-use mdc_outside::Disk;
+use mdc_outside::{Disk, Failed};
 use mdc_values::Memory;
-use redo_journal::{FIRST_PAGE, Images, PAGE_BYTES, read_page};
+use page_file::{FIRST_PAGE, PAGE_BYTES, get};
+use redo_journal::Images;
 use std::alloc::Global;
 use std::marker::Model;
 use std::num::NonZeroUsize;
-use store_api::{Page, PageFault};
+use store_api::{Page, PageFault, blank_page};
 
-/// Clean pages, which are as their home pages in the file, the one that was used last first.
+/// Clean pages, which are as their home pages in the file, the one that was used last first. The box of the page that
+/// left last is kept for the next one that is read.
 #[derive(Drop)]
 pub(crate) struct PageCache {
     alloc: Global,
     pages: LruCache<u32, Box<Page>>,
+    spare: Option<Box<Page>>,
 }
 
 impl Model for PageCache {
@@ -43,7 +46,11 @@ impl PageCache {
     {
         let room = NonZeroUsize::new(pages).unwrap();
         let pages = LruCache::new(alloc, room)?;
-        Ok(PageCache { alloc, pages })
+        Ok(PageCache {
+            alloc,
+            pages,
+            spare: None,
+        })
     }
 
     /// Brings a page to the front, from the disk where it isn't here. After a fault the pages are as before.
@@ -57,16 +64,50 @@ impl PageCache {
         ensures clean { (file : File) (count : ℕ) → D.file disk.old ≡ Some file → p < count → AreHome file.bytes count self.old → AreHome file.bytes count self.new }
         ensures here { IsTrue (list_any (nat_eq p) (keys_of self.old)) → IsOk result × (disk.new ≡ disk.old) }
         ensures err { OnErr result (self.new ≡ self.old) }
-        ensures device { IsErrOf result PageFault.Device → Rose (D.disk_faults disk.old) (D.disk_faults disk.new) }
+        ensures cause { CountsFault (IsErrOf result PageFault.Device) (D.disk_faults disk.old) (D.disk_faults disk.new) }
         ensures same { D.file disk.new ≡ D.file disk.old }
         ensures runs { RunsOf D.Disk IsCovered (λ since. since) disk.old disk.new }
-        ensures later { D.disk_faults disk.old ≤ D.disk_faults disk.new }
     {
         if self.pages.promote(&p) {
             return Ok(());
         }
-        let page = Box::new(self.alloc, read_home(disk, p)?)?;
-        self.pages.put(p, page)?;
+        let page = self.read_in(disk, p)?;
+        self.put_first(p, page)
+    }
+
+    // Reads a page into a box, the spare one if there is one. The pages stay.
+    fn read_in<D: Disk>(&mut self, disk: &mut D, p: u32) -> Result<Box<Page>, PageFault>
+        requires attached { IsTrue (D.is_attached disk.old) }
+        requires within { ForSome (D.file disk.old) (λ file. 4096 * (66 + p) + 4096 ≤ length file.bytes) }
+        ensures page { IfOk result (λ page. ForSome (D.file disk.old) (λ file. page.value ≡ home_page file.bytes p)) }
+        ensures pages { self.new ≡ self.old }
+        ensures cause { CountsFault (IsErrOf result PageFault.Device) (D.disk_faults disk.old) (D.disk_faults disk.new) }
+        ensures same { D.file disk.new ≡ D.file disk.old }
+        ensures runs { RunsOf D.Disk IsCovered (λ since. since) disk.old disk.new }
+    {
+        let mut page = match self.spare.take() {
+            Some(page) => page,
+            None => Box::new(self.alloc, *blank_page())?,
+        };
+        match read_home(disk, p, &mut page) {
+            Ok(()) => Ok(page),
+            Err(Failed) => {
+                self.spare = Some(page);
+                Err(PageFault::Device)
+            }
+        }
+    }
+
+    // Puts a page that isn't here first, and keeps the box of the one that leaves for it. After a fault the pages are as
+    // before.
+    fn put_first(&mut self, p: u32, page: Box<Page>) -> Result<(), PageFault>
+        ensures first { OnOk result (Leads p page.value self.new) }
+        ensures clean { (file : List ℕ) (count : ℕ) → p < count → page.value ≡ home_page file p → AreHome file count self.old → AreHome file count self.new }
+        ensures err { OnErr result (self.new ≡ self.old) }
+        ensures memory { IsErrOf result PageFault.Device → ⊥ }
+    {
+        let left = self.pages.push(p, page)?;
+        self.spare = left.map(|(_, page)| page);
         Ok(())
     }
 
@@ -110,21 +151,15 @@ impl PageCache {
     }
 }
 
-// Reads the home page of a number.
-fn read_home<D: Disk>(disk: &mut D, p: u32) -> Result<Page, PageFault>
+// Reads the home page of a number over what a page has.
+fn read_home<D: Disk>(disk: &mut D, p: u32, page: &mut Page) -> Result<(), Failed>
     requires attached { IsTrue (D.is_attached disk.old) }
     requires within { ForSome (D.file disk.old) (λ file. 4096 * (66 + p) + 4096 ≤ length file.bytes) }
-    ensures page { IfOk result (λ page. ForSome (D.file disk.old) (λ file. page ≡ home_page file.bytes p)) }
-    ensures device { OnErr result (Rose (D.disk_faults disk.old) (D.disk_faults disk.new)) }
+    ensures page { OnOk result (ForSome (D.file disk.old) (λ file. page.new ≡ home_page file.bytes p)) }
+    ensures cause { CountsFault (IsErr result) (D.disk_faults disk.old) (D.disk_faults disk.new) }
     ensures same { D.file disk.new ≡ D.file disk.old }
     ensures runs { RunsOf D.Disk IsCovered (λ since. since) disk.old disk.new }
-    ensures later { D.disk_faults disk.old ≤ D.disk_faults disk.new }
 {
-    match read_page(disk, (FIRST_PAGE + u64::from(p)) * PAGE_BYTES) {
-        Ok(page) => Ok(page),
-        Err(_) => Err(PageFault::Device),
-    }
+    get(disk, (FIRST_PAGE + u64::from(p)) * PAGE_BYTES, page)?;
+    Ok(())
 }
-
-#[cfg(test)]
-mod tests;

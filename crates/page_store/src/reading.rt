@@ -1,21 +1,23 @@
 // What is read of a file before it is judged. It changes nothing.
-ghost use Rattle.std.specs.Prelude.{◌≡◌, ◌≢◌, ◌≤◌, length, IsTrue, IfOk, IfErr, IsErrOf, MatchOption};
+ghost use Rattle.std.specs.Prelude.{◌≡◌, ◌≢◌, ◌≤◌, length, IsTrue, IfOk, IfErr, IsErrOf, MatchOption, IsErr};
 ghost use Rattle.std.specs.Option.{ForSome};
-ghost use Rattle.mdc_outside.specs.Moments.{HasCause};
-ghost use Rattle.mdc_outside.specs.Outside.{Rose};
-ghost use Rattle.redo_journal.specs.Bound.{RunsOf};
+ghost use Rattle.mdc_words.specs.Faults.{CountsFault};
+ghost use Rattle.page_file.specs.Bound.{RunsOf};
 ghost use Rattle.redo_journal.specs.Faults.{IsDamaged};
-ghost use Rattle.redo_journal.specs.Layout.{IsJournal, file_page, is_open};
-ghost use Rattle.redo_journal.specs.Runs.{IsCovered};
+ghost use Rattle.page_file.specs.Layout.{file_page};
+ghost use Rattle.redo_journal.specs.Layout.{IsJournal, is_open};
+ghost use Rattle.page_file.specs.Runs.{IsCovered};
 ghost use Rattle.page_store.specs.Fresh.{IsUnmade};
 ghost use Rattle.page_store.specs.Opening.{IsMade};
 ghost use Rattle.page_store.specs.Reading.{IsJournalIn};
 ghost use Rattle.page_store.specs.Standing.{page_of};
+ghost use Rattle.page_file.specs.declared.layout.TheConstants.{PAGE_BYTES};
 
 use crate::journal::{Journal, root_image};
 use crate::making::{MADE, ROOT};
 use mdc_outside::{Disk, Failed};
-use redo_journal::{HEADER, PAGE_BYTES, ReplayFault, get, read_number, read_page, replay};
+use page_file::{HEADER, PAGE_BYTES, get, read_number, read_page};
+use redo_journal::{ReplayFault, replay};
 use std::alloc::Global;
 use store_api::Page;
 
@@ -26,7 +28,7 @@ pub(crate) fn read_birth<D: Disk>(disk: &mut D, end: u64) -> Result<Option<Page>
     ensures birth { IfOk result (λ birth. ForSome (D.file disk.old) (λ file. MatchOption birth (IsUnmade file.bytes) (λ page. IsMade file.bytes × (page ≡ file_page file.bytes 1)))) }
     ensures same { D.file disk.new ≡ D.file disk.old }
     ensures runs { RunsOf D.Disk IsCovered (λ since. since) disk.old disk.new }
-    ensures cause { HasCause result (D.disk_faults disk.old) (D.disk_faults disk.new) }
+    ensures cause { CountsFault (IsErr result) (D.disk_faults disk.old) (D.disk_faults disk.new) }
 {
     if end < 2 * PAGE_BYTES {
         return Ok(None);
@@ -48,10 +50,9 @@ pub(crate) fn read_journal<D: Disk>(
     requires { IsTrue (D.is_attached disk.old) }
     ensures counting { IfOk result (λ journal. ForSome (D.file disk.old) (λ file. IsJournalIn journal file.bytes)) }
     ensures damaged { IfErr result (λ fault. IsDamaged fault → (fault ≡ ReplayFault.Damaged (record { page = 0; rule = 1 })) × ForSome (D.file disk.old) (λ file. IsTrue (is_open file.bytes) × ¬ IsJournal file.bytes)) }
-    ensures device { IsErrOf result ReplayFault.Device → Rose (D.disk_faults disk.old) (D.disk_faults disk.new) }
+    ensures cause { CountsFault (IsErrOf result ReplayFault.Device) (D.disk_faults disk.old) (D.disk_faults disk.new) }
     ensures same { D.file disk.new ≡ D.file disk.old }
     ensures runs { RunsOf D.Disk IsCovered (λ since. since) disk.old disk.new }
-    ensures later { D.disk_faults disk.old ≤ D.disk_faults disk.new }
 {
     match replay(alloc, disk) {
         Ok(None) => Ok(None),
@@ -72,10 +73,10 @@ pub(crate) fn read_root<D: Disk>(
     requires attached { IsTrue (D.is_attached disk.old) }
     requires end { ForSome (D.file disk.old) (λ file. end ≡ length file.bytes) }
     requires counting { ForSome (D.file disk.old) (λ file. IsJournalIn journal.now file.bytes) }
-    ensures root { IfOk result (λ root. ForSome (D.file disk.old) (λ file. MatchOption root (length (page_of file.bytes 0) ≢ 4096) (λ page. page ≡ page_of file.bytes 0))) }
+    ensures root { IfOk result (λ root. ForSome (D.file disk.old) (λ file. MatchOption root (length (page_of file.bytes 0) ≢ PAGE_BYTES) (λ page. page ≡ page_of file.bytes 0))) }
     ensures same { D.file disk.new ≡ D.file disk.old }
     ensures runs { RunsOf D.Disk IsCovered (λ since. since) disk.old disk.new }
-    ensures cause { HasCause result (D.disk_faults disk.old) (D.disk_faults disk.new) }
+    ensures cause { CountsFault (IsErr result) (D.disk_faults disk.old) (D.disk_faults disk.new) }
 {
     if let Some(image) = root_image(journal) {
         return Ok(Some(image));

@@ -1,13 +1,14 @@
 // What a file that is opened stands for, and how a journal that counts is brought home.
 ghost use Rattle.std.specs.Prelude.{◌≡◌, ◌≢◌, ◌≤◌, IsTrue, IfOk, IfErr, IsErrOf};
 ghost use Rattle.std.specs.Option.{ForSome};
+ghost use Rattle.mdc_words.specs.Faults.{CountsFault};
 ghost use Rattle.mdc_outside.specs.Disk.{all_synced};
-ghost use Rattle.mdc_outside.specs.Outside.{Rose};
-ghost use Rattle.redo_journal.specs.Bound.{RunsOf};
-ghost use Rattle.redo_journal.specs.Runs.{IsCovered};
-ghost use Rattle.page_store.specs.Bound.{LeavesOf};
+ghost use Rattle.page_file.specs.Bound.{RunsOf};
+ghost use Rattle.page_file.specs.Runs.{IsCovered};
+ghost use Rattle.page_file.specs.Bound.{LeavesOf};
 ghost use Rattle.page_store.specs.Opening.{IsAtRest, IsServed, Refuses, StandsAs};
 ghost use Rattle.page_store.specs.Reading.{IsJournalIn, States};
+ghost use Rattle.store_api.specs.declared.pages.TheConstants.{MAX_PAGES};
 
 use crate::OpenFault;
 use crate::journal::Journal;
@@ -16,7 +17,7 @@ use crate::reading::{read_birth, read_journal, read_root};
 use crate::shape::{Shape, shape_in};
 use crate::write_through::bring_home;
 use mdc_outside::Disk;
-use redo_journal::end_of;
+use page_file::end_of;
 use std::alloc::Global;
 
 /// What a file that was opened is: its shape, and how many pages there are.
@@ -44,12 +45,11 @@ pub(crate) fn recover<D: Disk>(alloc: Global, disk: &mut D) -> Result<Opened, Op
     requires synced { ForSome (D.file disk.old) (λ file. file.since ≡ all_synced file.bytes) }
     ensures served { IfOk result (λ opened. ForSome (D.file disk.old) (λ file. IsServed file.bytes)) }
     ensures at_rest { IfOk result (λ opened. ForSome (D.file disk.new) (IsAtRest opened.shape.extents opened.shape.extent_pages opened.count)) }
-    ensures limits { IfOk result (λ opened. (18 ≤ opened.count) × (opened.count ≤ 262289)) }
+    ensures limits { IfOk result (λ opened. (18 ≤ opened.count) × (opened.count ≤ MAX_PAGES)) }
     ensures refused { IfErr result (λ fault. ForSome (D.file disk.old) (λ file. Refuses fault file.bytes)) }
     ensures untouched { IfErr result (λ fault. fault ≢ OpenFault.Device → D.file disk.new ≡ D.file disk.old) }
     ensures never { IsErrOf result OpenFault.Exists → ⊥ }
-    ensures device { IsErrOf result OpenFault.Device → Rose (D.disk_faults disk.old) (D.disk_faults disk.new) }
-    ensures later { D.disk_faults disk.old ≤ D.disk_faults disk.new }
+    ensures cause { CountsFault (IsErrOf result OpenFault.Device) (D.disk_faults disk.old) (D.disk_faults disk.new) }
     ensures leaves { LeavesOf D.Disk (λ before image. StandsAs before.bytes image) disk.old disk.new }
 {
     let found = inspect(alloc, disk)?;
@@ -65,13 +65,12 @@ pub(crate) fn recover<D: Disk>(alloc: Global, disk: &mut D) -> Result<Opened, Op
 fn inspect<D: Disk>(alloc: Global, disk: &mut D) -> Result<Found, OpenFault>
     requires { IsTrue (D.is_attached disk.old) }
     ensures served { IfOk result (λ found. ForSome (D.file disk.old) (λ file. IsServed file.bytes × IsJournalIn found.journal file.bytes × States found.opened file.bytes)) }
-    ensures limits { IfOk result (λ found. (18 ≤ found.opened.count) × (found.opened.count ≤ 262289)) }
+    ensures limits { IfOk result (λ found. (18 ≤ found.opened.count) × (found.opened.count ≤ MAX_PAGES)) }
     ensures refused { IfErr result (λ fault. ForSome (D.file disk.old) (λ file. Refuses fault file.bytes)) }
     ensures never { IsErrOf result OpenFault.Exists → ⊥ }
-    ensures device { IsErrOf result OpenFault.Device → Rose (D.disk_faults disk.old) (D.disk_faults disk.new) }
+    ensures cause { CountsFault (IsErrOf result OpenFault.Device) (D.disk_faults disk.old) (D.disk_faults disk.new) }
     ensures same { D.file disk.new ≡ D.file disk.old }
     ensures runs { RunsOf D.Disk IsCovered (λ since. since) disk.old disk.new }
-    ensures later { D.disk_faults disk.old ≤ D.disk_faults disk.new }
 {
     let end = end_of(disk)?;
     let Some(birth) = read_birth(disk, end)? else {

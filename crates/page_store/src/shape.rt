@@ -1,17 +1,32 @@
 // How large a database may grow, and the page that states it.
-ghost use Rattle.std.specs.Prelude.{◌≡◌, IsTrue, MatchOption};
+ghost use Rattle.std.specs.Prelude.{◌≡◌, IsFalse, IsTrue, MatchOption};
 ghost use Rattle.page_store.specs.Shape.{IsBirth, extents_in, extent_pages_in, is_extent_size, is_shape};
 
 use crate::fresh::birth_page;
 use crate::number::number_at;
 use store_api::Page;
 
-/// How many extents a database may have, and how many pages each has.
-#[derive(Clone, Copy, Debug)]
-pub(crate) struct Shape {
+/// How many extents a database may have, and how many pages each has. The two are within the limits.
+#[derive(Clone, Copy, Debug, PartialEq, Eq)]
+pub struct Shape {
     pub extents: u32,
     pub extent_pages: u32,
     ghost within: { IsTrue (is_shape extents extent_pages) },
+}
+
+impl Shape {
+    /// So many extents of so many pages, or nothing where that isn't within the limits.
+    pub fn new(extents: u32, extent_pages: u32) -> Option<Shape>
+        ensures { MatchOption result (IsFalse (is_shape extents extent_pages)) (λ shape. (shape.extents ≡ extents) × (shape.extent_pages ≡ extent_pages)) }
+    {
+        if !is_shape(extents, extent_pages) {
+            return None;
+        }
+        Some(Shape {
+            extents,
+            extent_pages,
+        })
+    }
 }
 
 /// What a birth page states, or nothing where the page isn't one.

@@ -2,10 +2,11 @@
 ghost use Rattle.std.specs.Prelude.{◌≡◌, ◌≤◌, ◌<◌, [], IsTrue, length, OnOk, IsErrOf, IsErr};
 ghost use Rattle.std.specs.Option.{ForSome};
 ghost use Rattle.std.specs.List.{All};
-ghost use Rattle.mdc_outside.specs.Moments.{HasCause};
-ghost use Rattle.page_store.specs.Bound.{LeavesOf};
+ghost use Rattle.mdc_words.specs.Faults.{CountsFault};
+ghost use Rattle.page_file.specs.Bound.{LeavesOf};
 ghost use Rattle.page_store.specs.Commit.{Both, IsReadyFor, IsCounting, IsClosed, IsCommitted, IsJournaled, StandsStill, StandsEither, HomeStays, RestsWith, pages_with};
 ghost use Rattle.page_store.specs.Standing.{IsFormed, Stands};
+ghost use Rattle.page_file.specs.declared.layout.TheConstants.{FIRST_PAGE};
 
 use mdc_outside::{Disk, Failed};
 use redo_journal::{Images, close_gate, home, open_gate, write_journal};
@@ -24,14 +25,14 @@ pub(crate) enum Halt {
 pub(crate) fn write_any<D: Disk>(disk: &mut D, start: u32, images: &Images) -> Result<(), Halt>
     requires attached { IsTrue (D.is_attached disk.old) }
     requires ready { ForSome (D.file disk.old) (IsReadyFor start images.now) }
-    requires behind_gates { 66 ≤ start }
+    requires behind_gates { FIRST_PAGE ≤ start }
     requires named { All (λ image. image.0 < start) images.now }
     ensures quiet { images.now ≡ [] → disk.new ≡ disk.old }
     ensures committed { OnOk result (Both (D.file disk.old) (D.file disk.new) (IsCommitted images.now)) }
     ensures stays { IsErrOf result Halt.BeforeHome → Both (D.file disk.old) (D.file disk.new) (λ before after. HomeStays before.bytes after.bytes) }
     ensures counts { IsErrOf result Halt.BehindGate → Both (D.file disk.old) (D.file disk.new) (RestsWith images.now) }
     ensures leaves { LeavesOf D.Disk (StandsEither images.now) disk.old disk.new }
-    ensures cause { HasCause result (D.disk_faults disk.old) (D.disk_faults disk.new) }
+    ensures cause { CountsFault (IsErr result) (D.disk_faults disk.old) (D.disk_faults disk.new) }
 {
     if images.len() == 0 {
         return Ok(());
@@ -43,13 +44,13 @@ pub(crate) fn write_any<D: Disk>(disk: &mut D, start: u32, images: &Images) -> R
 fn write_through<D: Disk>(disk: &mut D, start: u32, images: &Images) -> Result<(), Halt>
     requires attached { IsTrue (D.is_attached disk.old) }
     requires ready { ForSome (D.file disk.old) (IsReadyFor start images.now) }
-    requires behind_gates { 66 ≤ start }
+    requires behind_gates { FIRST_PAGE ≤ start }
     requires few { length images.now < 4294967296 }
     ensures committed { OnOk result (Both (D.file disk.old) (D.file disk.new) (IsCommitted images.now)) }
     ensures stays { IsErrOf result Halt.BeforeHome → Both (D.file disk.old) (D.file disk.new) (λ before after. HomeStays before.bytes after.bytes) }
     ensures counts { IsErrOf result Halt.BehindGate → Both (D.file disk.old) (D.file disk.new) (RestsWith images.now) }
     ensures leaves { LeavesOf D.Disk (StandsEither images.now) disk.old disk.new }
-    ensures cause { HasCause result (D.disk_faults disk.old) (D.disk_faults disk.new) }
+    ensures cause { CountsFault (IsErr result) (D.disk_faults disk.old) (D.disk_faults disk.new) }
 {
     match commit_to_journal(disk, start, images) {
         Err(Failed) => Err(Halt::BeforeHome),
@@ -64,12 +65,12 @@ fn write_through<D: Disk>(disk: &mut D, start: u32, images: &Images) -> Result<(
 fn commit_to_journal<D: Disk>(disk: &mut D, start: u32, images: &Images) -> Result<(), Failed>
     requires attached { IsTrue (D.is_attached disk.old) }
     requires ready { ForSome (D.file disk.old) (IsReadyFor start images.now) }
-    requires behind_gates { 66 ≤ start }
+    requires behind_gates { FIRST_PAGE ≤ start }
     requires few { length images.now < 4294967296 }
     ensures counts { OnOk result (Both (D.file disk.old) (D.file disk.new)
         (λ before after. IsCounting images.now after × Stands before.bytes (pages_with images.now before.bytes) after.bytes)) }
     ensures leaves { LeavesOf D.Disk (λ before. IsJournaled images.now before.bytes) disk.old disk.new }
-    ensures cause { HasCause result (D.disk_faults disk.old) (D.disk_faults disk.new) }
+    ensures cause { CountsFault (IsErr result) (D.disk_faults disk.old) (D.disk_faults disk.new) }
 {
     write_journal(disk, start, images)?;
     open_gate(disk)
@@ -82,7 +83,7 @@ pub(crate) fn bring_home<D: Disk>(disk: &mut D, images: &Images) -> Result<(), F
     requires formed { ForSome (D.file disk.old) (λ file. IsFormed file.bytes) }
     ensures closed { OnOk result (ForSome (D.file disk.new) IsClosed) }
     ensures leaves { LeavesOf D.Disk StandsStill disk.old disk.new }
-    ensures cause { HasCause result (D.disk_faults disk.old) (D.disk_faults disk.new) }
+    ensures cause { CountsFault (IsErr result) (D.disk_faults disk.old) (D.disk_faults disk.new) }
 {
     home(disk, images)?;
     close_gate(disk)

@@ -1,6 +1,4 @@
-pub mod Bound
 pub mod Faults
 pub mod Images
 pub mod Layout
 pub mod Pieces
-pub mod Runs

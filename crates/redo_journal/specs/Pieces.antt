@@ -1,6 +1,7 @@
 -- The bytes of a journal, piece by piece.
-use Rattle.std.specs.Prelude.{◌≡◌, ℕ, zero, suc, ◌+◌, ◌-◌, ◌*◌, List, [], ◌∷◌, ◌++◌, length, take, drop, replicate}
+use Rattle.std.specs.Prelude.{◌≡◌, ℕ, zero, suc, ◌-◌, ◌*◌, List, [], ◌∷◌, ◌++◌, length, take, drop, replicate}
 use Rattle.std.specs.List.{flat_map}
+use Rattle.page_file.specs.Layout.{home_start}
 use Rattle.byteorder.specs.Endian.{big_bytes}
 use Rattle.mdc_outside.specs.Disk.{overwritten}
 use Rattle.store_api.specs.StoreState.{zero_page}
@@ -42,4 +43,4 @@ placed at piece bytes = overwritten at piece (bytes ++ replicate (at - length by
 -- the bytes, with each image in its home page
 abbrev pub homed : Numbered → List ℕ → List ℕ
 homed [] bytes = bytes
-homed (image ∷ images) bytes = homed images (placed (4096 * (66 + image.0)) image.1 bytes)
+homed (image ∷ images) bytes = homed images (placed (home_start image.0) image.1 bytes)

@@ -1,19 +1,18 @@
 // The home pages: where the pages of the store lie in the file.
-ghost use Rattle.std.specs.Prelude.{◌≡◌, IsTrue, OnOk};
+ghost use Rattle.std.specs.Prelude.{◌≡◌, IsErr, IsTrue, OnOk};
 ghost use Rattle.std.specs.Option.{ForSome};
 ghost use Rattle.std.specs.List.{All};
 ghost use Rattle.mdc_outside.specs.Disk.{all_synced};
-ghost use Rattle.mdc_outside.specs.Moments.{HasCause};
-ghost use Rattle.redo_journal.specs.Bound.{RunsOf};
-ghost use Rattle.redo_journal.specs.Layout.{IsReady, HoldsHome, torn_home};
+ghost use Rattle.mdc_words.specs.Faults.{CountsFault};
+ghost use Rattle.page_file.specs.Bound.{RunsOf, LeavesOf};
+ghost use Rattle.page_file.specs.Layout.{IsReady, FrontStays};
+ghost use Rattle.redo_journal.specs.Layout.{HoldsHome, torn_home};
 ghost use Rattle.redo_journal.specs.Pieces.{homed};
-ghost use Rattle.redo_journal.specs.Runs.{IsWithin, Between};
+ghost use Rattle.page_file.specs.Runs.{IsWithin, Between};
 
 use crate::Images;
-use crate::calls::{end_of, put, settle};
-use crate::filling::fill;
-use crate::layout::{FIRST_PAGE, PAGE_BYTES};
 use mdc_outside::{Disk, Failed};
+use page_file::{FIRST_PAGE, PAGE_BYTES, end_of, fill, put, settle};
 
 /// Writes each image in its place, and has all on the disk. Where the file ends before a place, zeros stand up to it.
 ///
@@ -25,7 +24,8 @@ pub fn home<D: Disk>(disk: &mut D, images: &Images) -> Result<(), Failed>
     ensures home { OnOk result (ForSome (D.file disk.new) (HoldsHome images.now)) }
     ensures written { OnOk result (Between (D.file disk.old) (D.file disk.new) (λ old new. new ≡ homed images.now old)) }
     ensures runs { RunsOf D.Disk IsWithin (torn_home images.now) disk.old disk.new }
-    ensures cause { HasCause result (D.disk_faults disk.old) (D.disk_faults disk.new) }
+    ensures front { LeavesOf D.Disk (λ before. FrontStays before.bytes) disk.old disk.new }
+    ensures cause { CountsFault (IsErr result) (D.disk_faults disk.old) (D.disk_faults disk.new) }
 {
     let mut end = end_of(disk)?;
     for i in 0..images.len() {

@@ -1,20 +1,12 @@
 // The bytes of one page.
-ghost use Rattle.std.specs.Prelude.{◌≡◌, ◌≤◌, ◌<◌, ◌+◌, ◌*◌, ◌++◌, length, take, drop, replicate};
+ghost use Rattle.std.specs.Prelude.{◌≡◌, ◌≤◌, ◌<◌, ◌+◌, ◌*◌, ◌++◌, length, take, drop};
 ghost use Rattle.byteorder.specs.Endian.{big_bytes};
 ghost use Rattle.redo_journal.specs.Pieces.{chunk, index_page};
 
 use crate::Images;
-use crate::layout::NUMBERS;
+use crate::journal::NUMBERS;
 use byteorder::{BigEndian, ByteOrder};
 use store_api::{Page, blank_page};
-
-/// So many zeros, at most a page.
-pub fn zeros(n: usize) -> &'static [u8]
-    requires { n ≤ 4096 }
-    ensures { result.now ≡ replicate n 0 }
-{
-    &blank_page()[..n]
-}
 
 /// The index page with the numbers of the images from this place on.
 pub(crate) fn index_page(images: &Images, first: usize) -> Page

@@ -1,56 +1,22 @@
 // What a journal that a crash left holds.
-ghost use Rattle.std.specs.Prelude.{◌≡◌, ◌≤◌, ◌<◌, ◌+◌, ◌*◌, ◌^◌, length, take, drop, IsTrue, IfOk, IfErr, IsErrOf};
+ghost use Rattle.std.specs.Prelude.{◌≡◌, ◌≤◌, ◌<◌, ◌+◌, ◌*◌, ◌^◌, length, drop, IsErr, IsTrue, IfOk, IfErr, IsErrOf};
 ghost use Rattle.std.specs.Option.{ForSome};
-ghost use Rattle.byteorder.specs.Endian.{big_number};
-ghost use Rattle.mdc_outside.specs.Moments.{HasCause};
-ghost use Rattle.mdc_outside.specs.Outside.{Rose};
-ghost use Rattle.redo_journal.specs.Bound.{RunsOf};
+ghost use Rattle.page_file.specs.Layout.{page_start};
+ghost use Rattle.mdc_words.specs.Faults.{CountsFault};
+ghost use Rattle.page_file.specs.Bound.{RunsOf};
 ghost use Rattle.redo_journal.specs.Faults.{IsDamaged};
 ghost use Rattle.redo_journal.specs.Images.{AreRising};
 ghost use Rattle.redo_journal.specs.Layout.{Finds, IsJournal, entries, index_pages, is_open};
-ghost use Rattle.redo_journal.specs.Runs.{IsCovered};
+ghost use Rattle.page_file.specs.Runs.{IsCovered};
 
 use crate::Images;
-use crate::calls::{end_of, get};
 use crate::gate::OPEN;
-use crate::layout::{FIRST_PAGE, GATE, HEADER, PAGE_BYTES, index_len};
-use byteorder::{BigEndian, ByteOrder};
+use crate::journal::index_len;
 use mdc_outside::{Disk, Failed};
 use mdc_values::Memory;
+use page_file::{FIRST_PAGE, GATE, HEADER, PAGE_BYTES, end_of, get, read_number, read_page};
 use std::alloc::Global;
-use store_api::{Damage, Page};
-
-/// Reads the number of four bytes at a place, the first byte the highest. It changes nothing in the file.
-///
-/// It answers `Failed` only where the disk did.
-pub fn read_number<D: Disk>(disk: &mut D, at: u64) -> Result<u32, Failed>
-    requires attached { IsTrue (D.is_attached disk.old) }
-    requires within { ForSome (D.file disk.old) (λ file. at + 4 ≤ length file.bytes) }
-    ensures number { IfOk result (λ n. ForSome (D.file disk.old) (λ file. n ≡ big_number 4 (drop at file.bytes))) }
-    ensures same { D.file disk.new ≡ D.file disk.old }
-    ensures runs { RunsOf D.Disk IsCovered (λ since. since) disk.old disk.new }
-    ensures cause { HasCause result (D.disk_faults disk.old) (D.disk_faults disk.new) }
-{
-    let mut bytes = [0; 4];
-    get(disk, at, &mut bytes)?;
-    Ok(BigEndian::read_u32(&bytes))
-}
-
-/// Reads the page at a place. It changes nothing in the file.
-///
-/// It answers `Failed` only where the disk did.
-pub fn read_page<D: Disk>(disk: &mut D, at: u64) -> Result<Page, Failed>
-    requires attached { IsTrue (D.is_attached disk.old) }
-    requires within { ForSome (D.file disk.old) (λ file. at + 4096 ≤ length file.bytes) }
-    ensures page { IfOk result (λ page. ForSome (D.file disk.old) (λ file. page ≡ take 4096 (drop at file.bytes))) }
-    ensures same { D.file disk.new ≡ D.file disk.old }
-    ensures runs { RunsOf D.Disk IsCovered (λ since. since) disk.old disk.new }
-    ensures cause { HasCause result (D.disk_faults disk.old) (D.disk_faults disk.new) }
-{
-    let mut page = [0; 4096];
-    get(disk, at, &mut page)?;
-    Ok(page)
-}
+use store_api::Damage;
 
 /// Why a replay failed.
 #[derive(Clone, Copy, Debug, PartialEq, Eq)]
@@ -98,16 +64,15 @@ fn read_images<D: Disk>(
 ) -> Result<Images, ReplayFault>
     requires attached { IsTrue (D.is_attached disk.old) }
     requires index_within { ForSome (D.file disk.old) (λ file. index + 4 * number ≤ length file.bytes) }
-    requires pages_within { ForSome (D.file disk.old) (λ file. pages + 4096 * number ≤ length file.bytes) }
+    requires pages_within { ForSome (D.file disk.old) (λ file. pages + page_start number ≤ length file.bytes) }
     requires index_low { index < 2 ^ 48 }
     requires pages_low { pages < 2 ^ 48 }
     ensures images { IfOk result (λ images. ForSome (D.file disk.old) (λ file. images ≡ entries number (drop index file.bytes) (drop pages file.bytes))) }
     ensures rising { IfOk result AreRising }
     ensures damaged { IfErr result (λ fault. IsDamaged fault → (fault ≡ ReplayFault.Damaged (record { page = 0; rule = 1 })) × ForSome (D.file disk.old) (λ file. ¬ AreRising (entries number (drop index file.bytes) (drop pages file.bytes)))) }
-    ensures device { IsErrOf result ReplayFault.Device → Rose (D.disk_faults disk.old) (D.disk_faults disk.new) }
+    ensures cause { CountsFault (IsErrOf result ReplayFault.Device) (D.disk_faults disk.old) (D.disk_faults disk.new) }
     ensures same { D.file disk.new ≡ D.file disk.old }
     ensures runs { RunsOf D.Disk IsCovered (λ since. since) disk.old disk.new }
-    ensures later { D.disk_faults disk.old ≤ D.disk_faults disk.new }
 {
     let mut images = Images::new(alloc);
     // All of the images lie within the file, so its length bounds the room.
@@ -130,7 +95,7 @@ fn is_gate_open<D: Disk>(disk: &mut D, end: u64) -> Result<bool, Failed>
     ensures gate { IfOk result (λ state. ForSome (D.file disk.old) (λ file. state ≡ is_open file.bytes)) }
     ensures same { D.file disk.new ≡ D.file disk.old }
     ensures runs { RunsOf D.Disk IsCovered (λ since. since) disk.old disk.new }
-    ensures cause { HasCause result (D.disk_faults disk.old) (D.disk_faults disk.new) }
+    ensures cause { CountsFault (IsErr result) (D.disk_faults disk.old) (D.disk_faults disk.new) }
 {
     let mut gate = [0];
     if end > GATE {
@@ -144,10 +109,9 @@ pub fn replay<D: Disk>(alloc: Global, disk: &mut D) -> Result<Option<Images>, Re
     requires { IsTrue (D.is_attached disk.old) }
     ensures found { IfOk result (λ found. ForSome (D.file disk.old) (λ file. Finds found file.bytes)) }
     ensures damaged { IfErr result (λ fault. IsDamaged fault → (fault ≡ ReplayFault.Damaged (record { page = 0; rule = 1 })) × ForSome (D.file disk.old) (λ file. IsTrue (is_open file.bytes) × ¬ IsJournal file.bytes)) }
-    ensures device { IsErrOf result ReplayFault.Device → Rose (D.disk_faults disk.old) (D.disk_faults disk.new) }
+    ensures cause { CountsFault (IsErrOf result ReplayFault.Device) (D.disk_faults disk.old) (D.disk_faults disk.new) }
     ensures same { D.file disk.new ≡ D.file disk.old }
     ensures runs { RunsOf D.Disk IsCovered (λ since. since) disk.old disk.new }
-    ensures later { D.disk_faults disk.old ≤ D.disk_faults disk.new }
 {
     let end = end_of(disk)?;
     if !is_gate_open(disk, end)? {

@@ -1,87 +1,9 @@
-ghost use Rattle.std.specs.Prelude.{◌≡◌, None, true, OnOk};
-ghost use Rattle.mdc_outside.specs.Moments.{HasCause};
-
 use crate::{Images, close_gate, home, open_gate, replay, write_journal};
 use mdc_outside::{Disk, Failed};
+use page_file::Scratch;
 use std::alloc::Global;
-use std::io::{self, Cursor, Read, Seek, SeekFrom, Write};
 use std::test::Fail;
 use store_api::Page;
-
-// A disk over bytes in memory, which tells nothing.
-#[derive(Drop)]
-struct Scratch {
-    bytes: Cursor<Vec<u8>>,
-    faults: u64,
-}
-
-// Counts a fault where a call failed.
-fn counted<T: Drop>(faults: &mut u64, outcome: io::Result<T>) -> Result<T, Failed>
-    ensures { HasCause result faults.old faults.new }
-{
-    match outcome {
-        Ok(value) => Ok(value),
-        Err(_) => {
-            *faults = faults.saturating_add(1);
-            Err(Failed)
-        }
-    }
-}
-
-fn read_at(bytes: &mut Cursor<Vec<u8>>, at: u64, out: &mut [u8]) -> io::Result<()> {
-    bytes.seek(SeekFrom::Start(at))?;
-    bytes.read_exact(out)
-}
-
-fn write_at(file: &mut Cursor<Vec<u8>>, at: u64, bytes: &[u8]) -> io::Result<()> {
-    file.seek(SeekFrom::Start(at))?;
-    file.write_all(bytes)
-}
-
-impl Disk for Scratch {
-    ghost file = { λ _. None };
-
-    ghost beside = { λ _. record { tape = None; say_faults = 0 } };
-
-    ghost attaches = { λ _. None };
-
-    ghost is_attached = { λ _. true };
-
-    ghost disk_faults = { λ scratch. scratch.faults };
-
-    ghost clock = { λ _. 0 };
-
-    ghost moment = { λ _ _ _ _. ⊥ };
-
-    ghost sound = { λ _. tt };
-
-    ghost only_now = { λ _. tt };
-
-    ghost earlier = { λ _ _ _ _ _ _ _ may. may };
-
-    fn attach(&mut self, _path: &str, _make: bool) -> Result<(), Failed> {
-        Ok(())
-    }
-
-    fn len(&mut self) -> Result<u64, Failed> {
-        let outcome = self.bytes.seek(SeekFrom::End(0));
-        counted(&mut self.faults, outcome)
-    }
-
-    fn read(&mut self, at: u64, out: &mut [u8]) -> Result<(), Failed> {
-        let outcome = read_at(&mut self.bytes, at, out);
-        counted(&mut self.faults, outcome)
-    }
-
-    fn write(&mut self, at: u64, bytes: &[u8]) -> Result<(), Failed> {
-        let outcome = write_at(&mut self.bytes, at, bytes);
-        counted(&mut self.faults, outcome)
-    }
-
-    fn sync(&mut self) -> Result<(), Failed> {
-        Ok(())
-    }
-}
 
 fn page_of(byte: u8) -> Page {
     [byte; 4096]
@@ -97,11 +19,7 @@ fn two_images(alloc: Global) -> Result<Images, Fail> {
 
 // A file of two pages of zeros.
 fn blank(alloc: Global) -> Result<Scratch, Fail> {
-    let bytes = vec![in alloc; 0u8; 8192]?;
-    Ok(Scratch {
-        bytes: Cursor::new(bytes),
-        faults: 0,
-    })
+    Ok(Scratch::new(vec![in alloc; 0u8; 8192]?))
 }
 
 // The numbers that a replay finds, and the first byte of each page.

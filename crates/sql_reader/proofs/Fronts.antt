@@ -8,7 +8,8 @@ use Rattle.std.proofs.lemmas.Bool.{cases_Bool}
 use Rattle.std.proofs.lemmas.Bool.Decides.{nat_tests}
 use Rattle.mdc_ast.specs.Cutting.{Lacks, Passes}
 use Rattle.mdc_ast.specs.Tokens.{Stops}
-use Rattle.sql_reader.specs.Lexeme.{IsLongestFront, after_line, front_len}
+use Rattle.sql_reader.specs.Digits.{IsLongestFront}
+use Rattle.sql_reader.specs.Front.{after_line, front_len}
 
 -- a list has one longest front that passes
 pub one_front : (test : ℕ → Bool) (a x b y : List ℕ) → Passes test a → Stops test x → Passes test b → Stops test y → a ++ x ≡ b ++ y → (a ≡ b) × (x ≡ y)

@@ -4,10 +4,10 @@ use Rattle.std.specs.Result.{IsErrAnd}
 use Rattle.std.proofs.lemmas.Result.{err_from_is_err_and}
 use Rattle.std.proofs.lemmas.List.{append-nil, take-append-drop}
 use Rattle.mdc_ast.specs.Reading.{Item, Reads, Closes}
-use Rattle.mdc_outside.specs.Outside.{Rose}
+use Rattle.mdc_words.specs.Faults.{Rose}
 use Rattle.sql_reader.specs.declared.statements.Read.{Read}
 use Rattle.sql_reader.specs.Item.{item_of}
-use Rattle.sql_reader.specs.Gives.{GivesOne, IsItemIn, Keeps}
+use Rattle.sql_reader.specs.Items.{GivesOne, IsItemIn, Keeps}
 use Rattle.sql_reader.specs.Progress.{Progress, Given, IsGivenAt, IsLastRead, Took}
 use Rattle.sql_reader.specs.Scan.{EndsPiece, IsLast}
 use Rattle.sql_reader.proofs.Items.{closes_last, one_closing, closes_piece, items_found, piece_items, reads_last}

@@ -1,27 +1,13 @@
 -- The items of pieces: they are one list, and it grows with the pieces.
-use Rattle.std.proofs.Common.{◌≡◌, inl, inr, ℕ, List, [], ◌∷◌, ◌++◌, Option, Some, None, refl, sym, ap, ◌∙◌, subst}
+use Rattle.std.proofs.Common.{◌≡◌, ℕ, List, [], ◌∷◌, ◌++◌, Option, Some, None, refl, ap, ◌∙◌, subst}
 use Rattle.mdc_ast.specs.Cutting.{Semicolon, ScriptEnd, Piece, Cut, Trims}
-use Rattle.mdc_ast.specs.Reading.{Item, Statement, Refused, IsItemOf, ItemsOf, Reads, Closes, not_built}
+use Rattle.mdc_ast.specs.Reading.{Item, IsItemOf, ItemsOf, Reads, Closes}
 use Rattle.sql_reader.specs.declared.statements.Read.{Read}
 use Rattle.sql_reader.specs.Item.{item_of}
-use Rattle.sql_reader.specs.Gives.{HasItem, IsItemIn}
+use Rattle.sql_reader.specs.Items.{HasItem, IsItemIn}
 use Rattle.sql_reader.proofs.Pieces.{one_cut, some_cut, cut_on, cut_closed, cut_last}
-use Rattle.sql_reader.proofs.Spelling.{one_saying, says_or_not}
+use Rattle.sql_reader.proofs.Telling.{one_item, some_item}
 use Rattle.sql_reader.proofs.Trimming.{one_trims, some_trims}
-
--- a statement's bytes have one item
-one_item : (statement : List ℕ) (item other : Item) → IsItemOf statement item → IsItemOf statement other → other ≡ item
-one_item statement (Statement stmt) (Statement other) p q = ap Statement (one_saying statement stmt other p q)
-one_item statement (Statement stmt) (Refused refusal) p q = absurd (q.0 stmt p)
-one_item statement (Refused refusal) (Statement stmt) p q = absurd (p.0 stmt q)
-one_item statement (Refused refusal) (Refused other) p q = ap Refused (q.1 ∙ sym p.1)
-
--- and they have some item
-some_item : (statement : List ℕ) → (item : Item) × IsItemOf statement item
-some_item statement = elim (says_or_not statement) [
-  | inl said ↦ (Statement said.0, said.1)
-  | inr unsaid ↦ (Refused not_built, (unsaid, refl))
-]
 
 -- a piece with some statement has its item
 pub has_item : (piece statement : List ℕ) (item : Item) → Trims piece statement → (statement ≡ [] → ⊥) → IsItemOf statement item → HasItem piece item

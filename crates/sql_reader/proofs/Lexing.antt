@@ -1,315 +1,357 @@
--- What bytes begin with, and that they are one list of tokens or none.
-use Rattle.std.proofs.Common.{◌≡◌, ℕ, zero, suc, ◌<◌, ◌≤◌, ◌≢◌, List, [], ◌∷◌, ◌++◌, length, length-append, get_or, map, take, drop, Bool, false, ◌⊎◌, refl, sym, ap, ◌∙◌, subst, inl, inr, arith}
-use Rattle.std.specs.Prelude.{IsTrue, ◌==◌, ◌&&◌}
-use Rattle.std.proofs.lemmas.List.{append-nil}
-use Rattle.std.proofs.lemmas.Bool.{cases_Bool}
+-- What stands at the front of bytes is found so, and nothing else is.
+use Rattle.std.proofs.Common.{◌≡◌, ℕ, zero, suc, ◌+◌, ◌<◌, ◌≤◌, List, [], ◌∷◌, ◌++◌, length, length-append, get_or, map, take, drop, Bool, true, false, cond, ◌⊎◌, Option, Some, None, refl, sym, ap, subst, ◌∙◌, append_assoc, inl, inr, arith}
+use Rattle.std.specs.Prelude.{IsTrue, ◌==◌, ◌||◌, ◌&&◌}
+use Rattle.std.proofs.lemmas.Bool.{cases_Bool, cases_eq, eqb-true, ne_eqb}
 use Rattle.std.proofs.lemmas.Bool.Decides.{nat_tests}
-use Rattle.mdc_ast.specs.Cutting.{Passes, BeginsWith, BeginsNoComment, is_blank}
-use Rattle.mdc_ast.specs.Tokens.{Token, Word, Number, Symbol, Tokens, nothing, blank, comment, open_comment, word, number, symbol, Stops, is_letter, is_digit, is_symbol, is_word_byte, upper, kept_number}
-use Rattle.sql_reader.specs.Lexeme.{Begins, NoTokens, IsLongestFront, EndsNumber, after_line, front_len}
-use Rattle.sql_reader.specs.Token.{byte_of}
-use Rattle.sql_reader.specs.declared.token.Symbol.{Symbol as Kind}
-use Rattle.sql_reader.specs.declared.token.Symbol.TheVariants.{Opening, Closing, Star, Plus, Comma, Minus}
-use Rattle.sql_reader.proofs.Fronts.{one_front, longest_front, longest_by_len, line_ends, after_line-feed, after_line-open, length-after_line, tail, tail-cons}
+use Rattle.mdc_ast.specs.Cutting.{Passes, is_blank}
+use Rattle.mdc_ast.specs.Tokens.{Kind, Word, Number, Text, Symbol, Stray, Token, Tokens, Quoted, Unquoted, Stops, StandsAlone, is_letter, is_digit, is_symbol, is_pair, is_word_byte, begins_token, upper, kept_number}
+use Rattle.mdc_ast.specs.Tokens as tokens
+use Rattle.sql_reader.specs.Front.{Found, after_line, class_at, closes_before, closing_at, next_quote, front_at, front_by, front_len, symbol_front, text_before, told}
+use Rattle.sql_reader.specs.declared.lexer.Class.TheVariants as class
+use Rattle.sql_reader.specs.Digits.{EndsNumber, IsLongestFront}
+use Rattle.std.specs.Prelude.{IfSome}
+use Rattle.std.proofs.lemmas.List.{append-nil, at_drop_more, drop_all}
+use Rattle.sql_reader.specs.Token.{undoubled}
+use Rattle.sql_reader.proofs.Fronts.{one_front, longest_by_len, line_ends, after_line-feed, after_line-open}
+
+-- RANGES
 
 -- blanks lie before all other bytes of tokens
-pub blank_range : (b : ℕ) → IsTrue (is_blank b) → b < 33
+blank_range : (b : ℕ) → IsTrue (is_blank b) → b < 33
 blank_range b h = grind (arith, nat_tests)
 
--- symbols lie between blanks and digits
-pub symbol_range : (b : ℕ) → IsTrue (is_symbol b) → (40 ≤ b) × (b < 46)
-symbol_range b h = (grind (arith, nat_tests), grind (arith, nat_tests))
-
--- digits lie between symbols and letters
-pub digit_range : (b : ℕ) → IsTrue (is_digit b) → (48 ≤ b) × (b < 58)
-digit_range b h = (grind (arith, nat_tests), grind (arith, nat_tests))
-
--- letters lie behind the others
-pub letter_range : (b : ℕ) → IsTrue (is_letter b) → 65 ≤ b
+letter_range : (b : ℕ) → IsTrue (is_letter b) → 65 ≤ b
 letter_range b h = grind (arith, nat_tests)
 
--- no bytes are no tokens
-pub only_nothing : (tokens : List Token) → Tokens [] tokens → tokens ≡ []
-only_nothing tokens nothing = refl
+digit_range : (b : ℕ) → IsTrue (is_digit b) → (48 ≤ b) × (b < 58)
+digit_range b h = (grind (arith, nat_tests), grind (arith, nat_tests))
 
--- A blank says nothing.
-only_blank : (b : ℕ) (rest : List ℕ) (all : List Token) → IsTrue (is_blank b) → Tokens (b ∷ rest) all → Tokens rest all
-only_blank b rest all h (blank other t) = t
-only_blank b rest all h (comment inside left lacks t e) = absurd (omega (arith, blank_range 45 h))
-only_blank b rest all h (open_comment lacks) = absurd (omega (arith, blank_range 45 h))
-only_blank b rest all h (word more left other passes stops t e) = absurd (omega (arith, blank_range b h, letter_range b other))
-only_blank b rest all h (number more left other passes stops t e) = absurd (omega (arith, blank_range b h, digit_range b other))
-only_blank b rest all h (symbol other opens t) = absurd (omega (arith, blank_range b h, symbol_range b other))
+no_blank : (b : ℕ) → 33 ≤ b → is_blank b ≡ false
+no_blank b h = grind (arith, nat_tests)
 
--- bytes that begin with a blank are the tokens behind it
-pub begins_blank : (b : ℕ) (rest : List ℕ) → IsTrue (is_blank b) → Begins (b ∷ rest) [] rest
-begins_blank b rest h = record {
-  goes_on = λ tokens t. blank h t;
-  only = λ all t. (all, refl, only_blank b rest all h t);
-}
+no_letter : (b : ℕ) → b < 65 → is_letter b ≡ false
+no_letter b h = grind (arith, nat_tests)
 
--- A comment says nothing, up to its line feed.
-only_comment : (b : ℕ) (rest bytes : List ℕ) (all : List Token) → b ≡ 45 → rest ≡ 45 ∷ bytes → Tokens (b ∷ rest) all → Tokens (after_line bytes) all
-only_comment b rest bytes all dash behind (blank other t) = absurd (omega (arith, blank_range b other))
-only_comment b rest bytes all dash behind (comment {bytes = found} inside left lacks t e) =
-    let same : bytes ≡ inside ++ 10 ∷ left = cc in
-    rw (same, after_line-feed inside left lacks) t
-only_comment b rest bytes all dash behind (open_comment {inside = found} lacks) =
-    let same : bytes ≡ found = cc in
-    rw (same, after_line-open found lacks) nothing
-only_comment b rest bytes all dash behind (word more left other passes stops t e) = absurd (omega (arith, letter_range b other))
-only_comment b rest bytes all dash behind (number more left other passes stops t e) = absurd (omega (arith, digit_range b other))
-only_comment b rest bytes all dash behind (symbol other opens t) = absurd (opens dash (subst (BeginsWith 45) (sym behind) refl))
+-- a symbol is nothing else
+symbol_alone : (b : ℕ) → IsTrue (is_symbol b) → (is_blank b ≡ false) × (is_letter b ≡ false) × (is_digit b ≡ false) × ((b == 39) ≡ false)
+symbol_alone b h = (grind (arith, nat_tests), grind (arith, nat_tests), grind (arith, nat_tests), grind (arith, nat_tests))
 
--- bytes that begin with a comment are the tokens behind it
-pub begins_comment : (bytes : List ℕ) → Begins (45 ∷ 45 ∷ bytes) [] (after_line bytes)
-begins_comment bytes = record {
-  goes_on = λ tokens t.
-      elim (line_ends bytes) [
-        | inl ended ↦ comment ended.0 (after_line bytes) ended.1 t ended.2
-        | inr unended ↦
-            let none : tokens ≡ [] = only_nothing tokens (subst (λ rest. Tokens rest tokens) unended.1 t) in
-            rw none (open_comment unended.0)
-      ];
-  only = λ all t. (all, refl, only_comment 45 (45 ∷ bytes) bytes all refl refl t);
-}
+-- a pair begins with a symbol
+pair_symbol : (b c : ℕ) → IsTrue (is_pair b c) → IsTrue (is_symbol b)
+pair_symbol b c h = grind (arith, nat_tests)
 
--- A symbol stands for itself.
-only_symbol : (b : ℕ) (rest : List ℕ) (all : List Token) → IsTrue (is_symbol b) → BeginsNoComment b rest → Tokens (b ∷ rest) all → (tokens : List Token) × (all ≡ Symbol b ∷ tokens) × Tokens rest tokens
-only_symbol b rest all h opens (blank other t) = absurd (omega (arith, blank_range b other, symbol_range b h))
-only_symbol b rest all h opens (comment inside left lacks t e) = absurd (opens refl refl)
-only_symbol b rest all h opens (open_comment lacks) = absurd (opens refl refl)
-only_symbol b rest all h opens (word more left other passes stops t e) = absurd (omega (arith, letter_range b other, symbol_range b h))
-only_symbol b rest all h opens (number more left other passes stops t e) = absurd (omega (arith, digit_range b other, symbol_range b h))
-only_symbol b rest all h opens (symbol {tokens = tokens} other same t) = (tokens, refl, t)
+dashes_both : (b c : ℕ) → ((b == 45) && (c == 45)) ≡ true → (b ≡ 45) × (c ≡ 45)
+dashes_both b c h = (grind (arith, nat_tests), grind (arith, nat_tests))
 
--- bytes that begin with a symbol are that symbol and the tokens behind it
-pub begins_symbol : (b : ℕ) (rest : List ℕ) → IsTrue (is_symbol b) → BeginsNoComment b rest → Begins (b ∷ rest) (Symbol b ∷ []) rest
-begins_symbol b rest h opens = record {
-  goes_on = λ tokens t. symbol h opens t;
-  only = λ all t. only_symbol b rest all h opens t;
-}
+-- what begins nothing is of no class
+stray_class : (b : ℕ) → begins_token b ≡ false → (is_letter b ≡ false) × (is_digit b ≡ false) × ((b == 39) ≡ false) × (is_symbol b ≡ false)
+stray_class b h = (grind (arith, nat_tests), grind (arith, nat_tests), grind (arith, nat_tests), grind (arith, nat_tests))
 
--- A word is as long as it can be.
-only_word : (b : ℕ) (bytes more rest : List ℕ) (all : List Token) → IsTrue (is_letter b) → bytes ≡ more ++ rest → Passes is_word_byte more → Stops is_word_byte rest → Tokens (b ∷ bytes) all → (tokens : List Token) × (all ≡ Word (map upper (b ∷ more)) ∷ tokens) × Tokens rest tokens
-only_word b bytes more rest all h e passes stops (blank other t) = absurd (omega (arith, blank_range b other, letter_range b h))
-only_word b bytes more rest all h e passes stops (comment inside left lacks t e') = absurd (omega (arith, letter_range 45 h))
-only_word b bytes more rest all h e passes stops (open_comment lacks) = absurd (omega (arith, letter_range 45 h))
-only_word b bytes more rest all h e passes stops (word {tokens = tokens} more' left other passes' stops' t e') =
-    let same = one_front is_word_byte more' left more rest passes' stops' passes stops (sym e' ∙ e) in
-    (tokens, ap (λ m. Word (map upper (b ∷ m)) ∷ tokens) same.0, subst (λ l. Tokens l tokens) same.1 t)
-only_word b bytes more rest all h e passes stops (number more' left other passes' stops' t e') = absurd (omega (arith, digit_range b other, letter_range b h))
-only_word b bytes more rest all h e passes stops (symbol other opens t) = absurd (omega (arith, symbol_range b other, letter_range b h))
+class_stray : (b : ℕ) → is_letter b ≡ false → is_digit b ≡ false → (b == 39) ≡ false → is_symbol b ≡ false → begins_token b ≡ false
+class_stray b l d q s = grind (arith, nat_tests)
 
--- A number is as long as it can be.
-only_number : (b : ℕ) (bytes more rest : List ℕ) (all : List Token) → IsTrue (is_digit b) → bytes ≡ more ++ rest → Passes is_digit more → Stops is_digit rest → Tokens (b ∷ bytes) all → (tokens : List Token) × (all ≡ Number (kept_number (b ∷ more)) ∷ tokens) × Tokens rest tokens
-only_number b bytes more rest all h e passes stops (blank other t) = absurd (omega (arith, blank_range b other, digit_range b h))
-only_number b bytes more rest all h e passes stops (comment inside left lacks t e') = absurd (omega (arith, digit_range 45 h))
-only_number b bytes more rest all h e passes stops (open_comment lacks) = absurd (omega (arith, digit_range 45 h))
-only_number b bytes more rest all h e passes stops (word more' left other passes' stops' t e') = absurd (omega (arith, letter_range b other, digit_range b h))
-only_number b bytes more rest all h e passes stops (number {tokens = tokens} more' left other passes' stops' t e') =
-    let same = one_front is_digit more' left more rest passes' stops' passes stops (sym e' ∙ e) in
-    (tokens, ap (λ m. Number (kept_number (b ∷ m)) ∷ tokens) same.0, subst (λ l. Tokens l tokens) same.1 t)
-only_number b bytes more rest all h e passes stops (symbol other opens t) = absurd (omega (arith, symbol_range b other, digit_range b h))
+-- TEXTS
 
--- a letter can stand in a word
+-- a quote that no second one follows closes
+closes : (place j : ℕ) (rest : List ℕ) → Stops (λ b. b == 39) rest → closing_at (Some place) j rest ≡ Some place
+closes place j [] stops = refl
+closes place j (b ∷ rest) stops = rw stops refl
+
+-- a text closes where it is said to
+closed_text : (bytes text rest : List ℕ) → Quoted bytes text rest → (i : ℕ) → (n : ℕ) × (closing_at None i bytes ≡ Some (i + n)) × (text ≡ undoubled false (take n bytes)) × (rest ≡ drop (suc n) bytes)
+closed_text bytes text rest (Quoted.end {quote = q} {rest = r} h stops) i =
+    let place : i ≡ i + 0 = omega arith in
+    (0, rw h (closes i (i + 1) r stops ∙ ap Some place), refl, refl)
+closed_text bytes text rest (Quoted.doubled {quote = q} {other = o} {bytes = more} {text = inside} h g quoted) i =
+    let behind = closed_text more inside rest quoted (i + 1 + 1) in
+    let place : i + 1 + 1 + behind.0 ≡ i + suc (suc behind.0) = omega arith in
+    (suc (suc behind.0), rw (h, g) (behind.1 ∙ ap Some place), rw h (ap (λ l. 39 ∷ l) behind.2), behind.3)
+closed_text bytes text rest (Quoted.byte {b = b} {bytes = more} {text = inside} other quoted) i =
+    let behind = closed_text more inside rest quoted (i + 1) in
+    let place : i + 1 + behind.0 ≡ i + suc behind.0 = omega arith in
+    (suc behind.0, rw (ne_eqb b 39 other) (behind.1 ∙ ap Some place), rw (ne_eqb b 39 other) (ap (λ l. b ∷ l) behind.2), behind.3)
+
+-- a text that isn't closed closes nowhere
+open_text : (bytes : List ℕ) → Unquoted bytes → (i : ℕ) → closing_at None i bytes ≡ None
+open_text bytes Unquoted.end i = refl
+open_text bytes (Unquoted.doubled {bytes = more} h g unquoted) i = rw (h, g) (open_text more unquoted (i + 1 + 1))
+open_text bytes (Unquoted.byte {b = b} {bytes = more} other unquoted) i = rw (ne_eqb b 39 other) (open_text more unquoted (i + 1))
+
+-- bytes behind a quote close its text or they don't
+text_cases : (bytes : List ℕ) → ((text rest : List ℕ) × Quoted bytes text rest) ⊎ Unquoted bytes
+text_cases [] = inr Unquoted.end
+text_cases (b ∷ []) = elim (cases_eq b 39) [
+  | inl quote ↦ inl ([], [], Quoted.end quote tt)
+  | inr other ↦ inr (Unquoted.byte other Unquoted.end)
+]
+text_cases (b ∷ c ∷ bytes) = elim (cases_eq b 39) [
+  | inl quote ↦ elim (cases_eq c 39) [
+    | inl second ↦ elim (text_cases bytes) [
+      | inl found ↦ inl (39 ∷ found.0, found.1, Quoted.doubled quote second found.2)
+      | inr unquoted ↦ inr (Unquoted.doubled quote second unquoted)
+    ]
+    | inr other ↦ inl ([], c ∷ bytes, Quoted.end quote (ne_eqb c 39 other))
+  ]
+  | inr other ↦ elim (text_cases (c ∷ bytes)) [
+    | inl found ↦ inl (b ∷ found.0, found.1, Quoted.byte other found.2)
+    | inr unquoted ↦ inr (Unquoted.byte other unquoted)
+  ]
+]
+
+quoted_shorter : (bytes text rest : List ℕ) → Quoted bytes text rest → length rest < length bytes
+quoted_shorter bytes text rest (Quoted.end h stops) = omega arith
+quoted_shorter bytes text rest (Quoted.doubled {bytes = more} {text = inside} h g quoted) = omega (arith, quoted_shorter more inside rest quoted)
+quoted_shorter bytes text rest (Quoted.byte {bytes = more} {text = inside} other quoted) = omega (arith, quoted_shorter more inside rest quoted)
+
+-- FRONTS
+
+at_blank : (b : ℕ) → IsTrue (is_blank b) → class_at b ≡ class.Blank
+at_blank b h = rw h refl
+
+at_letter : (b : ℕ) → IsTrue (is_letter b) → class_at b ≡ class.Letter
+at_letter b h = let le = letter_range b h in rw (no_blank b (omega (arith, le)), h) refl
+
+at_digit : (b : ℕ) → IsTrue (is_digit b) → class_at b ≡ class.Digit
+at_digit b h = let range = digit_range b h in rw (no_blank b (omega (arith, range.0)), no_letter b (omega (arith, range.1)), h) refl
+
+at_symbol : (b : ℕ) → IsTrue (is_symbol b) → class_at b ≡ class.Symbol
+at_symbol b h = let other = symbol_alone b h in rw (other.0, other.1, other.2, other.3, h) refl
+
+at_stray : (b : ℕ) → is_blank b ≡ false → begins_token b ≡ false → class_at b ≡ class.Unknown
+at_stray b blank h = let other = stray_class b h in rw (blank, other.0, other.1, other.2, other.3) refl
+
+abbrev cut_at : (ℕ → Bool) → (List ℕ → Kind) → List ℕ → Found
+cut_at test kind bytes = (Some (kind (take (front_len test bytes) bytes)), drop (front_len test bytes) bytes)
+
+-- the longest front is the one that is said
+longest_is : (test : ℕ → Bool) (kind : List ℕ → Kind) (bytes front rest : List ℕ) → bytes ≡ front ++ rest → Passes test front → Stops test rest → cut_at test kind bytes ≡ (Some (kind front), rest)
+longest_is test kind bytes front rest e passes stops =
+    let longest = longest_by_len test bytes in
+    let same = one_front test _ _ front rest longest.passes longest.stops passes stops (sym longest.whole ∙ e) in
+    let first : (Some (kind (take (front_len test bytes) bytes)), drop (front_len test bytes) bytes) ≡ (Some (kind front), drop (front_len test bytes) bytes) = ap (λ (f : List ℕ). let o : Found = (Some (kind f), drop (front_len test bytes) bytes) in o) same.0 in
+    first ∙ ap (λ (r : List ℕ). let o : Found = (Some (kind front), r) in o) same.1
+
 letter_in_word : (b : ℕ) → IsTrue (is_letter b) → IsTrue (is_word_byte b)
 letter_in_word b h = rw h refl
 
+or_false : (a b : Bool) → (a || b) ≡ false → (a ≡ false) × (b ≡ false)
+or_false true b h = absurd cc
+or_false false b h = (refl, h)
+
+alone_front : (b : ℕ) (rest : List ℕ) → StandsAlone b rest → symbol_front b rest ≡ (Some (Symbol (b ∷ [])), rest)
+alone_front b [] h = refl
+alone_front b (c ∷ rest) h = let parts = or_false (is_pair b c) ((b == 45) && (c == 45)) h in rw (parts.0, parts.1) refl
+
+-- what stands at the front is found
+pub front_only : (bytes : List ℕ) (kind : Option Kind) (rest : List ℕ) → tokens.Front bytes kind rest → front_at bytes ≡ (kind, rest)
+front_only bytes kind rest (tokens.Front.blank {b = b} {rest = r} h) = ap (λ c. front_by c b r) (at_blank b h)
+front_only bytes kind rest (tokens.Front.comment {b = b} {c = c} {bytes = more} inside r h g lacks e) =
+    rw (h, g, e) (ap (λ (l : List ℕ). let o : Found = (None, l) in o) (after_line-feed inside r lacks))
+front_only bytes kind rest (tokens.Front.open_comment {b = b} {c = c} {inside = more} h g lacks) =
+    rw (h, g) (ap (λ (l : List ℕ). let o : Found = (None, l) in o) (after_line-open more lacks))
+front_only bytes kind rest (tokens.Front.word {b = b} {bytes = behind} more r h passes stops e) =
+    ap (λ c. front_by c b behind) (at_letter b h)
+    ∙ longest_is is_word_byte (λ f. Word (map upper f)) (b ∷ behind) (b ∷ more) r (ap (λ l. b ∷ l) e) (letter_in_word b h, passes) stops
+front_only bytes kind rest (tokens.Front.number {b = b} {bytes = behind} more r h passes stops e) =
+    ap (λ c. front_by c b behind) (at_digit b h)
+    ∙ longest_is is_digit (λ f. Number (kept_number f)) (b ∷ behind) (b ∷ more) r (ap (λ l. b ∷ l) e) (h, passes) stops
+front_only bytes kind rest (tokens.Front.text {b = b} {bytes = behind} {inside = inside} {rest = r} h quoted) =
+    let found = closed_text behind inside r quoted 0 in
+    let place : closing_at None 0 behind ≡ Some found.0 = found.1 ∙ (let k : 0 + found.0 ≡ found.0 = omega arith in ap Some k) in
+    let next : found.0 + 1 ≡ suc found.0 = omega arith in
+    rw h (ap (text_before behind) place ∙ ap (λ (k : ℕ). let o : Found = (Some (Text (undoubled false (take found.0 behind))), drop k behind) in o) next
+    ∙ sym (ap (λ (l : List ℕ). let o : Found = (Some (Text l), r) in o) found.2 ∙ ap (λ (l : List ℕ). let o : Found = (Some (Text (undoubled false (take found.0 behind))), l) in o) found.3))
+front_only bytes kind rest (tokens.Front.open_text {b = b} {bytes = behind} h unquoted) = rw h (ap (text_before behind) (open_text behind unquoted 0))
+front_only bytes kind rest (tokens.Front.symbol {b = b} {rest = r} h alone) = ap (λ c. front_by c b r) (at_symbol b h) ∙ alone_front b r alone
+front_only bytes kind rest (tokens.Front.pair {b = b} {c = c} {rest = r} h) = ap (λ k. front_by k b (c ∷ r)) (at_symbol b (pair_symbol b c h)) ∙ rw h refl
+front_only bytes kind rest (tokens.Front.stray {b = b} {rest = r} blank h) = ap (λ c. front_by c b r) (at_stray b blank h)
+
 -- the longest front has the first byte that passes
-pub first_byte : (test : ℕ → Bool) (b : ℕ) (behind front rest : List ℕ) → IsTrue (test b) → IsLongestFront test (b ∷ behind) front rest
-    → (more : List ℕ) × (front ≡ b ∷ more) × (behind ≡ more ++ rest) × Passes test more
+first_byte : (test : ℕ → Bool) (b : ℕ) (behind front rest : List ℕ) → IsTrue (test b) → IsLongestFront test (b ∷ behind) front rest
+    → (more : List ℕ) × (behind ≡ more ++ rest) × Passes test more
 first_byte test b behind [] rest h longest =
     let stops : test b ≡ false = subst (Stops test) (sym longest.whole) longest.stops in
     absurd (cc)
 first_byte test b behind (c ∷ more) rest h longest =
     let whole : b ∷ behind ≡ c ∷ (more ++ rest) = longest.whole in
     let head : b ≡ c = cc in
-    (more, cc, cc, longest.passes.1)
+    (more, cc, longest.passes.1)
 
--- less is left behind a front that has a byte
-shorter : (b : ℕ) (behind more rest : List ℕ) → behind ≡ more ++ rest → length rest < length (b ∷ behind)
-shorter b behind more rest whole = omega (arith, length-append more rest, ap length whole)
+abbrev Begun : List ℕ → Type 0
+Begun bytes = (kind : Option Kind) × (rest : List ℕ) × tokens.Front bytes kind rest
 
--- bytes that begin with a letter are the longest word and the tokens behind it
-pub begins_word : (b : ℕ) (behind front rest : List ℕ) → IsTrue (is_letter b) → IsLongestFront is_word_byte (b ∷ behind) front rest
-    → Begins (b ∷ behind) (Word (map upper front) ∷ []) rest × (length rest < length (b ∷ behind))
-begins_word b behind front rest h longest =
-    let first = first_byte is_word_byte b behind front rest (letter_in_word b h) longest in
-    let begins : Begins (b ∷ behind) (Word (map upper (b ∷ first.0)) ∷ []) rest = record {
-      goes_on = λ tokens t. word first.0 rest h first.3 longest.stops t first.2;
-      only = λ all t. only_word b behind first.0 rest all h first.2 first.3 longest.stops t;
-    } in
-    (subst (λ f. Begins (b ∷ behind) (Word (map upper f) ∷ []) rest) (sym first.1) begins, shorter b behind first.0 rest first.2)
-
--- bytes that begin with a digit are the longest number and the tokens behind it
-pub begins_number : (b : ℕ) (behind : List ℕ) (value : ℕ) (rest : List ℕ) → IsTrue (is_digit b) → EndsNumber 0 (b ∷ behind) value rest
-    → Begins (b ∷ behind) (Number value ∷ []) rest × (length rest < length (b ∷ behind))
-begins_number b behind value rest h ends =
-    let first = first_byte is_digit b behind ends.digits rest h ends.longest in
-    let begins : Begins (b ∷ behind) (Number (kept_number (b ∷ first.0)) ∷ []) rest = record {
-      goes_on = λ tokens t. number first.0 rest h first.3 ends.longest.stops t first.2;
-      only = λ all t. only_number b behind first.0 rest all h first.2 first.3 ends.longest.stops t;
-    } in
-    let same : kept_number (b ∷ first.0) ≡ value = ap kept_number (sym first.1) ∙ sym ends.value in
-    (subst (λ n. Begins (b ∷ behind) (Number n ∷ []) rest) same begins, shorter b behind first.0 rest first.2)
-
--- A byte that begins nothing is refused.
-pub begins_nothing : (b : ℕ) (rest : List ℕ) → is_blank b ≡ false → is_letter b ≡ false → is_digit b ≡ false → is_symbol b ≡ false → NoTokens (b ∷ rest)
-begins_nothing b rest no_blank no_letter no_digit no_symbol all (blank other t) = cc
-begins_nothing b rest no_blank no_letter no_digit no_symbol all (comment inside left lacks t e) = cc
-begins_nothing b rest no_blank no_letter no_digit no_symbol all (open_comment lacks) = cc
-begins_nothing b rest no_blank no_letter no_digit no_symbol all (word more left other passes stops t e) = cc
-begins_nothing b rest no_blank no_letter no_digit no_symbol all (number more left other passes stops t e) = cc
-begins_nothing b rest no_blank no_letter no_digit no_symbol all (symbol other opens t) = cc
-
--- a slice whose first byte is a blank begins with it, and less is left
-pub front_blank : (bytes : List ℕ) → 1 ≤ length bytes → IsTrue (is_blank (get_or bytes 0 0)) → Begins bytes [] (tail bytes) × (length (tail bytes) < length bytes)
-front_blank [] some h = absurd (omega arith)
-front_blank (b ∷ rest) some h =
-    let P : List ℕ → Type 0 = λ l. Begins (b ∷ rest) [] l × (length l < length (b ∷ rest)) in
-    subst P (sym (tail-cons b rest)) (begins_blank b rest h, omega arith)
-
--- the byte of a symbol is one
-pub is_symbol-byte_of : (s : Kind) → IsTrue (is_symbol (byte_of s))
-is_symbol-byte_of Opening = refl
-is_symbol-byte_of Closing = refl
-is_symbol-byte_of Star = refl
-is_symbol-byte_of Plus = refl
-is_symbol-byte_of Comma = refl
-is_symbol-byte_of Minus = refl
-
--- so with a symbol that is no dash
-pub front_symbol : (bytes : List ℕ) (s : ℕ) → 1 ≤ length bytes → get_or bytes 0 0 ≡ s → IsTrue (is_symbol s) → get_or bytes 0 0 ≢ 45 → Begins bytes (Symbol s ∷ []) (tail bytes) × (length (tail bytes) < length bytes)
-front_symbol [] s some e h other = absurd (omega arith)
-front_symbol (b ∷ rest) s some e h other =
-    let P : List ℕ → Type 0 = λ l. Begins (b ∷ rest) (Symbol s ∷ []) l × (length l < length (b ∷ rest)) in
-    let Q : ℕ → Type 0 = λ x. Begins (b ∷ rest) (Symbol x ∷ []) rest in
-    let R : ℕ → Type 0 = λ x. IsTrue (is_symbol x) in
-    subst P (sym (tail-cons b rest)) (subst Q e (begins_symbol b rest (subst R (sym e) h) (λ dash _. other dash)), omega arith)
-
--- so with a dash that no dash follows
-pub front_minus : (behind : List ℕ) → (1 ≤ length behind → get_or behind 0 0 ≢ 45) → Begins (45 ∷ behind) (Symbol 45 ∷ []) behind × (length behind < length (45 ∷ behind))
-front_minus [] other = (begins_symbol 45 [] refl (λ dash begins. begins), omega arith)
-front_minus (b ∷ rest) other = (begins_symbol 45 (b ∷ rest) refl (λ dash begins. other (omega arith) begins), omega arith)
-
--- so with a dash that a dash follows
-pub front_comment : (behind rest : List ℕ) → 1 ≤ length behind → get_or behind 0 0 ≡ 45 → rest ≡ after_line (tail behind) → Begins (45 ∷ behind) [] rest × (length rest < length (45 ∷ behind))
-front_comment [] rest some dash e = absurd (omega arith)
-front_comment (b ∷ bytes) rest some dash e =
-    let P : List ℕ → Type 0 = λ l. Begins (45 ∷ b ∷ bytes) [] l × (length l < length (45 ∷ b ∷ bytes)) in
-    let Q : ℕ → Type 0 = λ x. Begins (45 ∷ x ∷ bytes) [] (after_line bytes) in
-    let whole : after_line bytes ≡ rest = ap after_line (sym (tail-cons b bytes)) ∙ sym e in
-    subst P whole (subst Q (sym dash) (begins_comment bytes), omega (arith, length-after_line bytes))
-
--- so with a letter
-pub front_word : (bytes : List ℕ) (len : ℕ) (bare chars rest : List ℕ) → 1 ≤ length bytes → IsTrue (is_letter (get_or bytes 0 0))
-    → len ≡ front_len is_word_byte bytes → bare ≡ take len bytes → rest ≡ drop len bytes → chars ≡ map upper bare
-    → Begins bytes (Word chars ∷ []) rest × (length rest < length bytes)
-front_word [] len bare chars rest some h is_len is_front is_rest folded = absurd (omega arith)
-front_word (b ∷ behind) len bare chars rest some h is_len is_front is_rest folded =
-    let whole_front : bare ≡ take (front_len is_word_byte (b ∷ behind)) (b ∷ behind) = is_front ∙ ap (λ n. take n (b ∷ behind)) is_len in
-    let whole_rest : rest ≡ drop (front_len is_word_byte (b ∷ behind)) (b ∷ behind) = is_rest ∙ ap (λ n. drop n (b ∷ behind)) is_len in
-    rw (folded, whole_front, whole_rest) (begins_word b behind _ _ h (longest_by_len is_word_byte (b ∷ behind)))
-
--- so with a digit
-pub front_number : (bytes : List ℕ) (value : ℕ) (rest : List ℕ) → 1 ≤ length bytes → IsTrue (is_digit (get_or bytes 0 0)) → EndsNumber 0 bytes value rest
-    → Begins bytes (Number value ∷ []) rest × (length rest < length bytes)
-front_number [] value rest some h ends = absurd (omega arith)
-front_number (b ∷ behind) value rest some h ends = begins_number b behind value rest h ends
-
--- with nothing left the bytes are the tokens before it
-pub begins_all : (bytes : List ℕ) (front : List Token) → Begins bytes front [] → Tokens bytes front
-begins_all bytes front begins =
-    let P : List Token → Type 0 = λ all. Tokens bytes all in
-    subst P (append-nil front) (begins.goes_on [] nothing)
-
--- where the rest is no tokens, neither are the bytes
-pub begins_refused : (bytes : List ℕ) (front : List Token) (rest : List ℕ) → Begins bytes front rest → NoTokens rest → NoTokens bytes
-begins_refused bytes front rest begins refused all t = let behind = begins.only all t in refused behind.0 behind.2
-
--- two bytes that are not both dashes begin no comment
-begins_no_comment : (b c : ℕ) → ((b == 45) && (c == 45)) ≡ false → b ≡ 45 → c ≡ 45 → ⊥
-begins_no_comment b c other one two = grind (arith, nat_tests)
-
--- A dash is a minus or it begins a comment, and another symbol stands for itself.
-begun_symbol : (b : ℕ) (behind : List ℕ) → IsTrue (is_symbol b) → (front : List Token) × (rest : List ℕ) × Begins (b ∷ behind) front rest × (length rest < length (b ∷ behind))
-begun_symbol b [] h = (Symbol b ∷ [], [], begins_symbol b [] h (λ dash begins. begins), omega arith)
+begun_symbol : (b : ℕ) (behind : List ℕ) → IsTrue (is_symbol b) → Begun (b ∷ behind)
+begun_symbol b [] h = (_, _, tokens.Front.symbol {rest = []} h tt)
 begun_symbol b (c ∷ bytes) h =
-    elim (cases_Bool ((b == 45) && (c == 45))) [
-      | inl dashes ↦
-          let one : b ≡ 45 = grind (arith, nat_tests) in
-          let two : c ≡ 45 = grind (arith, nat_tests) in
-          let comments : Begins (b ∷ c ∷ bytes) [] (after_line bytes) = rw (one, two) (begins_comment bytes) in
-          ([], after_line bytes, comments, omega (arith, length-after_line bytes))
-      | inr other ↦
-          let opens : BeginsNoComment b (c ∷ bytes) = λ one two. begins_no_comment b c other one two in
-          (Symbol b ∷ [], c ∷ bytes, begins_symbol b (c ∷ bytes) h opens, omega arith)
+    elim (cases_Bool (is_pair b c)) [
+      | inl pairs ↦ (_, _, tokens.Front.pair pairs)
+      | inr unpaired ↦ elim (cases_Bool ((b == 45) && (c == 45))) [
+        | inl dashes ↦ (
+            let both = dashes_both b c dashes in
+            elim (line_ends bytes) [
+              | inl ended ↦ (_, _, tokens.Front.comment ended.0 (after_line bytes) both.0 both.1 ended.1 ended.2)
+              | inr unended ↦ (_, _, tokens.Front.open_comment both.0 both.1 unended.0)
+            ])
+        | inr other ↦ (_, _, tokens.Front.symbol {rest = c ∷ bytes} h (rw unpaired other))
+      ]
     ]
 
--- Bytes begin with something of the language and less is left, or they are no tokens.
-begun : (b : ℕ) (behind : List ℕ) → ((front : List Token) × (rest : List ℕ) × Begins (b ∷ behind) front rest × (length rest < length (b ∷ behind))) ⊎ NoTokens (b ∷ behind)
+begun : (b : ℕ) (behind : List ℕ) → Begun (b ∷ behind)
 begun b behind =
     elim (cases_Bool (is_blank b)) [
-      | inl h ↦ inl ([], behind, begins_blank b behind h, omega arith)
-      | inr no_blank ↦
-          elim (cases_Bool (is_letter b)) [
-            | inl h ↦
-                let longest = longest_front is_word_byte (b ∷ behind) in
-                let begins = begins_word b behind longest.0 longest.1 h longest.2 in
-                inl (Word (map upper longest.0) ∷ [], longest.1, begins.0, begins.1)
-            | inr no_letter ↦
-                elim (cases_Bool (is_digit b)) [
-                  | inl h ↦
-                      let longest = longest_front is_digit (b ∷ behind) in
-                      let ends : EndsNumber 0 (b ∷ behind) (kept_number longest.0) longest.1 = record { digits = longest.0; longest = longest.2; value = refl } in
-                      let begins = begins_number b behind (kept_number longest.0) longest.1 h ends in
-                      inl (Number (kept_number longest.0) ∷ [], longest.1, begins.0, begins.1)
-                  | inr no_digit ↦
-                      elim (cases_Bool (is_symbol b)) [
-                        | inl h ↦ inl (begun_symbol b behind h)
-                        | inr no_symbol ↦ inr (begins_nothing b behind no_blank no_letter no_digit no_symbol)
-                      ]
-                ]
+      | inl blank ↦ (_, _, tokens.Front.blank blank)
+      | inr no_blank ↦ elim (cases_Bool (is_letter b)) [
+        | inl letter ↦ (
+            let longest = longest_by_len is_word_byte (b ∷ behind) in
+            let first = first_byte is_word_byte b behind _ _ (letter_in_word b letter) longest in
+            (_, _, tokens.Front.word first.0 _ letter first.2 longest.stops first.1))
+        | inr no_letter ↦ elim (cases_Bool (is_digit b)) [
+          | inl digit ↦ (
+              let longest = longest_by_len is_digit (b ∷ behind) in
+              let first = first_byte is_digit b behind _ _ digit longest in
+              (_, _, tokens.Front.number first.0 _ digit first.2 longest.stops first.1))
+          | inr no_digit ↦ elim (cases_Bool (b == 39)) [
+            | inl quote ↦ elim (text_cases behind) [
+              | inl found ↦ (_, _, tokens.Front.text (eqb-true b 39 quote) found.2)
+              | inr unquoted ↦ (_, _, tokens.Front.open_text (eqb-true b 39 quote) unquoted)
+            ]
+            | inr no_quote ↦ elim (cases_Bool (is_symbol b)) [
+              | inl symbol ↦ begun_symbol b behind symbol
+              | inr no_symbol ↦ (_, _, tokens.Front.stray {rest = behind} no_blank (class_stray b no_letter no_digit no_quote no_symbol))
+            ]
           ]
+        ]
+      ]
     ]
 
--- bytes up to a length are one list of tokens at most
-one_within : (n : ℕ) (bytes : List ℕ) → length bytes ≤ n → (a b : List Token) → Tokens bytes a → Tokens bytes b → b ≡ a
-one_within n [] h a b ta tb = only_nothing b tb ∙ sym (only_nothing a ta)
-one_within zero (b ∷ bytes) h first second t u = absurd (omega arith)
-one_within (suc n) (b ∷ bytes) h first second t u =
-    elim (begun b bytes) [
-      | inl found ↦
-          let begins : Begins (b ∷ bytes) found.0 found.1 = found.2 in
-          let less : length found.1 < length (b ∷ bytes) = found.3 in
-          let one = begins.only first t in
-          let other = begins.only second u in
-          let same : other.0 ≡ one.0 = one_within n found.1 (omega arith) one.0 other.0 one.2 other.2 in
-          other.1 ∙ (ap (λ l. found.0 ++ l) same ∙ sym one.1)
-      | inr refused ↦ absurd (refused first t)
-    ]
+-- what is found stands at the front
+pub front_is : (b : ℕ) (behind : List ℕ) → tokens.Front (b ∷ behind) (front_at (b ∷ behind)).0 (front_at (b ∷ behind)).1
+front_is b behind =
+    let found = begun b behind in
+    subst (λ (f : Found). tokens.Front (b ∷ behind) f.0 f.1) (sym (front_only (b ∷ behind) found.0 found.1 found.2)) found.2
 
--- bytes up to a length are a list of tokens or they are none
-lexed_within : (n : ℕ) (bytes : List ℕ) → length bytes ≤ n → ((tokens : List Token) × Tokens bytes tokens) ⊎ ((tokens : List Token) → Tokens bytes tokens → ⊥)
-lexed_within n [] h = inl ([], nothing)
-lexed_within zero (b ∷ bytes) h = absurd (omega arith)
-lexed_within (suc n) (b ∷ bytes) h =
-    elim (begun b bytes) [
-      | inl found ↦
-          let begins : Begins (b ∷ bytes) found.0 found.1 = found.2 in
-          let less : length found.1 < length (b ∷ bytes) = found.3 in
-          elim (lexed_within n found.1 (omega arith)) [
-            | inl lexed ↦ inl (found.0 ++ lexed.0, begins.goes_on lexed.0 lexed.1)
-            | inr refused ↦ inr (begins_refused (b ∷ bytes) found.0 found.1 begins refused)
-          ]
-      | inr refused ↦ inr refused
-    ]
+-- less is left behind a front
+pub front_shorter : (bytes : List ℕ) (kind : Option Kind) (rest : List ℕ) → tokens.Front bytes kind rest → length rest < length bytes
+front_shorter bytes kind rest (tokens.Front.blank h) = omega arith
+front_shorter bytes kind rest (tokens.Front.comment inside r h g lacks e) = omega (arith, ap length e, length-append inside (10 ∷ r))
+front_shorter bytes kind rest (tokens.Front.open_comment h g lacks) = omega arith
+front_shorter bytes kind rest (tokens.Front.word more r h passes stops e) = omega (arith, ap length e, length-append more r)
+front_shorter bytes kind rest (tokens.Front.number more r h passes stops e) = omega (arith, ap length e, length-append more r)
+front_shorter bytes kind rest (tokens.Front.text {bytes = behind} {inside = inside} {rest = r} h quoted) = omega (arith, quoted_shorter behind inside r quoted)
+front_shorter bytes kind rest (tokens.Front.open_text h unquoted) = omega arith
+front_shorter bytes kind rest (tokens.Front.symbol h alone) = omega arith
+front_shorter bytes kind rest (tokens.Front.pair h) = omega arith
+front_shorter bytes kind rest (tokens.Front.stray blank h) = omega arith
 
--- Bytes are one list of tokens at most.
-pub one_lexing : (bytes : List ℕ) (a b : List Token) → Tokens bytes a → Tokens bytes b → b ≡ a
-one_lexing bytes a b s t = one_within (length bytes) bytes (omega arith) a b s t
+-- TOKENS
 
--- Bytes are a list of tokens or they are none.
-pub lexed_or_not : (bytes : List ℕ) → ((tokens : List Token) × Tokens bytes tokens) ⊎ ((tokens : List Token) → Tokens bytes tokens → ⊥)
-lexed_or_not bytes = lexed_within (length bytes) bytes (omega arith)
+tokens_within : (n : ℕ) (bytes : List ℕ) → length bytes ≤ n → (all : List Token) × Tokens bytes all
+tokens_within n [] le = ([], tokens.Tokens.nothing)
+tokens_within zero (b ∷ bytes) le = absurd (omega arith)
+tokens_within (suc n) (b ∷ bytes) le =
+    let found = begun b bytes in
+    let less = front_shorter (b ∷ bytes) found.0 found.1 found.2 in
+    let behind = tokens_within n found.1 (omega (arith, le, less)) in
+    by_kind found.0 found.1 found.2 behind.0 behind.1
+  where
+    by_kind : (kind : Option Kind) (rest : List ℕ) → tokens.Front (b ∷ bytes) kind rest → (all : List Token) → Tokens rest all → (all : List Token) × Tokens (b ∷ bytes) all
+    by_kind None rest front all t = (all, tokens.Tokens.gap front t)
+    by_kind (Some kind) rest front all t = (record { kind = kind; left = length (b ∷ bytes) } ∷ all, tokens.Tokens.token front refl t)
+
+-- bytes are tokens
+pub tokens_of_bytes : (bytes : List ℕ) → (all : List Token) × Tokens bytes all
+tokens_of_bytes bytes = tokens_within (length bytes) bytes (omega arith)
+
+one_front_of : (bytes : List ℕ) (kind other : Option Kind) (rest behind : List ℕ) → tokens.Front bytes kind rest → tokens.Front bytes other behind → (kind ≡ other) × (rest ≡ behind)
+one_front_of bytes kind other rest behind f g =
+    let same = sym (front_only bytes kind rest f) ∙ front_only bytes other behind g in
+    (ap (λ (o : Found). o.0) same, ap (λ (o : Found). o.1) same)
+
+one_within : (n : ℕ) (bytes : List ℕ) (first second : List Token) → length bytes ≤ n → Tokens bytes first → Tokens bytes second → first ≡ second
+one_within n bytes first second le tokens.Tokens.nothing tokens.Tokens.nothing = refl
+one_within n bytes first second le tokens.Tokens.nothing (tokens.Tokens.gap f t) = absurd (let less = front_shorter [] _ _ f in omega (arith, less))
+one_within n bytes first second le tokens.Tokens.nothing (tokens.Tokens.token f e t) = absurd (let less = front_shorter [] _ _ f in omega (arith, less))
+one_within n bytes first second le (tokens.Tokens.gap f t) tokens.Tokens.nothing = absurd (let less = front_shorter [] _ _ f in omega (arith, less))
+one_within n bytes first second le (tokens.Tokens.token f e t) tokens.Tokens.nothing = absurd (let less = front_shorter [] _ _ f in omega (arith, less))
+one_within zero bytes first second le (tokens.Tokens.gap f t) u = absurd (let less = front_shorter bytes _ _ f in omega (arith, less, le))
+one_within zero bytes first second le (tokens.Tokens.token f e t) u = absurd (let less = front_shorter bytes _ _ f in omega (arith, less, le))
+one_within (suc n) bytes first second le (tokens.Tokens.gap {rest = r} f t) (tokens.Tokens.gap {rest = q} g u) =
+    let same = one_front_of bytes None None r q f g in
+    one_within n q first second (omega (arith, le, front_shorter bytes None q g)) (subst (λ l. Tokens l first) same.1 t) u
+one_within (suc n) bytes first second le (tokens.Tokens.gap {rest = r} f t) (tokens.Tokens.token {rest = q} {kind = k} g e u) = absurd (let same = (one_front_of bytes None (Some k) r q f g).0 in cc)
+one_within (suc n) bytes first second le (tokens.Tokens.token {rest = q} {kind = k} g e u) (tokens.Tokens.gap {rest = r} f t) = absurd (let same = (one_front_of bytes (Some k) None q r g f).0 in cc)
+one_within (suc n) bytes first second le (tokens.Tokens.token {rest = r} {tokens = ts} {kind = k} {n = i} f e t) (tokens.Tokens.token {rest = q} {tokens = us} {kind = j} {n = m} g h u) =
+    let same = one_front_of bytes (Some k) (Some j) r q f g in
+    let kinds : k ≡ j = (let o = same.0 in cc) in
+    let behind : ts ≡ us = one_within n q ts us (omega (arith, le, front_shorter bytes (Some j) q g)) (subst (λ l. Tokens l ts) same.1 t) u in
+    let left : i ≡ m = e ∙ sym h in
+    cc
+
+-- bytes are one list of tokens
+pub one_lexing : (bytes : List ℕ) (first second : List Token) → Tokens bytes first → Tokens bytes second → first ≡ second
+one_lexing bytes first second t u = one_within (length bytes) bytes first second (omega arith) t u
+
+-- THE CODE
+
+-- what is found stands there, and then what is behind it
+pub lexed_more : (bytes : List ℕ) (found : Found) → 1 ≤ length bytes → found ≡ front_at bytes → (more : List Token) → Tokens found.1 more → Tokens bytes (told found.0 (length bytes) ++ more)
+lexed_more [] found some e more t = absurd (omega arith)
+lexed_more (b ∷ behind) found some e more t = by_kind found.0 (subst (λ (f : Found). tokens.Front (b ∷ behind) f.0 f.1) (sym e) (front_is b behind))
+  where
+    by_kind : (kind : Option Kind) → tokens.Front (b ∷ behind) kind found.1 → Tokens (b ∷ behind) (told kind (length (b ∷ behind)) ++ more)
+    by_kind None front = tokens.Tokens.gap front t
+    by_kind (Some kind) front = tokens.Tokens.token front refl t
+
+-- the loop goes on
+pub lexed_step : (statement bytes : List ℕ) (found : Found) (before after : List Token) → 1 ≤ length bytes → found ≡ front_at bytes → after ≡ before ++ told found.0 (length bytes)
+    → ((more : List Token) → Tokens bytes more → Tokens statement (before ++ more)) → (more : List Token) → Tokens found.1 more → Tokens statement (after ++ more)
+lexed_step statement bytes found before after some e kept goes more t =
+    let next = goes (told found.0 (length bytes) ++ more) (lexed_more bytes found some e more t) in
+    subst (Tokens statement) (sym (ap (λ l. l ++ more) kept ∙ append_assoc before (told found.0 (length bytes)) more)) next
+
+-- the loop ends
+pub lexed_all : (statement bytes : List ℕ) (before : List Token) → length bytes < 1 → ((more : List Token) → Tokens bytes more → Tokens statement (before ++ more)) → Tokens statement before
+lexed_all statement [] before none goes = subst (Tokens statement) (append-nil before) (goes [] tokens.Tokens.nothing)
+lexed_all statement (b ∷ bytes) before none goes = absurd (omega arith)
+
+-- less is left
+pub lexed_shorter : (bytes : List ℕ) (found : Found) → 1 ≤ length bytes → found ≡ front_at bytes → length found.1 < length bytes
+lexed_shorter [] found some e = absurd (omega arith)
+lexed_shorter (b ∷ behind) found some e =
+    let less = front_shorter (b ∷ behind) _ _ (front_is b behind) in omega (arith, less, ap (λ (f : Found). length f.1) e)
+
+-- the digits at the front are the longest front of them
+pub number_found : (bytes : List ℕ) (value : ℕ) (rest : List ℕ) → EndsNumber 0 bytes value rest → (Some (Number value), rest) ≡ cut_at is_digit (λ f. Number (kept_number f)) bytes
+number_found bytes value rest ends =
+    ap (λ (v : ℕ). let o : Found = (Some (Number v), rest) in o) ends.value
+    ∙ sym (longest_is is_digit (λ f. Number (kept_number f)) bytes ends.digits rest ends.longest.whole ends.longest.passes ends.longest.stops)
+
+-- PLACES OF QUOTES
+
+-- a quote before this byte closes the text
+pub closes_here : (quote : Option ℕ) (i : ℕ) (bytes : List ℕ) (whole : Option ℕ) → i < length bytes → closes_before quote (get_or bytes i 0) ≡ true → closing_at quote i (drop i bytes) ≡ whole → quote ≡ whole
+closes_here quote i bytes whole lt stops h =
+    sym (at_drop_more (closing_at quote i) bytes i 0 lt ∙ ap (λ t. cond t quote (closing_at (next_quote quote i (get_or bytes i 0)) (i + 1) (drop (i + 1) bytes))) stops) ∙ h
+
+-- the text goes on
+pub closes_later : (quote : Option ℕ) (i : ℕ) (bytes : List ℕ) (whole : Option ℕ) → i < length bytes → closes_before quote (get_or bytes i 0) ≡ false → closing_at quote i (drop i bytes) ≡ whole
+    → closing_at (next_quote quote i (get_or bytes i 0)) (i + 1) (drop (i + 1) bytes) ≡ whole
+closes_later quote i bytes whole lt goes h =
+    sym (at_drop_more (closing_at quote i) bytes i 0 lt ∙ ap (λ t. cond t quote (closing_at (next_quote quote i (get_or bytes i 0)) (i + 1) (drop (i + 1) bytes))) goes) ∙ h
+
+-- the bytes end
+pub closes_at_end : (quote : Option ℕ) (i : ℕ) (bytes : List ℕ) (whole : Option ℕ) → length bytes ≤ i → closing_at quote i (drop i bytes) ≡ whole → quote ≡ whole
+closes_at_end quote i bytes whole le h = sym (ap (closing_at quote i) (drop_all i bytes le)) ∙ h
+
+pub next_within : (quote : Option ℕ) (i n b : ℕ) → i < n → IfSome (next_quote quote i b) (λ q. q < n)
+next_within (Some place) i n b lt = tt
+next_within None i n b lt = by_test (b == 39)
+  where
+    by_test : (t : Bool) → IfSome (cond t (Some i) None) (λ q. q < n)
+    by_test true = lt
+    by_test false = tt
+
+-- the front of a digit
+pub digit_found : (bytes : List ℕ) (found : Found) (value : ℕ) (rest : List ℕ) → 1 ≤ length bytes → class_at (get_or bytes 0 0) ≡ class.Digit → EndsNumber 0 bytes value rest → found ≡ (Some (Number value), rest) → found ≡ front_at bytes
+digit_found [] found value rest some at ends e = absurd (omega arith)
+digit_found (b ∷ behind) found value rest some at ends e = e ∙ number_found (b ∷ behind) value rest ends ∙ sym (ap (λ c. front_by c b behind) at)

@@ -1,14 +1,24 @@
-pub mod Fronts
-pub mod Giving
-pub mod Items
-pub mod Lexing
-pub mod Lists
-pub mod Numbers
-pub mod Parsing
-pub mod Parts
-pub mod Pieces
-pub mod Readers
-pub mod Scanning
-pub mod Separated
-pub mod Spelling
-pub mod Trimming
+mod Answers
+mod Depth
+mod Exact
+mod Folding
+mod Forks
+mod Fronts
+mod Giving
+mod Items
+mod Language
+mod Lexing
+mod Looking
+mod Loops
+mod Numbers
+mod Pieces
+mod Rules
+mod Scanning
+mod Separated
+mod Steady
+mod Stranging
+mod Telling
+mod Trimming
+mod Unique
+mod Whole
+mod WorkedLemmas

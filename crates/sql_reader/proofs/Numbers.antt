@@ -4,7 +4,7 @@ use Rattle.std.specs.Prelude.{IsTrue}
 use Rattle.std.specs.Char.{IsAsciiDigit}
 use Rattle.std.proofs.lemmas.Bool.Decides.{nat_tests}
 use Rattle.mdc_ast.specs.Tokens.{is_digit, number_behind}
-use Rattle.sql_reader.specs.Lexeme.{EndsNumber}
+use Rattle.sql_reader.specs.Digits.{EndsNumber}
 use Rattle.sql_reader.proofs.Fronts.{longest_more, tail, first_and_tail}
 
 -- what ends the number from here on ends it from the first digit on

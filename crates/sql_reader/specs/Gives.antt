@@ -1,27 +1,20 @@
--- How a step of a reader goes on with the items given so far.
-use Rattle.std.specs.Prelude.{ℕ, List, ◌∷◌, [], ◌++◌, Option, Some, None}
-use Rattle.mdc_ast.specs.Cutting.{Trims}
-use Rattle.mdc_ast.specs.Reading.{Item, IsItemOf}
-use Rattle.sql_reader.specs.declared.statements.Read.{Read}
-use Rattle.sql_reader.specs.Item.{item_of}
-use Rattle.sql_reader.specs.Progress.{Progress, Given}
+-- What a cursor took is what a reader reads.
+use Rattle.std.specs.Prelude.{◌≡◌, List, Result, Ok, Err}
+use Rattle.mdc_ast.specs.Tokens.{Token}
+use Rattle.sql_reader.specs.declared.cursor.Stop.{Stop}
+use Rattle.sql_reader.specs.declared.cursor.Stop.TheVariants.{NotSpelled, Memory}
 
--- the items given are as before
-abbrev pub Keeps : Progress → Progress → Type 0
-Keeps old new = (given : List Item) → Given old given → Given new given
+-- a stop stands where reading stops, or is for want of memory
+abbrev pub StopsAt : {Y : Type 0} → Stop → List Token → Result Y (List Token) → Type 0
+StopsAt NotSpelled rest read = read ≡ Err rest
+StopsAt Memory rest read = Unit {0}
 
--- one more item is given
-abbrev pub GivesOne : Progress → Progress → Item → Type 0
-GivesOne old new item = (given : List Item) → Given old given → Given new (given ++ item ∷ [])
+-- what was taken is what is read, and the rest is what is left
+abbrev pub Gives : {X : Type 0} → Result X Stop → List Token → Result (X × List Token) (List Token) → Type 0
+Gives (Ok x) rest read = read ≡ Ok (x, rest)
+Gives (Err stop) rest read = StopsAt stop rest read
 
--- the piece has a statement, which is this item
-pub record HasItem (piece : List ℕ) (item : Item) : Type 0 where
-  pub b : ℕ
-  pub rest : List ℕ
-  pub trims : Trims piece (b ∷ rest)
-  pub says : IsItemOf (b ∷ rest) item
-
--- the item of a piece, or none where it has no statement
-abbrev pub IsItemIn : List ℕ → Option Read → Type 0
-IsItemIn piece None = Trims piece []
-IsItemIn piece (Some read) = HasItem piece (item_of read)
+-- the same, of what has no value
+abbrev pub Skips : {X : Type 0} → Result X Stop → List Token → Result (List Token) (List Token) → Type 0
+Skips (Ok x) rest read = read ≡ Ok rest
+Skips (Err stop) rest read = StopsAt stop rest read

@@ -1,24 +1,44 @@
 -- Tokens as the grammar sees them.
-use Rattle.std.specs.Prelude.{ℕ, List, map}
+use Rattle.std.specs.Prelude.{ℕ, List, [], ◌∷◌, Bool, true, false, ◌==◌, map, codes}
 use Rattle.mdc_ast.specs.Tokens as ast
+use Rattle.mdc_ast.specs.Tokens.{upper}
 use Rattle.sql_reader.specs.declared.token.Symbol.{Symbol}
-use Rattle.sql_reader.specs.declared.token.Symbol.TheVariants.{Opening, Closing, Star, Plus, Comma, Minus}
+use Rattle.sql_reader.specs.declared.token.Symbol.TheVariants.{Opening, Closing, Comma, Star, Plus, Minus, Slash, Equal, Unequal, Less, AtMost, Greater, AtLeast}
+use Rattle.sql_reader.specs.declared.token.Kind.{Kind}
+use Rattle.sql_reader.specs.declared.token.Kind.TheVariants as kind
 use Rattle.sql_reader.specs.declared.token.Token.{Token}
-use Rattle.sql_reader.specs.declared.token.Token.TheVariants as token
 
--- the byte of a symbol
-abbrev pub byte_of : Symbol → ℕ
-byte_of Opening = 40
-byte_of Closing = 41
-byte_of Star = 42
-byte_of Plus = 43
-byte_of Comma = 44
-byte_of Minus = 45
+-- how a symbol is written
+abbrev pub bytes_of : Symbol → List ℕ
+bytes_of Opening = codes "("
+bytes_of Closing = codes ")"
+bytes_of Comma = codes ","
+bytes_of Star = codes "*"
+bytes_of Plus = codes "+"
+bytes_of Minus = codes "-"
+bytes_of Slash = codes "/"
+bytes_of Equal = codes "="
+bytes_of Unequal = codes "<>"
+bytes_of Less = codes "<"
+bytes_of AtMost = codes "<="
+bytes_of Greater = codes ">"
+bytes_of AtLeast = codes ">="
+
+-- the bytes of a text with one quote for two; the flag says that a quote stands before, whose second is left out
+abbrev pub undoubled : Bool → List ℕ → List ℕ
+undoubled behind_quote [] = []
+undoubled true (b ∷ bytes) = undoubled false bytes
+undoubled false (b ∷ bytes) = b ∷ undoubled (b == 39) bytes
+
+abbrev pub kind_of : Kind → ast.Kind
+kind_of (kind.Word word) = ast.Word (map upper word.now)
+kind_of (kind.Number number) = ast.Number number
+kind_of (kind.Text text) = ast.Text (undoubled false text.now)
+kind_of (kind.Symbol symbol) = ast.Symbol (bytes_of symbol)
+kind_of kind.Stray = ast.Stray
 
 abbrev pub token_of : Token → ast.Token
-token_of (token.Word word) = ast.Word word
-token_of (token.Number number) = ast.Number number
-token_of (token.Symbol symbol) = ast.Symbol (byte_of symbol)
+token_of token = record { kind = kind_of token.kind; left = token.left }
 
 abbrev pub tokens_of : List Token → List ast.Token
 tokens_of tokens = map token_of tokens

@@ -1,6 +1,6 @@
 // Where a comment ends.
 ghost use Rattle.std.specs.Prelude.{◌≡◌};
-ghost use Rattle.sql_reader.specs.Lexeme.{after_line};
+ghost use Rattle.sql_reader.specs.Front.{after_line};
 
 /// The bytes behind the next line feed, or none where there is none.
 pub(crate) fn after_line(bytes: &[u8]) -> &[u8]

@@ -1,6 +1,7 @@
 // What holds of each script, whoever reads it.
 ghost use Rattle.std.specs.Prelude.{◌≡◌, ◌++◌, ℕ, List, take};
 ghost use Rattle.mdc_ast.specs.Reading.{Item, Reads, Closes};
+ghost use Rattle.sql_reader.specs.Worked as worked;
 
 /// Each script has exactly one list of items.
 pub fn one_reading()
@@ -17,4 +18,9 @@ pub fn one_closing()
         → (more : List Item) × (all ≡ items ++ more) }
     ensures first { (script : List ℕ) (items all : List Item) → Closes script items → Reads script all
         → (more : List Item) × (all ≡ items ++ more) }
+{}
+
+/// A script with a statement, a query that ends too early and a comment has the items that were worked out by hand.
+pub fn worked_reading()
+    ensures { Reads worked.script worked.items }
 {}

@@ -1,13 +1,13 @@
 // The tokens of a statement.
-ghost use Rattle.std.specs.Prelude.{◌≡◌, ◌∷◌, List, map, IfOk, MatchOption};
-ghost use Rattle.mdc_ast.specs.Tokens as ast;
-ghost use Rattle.mdc_ast.specs.Tokens.{Tokens, is_word_byte, upper};
-ghost use Rattle.sql_reader.specs.Lexeme.{EndsNumber, IsFront, IsOfClass, front_len};
-ghost use Rattle.sql_reader.specs.Token.{tokens_of};
+ghost use Rattle.std.specs.Prelude.{◌≡◌, ◌<◌, [], ◌∷◌, None, Some, IfOk, IfSome, OnOk, ◌++◌, if◌then◌else◌, length, ◌==◌, true};
+ghost use Rattle.mdc_ast.specs.Tokens.{Tokens, is_pair, is_symbol, is_word_byte};
+ghost use Rattle.sql_reader.specs.Digits.{EndsNumber};
+ghost use Rattle.sql_reader.specs.Front.{class_at, closes_before, closing_at, next_quote, front_at, front_len, shown, shown_kind, shown_symbol, told, symbol_front, text_before};
+ghost use Rattle.sql_reader.specs.Token.{bytes_of, tokens_of, kind_of};
 
 use crate::comment::after_line;
-use crate::token::{Symbol, Token};
-use mdc_values::{Chars, Memory};
+use crate::token::{Kind, Symbol, Token};
+use mdc_values::Memory;
 use std::alloc::Global;
 
 /// Room for the tokens of a short statement, so that its list needn't grow.
@@ -19,97 +19,92 @@ enum Class {
     Blank,
     Letter,
     Digit,
-    /// A symbol that isn't a dash.
-    Mark(Symbol),
-    /// A minus, or the first of two dashes that begin a comment.
-    Dash,
+    Quote,
+    /// A symbol, or the first of two dashes that begin a comment.
+    Symbol,
     Unknown,
 }
 
-/// What stands at the front of bytes, and the bytes behind it.
-#[derive(Drop)]
-enum Lexeme<'a> {
-    /// A blank or a comment.
-    Gap(&'a [u8]),
-    Token(Token, &'a [u8]),
-    /// A byte that begins nothing.
-    Unknown,
-    /// There are no bytes.
-    End,
+/// What stands at the front of bytes, none for a blank or a comment, and the bytes behind it.
+#[derive(Clone, Copy)]
+struct Front<'s> {
+    kind: Option<Kind<'s>>,
+    rest: &'s [u8],
 }
 
-/// The tokens that the bytes are, or `None` where they are no tokens.
-pub fn lex(alloc: Global, statement: &[u8]) -> Result<Option<Vec<Token>>, Memory>
-    ensures { IfOk result (λ found. MatchOption found
-        ((tokens : List ast.Token) → Tokens statement.now tokens → ⊥)
-        (λ tokens. Tokens statement.now (tokens_of tokens.items))) }
+/// The tokens that the bytes of a statement are.
+pub fn lex<'s>(alloc: Global, statement: &'s [u8]) -> Result<Vec<Token<'s>>, Memory>
+    ensures { IfOk result (λ tokens. Tokens statement.now (tokens_of tokens.items)) }
 {
     let mut tokens = Vec::with_capacity(alloc, USUAL_TOKENS)?;
     let mut rest = statement;
-    loop {
-        match front_of(alloc, rest)? {
-            Lexeme::Gap(behind) => rest = behind,
-            Lexeme::Token(token, behind) => {
-                tokens.push(token)?;
-                rest = behind;
-            }
-            Lexeme::Unknown => return Ok(None),
-            Lexeme::End => return Ok(Some(tokens)),
-        }
+    while let [_, ..] = rest {
+        let front = front_of(rest);
+        keep(&mut tokens, front.kind, rest.len())?;
+        rest = front.rest;
     }
+    Ok(tokens)
+}
+
+/// Puts a token last, if there is one.
+fn keep<'s>(tokens: &mut Vec<Token<'s>>, kind: Option<Kind<'s>>, left: usize) -> Result<(), Memory>
+    ensures { OnOk result (tokens_of tokens.new.items ≡ tokens_of tokens.old.items ++ told (shown_kind kind.entry) left) }
+{
+    if let Some(kind) = kind {
+        tokens.push(Token { kind, left })?;
+    }
+    Ok(())
 }
 
 /// What the bytes begin with.
-fn front_of(alloc: Global, bytes: &[u8]) -> Result<Lexeme, Memory>
-    ensures { IfOk result (IsFront bytes.now) }
+fn front_of(bytes: &[u8]) -> Front<'_>
+    requires { 0 < length bytes.now }
+    ensures { shown result ≡ front_at bytes.now }
 {
-    let [byte, behind @ ..] = bytes else {
-        return Ok(Lexeme::End);
-    };
-    match class_of(*byte) {
-        Class::Blank => Ok(Lexeme::Gap(behind)),
+    let behind = &bytes[1..];
+    match class_of(bytes[0]) {
+        Class::Blank => gap(behind),
         Class::Letter => {
             let (word, rest) = bytes.split_at(word_len(bytes));
-            Ok(Lexeme::Token(Token::Word(folded(alloc, word)?), rest))
+            token(Kind::Word(word), rest)
         }
         Class::Digit => {
             let (number, rest) = number_of(bytes);
-            Ok(Lexeme::Token(Token::Number(number), rest))
+            token(Kind::Number(number), rest)
         }
-        Class::Mark(symbol) => Ok(Lexeme::Token(Token::Symbol(symbol), behind)),
-        Class::Dash => Ok(front_of_dash(behind)),
-        Class::Unknown => Ok(Lexeme::Unknown),
+        Class::Quote => text_front(behind),
+        Class::Symbol => symbol_front(bytes[0], behind),
+        Class::Unknown => token(Kind::Stray, behind),
+    }
+}
+
+/// Nothing that is told, and then the rest.
+fn gap(rest: &[u8]) -> Front<'_>
+    ensures { shown result ≡ (None, rest.now) }
+{
+    Front { kind: None, rest }
+}
+
+/// A token, and then the rest.
+fn token<'s>(kind: Kind<'s>, rest: &'s [u8]) -> Front<'s>
+    ensures { shown result ≡ (Some (kind_of kind.entry), rest.now) }
+{
+    Front {
+        kind: Some(kind),
+        rest,
     }
 }
 
 fn class_of(byte: u8) -> Class
-    ensures { IsOfClass result byte }
+    ensures { result ≡ class_at byte }
 {
     match byte {
         b'\t' | b'\n' | b'\r' | b' ' => Class::Blank,
         b'A'..=b'Z' | b'a'..=b'z' => Class::Letter,
         b'0'..=b'9' => Class::Digit,
-        b'(' => Class::Mark(Symbol::Opening),
-        b')' => Class::Mark(Symbol::Closing),
-        b'*' => Class::Mark(Symbol::Star),
-        b'+' => Class::Mark(Symbol::Plus),
-        b',' => Class::Mark(Symbol::Comma),
-        b'-' => Class::Dash,
+        b'\'' => Class::Quote,
+        b'('..=b'-' | b'/' | b'<'..=b'>' => Class::Symbol,
         _ => Class::Unknown,
-    }
-}
-
-/// What a dash and the bytes behind it begin with.
-fn front_of_dash(behind: &[u8]) -> Lexeme
-    ensures { IsFront (45 ∷ behind.now) result }
-{
-    let [next, comment @ ..] = behind else {
-        return Lexeme::Token(Token::Symbol(Symbol::Minus), behind);
-    };
-    if *next == b'-' {
-        Lexeme::Gap(after_line(comment))
-    } else {
-        Lexeme::Token(Token::Symbol(Symbol::Minus), behind)
     }
 }
 
@@ -129,15 +124,6 @@ fn is_word_byte(byte: u8) -> bool
     byte.is_ascii_alphanumeric() || byte == b'_'
 }
 
-/// A word in upper case.
-fn folded(alloc: Global, word: &[u8]) -> Result<Chars, Memory>
-    ensures { IfOk result (λ chars. chars ≡ map upper word.now) }
-{
-    let mut bytes = Vec::from_slice(alloc, word)?;
-    bytes.make_ascii_uppercase();
-    Ok(Chars::from_vec(bytes))
-}
-
 /// The number that the digits at the front write, and the bytes behind them.
 fn number_of(bytes: &[u8]) -> (u64, &[u8])
     ensures { EndsNumber 0 bytes.now result.0 result.1.now }
@@ -154,4 +140,97 @@ fn number_of(bytes: &[u8]) -> (u64, &[u8])
         rest = behind;
     }
     (number, rest)
+}
+
+/// What a quote begins that stands before these bytes.
+fn text_front(behind: &[u8]) -> Front<'_>
+    ensures { shown result ≡ text_before behind.now (closing_at None 0 behind.now) }
+{
+    match closing_quote(behind) {
+        Some(place) => token(Kind::Text(&behind[..place]), &behind[place + 1..]),
+        None => token(Kind::Stray, &[]),
+    }
+}
+
+/// The place of the quote that closes a text: a quote behind which no second one stands.
+fn closing_quote(bytes: &[u8]) -> Option<usize>
+    ensures place { result ≡ closing_at None 0 bytes.now }
+    ensures within { IfSome result (λ place. place < length bytes.now) }
+{
+    let mut quote = None;
+    for (place, byte) in bytes.iter().enumerate() {
+        if closes_before(quote, *byte) {
+            return quote;
+        }
+        quote = next_quote(quote, place, *byte);
+    }
+    quote
+}
+
+/// Whether a quote that stands before this byte closes a text: the byte is no second quote.
+fn closes_before(quote: Option<usize>, byte: u8) -> bool
+    ensures { result ≡ closes_before quote byte }
+{
+    match quote {
+        Some(_) => byte != b'\'',
+        None => false,
+    }
+}
+
+/// The place of a quote behind which a second one may stand, once this byte is passed.
+fn next_quote(quote: Option<usize>, place: usize, byte: u8) -> Option<usize>
+    ensures { result ≡ next_quote quote place byte }
+{
+    match quote {
+        Some(_) => None,
+        None => { if byte == b'\'' { Some(place) } else { None } }
+    }
+}
+
+/// What the byte of a symbol begins, with these bytes behind it.
+fn symbol_front(byte: u8, behind: &[u8]) -> Front<'_>
+    requires { is_symbol byte ≡ true }
+    ensures { shown result ≡ symbol_front byte behind.now }
+{
+    let [next, rest @ ..] = behind else {
+        return token(Kind::Symbol(symbol_of(byte)), behind);
+    };
+    if let Some(symbol) = pair_of(byte, *next) {
+        return token(Kind::Symbol(symbol), rest);
+    }
+    if byte == b'-' && *next == b'-' {
+        return gap(after_line(rest));
+    }
+    token(Kind::Symbol(symbol_of(byte)), behind)
+}
+
+/// The symbol of two bytes.
+fn pair_of(byte: u8, next: u8) -> Option<Symbol>
+    ensures { shown_symbol result ≡ (if is_pair byte next then Some (byte ∷ next ∷ []) else None) }
+{
+    match (byte, next) {
+        (b'<', b'>') => Some(Symbol::Unequal),
+        (b'<', b'=') => Some(Symbol::AtMost),
+        (b'>', b'=') => Some(Symbol::AtLeast),
+        _ => None,
+    }
+}
+
+/// The symbol of one byte.
+fn symbol_of(byte: u8) -> Symbol
+    requires { is_symbol byte ≡ true }
+    ensures { bytes_of result ≡ byte ∷ [] }
+{
+    match byte {
+        b'(' => Symbol::Opening,
+        b')' => Symbol::Closing,
+        b'*' => Symbol::Star,
+        b'+' => Symbol::Plus,
+        b',' => Symbol::Comma,
+        b'-' => Symbol::Minus,
+        b'<' => Symbol::Less,
+        b'=' => Symbol::Equal,
+        b'>' => Symbol::Greater,
+        _ => Symbol::Slash,
+    }
 }

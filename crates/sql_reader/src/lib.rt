@@ -1,25 +1,32 @@
-//! Reads a script: one item for each statement, as the bytes of a source come in.
+//! The items of a script, as its bytes come in: one for each statement, understood or refused.
 //!
-//! It promises that the items are those that the grammar of `mdc_ast` gives, whatever pieces the bytes come in, that a
-//! closed statement is given before another byte is asked for, and that each script has exactly one list of items.
-//! It stands on `mdc_ast` for statements and their spelling, and on `mdc_outside` for sources.
+//! It promises that the items are those of the grammar of `mdc_ast`, whatever pieces the bytes come in: a statement
+//! exactly where the bytes spell one, a refusal with the place of the first byte or token with which none goes on; and
+//! that each script has exactly one list of items. It stands on `mdc_ast` and on the sources of `mdc_outside`.
 #![tactic(auto)]
 
+mod change;
+mod column;
 mod comment;
+mod creation;
 mod cursor;
 mod item;
 mod laws;
 mod lexer;
-#[cfg(test)]
-mod lexer_tests;
+mod literal;
 mod parser;
-#[cfg(test)]
-mod parser_tests;
 mod place;
+mod predicate;
+mod query;
 mod reserved;
 mod statements;
+mod strange;
 mod token;
 mod trim;
+mod upkeep;
 
-pub use laws::{one_closing, one_reading};
+pub use laws::{one_closing, one_reading, worked_reading};
 pub use statements::{Read, ReadStop, SCRIPT_LIMIT, Statements};
+
+#[cfg(test)]
+mod tests;

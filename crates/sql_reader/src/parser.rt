@@ -1,148 +1,137 @@
-// The statement that tokens spell.
-ghost use Rattle.std.specs.Prelude.{IfOk, MatchOption};
-ghost use Rattle.mdc_ast.specs.declared.statement.Stmt.{Stmt};
-ghost use Rattle.mdc_ast.specs.Grammar.{Spells};
-ghost use Rattle.sql_reader.specs.Parsing as spec;
-ghost use Rattle.sql_reader.specs.Parsing.{Gives, IsRead};
+// The statement that tokens spell, or where they go wrong.
+ghost use Rattle.std.specs.Prelude.{◌≡◌, ◌<◌, IfOk, Err};
+ghost use Rattle.mdc_ast.specs.Grammar as grammar;
+ghost use Rattle.sql_reader.specs.Gives.{Gives};
+ghost use Rattle.sql_reader.specs.Readers.{read};
+ghost use Rattle.sql_reader.specs.Parsed.{IsParsed};
 ghost use Rattle.sql_reader.specs.Token.{tokens_of};
 
-use crate::cursor::{Cursor, Part, Stop};
-use crate::token::{Symbol, Token};
-use mdc_ast::{ColumnText, InsertItem, Name, OutList, Select, Stmt, TypeText};
-use mdc_values::{List, Literal, Memory};
+use crate::change::{delete, insert, update};
+use crate::creation::{create, drop_statement};
+use crate::cursor::{Cursor, Stop};
+use crate::query::query;
+use crate::token::Token;
+use crate::upkeep::{clean, list_blocks, reclaim, setting, work};
+use mdc_ast::Stmt;
+use mdc_values::Memory;
 use std::alloc::Global;
 
-impl Part for ColumnText {
-    ghost part_at = { spec.column_at };
-
-    #[tactic(auto, unfolding(crate::specs::Parsing::column_at))]
-    fn take(cursor: &mut Cursor) -> Result<ColumnText, Stop> {
-        let name = cursor.name()?;
-        cursor.word(b"INTEGER")?;
-        Ok(ColumnText {
-            name,
-            ty: TypeText::Integer,
-        })
-    }
+/// What the tokens say.
+#[derive(Debug, Drop)]
+pub enum Parsed {
+    Spelled(Stmt),
+    /// They go wrong at the token that begins so many bytes before the end, or at the end (0).
+    Fails(usize),
+    /// A predicate nests too deep.
+    TooDeep,
 }
 
-/// A dimension, which has one column.
-impl Part for List<Name> {
-    ghost part_at = { spec.dim_at };
-
-    #[tactic(auto, unfolding(crate::specs::Parsing::dim_at))]
-    fn take(cursor: &mut Cursor) -> Result<List<Name>, Stop> {
-        let mut columns = List::new(cursor.alloc);
-        columns.push(cursor.name()?)?;
-        Ok(columns)
-    }
-}
-
-impl Part for InsertItem {
-    ghost part_at = { spec.item_at };
-
-    #[tactic(auto, unfolding(crate::specs::Parsing::item_at))]
-    fn take(cursor: &mut Cursor) -> Result<InsertItem, Stop> {
-        let (negative, size, rest) = match cursor.tokens {
-            [Token::Symbol(Symbol::Minus), Token::Number(size), rest @ ..] => (true, *size, rest),
-            [Token::Symbol(Symbol::Plus), Token::Number(size), rest @ ..]
-            | [Token::Number(size), rest @ ..] => (false, *size, rest),
-            _ => return Err(Stop::NotSpelled),
-        };
-        cursor.tokens = rest;
-        Ok(InsertItem::Literal(Literal::Number { negative, size }))
-    }
-}
-
-/// A tuple.
-impl Part for List<InsertItem> {
-    ghost part_at = { spec.tuple_at };
-
-    fn take(cursor: &mut Cursor) -> Result<List<InsertItem>, Stop> {
-        cursor.listed()
-    }
-}
-
-#[tactic(auto, unfolding(crate::specs::Parsing::create_at))]
-fn create(cursor: &mut Cursor) -> Result<Stmt, Stop>
-    ensures { Gives result (tokens_of cursor.new.tokens.now) (spec.create_at (tokens_of cursor.old.tokens.now)) }
-{
-    cursor.word(b"TABLE")?;
-    let name = cursor.name()?;
-    let columns = cursor.listed()?;
-    cursor.word(b"ORGANIZE")?;
-    cursor.word(b"BY")?;
-    cursor.optional_word(b"DIMENSIONS");
-    let dims = cursor.listed()?;
-    Ok(Stmt::CreateTable {
-        name,
-        columns,
-        dims,
-    })
-}
-
-#[tactic(auto, unfolding(crate::specs::Parsing::insert_at))]
-fn insert(cursor: &mut Cursor) -> Result<Stmt, Stop>
-    ensures { Gives result (tokens_of cursor.new.tokens.now) (spec.insert_at (tokens_of cursor.old.tokens.now)) }
-{
-    cursor.word(b"INTO")?;
-    let table = cursor.name()?;
-    cursor.word(b"VALUES")?;
-    let rows = cursor.separated()?;
-    Ok(Stmt::Insert { table, rows })
-}
-
-#[tactic(auto, unfolding(crate::specs::Parsing::query_at))]
-fn query(cursor: &mut Cursor) -> Result<Stmt, Stop>
-    ensures { Gives result (tokens_of cursor.new.tokens.now) (spec.query_at (tokens_of cursor.old.tokens.now)) }
-{
-    cursor.symbol(Symbol::Star)?;
-    cursor.word(b"FROM")?;
-    let table = cursor.name()?;
-    Ok(Stmt::Query(Select {
-        list: OutList::Star,
-        table,
-    }))
-}
-
-#[tactic(auto, unfolding(crate::specs::Parsing::statement_at))]
-fn statement(cursor: &mut Cursor) -> Result<Stmt, Stop>
-    ensures { Gives result (tokens_of cursor.new.tokens.now) (spec.statement_at (tokens_of cursor.old.tokens.now)) }
-{
-    let [Token::Word(word), rest @ ..] = cursor.tokens else {
-        return Err(Stop::NotSpelled);
-    };
-    cursor.tokens = rest;
-    match word.bytes() {
-        b"CREATE" => create(cursor),
-        b"INSERT" => insert(cursor),
-        b"SELECT" => query(cursor),
-        _ => Err(Stop::NotSpelled),
-    }
-}
-
-#[tactic(auto, unfolding(crate::specs::Parsing::whole_at))]
-fn whole(alloc: Global, tokens: &[Token]) -> Result<Stmt, Stop>
-    ensures { IsRead result (spec.whole_at (tokens_of tokens.now)) }
+/// The statement that the tokens spell, or where they go wrong. A predicate may nest `limit` deep.
+pub fn parse(alloc: Global, tokens: &[Token], limit: u8) -> Result<Parsed, Memory>
+    requires { limit < 255 }
+    ensures { IfOk result (λ parsed. IsParsed limit (tokens_of tokens.now) parsed) }
 {
     let mut cursor = Cursor { alloc, tokens };
-    let stmt = statement(&mut cursor)?;
-    if !cursor.tokens.is_empty() {
-        return Err(Stop::NotSpelled);
-    }
-    Ok(stmt)
-}
-
-/// The statement that the tokens spell, or `None` where they spell none.
-#[tactic(auto, using(crate::proofs::Parsing::whole_sound, crate::proofs::Parsing::whole_none))]
-pub fn parse(alloc: Global, tokens: &[Token]) -> Result<Option<Stmt>, Memory>
-    ensures { IfOk result (λ found. MatchOption found
-        ((stmt : Stmt) → Spells (tokens_of tokens.now) stmt → ⊥)
-        (λ stmt. Spells (tokens_of tokens.now) stmt)) }
-{
-    match whole(alloc, tokens) {
-        Ok(stmt) => Ok(Some(stmt)),
-        Err(Stop::NotSpelled) => Ok(None),
+    match statement(&mut cursor, limit) {
+        Ok(stmt) => {
+            if cursor.tokens.is_empty() {
+                Ok(Parsed::Spelled(stmt))
+            } else {
+                Ok(Parsed::Fails(cursor.left()))
+            }
+        }
+        Err(Stop::NotSpelled) => judge(alloc, tokens, limit, cursor),
         Err(Stop::Memory) => Err(Memory),
     }
+}
+
+/// Whether the place where the tokens stop nests too deep: then they go on with one level more.
+fn judge(alloc: Global, tokens: &[Token], limit: u8, stopped: Cursor) -> Result<Parsed, Memory>
+    requires room { limit < 255 }
+    requires stops { read (grammar.statement_rule limit) (tokens_of tokens.now) ≡ Err (tokens_of stopped.tokens.now) }
+    ensures { IfOk result (λ parsed. IsParsed limit (tokens_of tokens.now) parsed) }
+{
+    let left = stopped.left();
+    let mut deeper = Cursor { alloc, tokens };
+    match statement(&mut deeper, limit + 1) {
+        Ok(_) => Ok(Parsed::TooDeep),
+        Err(Stop::NotSpelled) => {
+            if deeper.tokens.len() < stopped.tokens.len() {
+                Ok(Parsed::TooDeep)
+            } else {
+                Ok(Parsed::Fails(left))
+            }
+        }
+        Err(Stop::Memory) => Err(Memory),
+    }
+}
+
+/// A statement whose predicate nests at most `depth` deep.
+#[tactic(auto, unfolding(mdc_ast::specs::Grammar::statement_rule, mdc_ast::specs::Grammar::query_rule))]
+fn statement(cursor: &mut Cursor, depth: u8) -> Result<Stmt, Stop>
+    ensures { Gives result (tokens_of cursor.new.tokens.now) (read (grammar.statement_rule depth) (tokens_of cursor.old.tokens.now)) }
+{
+    if cursor.at_word(b"INSERT") {
+        cursor.word(b"INSERT")?;
+        return insert(cursor);
+    }
+    if cursor.at_word(b"SELECT") {
+        let select = query(cursor, depth)?;
+        return Ok(Stmt::Query(select));
+    }
+    if cursor.at_word(b"UPDATE") {
+        cursor.word(b"UPDATE")?;
+        return update(cursor, depth);
+    }
+    if cursor.at_word(b"DELETE") {
+        cursor.word(b"DELETE")?;
+        return delete(cursor, depth);
+    }
+    if cursor.at_word(b"EXPLAIN") {
+        cursor.word(b"EXPLAIN")?;
+        let select = query(cursor, depth)?;
+        return Ok(Stmt::Explain(select));
+    }
+    other(cursor)
+}
+
+/// A statement without a predicate, other than INSERT.
+#[tactic(auto, unfolding(mdc_ast::specs::Grammar::other_rule))]
+fn other(cursor: &mut Cursor) -> Result<Stmt, Stop>
+    ensures { Gives result (tokens_of cursor.new.tokens.now) (read grammar.other_rule (tokens_of cursor.old.tokens.now)) }
+{
+    if cursor.at_word(b"CREATE") {
+        cursor.word(b"CREATE")?;
+        return create(cursor);
+    }
+    if cursor.at_word(b"DROP") {
+        cursor.word(b"DROP")?;
+        return drop_statement(cursor);
+    }
+    if cursor.at_word(b"SET") {
+        cursor.word(b"SET")?;
+        return setting(cursor);
+    }
+    if cursor.at_word(b"CLEAN") {
+        cursor.word(b"CLEAN")?;
+        return clean(cursor);
+    }
+    if cursor.at_word(b"LIST") {
+        cursor.word(b"LIST")?;
+        return list_blocks(cursor);
+    }
+    if cursor.at_word(b"REORG") {
+        cursor.word(b"REORG")?;
+        return reclaim(cursor);
+    }
+    if cursor.at_word(b"BEGIN") {
+        cursor.word(b"BEGIN")?;
+        return Ok(Stmt::Begin);
+    }
+    if cursor.at_word(b"COMMIT") {
+        cursor.word(b"COMMIT")?;
+        return work(cursor, Stmt::Commit);
+    }
+    cursor.word(b"ROLLBACK")?;
+    work(cursor, Stmt::Rollback)
 }

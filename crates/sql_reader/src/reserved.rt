@@ -1,8 +1,11 @@
 // The words that are no names.
 ghost use Rattle.std.specs.List.{list_any};
-ghost use Rattle.std.specs.Prelude.{◌≡◌};
+ghost use Rattle.std.specs.Prelude.{◌≡◌, map};
 ghost use Rattle.std.specs.Str.{bytes_eq};
-ghost use Rattle.mdc_ast.specs.Grammar as grammar;
+ghost use Rattle.mdc_ast.specs.Classes as classes;
+ghost use Rattle.mdc_ast.specs.Tokens.{upper};
+
+use crate::token::is_folded;
 
 const RESERVED: [&[u8]; 26] = [
     b"AND",
@@ -35,13 +38,13 @@ const RESERVED: [&[u8]; 26] = [
 
 /// Whether a word can be a name.
 pub fn is_name(word: &[u8]) -> bool
-    ensures { result ≡ grammar.is_name word.now }
+    ensures { result ≡ classes.is_name (map upper word.now) }
 {
     !is_among(word, &RESERVED)
 }
 
 fn is_among(word: &[u8], words: &[&[u8]]) -> bool
-    ensures { result ≡ list_any (λ other. bytes_eq word.now other.now) words.now }
+    ensures { result ≡ list_any (λ other. bytes_eq (map upper word.now) other.now) words.now }
 {
-    words.iter().any(|other| word == *other)
+    words.iter().any(|other| is_folded(word, other))
 }

@@ -1,8 +1,8 @@
 // The items of a script, as its bytes come in.
 ghost use Rattle.std.specs.Prelude.{◌≡◌, ◌<◌, ◌≤◌, [], ◌∷◌, ◌++◌, ◌+◌, List, ℕ, take, length, vec_len, vec_capacity, slice_range, true, false, ◌⊎◌, IfOk, OnErr, IfSome, IfNone, IsErrOf};
 ghost use Rattle.mdc_ast.specs.Reading.{Item, Closes};
-ghost use Rattle.mdc_outside.specs.Outside.{Rose};
-ghost use Rattle.sql_reader.specs.Gives.{GivesOne, IsItemIn, Keeps};
+ghost use Rattle.mdc_words.specs.Faults.{Rose};
+ghost use Rattle.sql_reader.specs.Items.{GivesOne, IsItemIn, Keeps};
 ghost use Rattle.sql_reader.specs.Item.{item_of};
 ghost use Rattle.sql_reader.specs.Progress.{Advances, Given, Took, IsLastRead, at_start};
 ghost use Rattle.sql_reader.specs.Scan.{EndsPiece, IsLast};

@@ -1,15 +1,7 @@
 -- What each call of a store does. All that a definition doesn't name stays.
-use Rattle.std.specs.Prelude.{◌≡◌, ◌⊎◌, ◌<◌, ◌≤◌, ℕ, IsTrue, true, false, List, [], ◌∷◌, ◌++◌, Option, Some, None, unwrap_or, replicate, slice_set}
+use Rattle.std.specs.Prelude.{◌≡◌, ◌⊎◌, ℕ, IsTrue, true, false, List, [], ◌∷◌, ◌++◌, Option, Some, None, unwrap_or, replicate, slice_set}
+use Rattle.mdc_words.specs.Fronts.{IsFrontOf}
 use Rattle.store_api.specs.StoreState.{StoreState, page_at, zero_page, seen}
-
--- A count of faults rose. It is kept in 64 bits, and stands still at the last number.
-abbrev pub Rose : ℕ → ℕ → Type 0
-Rose before now = (before < now) ⊎ (before ≡ 18446744073709551615)
-
--- no count of faults falls
-pub record KeepsFaults {S : Type 0} (disk_faults say_faults : S → ℕ) (old new : S) : Type 0 where
-  pub disk : disk_faults old ≤ disk_faults new
-  pub say : say_faults old ≤ say_faults new
 
 -- the list with one more item, where it is told
 abbrev pub noted : {A : Type 0} → A → Option (List A) → Option (List A)
@@ -20,10 +12,6 @@ noted item (Some items) = Some (items ++ item ∷ [])
 abbrev pub continued : List ℕ → Option (List ℕ) → Option (List ℕ)
 continued piece None = None
 continued piece (Some bytes) = Some (bytes ++ piece)
-
--- one is a front of the other
-abbrev pub IsFrontOf : List ℕ → List ℕ → Type 0
-IsFrontOf part piece = (rest : List ℕ) × (piece ≡ part ++ rest)
 
 -- page p came to hand, which is this one where it is told
 abbrev pub Brings : ℕ → List ℕ → StoreState → StoreState → Type 0
@@ -42,9 +30,18 @@ FetchesCommitted p old new = Brings p (page_at old.base p) old new
 abbrev pub LosesHand : StoreState → StoreState → Type 0
 LosesHand old new = new ≡ record old { hand = None }
 
+-- page p of the work is these bytes, and these are the pages that came to hand so far
+abbrev pub Puts : Option (List ℕ) → ℕ → List ℕ → StoreState → StoreState → Type 0
+Puts fetched p bytes old new =
+    new ≡ record old { work = seen old.is_told (slice_set old.work p bytes); hand = None; prepared = false; fetched = fetched }
+
 -- page p of the work is these bytes
 abbrev pub Writes : ℕ → List ℕ → StoreState → StoreState → Type 0
-Writes p bytes old new = new ≡ record old { work = seen old.is_told (slice_set old.work p bytes); hand = None; prepared = false }
+Writes p bytes old new = Puts old.fetched p bytes old new
+
+-- page p of the work, which came to its borrower's hands, is these bytes
+abbrev pub Edits : ℕ → List ℕ → StoreState → StoreState → Type 0
+Edits p bytes old new = Puts (noted p old.fetched) p bytes old new
 
 -- the work has n pages of zeros more at its end
 abbrev pub Grows : ℕ → StoreState → StoreState → Type 0

@@ -1,7 +1,12 @@
-pub mod Bound
 pub mod Calls
+pub mod Causes
 pub mod Faults
+pub mod Fetching
+pub mod Frame
 pub mod History
+pub mod Lending
 pub mod MemStore
 pub mod Moments
+pub mod RunsOverPages
 pub mod StoreState
+pub mod Works

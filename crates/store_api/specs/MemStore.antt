@@ -5,8 +5,8 @@ use Rattle.store_api.specs.StoreState.{StoreState}
 use Rattle.store_api.specs.History.{undone, marked_pages, hand_page}
 
 -- all but the counts and the time
-abbrev pub state_of : MemStore → StoreState
-state_of s = record {
+abbrev pub mem_state_of : MemStore → StoreState
+mem_state_of s = record {
   is_told = true;
   base = undone s.history.items (take s.base_count s.work.items);
   work = s.work.items;
@@ -20,12 +20,12 @@ state_of s = record {
 }
 
 -- a page for each change and each page that was added, and no more than there are
-abbrev pub written_of : MemStore → ℕ
-written_of s = min (length s.history.items + (length s.work.items - s.base_count)) (length s.work.items)
+abbrev pub mem_written_of : MemStore → ℕ
+mem_written_of s = min (length s.history.items + (length s.work.items - s.base_count)) (length s.work.items)
 
 -- a store of these pages that was just opened
-abbrev pub opened : List (List ℕ) → StoreState
-opened pages = record {
+abbrev pub fresh_store : List (List ℕ) → StoreState
+fresh_store pages = record {
   is_told = true;
   base = pages;
   work = pages;

@@ -1,7 +1,8 @@
 -- What a crash may leave: the pages to which the file then reopens, with the bytes that were told.
-use Rattle.std.specs.Prelude.{◌≡◌, ◌⊎◌, ◌≤◌, ℕ, List, Option, Some, MatchBool, IfSome}
+use Rattle.std.specs.Prelude.{◌≡◌, ◌⊎◌, List, ℕ, Option, Some, MatchBool, IfSome}
+use Rattle.mdc_words.specs.Fronts.{IsFrontOf}
 use Rattle.store_api.specs.StoreState.{StoreState}
-use Rattle.store_api.specs.Calls.{continued, IsFrontOf}
+use Rattle.store_api.specs.Calls.{continued}
 
 -- the pages to which a file reopens, or nothing where it doesn't reopen, and the bytes told with it
 abbrev pub Outcomes : Type 1
@@ -24,13 +25,6 @@ BaseWithFront piece s pages told =
 abbrev pub AtRest : StoreState → Outcomes
 AtRest s pages told = MatchBool s.ended (BaseOrWork s pages told) (OnlyBase s pages told)
 
--- Time goes on over a call, or over a run of calls. A crash since it began leaves only what is within, and what may be
--- left since an earlier time is what could be left before, and what may be left since the call began.
-pub record Passes {S : Type 0} (state : S → StoreState) (clock : S → ℕ) (left : S → ℕ → Outcomes) (Within : Outcomes) (old new : S) : Type 0 where
-  pub later : clock old ≤ clock new
-  pub since_call : (pages : Option (List (List ℕ))) (told : List ℕ) → left new (clock old) pages told → Within pages told
-  pub nothing_else : (t : ℕ) (pages : Option (List (List ℕ))) (told : List ℕ) → t ≤ clock old → left new t pages told → left old t pages told ⊎ left new (clock old) pages told
-  pub keeps : (t : ℕ) (pages : Option (List (List ℕ))) (told : List ℕ) → t ≤ clock old → left old t pages told → left new t pages told
-  pub adds : (t : ℕ) (pages : Option (List (List ℕ))) (told : List ℕ) → t ≤ clock old → left new (clock old) pages told → left new t pages told
-  -- a crash after it
-  pub at_rest : (pages : Option (List (List ℕ))) (told : List ℕ) → left new (clock new) pages told → AtRest (state new) pages told
+-- the base before, or the work after, with the bytes told before, where they are told
+abbrev pub BaseOrNow : StoreState → StoreState → Outcomes
+BaseOrNow old new pages told = ((pages ≡ Some old.base) ⊎ (pages ≡ Some new.work)) × IfSome old.told (λ bytes. told ≡ bytes)

@@ -1,5 +1,5 @@
 -- What a store of pages is seen as. A page is the list of its bytes.
-use Rattle.std.specs.Prelude.{ℕ, ◌+◌, Bool, true, false, if◌then◌else◌, List, [], ◌∷◌, length, take, drop, replicate, slice_index_or, Option}
+use Rattle.std.specs.Prelude.{ℕ, ◌+◌, Bool, true, false, if◌then◌else◌, List, [], ◌∷◌, ◌++◌, length, take, drop, replicate, slice_index_or, Option}
 use Rattle.std.specs.Int.{from_be_bytes, w32}
 use Rattle.std.specs.Str.{bytes_eq}
 
@@ -38,6 +38,10 @@ page_at pages p = slice_index_or pages p []
 -- a page of zeros
 unfoldable pub zero_page : List ℕ
 zero_page = replicate 4096 0
+
+-- the page with these bytes from a place on
+abbrev pub patched : ℕ → List ℕ → List ℕ → List ℕ
+patched at bytes page = take at page ++ bytes ++ drop (at + length bytes) page
 
 -- the page count that a page 0 states, in its bytes 8 to 11
 abbrev pub stated_in : List ℕ → ℕ

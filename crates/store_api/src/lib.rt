@@ -2,9 +2,14 @@
 //!
 //! A store has a base, the pages of the last commit, and the work, the pages as they are now. `Pages` reads and changes
 //! the work, and can take it back to a mark. `Store` makes it the base, whole or not at all, and tells bytes.
-//! `MemStore` is in memory, never meets a fault of a disk, and tells what it was asked. It stands on nothing.
+//! `bring`, `write_page`, `patch_page` and `add_pages` are calls of it with the faults of a whole database. What a run of
+//! calls leaves of a store, layers above say in words that compose, of which `RunsOverPages` has them all.
+//!
+//! It promises that `MemStore`, which is in memory, meets this contract. It never meets a fault of a disk, and tells what
+//! it was asked. It stands on the words that all layers share.
 #![tactic(auto)]
 
+mod calls;
 mod fault;
 mod history;
 mod mem_store;
@@ -12,11 +17,9 @@ mod page;
 mod pages;
 mod store;
 
+pub use calls::{add_pages, bring, patch_page, write_page};
 pub use fault::{Damage, DeviceFault, Mute, PageFault, StoreFault};
 pub use mem_store::MemStore;
-pub use page::{blank_page, stated_count};
+pub use page::{blank_page, put, stated_count};
 pub use pages::{MAX_PAGES, Page, Pages};
 pub use store::Store;
-
-#[cfg(test)]
-mod tests;

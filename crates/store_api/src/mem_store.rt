@@ -6,6 +6,7 @@ ghost use Rattle.store_api.specs.declared.pages.TheConstants.{MAX_PAGES};
 
 use crate::history::{Change, Mark, go_back, oldest_change};
 use crate::{DeviceFault, MAX_PAGES, Mute, Page, PageFault, Pages, Store, blank_page};
+use mdc_words::count_fault;
 use std::alloc::Global;
 
 /// Where the page at hand lies.
@@ -36,13 +37,14 @@ pub struct MemStore {
 
 impl MemStore {
     ghost use Rattle.std.specs.Prelude.{Some};
-    ghost use Rattle.store_api.specs.MemStore.{opened};
+    ghost use Rattle.store_api.specs.MemStore.{fresh_store};
 
     /// A store whose base and work are these pages.
     pub fn new(alloc: Global, base: Vec<Page>) -> MemStore
         requires { vec_len base ≤ MAX_PAGES }
-        ensures opened { ⟦<MemStore as Pages>⟧.state result ≡ opened base.items }
+        ensures fresh { ⟦<MemStore as Pages>⟧.state result ≡ fresh_store base.items }
         ensures written { ⟦<MemStore as Pages>⟧.written result ≡ 0 }
+        ensures say_faults { ⟦<MemStore as Pages>⟧.say_faults result ≡ 0 }
     {
         let base_count = base.len();
         MemStore {
@@ -74,11 +76,11 @@ impl MemStore {
 }
 
 impl Pages for MemStore {
-    ghost use Rattle.store_api.specs.MemStore.{state_of, written_of};
+    ghost use Rattle.store_api.specs.MemStore.{mem_state_of, mem_written_of};
 
-    ghost state = { state_of };
+    ghost state = { mem_state_of };
 
-    ghost written = { written_of };
+    ghost written = { mem_written_of };
 
     ghost disk_faults = { λ _. 0 };
 
@@ -87,6 +89,8 @@ impl Pages for MemStore {
     ghost clock = { λ _. 0 };
 
     ghost left = { λ _ _ _ _. ⊥ };
+
+    ghost earlier = { λ _ _ _ _ _ _ _ none. none };
 
     fn count(&self) -> u32 {
         self.work.len() as u32
@@ -115,6 +119,17 @@ impl Pages for MemStore {
         self.history.push(Change { page, was })?;
         self.work[page] = *bytes;
         Ok(())
+    }
+
+    fn edit(&mut self, p: u32) -> Result<&mut Page, PageFault> {
+        self.hand = None;
+        self.prepared = false;
+        let page = p as usize;
+        let was = self.work[page];
+        self.fetched.reserve(1)?;
+        self.history.push(Change { page, was })?;
+        self.fetched.push_reserved(p);
+        Ok(&mut self.work[page])
     }
 
     fn grow(&mut self, n: u32) -> Result<(), PageFault> {
@@ -197,7 +212,7 @@ impl Store for MemStore {
     fn tell(&mut self, bytes: &[u8]) -> Result<(), Mute> {
         self.hand = None;
         if self.told.extend_from_slice(bytes).is_err() {
-            self.say_faults = self.say_faults.saturating_add(1);
+            count_fault(&mut self.say_faults);
             return Err(Mute);
         }
         Ok(())

@@ -1,6 +1,6 @@
 use Rattle.std.proofs.Common.{◌≡◌, ◌≤◌, ◌∙◌, ap, sym, take, drop, length, fold, arith, take_all}
 use Rattle.std.proofs.lemmas.List.{take-append-drop}
-use Rattle.mdc_outside.specs.Aftermath.{torn_by, bytes_after, IsLeft}
+use Rattle.mdc_outside.specs.Aftermath.{torn_by, bytes_after, IsLeftByCalls}
 use Rattle.mdc_outside.proofs.Aftermaths.{allowed-left}
 use Rattle.mdc_outside.proofs.aftermath.left_after.Goals as goal
 
@@ -11,7 +11,7 @@ returns c =
     let past : length before ≤ c.loop-entry.entry-index = omega arith in
     let bytes : c.loop-entry.bytes.items ≡ fold bytes_after c.args.first.now (take k c.args.calls.now) =
     c.loop-entry.invariant ∙ (ap (fold bytes_after c.args.first.now) (take_all c.loop-entry.entry-index before past) ∙ ap (fold bytes_after c.args.first.now) c.split_at.ensures.front) in
-    let left : IsLeft c.args.fill c.args.first.now c.args.calls.now c.tear_all.new.bytes.items = record {
+    let left : IsLeftByCalls c.args.fill c.args.first.now c.args.calls.now c.tear_all.new.bytes.items = record {
       before = take k c.args.calls.now;
       since = drop k c.args.calls.now;
       all = sym (take-append-drop k c.args.calls.now);

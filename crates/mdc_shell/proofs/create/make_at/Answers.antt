@@ -1,11 +1,14 @@
-use Rattle.std.proofs.Common.{◌<◌, length, refl, ap, ◌∙◌, true}
+use Rattle.std.proofs.Common.{◌<◌, length, ap, ◌∙◌, true}
 use Rattle.std.specs.Option.{ForSome, option_map}
 use Rattle.mdc_outside.specs.Disk.{opened}
-use Rattle.mdc_shell.proofs.Creating.{both_made, call_and_make, left_by_attach, left_by_making, opens_as_it_was, quiet_call, stays_opened}
+use Rattle.mdc_words.proofs.TimeLemmas.{over_time_then, over_time_wider}
+use Rattle.mdc_shell.proofs.CreateLemmas.{both_made, left_by_attach, left_by_making, opens_as_it_was, stays_opened}
+use Rattle.mdc_shell.proofs.LeavingLemmas.{of_making-quiet}
 use Rattle.mdc_shell.proofs.create.make_at.Goals as goal
 
-pub returns-in_err-attach-clause-crash : goal.returns-in_err-attach-clause-crash
-returns-in_err-attach-clause-crash g c = quiet_call c.args.shape.extents c.args.shape.extent_pages _ _ _ _ _ _ c.attach.ensures.time (g.met.D.Disk.only_now c.args.disk.now)
+pub returns-in_err-attach-clause-time : goal.returns-in_err-attach-clause-time
+returns-in_err-attach-clause-time g c = λ before said is told.
+    over_time_wider c.attach.ensures.time (of_making-quiet c.args.shape.extents c.args.shape.extent_pages _ _ before said is told)
 
 pub returns-clause-made : goal.returns-clause-made
 returns-clause-made g c = both_made c.make.result c.args.shape.extents c.args.shape.extent_pages _ c.make.ensures.made c.make.ensures.empty
@@ -13,9 +16,9 @@ returns-clause-made g c = both_made c.make.result c.args.shape.extents c.args.sh
 pub returns-clause-refused : goal.returns-clause-refused
 returns-clause-refused g c = λ before is. c.make.ensures.refused (opened before) (c.in_ok-attach.ensures.opened ∙ ap (option_map opened) is)
 
-pub returns-clause-crash : goal.returns-clause-crash
-returns-clause-crash g c = λ before said is told.
-    call_and_make c.args.shape.extents c.args.shape.extent_pages _ _ _ _ _ _ _ c.attach.ensures.time (g.met.D.Disk.only_now c.args.disk.now) before (opened before) said is told refl refl
+pub returns-clause-time : goal.returns-clause-time
+returns-clause-time g c = λ before said is told.
+    over_time_then (over_time_wider c.attach.ensures.time (of_making-quiet c.args.shape.extents c.args.shape.extent_pages _ _ before said is told))
     (c.make.ensures.leaves.crash (opened before) said (c.in_ok-attach.ensures.opened ∙ ap (option_map opened) is) (ap (λ b. b.tape) c.attach.ensures.beside ∙ told))
 
 pub returns-clause-exists : goal.returns-clause-exists

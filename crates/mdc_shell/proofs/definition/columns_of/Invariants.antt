@@ -1,5 +1,5 @@
 use Rattle.std.proofs.Common.{◌≡◌, map, take}
-use Rattle.mdc_ast.specs.Step.{column_of}
+use Rattle.first_ast.specs.Step.{column_of}
 use Rattle.mdc_shell.proofs.definition.columns_of.Given as goal
 
 abbrev pub invariant-loop-column : goal.invariant-loop-column

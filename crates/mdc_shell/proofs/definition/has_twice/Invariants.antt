@@ -1,5 +1,5 @@
 use Rattle.std.proofs.Common.{◌≡◌, drop, map}
-use Rattle.mdc_ast.specs.Step.{has_twice}
+use Rattle.first_ast.specs.Step.{has_twice}
 use Rattle.mdc_shell.proofs.definition.has_twice.Given as goal
 
 abbrev pub invariant-loop-place : goal.invariant-loop-place

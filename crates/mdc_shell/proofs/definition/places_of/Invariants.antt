@@ -1,5 +1,5 @@
 use Rattle.std.proofs.Common.{◌≡◌, drop}
-use Rattle.mdc_ast.specs.Step.{places_of}
+use Rattle.first_ast.specs.Step.{places_of}
 use Rattle.mdc_shell.proofs.Onto.{ahead_if_some}
 use Rattle.mdc_shell.proofs.definition.places_of.Given as goal
 

@@ -1,5 +1,5 @@
 use Rattle.std.proofs.Common.{◌≡◌, drop}
-use Rattle.mdc_ast.specs.Step.{tuples_of}
+use Rattle.first_ast.specs.Step.{tuples_of}
 use Rattle.mdc_shell.proofs.Before.{ahead_if_ok}
 use Rattle.mdc_shell.proofs.fitting.tuples_of.Given as goal
 

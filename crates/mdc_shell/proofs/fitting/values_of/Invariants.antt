@@ -1,5 +1,5 @@
 use Rattle.std.proofs.Common.{◌≡◌, drop, length}
-use Rattle.mdc_ast.specs.Step.{values_of}
+use Rattle.first_ast.specs.Step.{values_of}
 use Rattle.mdc_shell.proofs.Before.{ahead_if_ok}
 use Rattle.mdc_shell.proofs.fitting.values_of.Given as goal
 

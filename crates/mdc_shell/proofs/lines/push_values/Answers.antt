@@ -1,5 +1,5 @@
 use Rattle.std.proofs.Common.{arith, rules}
-use Rattle.mdc_values.specs.Value.{printed}
+use Rattle.mdc_values.specs.Printing.{printed}
 use Rattle.mdc_shell.proofs.LineTexts.{line_whole}
 use Rattle.mdc_shell.proofs.lines.push_values.Goals as goal
 

@@ -1,5 +1,5 @@
 use Rattle.std.proofs.Common.{◌≡◌, ◌++◌, map, drop}
-use Rattle.mdc_values.specs.Value.{printed}
+use Rattle.mdc_values.specs.Printing.{printed}
 use Rattle.mdc_shell.proofs.LineTexts.{rest_of_line}
 use Rattle.mdc_shell.proofs.lines.push_values.Given as goal
 

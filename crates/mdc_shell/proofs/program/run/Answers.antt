@@ -1,26 +1,34 @@
-use Rattle.std.proofs.Common.{◌∙◌, [], Err, inl, arith, map, string_bytes}
+use Rattle.std.proofs.Common.{[], Err, refl, inl, arith}
 use Rattle.mdc_shell.specs.declared.status.Stop.TheVariants.{Memory}
-use Rattle.mdc_shell.proofs.Creating.{crash_nothing, crash_of_line}
+use Rattle.mdc_words.proofs.TimeLemmas.{over_time_none, over_time_wider}
+use Rattle.mdc_outside.proofs.MomentLemmas.{within_call-told}
+use Rattle.mdc_shell.proofs.LeavingLemmas.{left_by_run-create, left_by_run-script, left_by_run-usage}
 use Rattle.mdc_shell.proofs.Ends.{runs_to}
 use Rattle.mdc_shell.proofs.Sessions.{says_nothing}
-use Rattle.mdc_shell.proofs.Told.{takes_nothing, took_nothing}
+use Rattle.mdc_shell.proofs.Told.{same-told, takes_nothing, took_nothing}
 use Rattle.mdc_shell.proofs.program.run.Goals as goal
 
-pub returns-in-Ok-Some-Create-clause-crash : goal.returns-in-Ok-Some-Create-clause-crash
-returns-in-Ok-Some-Create-clause-crash g c = λ path extents extent_pages line.
+pub returns-in-Ok-Some-RunScript-clause-time : goal.returns-in-Ok-Some-RunScript-clause-time
+returns-in-Ok-Some-RunScript-clause-time g c = λ before said is told.
+    let a = c.in-Ok-Some-RunScript in
+    let asked = rw (a.field-0-is, a.field-0-0-is, c.as_slice.ensures.value) at a.ensures in
+    over_time_wider (c.run_script.ensures.time before said is told) (left_by_run-script _ _ before said asked)
+
+pub returns-in-Ok-Some-Create-clause-time : goal.returns-in-Ok-Some-Create-clause-time
+returns-in-Ok-Some-Create-clause-time g c = λ before said is told.
     let a = c.in-Ok-Some-Create in
     let asked = rw (a.field-0-is, a.field-0-0-is, c.as_slice.ensures.value) at a.ensures in
-    crash_of_line (map string_bytes c.args.words.now.items) a.path.now path a.shape.extents extents a.shape.extent_pages extent_pages _ _ _ asked line c.create_file.ensures.crash
+    over_time_wider (c.create_file.ensures.time before said is told) (left_by_run-create _ _ a.path.now a.shape.extents a.shape.extent_pages before said asked)
 
 pub returns-in-Ok-None-clause-created : goal.returns-in-Ok-None-clause-created
 returns-in-Ok-None-clause-created g c = λ path extents extent_pages line.
     let asked = rw (c.in-Ok-None.field-0-is, c.as_slice.ensures.value) at c.in-Ok-None.ensures in
     absurd (asked.no_create path extents extent_pages line)
 
-pub returns-in-Ok-None-clause-crash : goal.returns-in-Ok-None-clause-crash
-returns-in-Ok-None-clause-crash g c = λ path extents extent_pages line.
+pub returns-in-Ok-None-clause-time : goal.returns-in-Ok-None-clause-time
+returns-in-Ok-None-clause-time g c = λ before said is told.
     let asked = rw (c.in-Ok-None.field-0-is, c.as_slice.ensures.value) at c.in-Ok-None.ensures in
-    absurd (asked.no_create path extents extent_pages line)
+    over_time_wider c.say_usage.ensures.time (λ image taken within. left_by_run-usage _ _ before said asked image taken (within_call-told before said image taken is told within))
 
 pub returns-in-Ok-None-clause-completes : goal.returns-in-Ok-None-clause-completes
 returns-in-Ok-None-clause-completes g c = λ path extents extent_pages line.
@@ -32,6 +40,14 @@ returns-in-Err-clause-script g c = λ line.
     let closed = c.one_closing.ensures.some [] in
     runs_to _ _ _ _ [] [] (Err Memory) (took_nothing _ []) (takes_nothing _) (λ rest is. (inl (closed.0, closed.1, says_nothing closed.0), omega arith))
 
-pub returns-in-Err-clause-crash : goal.returns-in-Err-clause-crash
-returns-in-Err-clause-crash g c = λ path extents extent_pages line before said is told.
-    crash_nothing extents extent_pages _ _ _ (g.met.H.Disk.only_now c.args.host) before said is ((g.met.H.Host.lies_beside c.args.host).0 ∙ told)
+pub returns-in-Err-clause-time : goal.returns-in-Err-clause-time
+returns-in-Err-clause-time g c = λ before said is told. over_time_none
+
+pub returns-in-Ok-Some-RunScript-clause-told : goal.returns-in-Ok-Some-RunScript-clause-told
+returns-in-Ok-Some-RunScript-clause-told g c = (same-told _ _ c.run_script.ensures.disk.same_file, c.run_script.ensures.told)
+
+pub returns-in-Ok-None-clause-told : goal.returns-in-Ok-None-clause-told
+returns-in-Ok-None-clause-told g c = (same-told _ _ c.say_usage.ensures.disk.same_file, c.say_usage.ensures.told)
+
+pub returns-in-Err-clause-told : goal.returns-in-Err-clause-told
+returns-in-Err-clause-told g c = (same-told _ _ refl, same-told _ _ refl)

@@ -1,5 +1,5 @@
 -- The write tears the made byte, and the sync nothing.
-use Rattle.redo_journal.proofs.Composing.{runs_within, runs_then_settle}
+use Rattle.page_file.proofs.RunsLemmas.{runs_within, runs_then_settle}
 use Rattle.page_store.proofs.making.set_made.Goals as goal
 
 pub returns-in_err-put-clause-runs : goal.returns-in_err-put-clause-runs

@@ -1,7 +1,7 @@
 -- What each step leaves: the made byte, the pages, the sync, and the made byte again.
 use Rattle.std.proofs.Common.{◌-◌}
 use Rattle.page_store.specs.Fresh.{file_with, fresh_len}
-use Rattle.redo_journal.proofs.Composing.{runs_within, runs_then_settle}
+use Rattle.page_file.proofs.RunsLemmas.{runs_within, runs_then_settle}
 use Rattle.page_store.proofs.MakeCrashes.{begun_leaves, filled_leaves, opened_leaves, leaves_on, begun_stands, settled_stand}
 use Rattle.page_store.proofs.making.write_database.Goals as goal
 

@@ -5,7 +5,7 @@ use Rattle.page_store.specs.Shape.{birth_page}
 use Rattle.store_api.specs.StoreState.{zero_page}
 use Rattle.page_store.proofs.FreshBytes.{first_two, length-zero_page, length-gates, length-birth_page, length-first_two}
 use Rattle.page_store.proofs.MakeCrashes.{runs_in, stands_then, stands_at_end}
-use Rattle.redo_journal.proofs.Steps.{runs_part}
+use Rattle.page_file.proofs.RunsLemmas.{runs_part}
 use Rattle.page_store.proofs.making.write_front.Goals as goal
 
 pub returns-in_err-append-clause-runs : goal.returns-in_err-append-clause-runs

@@ -3,7 +3,7 @@ use Rattle.std.proofs.Common.{◌-◌, length, arith, ap, ◌∙◌, sym}
 use Rattle.page_store.specs.Fresh.{fresh_len}
 use Rattle.page_store.proofs.FreshBytes.{length-front_with}
 use Rattle.page_store.proofs.MakeCrashes.{runs_in, pages_stand}
-use Rattle.redo_journal.proofs.Steps.{runs_part}
+use Rattle.page_file.proofs.RunsLemmas.{runs_part}
 use Rattle.page_store.proofs.making.write_pages.Goals as goal
 
 pub returns-in_err-write_front-clause-runs : goal.returns-in_err-write_front-clause-runs

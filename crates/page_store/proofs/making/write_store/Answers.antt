@@ -3,7 +3,8 @@ use Rattle.std.proofs.Common.{◌≡◌, ◌-◌, ◌*◌, length, arith, ap, �
 use Rattle.page_store.specs.Shape.{first_count}
 use Rattle.page_store.proofs.FreshBytes.{length-root_page}
 use Rattle.page_store.proofs.MakeCrashes.{runs_in, store_stands}
-use Rattle.redo_journal.proofs.Steps.{runs_part, now_holds}
+use Rattle.page_file.proofs.BetweenLemmas.{now_holds}
+use Rattle.page_file.proofs.RunsLemmas.{runs_part}
 use Rattle.page_store.proofs.making.write_store.Goals as goal
 
 pub returns-in_err-append-clause-runs : goal.returns-in_err-append-clause-runs

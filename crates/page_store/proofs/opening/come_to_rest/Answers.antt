@@ -4,8 +4,8 @@ use Rattle.std.proofs.lemmas.Result.{IfOk-weaker, IfErr-weaker}
 use Rattle.mdc_outside.specs.Disk.{settled}
 use Rattle.page_store.specs.declared.fault.OpenFault.TheVariants.{Device}
 use Rattle.page_store.specs.Opened.{bytes_of}
-use Rattle.page_store.proofs.Calls.{sound_image}
-use Rattle.page_store.proofs.Leaving.{runs_leave}
+use Rattle.page_file.proofs.LeavesLemmas.{sound_image}
+use Rattle.page_file.proofs.LeavesLemmas.{runs_leave}
 use Rattle.page_store.proofs.Openings.{opens, on_ok, if_err, if_err_as, settled_bytes, settled_told}
 use Rattle.page_store.proofs.opening.come_to_rest.Goals as goal
 
@@ -24,7 +24,7 @@ pub returns-clause-untouched : goal.returns-clause-untouched
 returns-clause-untouched g c = IfErr-weaker c.recover.result _ _ (λ fault untouched other. ap bytes_of (untouched other) ∙ settled_bytes _ _ c.in_ok-settle.ensures.settled) c.recover.ensures.untouched
 
 pub returns-clause-opens : goal.returns-clause-opens
-returns-clause-opens g c = on_ok c.recover.result (opens c.in_ok-settle.ensures.settled c.settle.ensures.runs c.recover.ensures.leaves)
+returns-clause-opens g c = on_ok c.recover.result (opens c.in_ok-settle.ensures.settled c.settle.ensures.runs (g.met.D.Disk.only_now c.settle.new.disk) c.recover.ensures.leaves)
 
 pub returns-clause-opens_or_leaves : goal.returns-clause-opens_or_leaves
-returns-clause-opens_or_leaves g c = if_err c.recover.result (λ fault. inl (opens c.in_ok-settle.ensures.settled c.settle.ensures.runs c.recover.ensures.leaves))
+returns-clause-opens_or_leaves g c = if_err c.recover.result (λ fault. inl (opens c.in_ok-settle.ensures.settled c.settle.ensures.runs (g.met.D.Disk.only_now c.settle.new.disk) c.recover.ensures.leaves))

@@ -1,15 +1,15 @@
 -- The desk has nothing on it, and the file is at rest.
 use Rattle.std.proofs.Common.{inr, refl, arith}
 use Rattle.page_store.specs.declared.fault.OpenFault.TheVariants.{Memory}
-use Rattle.page_store.proofs.Calls.{sound_image}
-use Rattle.page_store.proofs.Leaving.{leaves_itself}
+use Rattle.page_file.proofs.LeavesLemmas.{sound_image}
+use Rattle.page_file.proofs.LeavesLemmas.{leaves_itself}
 use Rattle.page_store.proofs.Openings.{if_err_as, rests_with, served_base, empty_kept}
 use Rattle.page_store.proofs.opening.lay_out.Goals as goal
 
 pub returns-in_err-cache-clause-opens_or_leaves : goal.returns-in_err-cache-clause-opens_or_leaves
 returns-in_err-cache-clause-opens_or_leaves g c =
     let leaves = leaves_itself {file = g.D.Disk.file} {aside = g.D.Disk.beside} {attaches = g.D.Disk.attaches} {is_attached = g.D.Disk.is_attached} {clock = g.D.Disk.clock} {moment = g.D.Disk.moment}
-    (λ f is. sound_image _ f (g.met.D.Disk.sound c.args.disk.now) is) (g.met.D.Disk.only_now c.args.disk.now) (g.met.D.Disk.earlier c.args.disk.now) (λ before image is left. left) in
+    (λ f is. sound_image _ f (g.met.D.Disk.sound c.args.disk.now) is) (λ before image is left. left) in
     if_err_as c.from_residual.result Memory _ c.from_residual.ensures.1 (inr (inr refl, leaves))
 
 pub returns-clause-served : goal.returns-clause-served

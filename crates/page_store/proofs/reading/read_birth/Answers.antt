@@ -1,5 +1,5 @@
 -- Both calls read.
-use Rattle.redo_journal.proofs.Steps.{runs_on}
+use Rattle.page_file.proofs.RunsLemmas.{runs_on}
 use Rattle.page_store.proofs.reading.read_birth.Goals as goal
 
 pub returns-in_err-birth-clause-runs : goal.returns-in_err-birth-clause-runs

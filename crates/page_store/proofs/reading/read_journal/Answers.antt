@@ -1,6 +1,6 @@
 -- A journal that was replayed lies within the file, so its start can be read.
 use Rattle.std.proofs.Common.{sym, ◌∙◌, arith}
-use Rattle.redo_journal.proofs.Steps.{runs_on}
+use Rattle.page_file.proofs.RunsLemmas.{runs_on}
 use Rattle.page_store.proofs.reading.read_journal.Goals as goal
 
 pub read_number-requires-clause-within : goal.read_number-requires-clause-within

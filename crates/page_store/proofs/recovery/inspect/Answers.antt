@@ -1,7 +1,7 @@
 -- Each call reads, and what was read says what the file is.
 use Rattle.std.proofs.Common.{sym, ◌∙◌}
 use Rattle.std.proofs.lemmas.Result.{err_from_is_err_and}
-use Rattle.redo_journal.proofs.Steps.{runs_on}
+use Rattle.page_file.proofs.RunsLemmas.{runs_on}
 use Rattle.page_store.proofs.Judged.{was_read, is_other, root_missing, replay_refused}
 use Rattle.page_store.proofs.recovery.inspect.Goals as goal
 

@@ -1,7 +1,8 @@
 -- Where no journal counts, the file rests as it was found; else it rests after the repair, and stands for the same pages.
 use Rattle.std.proofs.Common.{ap, sym, ◌∙◌}
 use Rattle.page_store.proofs.Judged.{found_at_rest, rests_as_found, served_formed}
-use Rattle.page_store.proofs.Repairs.{home_keeps, home_rests, keeps_then, looked_leaves, told_before}
+use Rattle.page_store.proofs.Repairs.{home_keeps, home_rests, keeps_then, looked_leaves}
+use Rattle.page_file.proofs.LeavesLemmas.{told_before}
 use Rattle.page_store.proofs.recovery.recover.Goals as goal
 
 pub bring_home-requires-clause-counts : goal.bring_home-requires-clause-counts

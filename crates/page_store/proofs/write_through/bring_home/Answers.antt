@@ -1,6 +1,7 @@
 -- What counts stands still while it is written home.
-use Rattle.page_store.proofs.Leaving.{leaves_as}
-use Rattle.page_store.proofs.Calls.{sound_image, home_leaves, closed_leaves, closed_at_rest, ready_to_close}
+use Rattle.page_file.proofs.LeavesLemmas.{leaves_as}
+use Rattle.page_file.proofs.LeavesLemmas.{sound_image}
+use Rattle.page_store.proofs.Calls.{home_leaves, closed_leaves, closed_at_rest, ready_to_close}
 use Rattle.page_store.proofs.write_through.bring_home.Goals as goal
 
 pub returns-in_err-home-clause-leaves : goal.returns-in_err-home-clause-leaves

@@ -1,6 +1,7 @@
 -- The journal leaves the home pages as they are, and so does its gate.
 use Rattle.std.proofs.Common.{length}
-use Rattle.page_store.proofs.Calls.{sound_image, journal_leaves, opened_leaves, opened_counts}
+use Rattle.page_file.proofs.LeavesLemmas.{sound_image}
+use Rattle.page_store.proofs.Calls.{journal_leaves, opened_leaves, opened_counts}
 use Rattle.page_store.proofs.write_through.commit_to_journal.Goals as goal
 
 pub returns-in_err-write_journal-clause-leaves : goal.returns-in_err-write_journal-clause-leaves

@@ -1,7 +1,7 @@
 -- With no image the file stays as it is, and has them all.
 use Rattle.std.proofs.Common.{arith}
-use Rattle.page_store.proofs.Calls.{sound_image}
-use Rattle.page_store.proofs.Leaving.{leaves_itself}
+use Rattle.page_file.proofs.LeavesLemmas.{sound_image}
+use Rattle.page_file.proofs.LeavesLemmas.{leaves_itself}
 use Rattle.page_store.proofs.Commits.{few_images, both_none, stands_none}
 use Rattle.page_store.proofs.write_through.write_any.Goals as goal
 
@@ -10,7 +10,7 @@ returns-then-len-eq0-clause-committed g c = both_none c.args.start c.args.images
 
 pub returns-then-len-eq0-clause-leaves : goal.returns-then-len-eq0-clause-leaves
 returns-then-len-eq0-clause-leaves g c =
-    leaves_itself (λ f is. sound_image _ f (g.met.D.Disk.sound c.args.disk.now) is) (g.met.D.Disk.only_now c.args.disk.now) (g.met.D.Disk.earlier c.args.disk.now)
+    leaves_itself (λ f is. sound_image _ f (g.met.D.Disk.sound c.args.disk.now) is)
     (λ before image is left. stands_none c.args.start c.args.images.now before image (c.requires.ready before is) left)
 
 pub write_through-requires-clause-few : goal.write_through-requires-clause-few

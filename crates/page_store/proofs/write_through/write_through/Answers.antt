@@ -1,5 +1,5 @@
 -- Up to the gate the file stands for its pages or for those with the images, and behind it for the latter.
-use Rattle.page_store.proofs.Leaving.{leaves_as}
+use Rattle.page_file.proofs.LeavesLemmas.{leaves_as}
 use Rattle.page_store.proofs.Calls.{counts_there, commit_leaves, rests_with, journaled_stays, committed_with}
 use Rattle.page_store.proofs.write_through.write_through.Goals as goal
 

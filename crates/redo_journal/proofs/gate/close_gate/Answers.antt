@@ -1,5 +1,5 @@
 -- The byte that was written is not the open gate's.
-use Rattle.redo_journal.proofs.GateByte.{is_closed}
+use Rattle.redo_journal.proofs.GateLemmas.{is_closed}
 use Rattle.redo_journal.proofs.gate.close_gate.Goals as goal
 
 pub returns-clause-closed : goal.returns-clause-closed

@@ -1,11 +1,13 @@
 -- Each image lies within what the home pages tear, and stands in its place after it.
 use Rattle.std.proofs.Common.{◌≡◌, ◌+◌, ◌*◌, length, arith, ap, ◌∙◌, sym, rules}
 use Rattle.redo_journal.specs.Images.{IsPageImage}
-use Rattle.redo_journal.proofs.Composing.{runs_within, runs_then_settle}
-use Rattle.redo_journal.proofs.Covers.{runs_wider}
-use Rattle.redo_journal.proofs.Rising.{All-at}
-use Rattle.redo_journal.proofs.Steps.{zeros_reach, written_between}
-use Rattle.redo_journal.proofs.Places.{home_covers, home_longest, home_step, home_settled, homed_none, homed_step, homed_settled, runs_gap, runs_image}
+use Rattle.page_file.proofs.RunsLemmas.{runs_within, runs_then_settle}
+use Rattle.page_file.proofs.RunsLemmas.{runs_wider}
+use Rattle.redo_journal.proofs.RisingLemmas.{All-at}
+use Rattle.page_file.proofs.BetweenLemmas.{zeros_reach, written_between}
+use Rattle.redo_journal.proofs.HomeLemmas.{home_covers, home_longest, home_step, home_settled, homed_none, homed_step, homed_settled, runs_gap, runs_image}
+use Rattle.redo_journal.specs.Layout.{torn_home}
+use Rattle.redo_journal.proofs.TornLemmas.{runs_leave_front, front_torn_home}
 use Rattle.redo_journal.proofs.home_pages.home.Goals as goal
 
 pub returns-in_err-end-clause-runs : goal.returns-in_err-end-clause-runs
@@ -21,7 +23,7 @@ loop-i-init g c = record {
       omega (arith, c.in_ok-end.ensures.end f is, (home_covers c.args.images.now f.since).longest);
   home = λ f is k d lt. absurd (omega arith);
   bytes = homed_none c.args.images.now _ _ c.end_of.ensures.same;
-  faults = omega arith;
+  faults = search rules;
 }
 
 pub returns-in_err-fill-clause-runs : goal.returns-in_err-fill-clause-runs
@@ -62,3 +64,15 @@ returns-clause-written g c = homed_settled c.settle.result c.args.images.now c.l
 
 pub returns-clause-runs : goal.returns-clause-runs
 returns-clause-runs g c = runs_then_settle c.loop-i.invariant.runs c.settle.ensures.runs
+
+pub returns-in_err-end-clause-front : goal.returns-in_err-end-clause-front
+returns-in_err-end-clause-front g c = runs_leave_front (torn_home c.args.images.now) (front_torn_home c.args.images.now) g.met.D.Disk.sound c.requires.ready (returns-in_err-end-clause-runs g c)
+
+pub returns-in_err-fill-clause-front : goal.returns-in_err-fill-clause-front
+returns-in_err-fill-clause-front g c = runs_leave_front (torn_home c.args.images.now) (front_torn_home c.args.images.now) g.met.D.Disk.sound c.requires.ready (returns-in_err-fill-clause-runs g c)
+
+pub returns-in_err-put-clause-front : goal.returns-in_err-put-clause-front
+returns-in_err-put-clause-front g c = runs_leave_front (torn_home c.args.images.now) (front_torn_home c.args.images.now) g.met.D.Disk.sound c.requires.ready (returns-in_err-put-clause-runs g c)
+
+pub returns-clause-front : goal.returns-clause-front
+returns-clause-front g c = runs_leave_front (torn_home c.args.images.now) (front_torn_home c.args.images.now) g.met.D.Disk.sound c.requires.ready (returns-clause-runs g c)

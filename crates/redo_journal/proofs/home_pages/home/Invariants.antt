@@ -1,10 +1,11 @@
 use Rattle.std.proofs.Common.{◌≡◌, ◌≤◌, length, take}
 use Rattle.std.specs.Option.{ForSome}
 use Rattle.std.specs.List.{All}
-use Rattle.redo_journal.specs.Layout.{home_page, torn_home}
+use Rattle.page_file.specs.Layout.{home_page}
+use Rattle.redo_journal.specs.Layout.{torn_home}
 use Rattle.redo_journal.specs.Pieces.{homed}
-use Rattle.redo_journal.specs.Bound.{RunsOf}
-use Rattle.redo_journal.specs.Runs.{IsCovered, Between}
+use Rattle.page_file.specs.Bound.{RunsOf}
+use Rattle.page_file.specs.Runs.{IsCovered, Between}
 use Rattle.redo_journal.proofs.home_pages.home.Given as goal
 
 -- the first i images stand in their places, and the file ends where the code says
@@ -16,5 +17,5 @@ invariant-loop-i g l = record {
   short : ForSome (g.D.Disk.file l.fn.disk) (λ f. l.end ≤ (torn_home l.images f.since).longest);
   home : ForSome (g.D.Disk.file l.disk) (λ f. All (λ image. home_page f.bytes image.0 ≡ image.1) (take l.i l.images));
   bytes : Between (g.D.Disk.file l.fn.disk) (g.D.Disk.file l.disk) (λ old new. new ≡ homed (take l.i l.images) old);
-  faults : g.D.Disk.disk_faults l.fn.disk ≤ g.D.Disk.disk_faults l.disk;
+  faults : g.D.Disk.disk_faults l.disk ≡ g.D.Disk.disk_faults l.fn.disk;
 }

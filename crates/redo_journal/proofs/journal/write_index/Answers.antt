@@ -2,15 +2,16 @@
 use Rattle.std.proofs.Common.{◌≡◌, ◌≤◌, ◌+◌, ◌*◌, ◌++◌, length, drop, arith, ap, ◌∙◌, sym, rules}
 use Rattle.std.proofs.lemmas.List.{length-take}
 use Rattle.redo_journal.specs.Pieces.{index_bytes, chunk}
-use Rattle.redo_journal.proofs.Bytes.{replaces_nothing, replaces_step, replaces_length, next_index, length-index_bytes, length-index_page}
-use Rattle.redo_journal.proofs.Steps.{runs_part, between_then, now_holds, written_between, between_same}
+use Rattle.redo_journal.proofs.PiecesLemmas.{replaces_nothing, replaces_step, replaces_length, next_index, length-index_bytes, length-index_page}
+use Rattle.page_file.proofs.BetweenLemmas.{between_then, now_holds, written_between, between_same}
+use Rattle.page_file.proofs.RunsLemmas.{runs_part}
 use Rattle.redo_journal.proofs.journal.write_index.Goals as goal
 
 pub loop-k-init : goal.loop-k-init
 loop-k-init g c = record {
   runs = search rules;
   index = between_same _ (λ bytes. replaces_nothing c.args.place bytes);
-  faults = omega arith;
+  faults = search rules;
 }
 
 pub put-requires-clause-within : goal.put-requires-clause-within

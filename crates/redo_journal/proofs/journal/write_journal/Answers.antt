@@ -1,11 +1,14 @@
 -- Each part lies within what a journal tears, and the parts stand one behind the other.
 use Rattle.std.proofs.Common.{◌≡◌, ◌+◌, ◌*◌, length, arith, ap, ◌∙◌, sym}
-use Rattle.redo_journal.specs.Layout.{index_pages}
-use Rattle.redo_journal.proofs.Composing.{runs_within, runs_then_settle}
-use Rattle.redo_journal.proofs.Covers.{journal_covers, runs_wider, runs_zeros, runs_journal, runs_header}
-use Rattle.redo_journal.proofs.Bytes.{length-index_bytes}
-use Rattle.redo_journal.proofs.Steps.{zeros_reach, piece_reaches}
-use Rattle.redo_journal.proofs.Written.{written_stands}
+use Rattle.redo_journal.specs.Layout.{index_pages, torn_journal}
+use Rattle.redo_journal.proofs.TornLemmas.{runs_leave_front, front_torn_journal}
+use Rattle.page_file.proofs.RunsLemmas.{runs_within, runs_then_settle}
+use Rattle.page_file.proofs.RunsLemmas.{runs_wider}
+use Rattle.redo_journal.proofs.TornJournalLemmas.{journal_covers, runs_zeros, runs_journal, runs_header}
+use Rattle.redo_journal.proofs.PiecesLemmas.{length-index_bytes}
+use Rattle.page_file.proofs.BetweenLemmas.{zeros_reach}
+use Rattle.redo_journal.proofs.ReplacesLemmas.{piece_reaches}
+use Rattle.redo_journal.proofs.WrittenJournalLemmas.{written_stands}
 use Rattle.redo_journal.specs.Pieces.{index_bytes, header}
 use Rattle.redo_journal.proofs.journal.write_journal.Goals as goal
 
@@ -48,3 +51,33 @@ pub returns-clause-runs : goal.returns-clause-runs
 returns-clause-runs g c =
     let size : length c.header.result ≡ 8 = ap length c.header.ensures in
     runs_then_settle (runs_header c.args.start (length c.args.images.now) (runs_journal c.args.start (length c.args.images.now) _ _ (omega arith) (omega arith) (runs_journal c.args.start (length c.args.images.now) _ _ (omega arith) (omega arith) (runs_zeros c.args.start (length c.args.images.now) c.in_ok-end.end _ c.requires.ready c.in_ok-end.ensures.end (omega arith) (runs_wider (journal_covers c.args.start (length c.args.images.now)) c.end_of.ensures.runs) c.fill.ensures.runs) c.write_index.ensures.runs) c.write_pages.ensures.runs) (rw size at c.put.ensures.runs)) c.settle.ensures.runs
+
+pub returns-in_err-end-clause-front : goal.returns-in_err-end-clause-front
+returns-in_err-end-clause-front g c =
+    runs_leave_front (torn_journal c.args.start (length c.args.images.now)) (λ bytes image left. front_torn_journal c.args.start (length c.args.images.now) bytes image c.requires.behind_gates left)
+    g.met.D.Disk.sound c.requires.ready (returns-in_err-end-clause-runs g c)
+
+pub returns-in_err-fill-clause-front : goal.returns-in_err-fill-clause-front
+returns-in_err-fill-clause-front g c =
+    runs_leave_front (torn_journal c.args.start (length c.args.images.now)) (λ bytes image left. front_torn_journal c.args.start (length c.args.images.now) bytes image c.requires.behind_gates left)
+    g.met.D.Disk.sound c.requires.ready (returns-in_err-fill-clause-runs g c)
+
+pub returns-in_err-write_index-clause-front : goal.returns-in_err-write_index-clause-front
+returns-in_err-write_index-clause-front g c =
+    runs_leave_front (torn_journal c.args.start (length c.args.images.now)) (λ bytes image left. front_torn_journal c.args.start (length c.args.images.now) bytes image c.requires.behind_gates left)
+    g.met.D.Disk.sound c.requires.ready (returns-in_err-write_index-clause-runs g c)
+
+pub returns-in_err-write_pages-clause-front : goal.returns-in_err-write_pages-clause-front
+returns-in_err-write_pages-clause-front g c =
+    runs_leave_front (torn_journal c.args.start (length c.args.images.now)) (λ bytes image left. front_torn_journal c.args.start (length c.args.images.now) bytes image c.requires.behind_gates left)
+    g.met.D.Disk.sound c.requires.ready (returns-in_err-write_pages-clause-runs g c)
+
+pub returns-in_err-put-clause-front : goal.returns-in_err-put-clause-front
+returns-in_err-put-clause-front g c =
+    runs_leave_front (torn_journal c.args.start (length c.args.images.now)) (λ bytes image left. front_torn_journal c.args.start (length c.args.images.now) bytes image c.requires.behind_gates left)
+    g.met.D.Disk.sound c.requires.ready (returns-in_err-put-clause-runs g c)
+
+pub returns-clause-front : goal.returns-clause-front
+returns-clause-front g c =
+    runs_leave_front (torn_journal c.args.start (length c.args.images.now)) (λ bytes image left. front_torn_journal c.args.start (length c.args.images.now) bytes image c.requires.behind_gates left)
+    g.met.D.Disk.sound c.requires.ready (returns-clause-runs g c)

@@ -1,17 +1,18 @@
 -- Each page is behind the one before.
 use Rattle.std.proofs.Common.{◌≡◌, ◌≤◌, ◌+◌, ◌*◌, length, take, arith, rules}
 use Rattle.redo_journal.specs.Pieces.{page_bytes}
-use Rattle.redo_journal.proofs.Bytes.{replaces_nothing, replaces_step, replaces_length, next_page, length-first_pages}
+use Rattle.redo_journal.proofs.PiecesLemmas.{replaces_nothing, replaces_step, replaces_length, next_page, length-first_pages}
 use Rattle.redo_journal.specs.Images.{IsPageImage}
-use Rattle.redo_journal.proofs.Rising.{All-at}
-use Rattle.redo_journal.proofs.Steps.{runs_part, between_then, now_holds, written_between, between_same}
+use Rattle.redo_journal.proofs.RisingLemmas.{All-at}
+use Rattle.page_file.proofs.BetweenLemmas.{between_then, now_holds, written_between, between_same}
+use Rattle.page_file.proofs.RunsLemmas.{runs_part}
 use Rattle.redo_journal.proofs.journal.write_pages.Goals as goal
 
 pub loop-i-init : goal.loop-i-init
 loop-i-init g c = record {
   runs = search rules;
   pages = between_same _ (λ bytes. replaces_nothing c.args.place bytes);
-  faults = omega arith;
+  faults = search rules;
 }
 
 pub put-requires-clause-within : goal.put-requires-clause-within

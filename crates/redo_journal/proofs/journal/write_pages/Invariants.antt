@@ -1,8 +1,8 @@
-use Rattle.std.proofs.Common.{◌≤◌, ◌*◌, length, take}
+use Rattle.std.proofs.Common.{◌≡◌, ◌*◌, length, take}
 use Rattle.mdc_outside.specs.Disk.{torn}
 use Rattle.redo_journal.specs.Pieces.{Replaces, page_bytes}
-use Rattle.redo_journal.specs.Bound.{RunsOf}
-use Rattle.redo_journal.specs.Runs.{IsCovered, Between}
+use Rattle.page_file.specs.Bound.{RunsOf}
+use Rattle.page_file.specs.Runs.{IsCovered, Between}
 use Rattle.redo_journal.proofs.journal.write_pages.Given as goal
 
 -- the first i pages stand
@@ -10,5 +10,5 @@ abbrev pub invariant-loop-i : goal.invariant-loop-i
 invariant-loop-i g l = record {
   runs : RunsOf g.D.Disk IsCovered (torn l.place (4096 * length l.images)) l.initial.disk l.disk;
   pages : Between (g.D.Disk.file l.initial.disk) (g.D.Disk.file l.disk) (Replaces l.place (page_bytes (take l.i l.images)));
-  faults : g.D.Disk.disk_faults l.initial.disk ≤ g.D.Disk.disk_faults l.disk;
+  faults : g.D.Disk.disk_faults l.disk ≡ g.D.Disk.disk_faults l.initial.disk;
 }

@@ -1,7 +1,7 @@
 -- One number more in each round, and at the end those of the whole chunk.
 use Rattle.std.proofs.Common.{length-drop, drop, arith}
 use Rattle.store_api.specs.StoreState.{zero_page}
-use Rattle.redo_journal.proofs.Bytes.{next_number, whole_index}
+use Rattle.redo_journal.proofs.PiecesLemmas.{next_number, whole_index}
 use Rattle.redo_journal.proofs.page.index_page.Goals as goal
 
 pub loop-k-preserved : goal.loop-k-preserved

@@ -1,7 +1,7 @@
 -- The bytes of the number stand in the rest of the page, and the others are as they were.
 use Rattle.std.proofs.Common.{arith, refl, ◌*◌}
 use Rattle.byteorder.specs.Endian.{big_bytes}
-use Rattle.redo_journal.proofs.Bytes.{put_bytes}
+use Rattle.redo_journal.proofs.PiecesLemmas.{put_bytes}
 use Rattle.redo_journal.proofs.page.put_number.Goals as goal
 
 pub returns : goal.returns

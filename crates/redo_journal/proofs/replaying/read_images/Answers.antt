@@ -1,8 +1,8 @@
 -- Each round reads one entry more, and where a number doesn't rise the journal's don't.
 use Rattle.std.proofs.Common.{arith, ◌∙◌, rules, refl}
-use Rattle.redo_journal.proofs.Entries.{images_read, rises_next}
-use Rattle.redo_journal.proofs.Rising.{AreRising-push}
-use Rattle.redo_journal.proofs.Steps.{runs_on}
+use Rattle.redo_journal.proofs.EntriesLemmas.{images_read, rises_next}
+use Rattle.redo_journal.proofs.RisingLemmas.{AreRising-push}
+use Rattle.page_file.proofs.RunsLemmas.{runs_on}
 use Rattle.redo_journal.proofs.replaying.read_images.Goals as goal
 
 pub returns-in_err-p-clause-runs : goal.returns-in_err-p-clause-runs

@@ -3,8 +3,8 @@ use Rattle.std.proofs.Common.{◌≡◌, ◌+◌, ◌*◌, drop, arith, ap, ◌�
 use Rattle.redo_journal.specs.Images.{AreRising}
 use Rattle.redo_journal.specs.Layout.{entries, index_pages, number_of}
 use Rattle.redo_journal.proofs.replaying.replay.Goals.{then-from-lt-FIRST_PAGE-via-then-from-lt-FIRST_PAGE, then-from-lt-FIRST_PAGE-via-else-from-lt-FIRST_PAGE+then-pages-from}
-use Rattle.redo_journal.proofs.Entries.{outside_file, journal_read}
-use Rattle.redo_journal.proofs.Steps.{runs_on}
+use Rattle.redo_journal.proofs.EntriesLemmas.{outside_file, journal_read}
+use Rattle.page_file.proofs.RunsLemmas.{runs_on}
 use Rattle.redo_journal.proofs.replaying.replay.Goals as goal
 
 pub returns-in_err-is_gate_open-clause-runs : goal.returns-in_err-is_gate_open-clause-runs

@@ -1,5 +1,5 @@
 use Rattle.std.proofs.Common.{◌≡◌, length}
-use Rattle.sql_reader.specs.Lexeme.{after_line}
+use Rattle.sql_reader.specs.Front.{after_line}
 use Rattle.sql_reader.proofs.comment.after_line.Given as goal
 
 abbrev pub invariant-loop-rest : goal.invariant-loop-rest

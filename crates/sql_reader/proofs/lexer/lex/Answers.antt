@@ -1,11 +1,13 @@
-use Rattle.std.proofs.Common.{◌≡◌, [], subst}
-use Rattle.sql_reader.specs.Lexeme.{Begins}
+use Rattle.sql_reader.specs.Front.{shown}
 use Rattle.sql_reader.specs.Token.{tokens_of}
-use Rattle.sql_reader.proofs.Lexing.{begins_all}
+use Rattle.sql_reader.proofs.Lexing.{lexed_all, lexed_shorter, lexed_step}
 use Rattle.sql_reader.proofs.lexer.lex.Goals as goal
 
-pub returns-in-End : goal.returns-in-End
-returns-in-End c =
-    let none : c.loop-tokens.rest.now ≡ [] = rw c.in-End.is at c.in_ok-behind.ensures in
-    begins_all c.args.statement.now (tokens_of c.loop-tokens.tokens.items)
-    (subst (Begins c.args.statement.now (tokens_of c.loop-tokens.tokens.items)) none c.loop-tokens.invariant)
+pub loop-rest-smaller : goal.loop-rest-smaller
+loop-rest-smaller c = lexed_shorter c.loop-rest.rest.now (shown c.front_of-front.result) c.in-len1-up.len_at_least c.front_of-front.ensures
+
+pub loop-rest-preserved : goal.loop-rest-preserved
+loop-rest-preserved c = lexed_step c.args.statement.now c.loop-rest.rest.now (shown c.front_of-front.result) (tokens_of c.loop-rest.tokens.items) _ c.in-len1-up.len_at_least c.front_of-front.ensures c.in_ok-keep.ensures c.loop-rest.invariant
+
+pub returns : goal.returns
+returns c = lexed_all c.args.statement.now c.loop-rest.rest.now (tokens_of c.loop-rest.tokens.items) c.in_default.len_below c.loop-rest.invariant

@@ -6,7 +6,7 @@ use Rattle.mdc_outside.specs.declared.call.Entry.{Entry}
 use Rattle.mdc_outside.specs.Contents.{contents_of}
 use Rattle.mdc_outside.specs.Points.{IsLeftAt}
 use Rattle.mdc_outside.specs.Replay.{replay, at_first, may_leave, since_within}
-use Rattle.mdc_outside.specs.Aftermath.{tape_after, makes_file, torn_bytes, MayBeLeft, IsLeft, IsLeftWithin}
+use Rattle.mdc_outside.specs.Aftermath.{tape_after, makes_file, torn_bytes, MayBeLeft, IsLeftByCalls, IsLeftWithin}
 use Rattle.mdc_outside.proofs.Aftermaths.{tape-replay, after-tape, there-replay, first-there, after-there, after-absent, after-bytes, after-both, first-bytes, first-since, image-torn_bytes, left-within, moment-at}
 use Rattle.mdc_outside.proofs.mem_host.MemHost.after.Goals as goal
 
@@ -48,8 +48,8 @@ returns-clause-bytes c =
     let first : c.bytes_of-first.result.now ≡ (file_at_first past.first).bytes = c.bytes_of-first.ensures ∙ (ap (λ past. contents_of past.first None) c.self.view_is ∙ sym (first-bytes past.first)) in
     let entry : c.index.result.now ≡ get_or past.entries n c.index.result.now = c.index.ensures ∙ ap (λ past. get_or past.entries n c.index.result.now) c.self.view_is in
     let last : c.args.call ≤ length past.entries = c.requires.last in
-    let P : List ℕ → Type 0 = λ first. IsLeft c.args.fill first c.split_at.result.0.now c.in_ok-bytes.bytes.items in
-    let Q : List Entry → Type 0 = λ calls. IsLeft c.args.fill (file_at_first past.first).bytes calls c.in_ok-bytes.bytes.items in
+    let P : List ℕ → Type 0 = λ first. IsLeftByCalls c.args.fill first c.split_at.result.0.now c.in_ok-bytes.bytes.items in
+    let Q : List Entry → Type 0 = λ calls. IsLeftByCalls c.args.fill (file_at_first past.first).bytes calls c.in_ok-bytes.bytes.items in
     let within : IsLeftWithin c.args.fill c.args.call past c.tear.new.bytes.items = record {
       left = c.in_ok-bytes.bytes.items;
       entry = c.index.result.now;
@@ -76,7 +76,7 @@ left-at c =
     let P : List Entry → Type 0 = λ calls. IsImage (replay start calls).file.since c.in_ok-bytes.bytes.items in
     let within : IsImage (since_within c.index.result.now.event (replay start (take n past.entries)).file.since) c.tear.new.bytes.items =
     rw torn (image-torn_bytes c.args.fill c.index.result.now.event (replay start (take n past.entries)).file.since c.in_ok-bytes.bytes.items (subst P before image)) in
-    rw (said-before c) (left-within past n c.index.result.now c.tear.new.bytes.items (omega arith) entry c.resume.ensures.range within)
+    rw (said-before c) (left-within past n c.index.result.now c.tear.new.bytes.items (omega arith) entry within)
 
 pub returns-clause-within : goal.returns-clause-within
 returns-clause-within c =

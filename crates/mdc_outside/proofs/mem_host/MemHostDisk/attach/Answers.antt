@@ -1,6 +1,7 @@
 use Rattle.std.proofs.Common.{ap, Ok, Err, Some}
 use Rattle.mdc_outside.specs.declared.call.Event.TheVariants.{Attach}
 use Rattle.mdc_outside.proofs.Answering.{on_err, state-done, same-beside, mild-time, attach-listed, attach-listed_failed, attach-file_failed}
+use Rattle.mdc_outside.proofs.Replaying.{over_time-with_file}
 use Rattle.mdc_outside.proofs.mem_host.MemHostDisk.attach.Goals as goal
 
 pub returns-in_err-open-clause-file_failed : goal.returns-in_err-open-clause-file_failed
@@ -27,4 +28,5 @@ pub returns-clause-beside : goal.returns-clause-beside
 returns-clause-beside c = rw c.mark_attached.ensures (same-beside (Attach c.args.path.now c.args.make) (Ok c.in_ok-open.field-0) c.args.self.now c.open.new.self tt c.in_ok-open.ensures.answer)
 
 pub returns-clause-time : goal.returns-clause-time
-returns-clause-time c = rw c.mark_attached.ensures (mild-time (Attach c.args.path.now c.args.make) (Ok c.in_ok-open.field-0) c.args.self.now c.open.new.self tt c.in_ok-open.ensures.answer)
+returns-clause-time c =
+    rw c.mark_attached.ensures (over_time-with_file (mild-time (Attach c.args.path.now c.args.make) (Ok c.in_ok-open.field-0) c.args.self.now c.open.new.self tt c.in_ok-open.ensures.answer))

@@ -1,5 +1,5 @@
 use Rattle.std.proofs.Common.{ap, Some}
-use Rattle.mdc_outside.proofs.Answering.{say-takes, say-takes_part, say-file, say-attaches, say-time, say-time_failed}
+use Rattle.mdc_outside.proofs.Answering.{say-takes, say-takes_part, say-file, say-attaches, say-time, say-parts, say-parts_failed}
 use Rattle.mdc_outside.proofs.mem_host.MemHostHost.say.Goals as goal
 
 pub returns-clause-said : goal.returns-clause-said
@@ -17,5 +17,8 @@ returns-clause-listed c = ap Some (say-attaches c.args.bytes.now c.utter.result 
 pub returns-clause-time : goal.returns-clause-time
 returns-clause-time c = say-time c.args.bytes.now c.utter.result c.args.self.now c.utter.new.self c.utter.ensures.said
 
-pub returns-clause-time_failed : goal.returns-clause-time_failed
-returns-clause-time_failed c = say-time_failed c.args.bytes.now c.utter.result c.args.self.now c.utter.new.self c.utter.ensures.said
+pub returns-clause-parts : goal.returns-clause-parts
+returns-clause-parts c = say-parts c.args.bytes.now c.utter.result c.args.self.now c.utter.new.self c.utter.ensures.said
+
+pub returns-clause-parts_failed : goal.returns-clause-parts_failed
+returns-clause-parts_failed c = say-parts_failed c.args.bytes.now c.utter.result c.args.self.now c.utter.new.self c.utter.ensures.said

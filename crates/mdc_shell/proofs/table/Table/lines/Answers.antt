@@ -1,5 +1,5 @@
 use Rattle.std.proofs.Common.{◌∙◌, ap, rules}
-use Rattle.mdc_ast.specs.Step.{lines_of}
+use Rattle.first_ast.specs.Step.{lines_of}
 use Rattle.mdc_shell.proofs.Rows.{lines_whole}
 use Rattle.mdc_shell.proofs.table.Table.lines.Goals as goal
 

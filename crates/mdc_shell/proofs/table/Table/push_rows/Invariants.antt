@@ -1,7 +1,7 @@
 use Rattle.std.proofs.Common.{◌≡◌, ◌++◌, map, drop}
 use Rattle.std.specs.List.{flat_map}
-use Rattle.mdc_values.specs.Value.{printed}
-use Rattle.mdc_ast.specs.Step.{line}
+use Rattle.mdc_values.specs.Printing.{printed}
+use Rattle.first_ast.specs.Step.{line}
 use Rattle.mdc_shell.specs.Place.{rows_at}
 use Rattle.mdc_shell.proofs.table.Table.push_rows.Given as goal
 

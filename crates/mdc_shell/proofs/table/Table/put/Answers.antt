@@ -1,5 +1,5 @@
 use Rattle.std.proofs.Common.{◌∙◌, ◌∷◌, [], ap, rules}
-use Rattle.mdc_ast.specs.Step.{with_rows}
+use Rattle.first_ast.specs.Step.{with_rows}
 use Rattle.mdc_shell.proofs.Places.{AreNumbered-kept}
 use Rattle.mdc_shell.proofs.Rows.{AreNumbered-put, with_rows-put}
 use Rattle.mdc_shell.proofs.table.Table.put.Goals as goal

@@ -1,6 +1,6 @@
 use Rattle.std.proofs.Common.{◌≡◌}
 use Rattle.std.specs.Vec.Iter.{into_iter_items}
-use Rattle.mdc_ast.specs.Step.{with_rows}
+use Rattle.first_ast.specs.Step.{with_rows}
 use Rattle.mdc_shell.proofs.table.Table.put_all.Given as goal
 
 abbrev pub invariant-loop-values : goal.invariant-loop-values

@@ -4,8 +4,8 @@ use Rattle.std.specs.Option.{ForSome}
 use Rattle.store_api.specs.Calls.{Commits, Ends}
 use Rattle.page_store.specs.declared.desk.Desk.{Desk}
 use Rattle.page_store.specs.Desk.{IsKept, Does, RestsEither}
-use Rattle.page_store.proofs.Calls.{sound_image}
-use Rattle.page_store.proofs.Leaving.{leaves_as}
+use Rattle.page_file.proofs.LeavesLemmas.{sound_image}
+use Rattle.page_file.proofs.LeavesLemmas.{leaves_as}
 use Rattle.page_store.proofs.DeskCommits.{ready_desk, stands_either, leaves_told, left_image, fails_by, halted_as, settled_as, ends, rests_either, commits, kept_after}
 use Rattle.page_store.proofs.desk.Desk.commit.Goals as goal
 

@@ -1,7 +1,8 @@
-use Rattle.std.proofs.Common.{refl, rules}
-use Rattle.store_api.specs.StoreState.{zero_page}
-use Rattle.page_store.proofs.Desks.{grown_image}
+use Rattle.std.proofs.Common.{◌≡◌, None, slice_index_or, rules}
+use Rattle.page_store.proofs.Desks.{unplaced}
 use Rattle.page_store.proofs.desk.Desk.place_of.Goals as goal
 
-pub returns-then-p-self : goal.returns-then-p-self
-returns-then-p-self c = (zero_page, refl, grown_image c.args.self.now.base c.args.self.now.changes.now c.args.p (search rules) c.if-p-self.true)
+pub returns-else-is_some : goal.returns-else-is_some
+returns-else-is_some c =
+    let none : slice_index_or c.args.self.now.changes.now c.args.p None ≡ None = search rules in
+    unplaced c.args.self.now c.args.p c.requires.based none c.get.ensures.grown

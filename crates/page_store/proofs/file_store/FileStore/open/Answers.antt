@@ -1,6 +1,10 @@
 -- The host tells what it told before, and the desk has nothing on it.
-use Rattle.std.proofs.Common.{ap, ◌∙◌}
-use Rattle.page_store.proofs.Openings.{shown_as_before, still_told}
+use Rattle.std.proofs.Common.{ap, subst, ◌∙◌}
+use Rattle.mdc_outside.specs.Disk.{File}
+use Rattle.page_file.proofs.LeavesLemmas.{one_file}
+use Rattle.page_store.specs.Opening.{StandsAs}
+use Rattle.page_store.proofs.Openings.{shown_as_before, still_told, states_shape, leaves_base_since}
+use Rattle.page_store.proofs.Passing.{rests_kept}
 use Rattle.page_store.proofs.file_store.FileStore.open.Goals as goal
 
 pub returns-in-Ok-clause-just_opened : goal.returns-in-Ok-clause-just_opened
@@ -8,3 +12,15 @@ returns-in-Ok-clause-just_opened g c =
     let opened = c.in-Ok.ensures.opens in
     shown_as_before _ _ _ _ _ _ c.in-Ok.desk c.in-Ok.ensures.empty (still_told opened)
     (ap (λ b. b.tape) opened.beside ∙ (g.met.H.Host.lies_beside c.args.host).0) opened.listed
+
+pub returns-in-Ok-clause-base_since : goal.returns-in-Ok-clause-base_since
+returns-in-Ok-clause-base_since g c = λ file is said.
+    let served = (c.in-Ok.ensures.served file is).0 in
+    let after = c.in-Ok.ensures.opens.told file is in
+    let formed = states_shape (g.H.Disk.file c.lay_out.new.disk) c.in-Ok.desk file after.0 after.1 c.in-Ok.ensures.kept served after.2 in
+    leaves_base_since c.in-Ok.desk.shape (g.H.Disk.file c.lay_out.new.disk) (g.H.Disk.beside c.lay_out.new.disk).tape (g.H.Disk.moment c.lay_out.new.disk) file.bytes said formed
+    (λ f now. subst (λ (half : File). StandsAs file.bytes half.bytes) (one_file after.1 now) after.2)
+
+pub returns-in-Ok-clause-rests : goal.returns-in-Ok-clause-rests
+returns-in-Ok-clause-rests g c =
+    rests_kept g.H.Disk.file g.H.Disk.beside g.H.Disk.attaches g.H.Disk.clock g.H.Disk.moment (record { host = c.lay_out.new.disk; desk = c.in-Ok.desk }) (g.met.H.Disk.only_now c.lay_out.new.disk) c.in-Ok.ensures.kept c.in-Ok.ensures.empty.halt

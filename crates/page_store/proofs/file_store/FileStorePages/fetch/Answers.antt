@@ -1,7 +1,7 @@
 use Rattle.std.proofs.Common.{arith}
-use Rattle.redo_journal.proofs.Composing.{runs_within}
-use Rattle.page_store.proofs.Leaving.{runs_leave}
-use Rattle.page_store.proofs.Calls.{sound_image}
+use Rattle.page_file.proofs.RunsLemmas.{runs_within}
+use Rattle.page_file.proofs.LeavesLemmas.{runs_leave}
+use Rattle.page_file.proofs.LeavesLemmas.{sound_image}
 use Rattle.page_store.proofs.Passing.{keeps_base}
 use Rattle.page_store.proofs.Wholes.{still_going, held_pages}
 use Rattle.page_store.proofs.file_store.FileStorePages.fetch.Goals as goal
@@ -20,4 +20,4 @@ returns-clause-time g c =
     let going = still_going c.self.inside.host c.self.inside.desk c.args.self.now c.self.view_is c.requires.going in
     rw (← c.self.view_is) (keeps_base (record { host = c.self.inside.host; desk = c.self.inside.desk }) (record { host = c.fetch.new.disk; desk = c.fetch.new.self })
     (runs_leave (runs_within c.fetch.ensures.runs) (λ f is. sound_image _ f (g.met.H.Disk.sound c.fetch.new.disk) is) (λ before image is left. left))
-    (g.met.H.Disk.only_now c.fetch.new.disk) (c.self.invariant.kept going) going c.fetch.ensures.still_kept c.fetch.ensures.going_on c.fetch.ensures.shape)
+    c.fetch.ensures.same (c.self.invariant.kept going) going c.fetch.ensures.shape)

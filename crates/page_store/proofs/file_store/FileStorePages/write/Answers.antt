@@ -1,5 +1,4 @@
 use Rattle.std.proofs.Common.{arith}
-use Rattle.page_store.proofs.Calls.{sound_image}
 use Rattle.page_store.proofs.Passing.{stays}
 use Rattle.page_store.proofs.Wholes.{still_going, held_pages, whole_again}
 use Rattle.page_store.proofs.file_store.FileStorePages.write.Goals as goal
@@ -24,8 +23,4 @@ returns-clause-err g c =
 
 pub returns-clause-time : goal.returns-clause-time
 returns-clause-time g c =
-    let going = still_going c.self.inside.host c.self.inside.desk c.args.self.now c.self.view_is c.requires.going in
-    let kept = c.self.invariant.kept going in
-    rw (← c.self.view_is) (stays g.H.Disk.file g.H.Disk.beside g.H.Disk.attaches g.H.Disk.is_attached g.H.Disk.clock g.H.Disk.moment c.self.inside.host c.self.inside.desk c.write.new.self
-    (λ f is. sound_image _ f (g.met.H.Disk.sound c.self.inside.host) is) (g.met.H.Disk.only_now c.self.inside.host) (g.met.H.Disk.earlier c.self.inside.host)
-    kept going (c.write.ensures.kept _ kept) c.write.ensures.halt c.write.ensures.shape)
+    rw (← c.self.view_is) (stays g.H.Disk.file g.H.Disk.beside g.H.Disk.clock g.H.Disk.moment _ c.self.inside.host c.self.inside.desk c.write.new.self c.write.ensures.shape)

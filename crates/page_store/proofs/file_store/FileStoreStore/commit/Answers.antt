@@ -1,6 +1,8 @@
 use Rattle.store_api.specs.Moments.{BaseOrWork}
 use Rattle.page_store.specs.Desk.{state_of}
-use Rattle.page_store.proofs.Passing.{passes, commit_rests, either_reopens, if_said}
+use Rattle.page_store.proofs.FrontAgreesLemmas.{agrees_after, agrees_at_rest}
+use Rattle.page_store.proofs.Passing.{passes, rests, commit_rests, commit_agrees, either_reopens, if_said}
+use Rattle.page_store.proofs.Wholes.{still_going}
 use Rattle.page_store.proofs.file_store.FileStoreStore.commit.Goals as goal
 
 pub returns-clause-ok : goal.returns-clause-ok
@@ -11,9 +13,20 @@ returns-clause-err g c = rw (← c.self.view_is, c.commit.ensures.leaves.beside,
 
 pub returns-clause-time : goal.returns-clause-time
 returns-clause-time g c =
+    let going = still_going c.self.inside.host c.self.inside.desk c.args.self.now c.self.view_is c.requires.going in
+    let fronts = commit_agrees (g.H.Disk.file c.self.inside.host) c.self.inside.desk (c.self.invariant.kept going) in
     rw (← c.self.view_is) (passes (BaseOrWork (state_of (g.H.Disk.file c.self.inside.host) (g.H.Disk.beside c.self.inside.host).tape (g.H.Disk.attaches c.self.inside.host) c.self.inside.desk))
     (record { host = c.self.inside.host; desk = c.self.inside.desk }) (record { host = c.commit.new.disk; desk = c.commit.new.self })
-    c.commit.ensures.leaves (g.met.H.Disk.only_now c.commit.new.disk) c.commit.ensures.shape
-    (λ before said image pages is tape stands reopens. (either_reopens (g.H.Disk.file c.self.inside.host) c.self.inside.desk before image pages is stands reopens, if_said (g.H.Disk.beside c.self.inside.host).tape said tape))
+    c.commit.ensures.leaves c.commit.ensures.shape (agrees_after c.commit.ensures.leaves fronts)
+    (λ before said image pages is tape stands reopens. (
+      either_reopens (g.H.Disk.file c.self.inside.host) c.self.inside.desk before image pages is stands.0 (fronts before image is stands) reopens,
+      if_said (g.H.Disk.beside c.self.inside.host).tape said tape,
+    )))
+
+pub returns-clause-rests : goal.returns-clause-rests
+returns-clause-rests g c =
+    let going = still_going c.self.inside.host c.self.inside.desk c.args.self.now c.self.view_is c.requires.going in
+    rests g.H.Disk.file g.H.Disk.beside g.H.Disk.attaches g.H.Disk.clock g.H.Disk.moment (record { host = c.commit.new.disk; desk = c.commit.new.self }) (g.met.H.Disk.only_now c.commit.new.disk)
     (commit_rests c.commit.result (g.H.Disk.file c.commit.new.disk) (g.H.Disk.beside c.commit.new.disk).tape (g.H.Disk.attaches c.commit.new.disk) c.commit.new.self
-    c.commit.ensures.going_on c.commit.ensures.still_kept c.commit.ensures.halted c.commit.ensures.rests))
+    c.commit.ensures.going_on c.commit.ensures.still_kept c.commit.ensures.halted c.commit.ensures.rests
+    (agrees_at_rest c.commit.ensures.leaves (commit_agrees (g.H.Disk.file c.self.inside.host) c.self.inside.desk (c.self.invariant.kept going))))

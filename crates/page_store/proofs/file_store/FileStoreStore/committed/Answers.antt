@@ -1,7 +1,7 @@
 use Rattle.std.proofs.Common.{arith}
-use Rattle.redo_journal.proofs.Composing.{runs_within}
-use Rattle.page_store.proofs.Leaving.{runs_leave}
-use Rattle.page_store.proofs.Calls.{sound_image}
+use Rattle.page_file.proofs.RunsLemmas.{runs_within}
+use Rattle.page_file.proofs.LeavesLemmas.{runs_leave}
+use Rattle.page_file.proofs.LeavesLemmas.{sound_image}
 use Rattle.page_store.proofs.Passing.{keeps_base}
 use Rattle.page_store.proofs.Wholes.{still_going, length-base_of}
 use Rattle.page_store.proofs.file_store.FileStoreStore.committed.Goals as goal
@@ -23,4 +23,4 @@ returns-clause-time g c =
     let going = still_going c.self.inside.host c.self.inside.desk c.args.self.now c.self.view_is c.requires.going in
     rw (← c.self.view_is) (keeps_base (record { host = c.self.inside.host; desk = c.self.inside.desk }) (record { host = c.committed.new.disk; desk = c.committed.new.self })
     (runs_leave (runs_within c.committed.ensures.runs) (λ f is. sound_image _ f (g.met.H.Disk.sound c.committed.new.disk) is) (λ before image is left. left))
-    (g.met.H.Disk.only_now c.committed.new.disk) (c.self.invariant.kept going) going c.committed.ensures.still_kept c.committed.ensures.going_on c.committed.ensures.shape)
+    c.committed.ensures.same (c.self.invariant.kept going) going c.committed.ensures.shape)

@@ -1,7 +1,8 @@
-use Rattle.std.proofs.Common.{[], None, inl, inr, refl}
+use Rattle.std.proofs.Common.{None, refl}
 use Rattle.page_store.specs.Desk.{IsKept}
 use Rattle.page_store.proofs.Desks.{kept_with}
-use Rattle.page_store.proofs.Telling.{tells_ok, tells_err, tells_pass, front_of, front_of_nothing}
+use Rattle.page_store.proofs.Passing.{rests_kept}
+use Rattle.page_store.proofs.Telling.{tells_ok, tells_err, tells_pass}
 use Rattle.page_store.proofs.Wholes.{still_going, whole_again}
 use Rattle.page_store.proofs.file_store.FileStoreStore.tell.Goals as goal
 
@@ -24,16 +25,14 @@ returns-clause-err g c =
 pub returns-clause-time : goal.returns-clause-time
 returns-clause-time g c =
     let going = still_going c.self.inside.host c.self.inside.desk c.args.self.now c.self.view_is c.requires in
+    rw (← c.self.view_is) (tells_pass g.H.Disk.file g.H.Disk.beside g.H.Disk.attaches g.H.Disk.clock g.H.Disk.moment
+    (record { host = c.self.inside.host; desk = c.self.inside.desk }) (record { host = c.say.new.host; desk = record c.self.inside.desk { hand = None } })
+    c.args.bytes.now c.say.ensures.file c.say.ensures.part c.say.ensures.time (c.self.invariant.kept going) going refl)
+
+pub returns-clause-rests : goal.returns-clause-rests
+returns-clause-rests g c =
+    let going = still_going c.self.inside.host c.self.inside.desk c.args.self.now c.self.view_is c.requires in
     let kept = c.self.invariant.kept going in
     let kept_now : IsKept (record c.self.inside.desk { hand = None }) (g.H.Disk.file c.say.new.host) =
     rw c.say.ensures.file (kept_with _ c.self.inside.desk None c.self.inside.desk.cache kept kept.clean (λ none. absurd (cc))) in
-    rw (← c.self.view_is) (elim c.say.ensures.time [
-      | inl whole ↦ tells_pass g.H.Disk.file g.H.Disk.beside g.H.Disk.attaches g.H.Disk.clock g.H.Disk.moment
-          (record { host = c.self.inside.host; desk = c.self.inside.desk }) (record { host = c.say.new.host; desk = record c.self.inside.desk { hand = None } })
-          c.args.bytes.now c.args.bytes.now (front_of c.args.bytes.now) c.say.ensures.file c.say.ensures.part whole
-          (g.met.H.Disk.only_now c.self.inside.host) (g.met.H.Disk.only_now c.say.new.host) (g.met.H.Disk.earlier c.self.inside.host) kept going kept_now going refl
-      | inr nothing ↦ tells_pass g.H.Disk.file g.H.Disk.beside g.H.Disk.attaches g.H.Disk.clock g.H.Disk.moment
-          (record { host = c.self.inside.host; desk = c.self.inside.desk }) (record { host = c.say.new.host; desk = record c.self.inside.desk { hand = None } })
-          c.args.bytes.now [] (front_of_nothing c.args.bytes.now) c.say.ensures.file c.say.ensures.part nothing
-          (g.met.H.Disk.only_now c.self.inside.host) (g.met.H.Disk.only_now c.say.new.host) (g.met.H.Disk.earlier c.self.inside.host) kept going kept_now going refl
-    ])
+    rests_kept g.H.Disk.file g.H.Disk.beside g.H.Disk.attaches g.H.Disk.clock g.H.Disk.moment (record { host = c.say.new.host; desk = record c.self.inside.desk { hand = None } }) (g.met.H.Disk.only_now c.say.new.host) kept_now going

@@ -2,7 +2,7 @@
 use Rattle.std.proofs.Common.{arith, ◌<◌}
 use Rattle.std.specs.List.{All}
 use Rattle.redo_journal.specs.Images.{IsPageImage}
-use Rattle.redo_journal.proofs.Rising.{AreImages-push}
+use Rattle.redo_journal.proofs.RisingLemmas.{AreImages-push}
 use Rattle.redo_journal.proofs.images.Images.push.Goals as goal
 
 pub invariant_of-self-2 : goal.invariant_of-self-2

@@ -2,7 +2,7 @@
 use Rattle.std.proofs.Common.{◌≡◌, ◌<◌, ◌-◌, length, slice_get, Some, sym, ◌∙◌, arith}
 use Rattle.std.proofs.lemmas.Bool.Decides.{nat_tests}
 use Rattle.std.proofs.lemmas.Option.{slice_get_within}
-use Rattle.redo_journal.proofs.Rising.{above_last, All-at}
+use Rattle.redo_journal.proofs.RisingLemmas.{above_last, All-at}
 use Rattle.redo_journal.proofs.images.Images.rise_to.Goals as goal
 
 pub returns-in-Some : goal.returns-in-Some

@@ -1,6 +1,6 @@
 use Rattle.std.proofs.Common.{Ok, sym, subst, ap, ◌∙◌, inl, inr, arith}
 use Rattle.mdc_ast.specs.Reading.{Closes}
-use Rattle.sql_reader.specs.Gives.{Keeps}
+use Rattle.sql_reader.specs.Items.{Keeps}
 use Rattle.sql_reader.specs.Progress.{Given, Took}
 use Rattle.sql_reader.specs.declared.statements.ReadStop.TheVariants as stop
 use Rattle.sql_reader.proofs.Giving.{none_waits, on_err, passed_on, passed_over, ends_all, read_last_of, read_more, rose_since, through, took_more, uncounted, waits}

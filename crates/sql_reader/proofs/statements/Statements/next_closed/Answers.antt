@@ -1,5 +1,5 @@
 use Rattle.std.proofs.Common.{◌≡◌, is_some, false, sym, subst, ap, ◌∙◌, arith}
-use Rattle.sql_reader.specs.Gives.{Keeps}
+use Rattle.sql_reader.specs.Items.{Keeps}
 use Rattle.sql_reader.specs.Scan.{EndsPiece}
 use Rattle.sql_reader.proofs.Giving.{gives_found, keeps_found, passed}
 use Rattle.sql_reader.proofs.statements.Statements.next_closed.Goals as goal

@@ -1,5 +1,5 @@
 use Rattle.std.proofs.Common.{◌≡◌, ◌≤◌, ◌-◌, length, false}
-use Rattle.sql_reader.specs.Gives.{Keeps}
+use Rattle.sql_reader.specs.Items.{Keeps}
 use Rattle.sql_reader.proofs.statements.Statements.next_closed.Given as goal
 
 abbrev pub invariant-loop-end : goal.invariant-loop-end

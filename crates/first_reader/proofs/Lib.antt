@@ -1,0 +1,14 @@
+pub mod Fronts
+pub mod Giving
+pub mod Items
+pub mod Lexing
+pub mod Lists
+pub mod Numbers
+pub mod Parsing
+pub mod Parts
+pub mod Pieces
+pub mod Readers
+pub mod Scanning
+pub mod Separated
+pub mod Spelling
+pub mod Trimming

@@ -1,0 +1,94 @@
+-- What a statement may want of a token (docs/SQL.md, "Tokens").
+use Rattle.std.specs.Prelude.{ℕ, List, [], ◌∷◌, Bool, true, false, not, codes}
+use Rattle.std.specs.List.{list_any}
+use Rattle.std.specs.Str.{bytes_eq}
+use Rattle.mdc_ast.specs.declared.name.Name.{Name}
+use Rattle.mdc_ast.specs.Tokens.{Kind, Word, Number, Text, Symbol, Stray, Token}
+
+-- the words that are no names
+abbrev pub reserved : List (List ℕ)
+reserved =
+    codes "AND" ∷ codes "AS" ∷ codes "BETWEEN" ∷ codes "BY" ∷ codes "CREATE" ∷ codes "DEFAULT" ∷ codes "DELETE"
+    ∷ codes "DROP" ∷ codes "FETCH" ∷ codes "FROM" ∷ codes "GROUP" ∷ codes "IN" ∷ codes "INSERT" ∷ codes "INTO"
+    ∷ codes "IS" ∷ codes "NOT" ∷ codes "NULL" ∷ codes "ON" ∷ codes "OR" ∷ codes "ORDER" ∷ codes "ORGANIZE"
+    ∷ codes "SELECT" ∷ codes "SET" ∷ codes "UPDATE" ∷ codes "VALUES" ∷ codes "WHERE" ∷ []
+
+abbrev pub is_name : List ℕ → Bool
+is_name word = not (list_any (bytes_eq word) reserved)
+
+-- a class of tokens: one word, one symbol, all names, all numbers, all texts
+pub data Class : Type 0 where
+  W : List ℕ → Class
+  S : List ℕ → Class
+  AnyName : Class
+  AnyNumber : Class
+  AnyText : Class
+
+-- a token of that kind is of the class
+abbrev pub fits : Class → Kind → Bool
+fits (W word) (Word other) = bytes_eq other word
+fits (W word) (Number n) = false
+fits (W word) (Text text) = false
+fits (W word) (Symbol bytes) = false
+fits (W word) Stray = false
+fits (S symbol) (Word other) = false
+fits (S symbol) (Number n) = false
+fits (S symbol) (Text text) = false
+fits (S symbol) (Symbol bytes) = bytes_eq bytes symbol
+fits (S symbol) Stray = false
+fits AnyName (Word other) = is_name other
+fits AnyName (Number n) = false
+fits AnyName (Text text) = false
+fits AnyName (Symbol bytes) = false
+fits AnyName Stray = false
+fits AnyNumber (Word other) = false
+fits AnyNumber (Number n) = true
+fits AnyNumber (Text text) = false
+fits AnyNumber (Symbol bytes) = false
+fits AnyNumber Stray = false
+fits AnyText (Word other) = false
+fits AnyText (Number n) = false
+fits AnyText (Text text) = true
+fits AnyText (Symbol bytes) = false
+fits AnyText Stray = false
+
+abbrev pub opening : Class
+opening = S (codes "(")
+
+abbrev pub closing : Class
+closing = S (codes ")")
+
+abbrev pub comma : Class
+comma = S (codes ",")
+
+-- what a token of a class says
+
+abbrev pub word_in : Kind → List ℕ
+word_in (Word word) = word
+word_in (Number n) = []
+word_in (Text text) = []
+word_in (Symbol bytes) = []
+word_in Stray = []
+
+abbrev pub number_of : Kind → ℕ
+number_of (Word word) = 0
+number_of (Number n) = n
+number_of (Text text) = 0
+number_of (Symbol bytes) = 0
+number_of Stray = 0
+
+abbrev pub text_of : Kind → List ℕ
+text_of (Word word) = []
+text_of (Number n) = []
+text_of (Text text) = text
+text_of (Symbol bytes) = []
+text_of Stray = []
+
+abbrev pub name_in : Token → Name
+name_in t = record { 0 = word_in t.kind }
+
+abbrev pub number_in : Token → ℕ
+number_in t = number_of t.kind
+
+abbrev pub text_in : Token → List ℕ
+text_in t = text_of t.kind

@@ -1,0 +1,11 @@
+pub mod Binding
+pub mod Cause
+pub mod Database
+pub mod Doing
+pub mod Judged
+pub mod Judging
+pub mod Keeping
+pub mod Laws
+pub mod Rows
+pub mod Session
+pub mod Step

@@ -1,0 +1,98 @@
+-- Why a statement isn't done. Each cause has its refusal and its text, so that no number is without a text.
+use Rattle.std.specs.Prelude.{ℕ, List, [], ◌∷◌, ◌++◌, Bool, true, false, codes}
+use Rattle.std.specs.Fmt.{decimal}
+use Rattle.mdc_ast.specs.declared.name.Name.{Name}
+use Rattle.mdc_ast.specs.declared.refusal.Refusal.{Refusal}
+
+pub data Cause : Type 0 where
+  Syntax : (place : ℕ) → Cause
+  TooLong : Cause
+  State : Cause
+  BadByte : (byte place : ℕ) → Cause
+  NotBuilt : Cause
+  TableExists : Name → Cause
+  NoTable : Name → Cause
+  NoColumn : Name → Cause
+  ColumnTwice : Name → Cause
+  Limit : ℕ → Cause
+  WrongType : Name → Cause
+  OutOfRange : Name → Cause
+  NullIn : Name → Cause
+  TextTooLong : Name → Cause
+  NoDate : Name → Cause
+  WrongCount : Cause
+  GivenGenerated : Name → Cause
+  Overflow : Name → Cause
+  BadExpression : Name → Cause
+  FileFull : (extents : ℕ) → Cause
+  NumbersUsedUp : (next : ℕ) → Cause
+
+abbrev pub no_name : Name
+no_name = record { 0 = [] }
+
+-- a refusal that keeps nothing, a name, or a number
+abbrev pub bare : ℕ → Refusal
+bare number = record { number = number; place = 0; name = no_name; kept = 0 }
+
+abbrev pub naming : ℕ → Name → Refusal
+naming number name = record { number = number; place = 0; name = name; kept = 0 }
+
+abbrev pub keeping : ℕ → ℕ → Refusal
+keeping number kept = record { number = number; place = 0; name = no_name; kept = kept }
+
+-- the number of a cause, and what is kept of it
+abbrev pub refusal_of : Cause → Refusal
+refusal_of (Syntax place) = record { number = 10; place = place; name = no_name; kept = 0 }
+refusal_of TooLong = keeping 11 65536
+refusal_of State = bare 12
+refusal_of (BadByte byte place) = record { number = 13; place = place; name = no_name; kept = byte }
+refusal_of NotBuilt = bare 14
+refusal_of (TableExists name) = naming 20 name
+refusal_of (NoTable name) = naming 21 name
+refusal_of (NoColumn name) = naming 22 name
+refusal_of (ColumnTwice name) = naming 23 name
+refusal_of (Limit n) = keeping 26 n
+refusal_of (WrongType name) = naming 30 name
+refusal_of (OutOfRange name) = naming 31 name
+refusal_of (NullIn name) = naming 32 name
+refusal_of (TextTooLong name) = naming 33 name
+refusal_of (NoDate name) = naming 34 name
+refusal_of WrongCount = bare 35
+refusal_of (GivenGenerated name) = naming 36 name
+refusal_of (Overflow name) = naming 37 name
+refusal_of (BadExpression name) = naming 41 name
+refusal_of (FileFull n) = keeping 70 n
+refusal_of (NumbersUsedUp n) = keeping 71 n
+
+-- what is said of a cause behind the word ERROR
+abbrev pub cause_text : Cause → List ℕ
+cause_text (Syntax place) = codes "10 syntax at byte " ++ decimal place
+cause_text TooLong = codes "11 statement longer than 65536 bytes"
+cause_text State = codes "12 transaction state"
+cause_text (BadByte byte place) = codes "13 character " ++ decimal byte ++ codes " at byte " ++ decimal place
+cause_text NotBuilt = codes "14 not built"
+cause_text (TableExists name) = codes "20 table " ++ name.0 ++ codes " exists"
+cause_text (NoTable name) = codes "21 no table " ++ name.0
+cause_text (NoColumn name) = codes "22 no column " ++ name.0
+cause_text (ColumnTwice name) = codes "23 column " ++ name.0 ++ codes " twice"
+cause_text (Limit n) = codes "26 limit " ++ decimal n
+cause_text (WrongType name) = codes "30 wrong type for " ++ name.0
+cause_text (OutOfRange name) = codes "31 out of range for " ++ name.0
+cause_text (NullIn name) = codes "32 null in " ++ name.0
+cause_text (TextTooLong name) = codes "33 text too long for " ++ name.0
+cause_text (NoDate name) = codes "34 no such date for " ++ name.0
+cause_text WrongCount = codes "35 wrong number of values"
+cause_text (GivenGenerated name) = codes "36 value for generated " ++ name.0
+cause_text (Overflow name) = codes "37 overflow in " ++ name.0
+cause_text (BadExpression name) = codes "41 expression of " ++ name.0 ++ codes " not accepted"
+cause_text (FileFull n) = codes "70 file full at " ++ decimal n ++ codes " extents"
+cause_text (NumbersUsedUp n) = codes "71 row numbers used up at " ++ decimal n
+
+-- the line of a refusal
+abbrev pub refusal_line : Cause → List ℕ
+refusal_line cause = codes "ERROR " ++ cause_text cause ++ codes "\n"
+
+-- a cause where a test says so
+abbrev pub cause_if : Bool → Cause → List Cause
+cause_if true cause = cause ∷ []
+cause_if false cause = []

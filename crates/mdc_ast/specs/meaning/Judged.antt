@@ -1,0 +1,212 @@
+-- What is said against each form of a statement before a row is looked at.
+use Rattle.std.specs.Prelude.{ℕ, ◌+◌, List, [], ◌∷◌, ◌++◌, map, flat_map, length, Bool, true, false, not, ◌==◌, ◌&&◌, nat_le, nat_lt, if◌then◌else◌, Option, Some, None, is_some, is_none}
+use Rattle.mdc_values.specs.declared.literal.Literal.TheVariants as literal
+use Rattle.mdc_values.specs.Fitting.{fit_of, in_bigint, signed}
+use Rattle.mdc_ast.specs.declared.definition.ColumnDef.{ColumnDef}
+use Rattle.mdc_ast.specs.declared.name.Name.{Name}
+use Rattle.mdc_ast.specs.declared.statement.ColumnText.{ColumnText}
+use Rattle.mdc_ast.specs.declared.statement.InsertItem.{InsertItem}
+use Rattle.mdc_ast.specs.declared.statement.InsertItem.TheVariants as item
+use Rattle.mdc_ast.specs.declared.statement.Operand.{Operand}
+use Rattle.mdc_ast.specs.declared.statement.Operand.TheVariants as operand
+use Rattle.mdc_ast.specs.declared.statement.Out.{Out}
+use Rattle.mdc_ast.specs.declared.statement.Out.TheVariants as out
+use Rattle.mdc_ast.specs.declared.statement.OutList.{OutList}
+use Rattle.mdc_ast.specs.declared.statement.OutList.TheVariants.{Star, Outs}
+use Rattle.mdc_ast.specs.declared.statement.Select.{Select}
+use Rattle.mdc_ast.specs.declared.statement.SetItem.{SetItem}
+use Rattle.mdc_ast.specs.declared.statement.SetItem.TheVariants.{One, Two}
+use Rattle.mdc_ast.specs.declared.statement.SetText.{SetText}
+use Rattle.mdc_ast.specs.declared.statement.Stmt.{Stmt}
+use Rattle.mdc_ast.specs.declared.statement.Stmt.TheVariants.{CreateTable, DropTable, Insert, Update, Delete, Query}
+use Rattle.mdc_ast.specs.declared.statement.TypeText.{TypeText}
+use Rattle.mdc_ast.specs.declared.statement.TypeText.TheVariants as type
+use Rattle.mdc_ast.specs.meaning.Cause.{Cause, cause_if, TableExists, ColumnTwice, Limit, WrongType, OutOfRange, WrongCount, GivenGenerated}
+use Rattle.mdc_ast.specs.meaning.Database.{Database, table_named, place_of, empty_place, column_named}
+use Rattle.mdc_ast.specs.meaning.Judging.{Judged, no_fault, of_some, on_table, is_among, listed_names, names_of, used_name, type_cause, value_cause, operand_columns, kinds_meet, is_number, where_judged, then_judged}
+
+-- ---- CREATE TABLE
+
+abbrev pub text_names : List ColumnText → List Name
+text_names columns = map (λ column. column.name) columns
+
+abbrev pub text_named : List ColumnText → Name → Option ColumnText
+text_named [] name = None
+text_named (column ∷ columns) name = if is_among name (column.name ∷ []) then Some column else text_named columns name
+
+-- 23 among the columns: a name that stands before
+abbrev pub twice_named : List Name → List ColumnText → List Cause
+twice_named earlier [] = []
+twice_named earlier (column ∷ columns) =
+    cause_if (is_among column.name earlier) (ColumnTwice column.name) ++ twice_named (column.name ∷ earlier) columns
+
+-- a name has at most 18 characters
+abbrev pub long_name : Name → List Cause
+long_name name = cause_if (nat_lt 18 (length name.0)) (Limit 18)
+
+-- CHAR(n) has n from 1 to 254
+abbrev pub bad_length : TypeText → List Cause
+bad_length type.Integer = []
+bad_length type.Bigint = []
+bad_length (type.Char n) = cause_if (not (nat_le 1 n && nat_le n 254)) (Limit 254)
+bad_length type.Date = []
+
+-- the bytes that a value takes in a row
+abbrev pub width : TypeText → ℕ
+width type.Integer = 4
+width type.Bigint = 8
+width (type.Char n) = n
+width type.Date = 4
+
+-- a row has its number and two bytes of null bits besides
+abbrev pub row_width : List ColumnText → ℕ
+row_width [] = 10
+row_width (column ∷ columns) = width column.ty + row_width columns
+
+abbrev pub part_width : Option ColumnText → ℕ
+part_width None = 0
+part_width (Some column) = 1 + width column.ty
+
+-- a key has a byte for null before each part
+abbrev pub key_width : List ColumnText → List Name → ℕ
+key_width columns [] = 0
+key_width columns (name ∷ names) = part_width (text_named columns name) + key_width columns names
+
+-- the columns from place i on, and the row behind the last
+abbrev pub column_limits : ℕ → List ColumnText → List ColumnText → List Cause
+column_limits i all [] = cause_if (nat_lt 1000 (row_width all)) (Limit 1000)
+column_limits i all (column ∷ columns) =
+    cause_if (i == 16) (Limit 16) ++ long_name column.name ++ bad_length column.ty ++ column_limits (i + 1) all columns
+
+abbrev pub long_key : List ColumnText → List Name → List Cause
+long_key columns names = cause_if (nat_lt 128 (key_width columns names)) (Limit 128)
+
+-- the dimensions from place i on, and the key of all of them behind the last
+abbrev pub dim_limits : ℕ → List ColumnText → List Name → List (List Name) → List Cause
+dim_limits i columns all [] = long_key columns all
+dim_limits i columns all (dim ∷ dims) =
+    cause_if (i == 4) (Limit 4) ++ long_key columns dim ++ dim_limits (i + 1) columns all dims
+
+abbrev pub create_judged : Database → Name → List ColumnText → List (List Name) → Judged
+create_judged db name columns dims = record {
+  names = cause_if (is_some (place_of db name)) (TableExists name);
+  columns = twice_named [] columns ++ listed_names (text_names columns) [] (flat_map (λ dim. dim) dims);
+  types = [];
+  limits = long_name name ++ cause_if (is_none (empty_place db)) (Limit 16)
+      ++ column_limits 0 columns columns ++ dim_limits 0 columns (flat_map (λ dim. dim) dims) dims;
+  values = [];
+}
+
+-- ---- INSERT
+
+-- the columns that a tuple gives, in its order
+abbrev pub targets : List ColumnDef → Option (List Name) → List Name
+targets columns None = names_of columns
+targets columns (Some names) = names
+
+abbrev pub given_to : ColumnDef → InsertItem → List Cause
+given_to column item.Default = []
+given_to column (item.Literal literal) =
+    if is_some column.made then GivenGenerated column.name ∷ [] else type_cause column.name (fit_of column.ty literal)
+
+abbrev pub given_value : ColumnDef → InsertItem → List Cause
+given_value column item.Default = []
+given_value column (item.Literal literal) = value_cause column.name (fit_of column.ty literal)
+
+-- the items of a tuple, each against its column
+abbrev pub each_item : List ColumnDef → (ColumnDef → InsertItem → List Cause) → List Name → List InsertItem → List Cause
+each_item columns judge [] items = []
+each_item columns judge (name ∷ names) [] = []
+each_item columns judge (name ∷ names) (item ∷ items) =
+    of_some (column_named columns name) (λ column. judge column item) ++ each_item columns judge names items
+
+abbrev pub tuple_types : List ColumnDef → List Name → List InsertItem → List Cause
+tuple_types columns names items =
+    if length items == length names then each_item columns given_to names items else WrongCount ∷ []
+
+abbrev pub insert_judged : Option (List Name) → List (List InsertItem) → List ColumnDef → Judged
+insert_judged listed tuples columns = record no_fault {
+  columns = of_some listed (listed_names (names_of columns) []);
+  types = flat_map (tuple_types columns (targets columns listed)) tuples;
+  values = flat_map (each_item columns given_value (targets columns listed)) tuples;
+}
+
+-- ---- UPDATE
+
+abbrev pub item_columns : List ColumnDef → SetItem → List Cause
+item_columns columns (One operand) = operand_columns columns operand
+item_columns columns (Two a sign b) = operand_columns columns a ++ operand_columns columns b
+
+-- 22 and 23 of the items: the column set, and then the operands
+abbrev pub set_columns : List ColumnDef → List Name → List SetText → List Cause
+set_columns columns earlier [] = []
+set_columns columns earlier (set ∷ sets) =
+    used_name columns set.column ++ cause_if (is_among set.column earlier) (ColumnTwice set.column)
+    ++ item_columns columns set.item ++ set_columns columns (set.column ∷ earlier) sets
+
+abbrev pub is_number_or_absent : Option ColumnDef → Bool
+is_number_or_absent None = true
+is_number_or_absent (Some column) = is_number column.ty
+
+-- one of two operands is a number or NULL
+abbrev pub counts : List ColumnDef → Operand → Bool
+counts columns (operand.Column name) = is_number_or_absent (column_named columns name)
+counts columns (operand.Literal (literal.Number negative size)) = true
+counts columns (operand.Literal literal.Null) = true
+counts columns (operand.Literal literal) = false
+
+abbrev pub item_types : List ColumnDef → ColumnDef → SetItem → List Cause
+item_types columns target (One (operand.Literal literal)) = type_cause target.name (fit_of target.ty literal)
+item_types columns target (One (operand.Column name)) = of_some (column_named columns name) (kinds_meet target.name target)
+item_types columns target (Two a sign b) =
+    cause_if (not (is_number target.ty && counts columns a && counts columns b)) (WrongType target.name)
+
+-- a number that is one of two operands lies in 64 bits
+abbrev pub wide_number : Name → Operand → List Cause
+wide_number name (operand.Literal (literal.Number negative size)) = cause_if (not (in_bigint (signed negative size))) (OutOfRange name)
+wide_number name operand = []
+
+abbrev pub item_values : ColumnDef → SetItem → List Cause
+item_values target (One (operand.Literal literal)) = value_cause target.name (fit_of target.ty literal)
+item_values target (One (operand.Column name)) = []
+item_values target (Two a sign b) = wide_number target.name a ++ wide_number target.name b
+
+abbrev pub set_types : List ColumnDef → SetText → List Cause
+set_types columns set = of_some (column_named columns set.column) (λ target.
+    cause_if (is_some target.made) (GivenGenerated target.name) ++ item_types columns target set.item)
+
+abbrev pub set_values : List ColumnDef → SetText → List Cause
+set_values columns set = of_some (column_named columns set.column) (λ target. item_values target set.item)
+
+abbrev pub sets_judged : List SetText → List ColumnDef → Judged
+sets_judged sets columns = record no_fault {
+  columns = set_columns columns [] sets;
+  types = flat_map (set_types columns) sets;
+  values = flat_map (set_values columns) sets;
+}
+
+-- ---- queries
+
+abbrev pub out_columns : List ColumnDef → Out → List Cause
+out_columns columns (out.Column name) = used_name columns name
+out_columns columns aggregate = []
+
+abbrev pub shown_columns : List ColumnDef → OutList → List Cause
+shown_columns columns Star = []
+shown_columns columns (Outs outs) = flat_map (out_columns columns) outs
+
+abbrev pub query_judged : Select → List ColumnDef → Judged
+query_judged select columns =
+    then_judged (record no_fault { columns = shown_columns columns select.list }) (where_judged columns select.pred)
+
+-- ---- any statement that is built
+
+abbrev pub judged_of : Database → Stmt → Judged
+judged_of db (CreateTable name columns dims) = create_judged db name columns dims
+judged_of db (DropTable name) = on_table name (table_named db name) (λ columns. no_fault)
+judged_of db (Insert name listed tuples) = on_table name (table_named db name) (insert_judged listed tuples)
+judged_of db (Update name sets pred) =
+    on_table name (table_named db name) (λ columns. then_judged (sets_judged sets columns) (where_judged columns pred))
+judged_of db (Delete name pred) = on_table name (table_named db name) (λ columns. where_judged columns pred)
+judged_of db (Query select) = on_table select.table (table_named db select.table) (query_judged select)
+judged_of db stmt = no_fault

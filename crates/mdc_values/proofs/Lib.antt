@@ -1,0 +1,4 @@
+pub mod CalendarLemmas
+pub mod OrderLemmas
+pub mod RisingLemmas
+pub mod ValueLemmas

@@ -1,0 +1,6 @@
+pub mod Indexed
+pub mod Order
+pub mod Overlays
+pub mod Places
+pub mod Steps
+pub mod Written

@@ -1,0 +1,5 @@
+pub mod Changes
+pub mod ChangesView
+pub mod Lent
+pub mod LentChange
+pub mod Table

@@ -1,0 +1,57 @@
+// The way back to the mark.
+ghost use Rattle.std.specs.Prelude.{◌≡◌, ◌⊎◌, ◌<◌, ℕ, [], nat_eq, IsSome, OnErr, IfOk, true, length};
+ghost use Rattle.std.specs.Map.{lookup};
+ghost use Rattle.page_changes.specs.Table.{LiesAt};
+ghost use Rattle.page_changes.specs.ChangesView.{written, written_before, is_free_in, Saves};
+
+use super::Mark;
+use crate::spares::Spares;
+use crate::table::PageTable;
+use mdc_values::Memory;
+
+/// Makes each page that was saved as it was.
+pub(super) fn put_back(table: &mut PageTable, saved: &mut PageTable, spares: &mut Spares)
+    requires { (p : ℕ) → IsSome (written saved.old p) → IsSome (written table.old p) }
+    ensures back { (p : ℕ) → written table.new p ≡ written_before saved.old table.old p }
+    ensures none { saved.new ≡ [] }
+{
+    while let Some((p, page)) = saved.pop() {
+        let Some(place) = table.place_of(p) else {
+            unreachable!();
+        };
+        spares.give(table.exchange(place, page));
+    }
+}
+
+/// Sees to it that a page may be written over in its place, and gives the place.
+pub(super) fn save(
+    table: &PageTable,
+    saved: &mut PageTable,
+    mark: &Option<Mark>,
+    spares: &mut Spares,
+    p: u32,
+) -> Result<usize, Memory>
+    requires { IsSome (lookup (nat_eq p) table.now) }
+    ensures place { IfOk result (λ place. LiesAt table.now p place × (is_free_in mark.now saved.new p place ≡ true)) }
+    ensures saved { Saves mark.now table.now p saved.old saved.new }
+{
+    let Some(place) = table.place_of(p) else {
+        unreachable!();
+    };
+    if is_free(mark, saved, p, place) {
+        return Ok(place);
+    }
+    let page = spares.filled(table.at(place))?;
+    saved.push(p, page)?;
+    Ok(place)
+}
+
+// Whether a page may be written over in its place: what it was at the mark is saved, or it wasn't written then.
+pub(super) fn is_free(mark: &Option<Mark>, saved: &PageTable, p: u32, place: usize) -> bool
+    ensures { result ≡ is_free_in mark.now saved.now p place }
+{
+    match mark {
+        None => true,
+        Some(mark) => mark.written <= place || saved.place_of(p).is_some(),
+    }
+}

@@ -1,0 +1,15 @@
+//! What has changed of the pages of a store since its last commit.
+//!
+//! `Changes` is seen as a list with a place for each page: what was written over it, or nothing where it is as at the last
+//! commit; a page that was grown has zeros. It can be taken back to a mark, and gives the pages of a commit in the order
+//! of their numbers, in the boxes in which they are kept, so that none is copied. It stands on `PageTable`, pages in
+//! memory of which each is found in one step, and on `Spares`, boxes that are used again.
+#![tactic(auto)]
+
+mod changes;
+mod spares;
+mod table;
+
+pub use changes::Changes;
+pub use spares::Spares;
+pub use table::PageTable;

@@ -1,0 +1,4 @@
+pub mod Bound
+pub mod Layout
+pub mod Leaving
+pub mod Runs

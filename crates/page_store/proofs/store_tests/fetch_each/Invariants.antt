@@ -1,6 +1,0 @@
--- No commit has failed.
-use Rattle.std.proofs.Common.{◌≡◌, false}
-use Rattle.page_store.proofs.store_tests.fetch_each.Given as goal
-
-abbrev pub invariant-loop-p : goal.invariant-loop-p
-invariant-loop-p g l = (g.S.Pages.state l.store).ended ≡ false

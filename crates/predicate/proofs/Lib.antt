@@ -1,0 +1,2 @@
+pub mod PredLemmas
+pub mod TruthLemmas
