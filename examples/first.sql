@@ -1,4 +1,4 @@
--- Sales by month and region: rows of one month and one region lie together.
+-- Sales by month and region.
 CREATE TABLE SALES (MONTH INTEGER, REGION INTEGER, AMOUNT INTEGER)
     ORGANIZE BY DIMENSIONS (MONTH, REGION);
 

@@ -1,6 +1,6 @@
 // A catalog in memory.
 ghost use Rattle.std.specs.Prelude.{◌≡◌, ◌<◌, length, slice_set, None, Some, IfOk, IfSome, IsSome, MatchOption, is_none};
-ghost use Rattle.catalog.specs.Places.{def_at, empty_place, no_tables, table_named, with_def};
+ghost use Rattle.mdc_ast.specs.meaning.Definitions.{def_at, def_named, empty_place, is_defined, no_tables, place_of, with_def, without_def};
 
 use mdc_ast::{Name, TableDef};
 use mdc_values::Memory;
@@ -9,21 +9,22 @@ use std::marker::Model;
 
 const PLACES: usize = 16;
 
-/// The definitions of tables. Contracts see 16 places, each empty or with a definition.
+/// The definitions of tables. Contracts see 16 places, each empty or with a definition that has the number of its place.
 #[derive(Debug, Drop)]
 pub struct Catalog {
     places: Vec<Option<TableDef>>,
 }
 
 impl Model for Catalog {
-    ghost use Rattle.std.specs.Prelude.{◌≡◌, List, Option, length};
-    ghost use Rattle.mdc_ast.specs.declared.definition.TableDef.{TableDef};
+    ghost use Rattle.std.specs.Prelude.{◌≡◌, length};
+    ghost use Rattle.mdc_ast.specs.meaning.Definitions.{Definitions};
+    ghost use Rattle.catalog.specs.Places.{AreNumberedFrom};
 
-    ghost Value = { List (Option TableDef) };
+    ghost Value = { Definitions };
 
     ghost view = { λ catalog. catalog.places.items };
 
-    ghost invariant = { λ catalog. length catalog.places.items ≡ 16 };
+    ghost invariant = { λ catalog. (length catalog.places.items ≡ 16) × AreNumberedFrom 0 catalog.places.items };
 }
 
 impl Catalog {
@@ -38,7 +39,7 @@ impl Catalog {
         Ok(Catalog { places })
     }
 
-    /// Lends the definition at a place. It is None exactly where the place is empty.
+    /// Lends the definition at a place, of 16. It is None exactly where the place is empty.
     pub fn def(&self, table: u8) -> Option<&TableDef>
         requires { table < 16 }
         ensures { MatchOption result (def_at self.now table ≡ None) (λ def. def_at self.now table ≡ Some def.now) }
@@ -46,23 +47,36 @@ impl Catalog {
         self.places[table as usize].as_ref()
     }
 
-    /// Lends the definition of that name.
+    /// Lends the definition of that name, whose number is its place. It is None exactly where no table has the name.
     pub fn table(&self, name: &Name) -> Option<&TableDef>
-        ensures { MatchOption result
-            (table_named name.now self.now ≡ None)
-            (λ def. table_named name.now self.now ≡ Some def.now) }
+        ensures found { MatchOption result
+            (def_named self.now name.now ≡ None)
+            (λ def. def_named self.now name.now ≡ Some def.now) }
+        ensures place { MatchOption result
+            (place_of self.now name.now ≡ None)
+            (λ def. (place_of self.now name.now ≡ Some def.now.number) × (def.now.number < 16)) }
     {
-        for place in &self.places {
-            if let Some(def) = place {
-                if def.name.0.bytes() == name.0.bytes() {
-                    return Some(def);
-                }
+        // The invariant, by which the number is the place, is known where a field is used.
+        let _places = &self.places;
+        let place = self.place_of(name)?;
+        self.def(place)
+    }
+
+    // The place of the table of that name.
+    fn place_of(&self, name: &Name) -> Option<u8>
+        ensures place { result ≡ place_of self.now name.now }
+        ensures there { IfSome result (λ place. place < 16) }
+    {
+        for place in 0..PLACES {
+            if has_name(&self.places[place], name) {
+                return Some(place as u8);
             }
         }
         None
     }
 
-    /// Puts a definition in the lowest empty place, under the number of that place. It takes no memory.
+    /// Puts a definition in the lowest empty place, under the number of that place, and answers that place. It needs an
+    /// empty one, and takes no memory.
     pub fn enter(&mut self, def: TableDef) -> u8
         requires { IsSome (empty_place self.old) }
         ensures lowest { empty_place self.old ≡ Some result }
@@ -77,10 +91,27 @@ impl Catalog {
         place
     }
 
-    /// Empties a place.
+    /// Moves the definition at a place out, and leaves the place empty. It is None exactly where the place is empty.
+    pub fn take(&mut self, table: u8) -> Option<TableDef>
+        requires { table < 16 }
+        ensures taken { result ≡ def_at self.old table }
+        ensures left { self.new ≡ without_def self.old table }
+    {
+        self.places[table as usize].take()
+    }
+
+    /// Puts a definition in the place that it has the number of. What was there is dropped. It takes no memory.
+    pub fn put(&mut self, table: u8, def: TableDef)
+        requires { (table < 16) × (def.number ≡ table) }
+        ensures { self.new ≡ with_def self.old table def }
+    {
+        self.places[table as usize] = Some(def);
+    }
+
+    /// Empties a place. What was there is dropped.
     pub fn leave(&mut self, table: u8)
         requires { table < 16 }
-        ensures { self.new ≡ slice_set self.old table None }
+        ensures { self.new ≡ without_def self.old table }
     {
         self.places[table as usize] = None;
     }
@@ -102,5 +133,15 @@ impl Catalog {
             }
         }
         None
+    }
+}
+
+// Whether the table in a place has that name.
+fn has_name(place: &Option<TableDef>, name: &Name) -> bool
+    ensures { result ≡ is_defined name.now place.now }
+{
+    match place {
+        Some(def) => def.name.0.bytes() == name.0.bytes(),
+        None => false,
     }
 }

@@ -5,12 +5,17 @@ use crate::positioned;
 use std::fs::OpenFile;
 use std::io::{self, ErrorKind, Read, Seek, Write};
 
+// How many bytes the front of a file has.
+const FRONT_SIZE: usize = 4_096;
+
 /// A file of the system. Where a sync fails, the system may forget what it couldn't write, and the next sync may seem to
-/// succeed. So the file is lost then: it takes no further write, and answers each call with a fault.
+/// succeed. So the file is lost then: it takes no further write, and answers each call with a fault. Nor is a file trusted
+/// that an earlier process may have lost so: its first sync writes its front again, as it reads.
 #[derive(Drop)]
 pub struct RealFile<F> {
     file: F,
     is_lost: bool,
+    has_synced: bool,
 }
 
 impl<F: Read + Write + Seek + OpenFile> RealFile<F> {
@@ -21,6 +26,7 @@ impl<F: Read + Write + Seek + OpenFile> RealFile<F> {
         RealFile {
             file,
             is_lost: false,
+            has_synced: false,
         }
     }
 
@@ -62,14 +68,34 @@ impl<F: Read + Write + Seek + OpenFile> RealFile<F> {
         positioned::write_at(&mut self.file, at, bytes)
     }
 
-    /// Has all that was written on the disk. Where that fails, the file is lost.
+    /// Has all that was written on the disk. Where that fails, the file is lost. The first time, the first 4,096 bytes are
+    /// written again as they read.
     pub fn sync(&mut self) -> io::Result<()>
         ensures lost { IsTrue self.old.is_lost → IsErr result }
         ensures failed { OnErr result (IsTrue self.new.is_lost) }
     {
         self.check()?;
-        let outcome = self.file.sync_all();
+        let outcome = self.settle();
         self.is_lost = outcome.is_err();
         outcome
+    }
+
+    // What an open gate in the front stands for must not go before the gate itself is on the disk.
+    fn settle(&mut self) -> io::Result<()> {
+        if !self.has_synced {
+            self.write_front_again()?;
+        }
+        self.file.sync_all()?;
+        self.has_synced = true;
+        Ok(())
+    }
+
+    fn write_front_again(&mut self) -> io::Result<()> {
+        let mut front = [0; FRONT_SIZE];
+        let end = positioned::len(&mut self.file)?;
+        let size = end.min(FRONT_SIZE as u64) as usize;
+        let bytes = &mut front[..size];
+        positioned::read_at(&mut self.file, 0, bytes)?;
+        positioned::write_at(&mut self.file, 0, bytes)
     }
 }

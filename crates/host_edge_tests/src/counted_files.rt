@@ -13,13 +13,14 @@ const FOLDER: &str = "/elsewhere";
 
 const FILE: &str = "/elsewhere/new.mdc";
 
-/// What was called of the files so far, and whether a sync fails.
+/// What was called of the files so far, whether a sync fails, and how long the file is.
 #[derive(Drop)]
 pub struct Calls {
     pub file_syncs: Cell<u64>,
     pub folder_syncs: Cell<u64>,
     pub writes: Cell<u64>,
     pub sync_fails: Cell<bool>,
+    pub length: Cell<u64>,
 }
 
 impl Calls {
@@ -29,6 +30,7 @@ impl Calls {
             folder_syncs: Cell::new(0),
             writes: Cell::new(0),
             sync_fails: Cell::new(false),
+            length: Cell::new(0),
         }
     }
 }
@@ -39,7 +41,7 @@ pub struct CountedFiles<'a> {
     pub calls: &'a Calls,
 }
 
-/// The file or its folder. It keeps no bytes.
+/// The file or its folder. It keeps no bytes, and reads as zeros.
 #[derive(Drop)]
 pub struct CountedFile<'a> {
     calls: &'a Calls,
@@ -52,8 +54,8 @@ fn count(calls: &Cell<u64>) {
 }
 
 impl Read for CountedFile<'_> {
-    fn read(&mut self, _out: &mut [u8]) -> io::Result<usize> {
-        Ok(0)
+    fn read(&mut self, out: &mut [u8]) -> io::Result<usize> {
+        Ok(out.len())
     }
 }
 
@@ -69,8 +71,11 @@ impl Write for CountedFile<'_> {
 }
 
 impl Seek for CountedFile<'_> {
-    fn seek(&mut self, _to: SeekFrom) -> io::Result<u64> {
-        Ok(0)
+    fn seek(&mut self, to: SeekFrom) -> io::Result<u64> {
+        match to {
+            SeekFrom::End(_) => Ok(self.calls.length.get()),
+            SeekFrom::Start(_) | SeekFrom::Current(_) => Ok(0),
+        }
     }
 }
 

@@ -18,6 +18,27 @@ fn a_sync_reaches_the_file_and_the_folder_of_its_name(rt: HostRuntime) -> Result
     Ok(())
 }
 
+/// How often a file of that length is written by one sync, and by two.
+fn writes_of_two_syncs(rt: &HostRuntime, length: u64) -> Result<(u64, u64), Failed> {
+    let calls = Calls::new();
+    calls.length.set(length);
+    let files = CountedFiles { calls: &calls };
+    let mut host = FileHost::new(rt.alloc(), files, Vec::new(rt.alloc()));
+    host.attach(LINK, false)?;
+    host.sync()?;
+    let first = calls.writes.get();
+    host.sync()?;
+    Ok((first, calls.writes.get()))
+}
+
+#[test]
+fn the_first_sync_writes_the_front_again(rt: HostRuntime) -> Result<(), Fail> {
+    assert_eq!(rt; writes_of_two_syncs(&rt, 8192), Ok((1, 1)));
+    assert_eq!(rt; writes_of_two_syncs(&rt, 100), Ok((1, 1)));
+    assert_eq!(rt; writes_of_two_syncs(&rt, 0), Ok((0, 0)));
+    Ok(())
+}
+
 #[test]
 fn a_file_on_which_a_sync_failed_takes_no_further_call(rt: HostRuntime) -> Result<(), Fail> {
     let calls = Calls::new();

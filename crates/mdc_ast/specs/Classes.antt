@@ -70,12 +70,12 @@ word_in (Text text) = []
 word_in (Symbol bytes) = []
 word_in Stray = []
 
-abbrev pub number_of : Kind → ℕ
-number_of (Word word) = 0
-number_of (Number n) = n
-number_of (Text text) = 0
-number_of (Symbol bytes) = 0
-number_of Stray = 0
+abbrev pub kind_number : Kind → ℕ
+kind_number (Word word) = 0
+kind_number (Number n) = n
+kind_number (Text text) = 0
+kind_number (Symbol bytes) = 0
+kind_number Stray = 0
 
 abbrev pub text_of : Kind → List ℕ
 text_of (Word word) = []
@@ -88,7 +88,7 @@ abbrev pub name_in : Token → Name
 name_in t = record { 0 = word_in t.kind }
 
 abbrev pub number_in : Token → ℕ
-number_in t = number_of t.kind
+number_in t = kind_number t.kind
 
 abbrev pub text_in : Token → List ℕ
 text_in t = text_of t.kind

@@ -340,15 +340,15 @@ where_rule n = perhaps (behind (W (codes "WHERE")) (pred_rule (factor_rule n)))
 abbrev pub Rest : Type 0
 Rest = Option (Sign × Operand)
 
-abbrev pub signed : Sign → Operand → Rest
-signed sign operand = Some (sign, operand)
+abbrev pub with_sign : Sign → Operand → Rest
+with_sign sign operand = Some (sign, operand)
 
 -- [ ( + | - | * ) operand ]
 unfoldable pub rest_rule : Rule Rest
 rest_rule =
-    choice (behind plus (seen (signed sign.Plus) operand_rule))
-    (choice (behind minus (seen (signed sign.Minus) operand_rule))
-    (choice (behind star (seen (signed sign.Times) operand_rule))
+    choice (behind plus (seen (with_sign sign.Plus) operand_rule))
+    (choice (behind minus (seen (with_sign sign.Minus) operand_rule))
+    (choice (behind star (seen (with_sign sign.Times) operand_rule))
     (nothing None)))
 
 abbrev pub computed : Operand × Rest → SetItem
@@ -417,13 +417,13 @@ only = behind (W (codes "ONLY")) (nothing tt)
 unfoldable pub rows_rule : Rule (Unit {0})
 rows_rule = choice (behind (W (codes "ROW")) only) (behind (W (codes "ROWS")) only)
 
-abbrev pub count_of : ℕ × Unit {0} → Option ℕ
-count_of p = Some p.0
+abbrev pub first_count : ℕ × Unit {0} → Option ℕ
+first_count p = Some p.0
 
 -- [ FETCH FIRST [ number ] ( ROW | ROWS ) ONLY ]
 unfoldable pub first_rule : Rule (Option ℕ)
 first_rule =
-    choice (behind (W (codes "FETCH")) (behind (W (codes "FIRST")) (seen count_of (pair (choice number_rule (nothing 1)) rows_rule))))
+    choice (behind (W (codes "FETCH")) (behind (W (codes "FIRST")) (seen first_count (pair (choice number_rule (nothing 1)) rows_rule))))
     (nothing None)
 
 abbrev pub selected : (((((OutList × Name) × Option PredText) × List Name) × List KeyText) × Option ℕ) → Select

@@ -1,11 +1,13 @@
 pub mod Binding
 pub mod Cause
 pub mod Database
+pub mod Definitions
 pub mod Doing
 pub mod Judged
 pub mod Judging
-pub mod Keeping
 pub mod Laws
+pub mod Orders
 pub mod Rows
 pub mod Session
 pub mod Step
+pub mod Texts

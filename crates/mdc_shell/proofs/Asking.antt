@@ -9,12 +9,12 @@ use Rattle.clap.specs.Words.{App, IsAmong, Row, Text, fault_of, first_of, is_sim
 use Rattle.clap.specs.declared.error.ErrorKind.{ErrorKind}
 use Rattle.clap.specs.declared.error.ErrorKind.TheVariants.{OutOfMemory}
 use Rattle.mdc_shell.specs.declared.command.Command.{Command}
-use Rattle.mdc_shell.specs.declared.command.Command.TheVariants.{Create, RunScript}
+use Rattle.mdc_shell.specs.declared.command.Command.TheVariants as command
 use Rattle.mdc_shell.specs.Asked.{Asks, AsksCreate, AsksRun}
 use Rattle.mdc_shell.specs.Found.{Finds, FindsCreate, FindsRun, IsSplit, name_in, value_in}
 use Rattle.mdc_shell.specs.Grammar.{mdc_app}
 use Rattle.mdc_shell.proofs.ClapWords.{mdc_is_free, mdc_is_simple, split_is_taken, taken_finds}
-use Rattle.mdc_shell.specs.Words.{IsCreateLine, IsNoLine, IsNumeral, IsPath, IsPlain, IsRequest}
+use Rattle.mdc_shell.specs.Words.{CreateFile, IsCreateLine, IsNoLine, IsNumeral, IsPath, IsPlain, IsRequest, IsRunLine, Line, RunScript, Spells}
 
 -- a text without a sign in front is read as its number
 pub number_read : {E : Type 0} (text : List ℕ) (r : Result ℕ E) → 0 < length text → length text ≤ 9 → get_or text 0 0 ≢ 48 → get_or text 0 0 ≢ 43 → ParsesUnsigned 32 10 text r
@@ -57,22 +57,26 @@ all_unmapped P f (x ∷ xs) all = All-cons (λ y. P (f y)) x xs (All-head P (f x
 pub no_both : codes "create" ≡ codes "run" → ⊥
 no_both e = let n : 99 ≡ 114 = ap (λ t. get_or t 0 0) e in absurd (omega (arith, n))
 
+-- words that spell neither command are no command line
+no_line : (words : List Text) → (IsRunLine words → ⊥) → ((path : Text) (n m : ℕ) → IsCreateLine words path n m → ⊥) → IsNoLine words
+no_line words no_run no_create RunScript spelled = no_run spelled
+no_line words no_run no_create (CreateFile path n m) spelled = no_create path n m spelled
+
 -- what the values behind `create` ask for, the words do
 pub asks_create : (words : List Text) (found : Option (Text × List Row)) (asked : Option Command) (finds : FindsCreate words found)
     → AsksCreate finds.file finds.extents finds.pages asked → Asks words asked
-asks_create words found None finds asks = record {
-  no_run = λ run.
-      let e : codes "create" ∷ finds.file ∷ finds.extents ∷ finds.pages ∷ [] ≡ codes "run" ∷ codes "-" ∷ [] = sym finds.are ∙ run in
-      absurd (no_both (cc));
-  no_create = λ path n m line.
-      let e : codes "create" ∷ finds.file ∷ finds.extents ∷ finds.pages ∷ [] ≡ codes "create" ∷ path ∷ line.extents_text ∷ line.pages_text ∷ [] = sym finds.are ∙ line.are in
-      let file : finds.file ≡ path = cc in
-      let extents : finds.extents ≡ line.extents_text = cc in
-      let pages : finds.pages ≡ line.pages_text = cc in
-      asks n m (rw (file, extents, pages) line.request);
-}
-asks_create words found (Some RunScript) finds asks = absurd asks
-asks_create words found (Some (Create path shape)) finds asks = record {
+asks_create words found None finds asks = no_line words
+    (λ run.
+    let e : codes "create" ∷ finds.file ∷ finds.extents ∷ finds.pages ∷ [] ≡ codes "run" ∷ codes "-" ∷ [] = sym finds.are ∙ run in
+    absurd (no_both (cc)))
+    (λ path n m line.
+    let e : codes "create" ∷ finds.file ∷ finds.extents ∷ finds.pages ∷ [] ≡ codes "create" ∷ path ∷ line.extents_text ∷ line.pages_text ∷ [] = sym finds.are ∙ line.are in
+    let file : finds.file ≡ path = cc in
+    let extents : finds.extents ≡ line.extents_text = cc in
+    let pages : finds.pages ≡ line.pages_text = cc in
+    asks n m (rw (file, extents, pages) line.request))
+asks_create words found (Some command.RunScript) finds asks = absurd asks
+asks_create words found (Some (command.Create path shape)) finds asks = record {
   extents_text = finds.extents;
   pages_text = finds.pages;
   are = rw asks.0 finds.are;
@@ -82,16 +86,15 @@ asks_create words found (Some (Create path shape)) finds asks = record {
 -- what the file behind `run` asks for, the words do
 pub asks_run : (words : List Text) (found : Option (Text × List Row)) (asked : Option Command) (finds : FindsRun words found)
     → AsksRun finds.file asked → Asks words asked
-asks_run words found None finds asks = record {
-  no_run = λ run.
-      let e : codes "run" ∷ finds.file ∷ [] ≡ codes "run" ∷ codes "-" ∷ [] = sym finds.are ∙ run in
-      asks (cc);
-  no_create = λ path n m line.
-      let e : codes "run" ∷ finds.file ∷ [] ≡ codes "create" ∷ path ∷ line.extents_text ∷ line.pages_text ∷ [] = sym finds.are ∙ line.are in
-      absurd (no_both (cc));
-}
-asks_run words found (Some RunScript) finds asks = finds.are ∙ ap (λ t. codes "run" ∷ t ∷ []) asks
-asks_run words found (Some (Create path shape)) finds asks = absurd asks
+asks_run words found None finds asks = no_line words
+    (λ run.
+    let e : codes "run" ∷ finds.file ∷ [] ≡ codes "run" ∷ codes "-" ∷ [] = sym finds.are ∙ run in
+    asks (cc))
+    (λ path n m line.
+    let e : codes "run" ∷ finds.file ∷ [] ≡ codes "create" ∷ path ∷ line.extents_text ∷ line.pages_text ∷ [] = sym finds.are ∙ line.are in
+    absurd (no_both (cc)))
+asks_run words found (Some command.RunScript) finds asks = finds.are ∙ ap (λ t. codes "run" ∷ t ∷ []) asks
+asks_run words found (Some (command.Create path shape)) finds asks = absurd asks
 
 -- a path is plain
 path_plain : (word : Text) → IsPath word → IsPlain word
@@ -117,10 +120,8 @@ create_plain path a b n m is = All-cons IsPlain (codes "create") (path ∷ a ∷
 
 -- words that aren't plain are no command line
 pub no_line_unplain : (words : List Text) → (All IsPlain words → ⊥) → IsNoLine words
-no_line_unplain words unplain = record {
-  no_run = λ run. unplain (subst (All IsPlain) (sym run) run_plain);
-  no_create = λ path n m line. unplain (subst (All IsPlain) (sym line.are) (create_plain path line.extents_text line.pages_text n m line.request));
-}
+no_line_unplain words unplain = no_line words (λ run. unplain (subst (All IsPlain) (sym run) run_plain))
+    (λ path n m line. unplain (subst (All IsPlain) (sym line.are) (create_plain path line.extents_text line.pages_text n m line.request)))
 
 -- where clap takes plain words, it finds what they say
 pub parsed_finds : (app : App) (words : List Text) (found : Option (Text × List Row)) → app ≡ mdc_app → All IsPlain words
@@ -156,3 +157,16 @@ same_line words path other n m k l first second =
       same_extents = first.request.extents_written.value ∙ (ap (digits_value 10) extents ∙ sym second.request.extents_written.value);
       same_pages = first.request.pages_written.value ∙ (ap (digits_value 10) pages ∙ sym second.request.pages_written.value);
     }
+
+-- words spell one command line at most
+pub one_line : (words : List Text) (line other : Line) → Spells words line → Spells words other → line ≡ other
+one_line words RunScript RunScript first second = refl
+one_line words RunScript (CreateFile path n m) first second =
+    let same : codes "run" ∷ codes "-" ∷ [] ≡ codes "create" ∷ path ∷ second.extents_text ∷ second.pages_text ∷ [] = sym first ∙ second.are in
+    absurd (omega (arith, ap length same))
+one_line words (CreateFile path n m) RunScript first second =
+    let same : codes "create" ∷ path ∷ first.extents_text ∷ first.pages_text ∷ [] ≡ codes "run" ∷ codes "-" ∷ [] = sym first.are ∙ second in
+    absurd (omega (arith, ap length same))
+one_line words (CreateFile path n m) (CreateFile other k l) first second =
+    let same = same_line words path other n k m l first second in
+    rw (same.same_path, same.same_extents, same.same_pages) refl

@@ -1,15 +1,9 @@
 pub mod Asking
-pub mod Before
-pub mod Causes
 pub mod ClapWords
-pub mod Columns
 pub mod CreateLemmas
 pub mod Ends
 pub mod LeavingLemmas
-pub mod LineTexts
-pub mod Onto
-pub mod Places
-pub mod Rows
+pub mod Scripts
+pub mod Serving
 pub mod Sessions
 pub mod Told
-pub mod Values

@@ -3,7 +3,7 @@ use Rattle.std.proofs.Common.{◌≡◌, ℕ, List, [], ◌++◌, Option, Some, 
 use Rattle.std.proofs.lemmas.List.{append-nil}
 use Rattle.mdc_outside.specs.Outside.{Takes, TakesPart}
 use Rattle.mdc_shell.specs.Leaving.{StaysTold}
-use Rattle.first_reader.specs.Progress.{Took}
+use Rattle.sql_reader.specs.Progress.{Took}
 
 -- one piece on the tape, and then another
 pub takes_more : (tape mid new : Option (List ℕ)) (said more : List ℕ) → Takes tape said mid → Takes mid more new → Takes tape (said ++ more) new
@@ -23,6 +23,24 @@ takes_nothing (Some tape) = ap Some (sym (append-nil tape))
 pub took_nothing : (script : Option (List ℕ)) (taken : List ℕ) → Took script taken script taken
 took_nothing None taken = tt
 took_nothing (Some bytes) taken = ([], bytes, refl, refl, sym (append-nil taken))
+
+-- what comes off twice comes off once
+pub took_more : (first second third : Option (List ℕ)) (old now new : List ℕ) → Took first old second now → Took second now third new → Took first old third new
+took_more None second third old now new a b = tt
+took_more (Some bytes) second third old now new a b =
+    let rest : List ℕ = a.1 in
+    let more : Took (Some rest) now third new = subst (λ o. Took o now third new) a.3 b in
+    (a.0 ++ more.0, more.1, a.2 ∙ (ap (λ l. a.0 ++ l) more.2 ∙ sym (append_assoc a.0 more.0 more.1)), more.3, more.4 ∙ (ap (λ l. l ++ more.0) a.4 ∙ append_assoc old a.0 more.0))
+
+-- one piece on the tape, and then a part of another
+pub takes_part_more : (tape mid new : Option (List ℕ)) (said text : List ℕ) → Takes tape said mid → TakesPart mid text new
+    → (part unsaid : List ℕ) × (text ≡ part ++ unsaid) × Takes tape (said ++ part) new
+takes_part_more None mid new said text first second =
+    let still : TakesPart None text new = subst (λ (t : Option (List ℕ)). TakesPart t text new) first second in
+    ([], text, refl, still)
+takes_part_more (Some tape) mid new said text first second =
+    let part : TakesPart (Some (tape ++ said)) text new = subst (λ (t : Option (List ℕ)). TakesPart t text new) first second in
+    (part.0, part.1, part.2, part.3 ∙ ap Some (append_assoc tape said part.0))
 
 -- a tape on which a piece was put is told still
 pub takes-told : (tape new : Option (List ℕ)) (piece : List ℕ) → Takes tape piece new → StaysTold tape new

@@ -1,23 +1,27 @@
 -- The command that words ask for.
 use Rattle.std.specs.Prelude.{◌≡◌, ℕ, List, Option, Some, None, codes}
 use Rattle.mdc_shell.specs.declared.command.Command.{Command}
-use Rattle.mdc_shell.specs.declared.command.Command.TheVariants.{Create, RunScript}
-use Rattle.mdc_shell.specs.Words.{IsRunLine, IsCreateLine, IsNoLine, IsRequest}
+use Rattle.mdc_shell.specs.declared.command.Command.TheVariants as command
+use Rattle.mdc_shell.specs.Words.{CreateFile, IsNoLine, IsRequest, Line, RunScript, Spells}
+
+-- the command line that asks for a command
+abbrev pub line_of : Command → Line
+line_of command.RunScript = RunScript
+line_of (command.Create path shape) = CreateFile path.now shape.extents shape.extent_pages
 
 -- the words of a command line ask for this
 abbrev pub Asks : List (List ℕ) → Option Command → Type 0
 Asks words None = IsNoLine words
-Asks words (Some RunScript) = IsRunLine words
-Asks words (Some (Create path shape)) = IsCreateLine words path.now shape.extents shape.extent_pages
+Asks words (Some command) = Spells words (line_of command)
 
 -- a path and two numerals ask for a create, or for nothing
 abbrev pub AsksCreate : List ℕ → List ℕ → List ℕ → Option Command → Type 0
 AsksCreate file extents pages None = (n m : ℕ) → IsRequest file extents pages n m → ⊥
-AsksCreate file extents pages (Some RunScript) = ⊥
-AsksCreate file extents pages (Some (Create path shape)) = (path.now ≡ file) × IsRequest file extents pages shape.extents shape.extent_pages
+AsksCreate file extents pages (Some command.RunScript) = ⊥
+AsksCreate file extents pages (Some (command.Create path shape)) = (path.now ≡ file) × IsRequest file extents pages shape.extents shape.extent_pages
 
 -- the file behind `run` asks for a script from the input, or for nothing
 abbrev pub AsksRun : List ℕ → Option Command → Type 0
 AsksRun file None = file ≡ codes "-" → ⊥
-AsksRun file (Some RunScript) = file ≡ codes "-"
-AsksRun file (Some (Create path shape)) = ⊥
+AsksRun file (Some command.RunScript) = file ≡ codes "-"
+AsksRun file (Some (command.Create path shape)) = ⊥

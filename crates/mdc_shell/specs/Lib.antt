@@ -1,14 +1,10 @@
 pub mod Asked
 pub mod Create
-pub mod Engine
 pub mod Found
 pub mod Grammar
-pub mod Key
 pub mod Leaving
-pub mod Place
 pub mod Reader
 pub mod Run
-pub mod Session
 pub mod Status
 pub mod Untouched
 pub mod Words

@@ -1,72 +1,109 @@
--- What a run of a script does to its source and its host, for each status (README.md, "Limits and statuses").
-use Rattle.std.specs.Prelude.{◌≡◌, ◌⊎◌, ◌<◌, ◌≤◌, ℕ, List, [], ◌∷◌, ◌++◌, length, take, if◌then◌else◌, Option, Some, None, IfSome}
-use Rattle.first_ast.specs.Answer.{text_of}
-use Rattle.first_ast.specs.Database.{Database, empty_database}
-use Rattle.first_ast.specs.Reading.{Item, Reads, Closes}
-use Rattle.mdc_shell.specs.Session.{turn, after, outcomes, texts, has_refusal}
+-- What a run of a script does to its source and its host, for each end (README.md, "Limits and statuses").
+use Rattle.std.specs.Prelude.{◌≡◌, ◌⊎◌, ◌≤◌, ◌+◌, ℕ, List, [], ◌∷◌, ◌++◌, length, take, true, false, Option, Some, None, IfSome, Result, Ok, Err}
+use Rattle.mdc_ast.specs.declared.reply.Outcome.{Outcome}
+use Rattle.mdc_ast.specs.Reading.{Item, Reads, Closes}
+use Rattle.mdc_ast.specs.meaning.Database.{empty_database}
+use Rattle.mdc_ast.specs.meaning.Session.{Goes, Held, Session, has_refusal, session_on}
+use Rattle.mdc_ast.specs.meaning.Texts.{outcome_text, texts}
+use Rattle.mdc_outside.specs.Outside.{Takes}
+use Rattle.mdc_shell.specs.declared.status.Served.{Served}
+use Rattle.mdc_shell.specs.declared.status.Served.TheVariants.{AllDone, SomeRefused}
+use Rattle.mdc_shell.specs.declared.status.Stop.{Stop}
+use Rattle.mdc_shell.specs.declared.status.Stop.TheVariants.{Unread, Unsaid, TooLong, Memory}
+use Rattle.mdc_shell.specs.Status.{status_of}
 
--- a first part of the text of the first item's outcome, and nothing where there is no item
-abbrev pub IsPartOfNext : Database → List Item → List ℕ → Type 0
-IsPartOfNext db [] part = part ≡ []
-IsPartOfNext db (item ∷ items) part = (unsaid : List ℕ) × (text_of (turn db item).1 ≡ part ++ unsaid)
+-- what is held in a session
+abbrev pub held_by : Session → Held
+held_by session = record { session = session }
 
--- what is said at a stop: the texts of the outcomes of the first items, and a part of the next one's text
-pub record SaysPart (items : List Item) (said : List ℕ) : Type 0 where
-  pub done : List Item
-  pub left : List Item
+-- what is held before the first statement
+abbrev pub held_first : Held
+held_first = held_by (session_on empty_database)
+
+-- the most bytes of a script
+abbrev pub script_limit : ℕ
+script_limit = 67108864
+
+-- the most bytes of one read
+abbrev pub read_limit : ℕ
+read_limit = 4096
+
+-- a first part of the text of the first outcome, and nothing where there is no outcome
+abbrev pub IsPartOfNext : List Outcome → List ℕ → Type 0
+IsPartOfNext [] part = part ≡ []
+IsPartOfNext (outcome ∷ outcomes) part = (unsaid : List ℕ) × (outcome_text outcome ≡ part ++ unsaid)
+
+-- that many outcomes are said, from the first on, and a part of the next one's text
+pub record Says (outcomes : List Outcome) (said : List ℕ) (answered : ℕ) : Type 0 where
+  pub done : List Outcome
+  pub left : List Outcome
   pub part : List ℕ
-  pub all : items ≡ done ++ left
-  pub next : IsPartOfNext (after empty_database done) left part
-  pub bytes : said ≡ texts (outcomes done) ++ part
+  pub all : outcomes ≡ done ++ left
+  pub next : IsPartOfNext left part
+  pub bytes : said ≡ texts done ++ part
+  pub count : answered ≡ length done
 
--- the texts of the outcomes of the items that semicolons close, and nothing else
-abbrev pub SaysClosed : List ℕ → List ℕ → Type 0
-SaysClosed script said = (items : List Item) × Closes script items × (said ≡ texts (outcomes items))
+-- each statement was answered as it closed: what was taken before the last read closes no more items than were answered
+pub record AnswersInTime (taken : List ℕ) (answered : ℕ) : Type 0 where
+  pub before : List ℕ
+  pub piece : List ℕ
+  pub is : taken ≡ before ++ piece
+  pub short : length piece ≤ read_limit
+  pub closed : (items : List Item) → Closes before items → length items ≤ answered
 
--- The end of a script that was read to its end: the texts of all outcomes, and status 1 where one is a refusal.
-pub record IsDone (taken rest said : List ℕ) (status : ℕ) : Type 0 where
-  pub items : List Item
+-- the items are those that semicolons close in what was taken, or all of them where nothing is left
+abbrev pub AreTaken : List ℕ → List ℕ → List Item → Type 0
+AreTaken taken rest items = Closes taken items ⊎ (Reads taken items × (rest ≡ []))
+
+-- the script was read to its end, and all outcomes are said
+pub record IsDone (taken rest said : List ℕ) (items : List Item) (outcomes : List Outcome) : Type 0 where
   pub reads : Reads taken items
   pub none_left : rest ≡ []
-  pub texts_said : said ≡ texts (outcomes items)
-  pub status_is : status ≡ (if has_refusal (outcomes items) then 1 else 0)
+  pub texts_said : said ≡ texts outcomes
+  pub fits : length taken ≤ script_limit
 
--- A stop that may fall within a reply: the items are those that semicolons close in what was taken, or all of them where
--- nothing is left.
-abbrev pub StopsWithin : List ℕ → List ℕ → List ℕ → Type 0
-StopsWithin taken rest said =
-    ((items : List Item) × Closes taken items × SaysPart items said)
-    ⊎ ((items : List Item) × Reads taken items × (rest ≡ []) × SaysPart items said)
+-- a stop that may fall within a reply
+pub record StopsWithin (taken rest said : List ℕ) (items : List Item) (outcomes : List Outcome) : Type 0 where
+  pub are : AreTaken taken rest items
+  pub answered : ℕ
+  pub says : Says outcomes said answered
+  pub in_time : AnswersInTime taken answered
+  pub fits : length taken ≤ script_limit
 
--- A run of a script from a source that tells its bytes, on a host that tells its tape.
-pub record Runs (script tape : List ℕ) (left new : Option (List ℕ)) (status : ℕ) : Type 0 where
+-- How the run of a script ends, of which these bytes were taken and those are left, with items that have these outcomes.
+abbrev pub EndsSo : List ℕ → List ℕ → List ℕ → List Item → List Outcome → Result Served Stop → Type 0
+EndsSo taken rest said items outcomes (Ok AllDone) = IsDone taken rest said items outcomes × (has_refusal outcomes ≡ false)
+EndsSo taken rest said items outcomes (Ok SomeRefused) = IsDone taken rest said items outcomes × (has_refusal outcomes ≡ true)
+-- a read failed, and each closed statement was answered before
+EndsSo taken rest said items outcomes (Err Unread) = Closes taken items × (said ≡ texts outcomes) × (length taken ≤ script_limit)
+EndsSo taken rest said items outcomes (Err Unsaid) = StopsWithin taken rest said items outcomes
+EndsSo taken rest said items outcomes (Err Memory) = StopsWithin taken rest said items outcomes
+-- one byte more was taken than the limit, and each statement that closes within it was answered before
+EndsSo taken rest said items outcomes (Err TooLong) = Closes (take script_limit taken) items × (said ≡ texts outcomes) × (length taken ≡ script_limit + 1)
+
+-- A run of a script whose bytes are told: one run of its items from the empty database, how it ends, and what holds meanwhile
+-- of what is said for them.
+pub record RunsScript (script : List ℕ) (tape left new : Option (List ℕ)) (status : ℕ) (Meanwhile : List Outcome → Type 0) : Type 0 where
   pub taken : List ℕ
   pub rest : List ℕ
   pub said : List ℕ
   pub script_is : script ≡ taken ++ rest
   pub left_is : left ≡ Some rest
-  pub tape_is : new ≡ Some (tape ++ said)
-  -- 0 and 1: all items are answered
-  pub done : (status ≡ 0) ⊎ (status ≡ 1) → IsDone taken rest said status
-  -- 4: a read failed, and each closed statement was answered before
-  pub unread : status ≡ 4 → SaysClosed taken said
-  -- 5 and 8: a reply couldn't be said, or memory is wanted
-  pub within : (status ≡ 5) ⊎ (status ≡ 8) → StopsWithin taken rest said
-  -- 7: more bytes were taken than the limit, and each statement that closed within it was answered before
-  pub too_long : status ≡ 7 → SaysClosed (take 67108864 taken) said
-  pub limit : status ≡ 7 → 67108864 < length taken
-  pub only_limit : 67108864 < length taken → status ≡ 7
+  pub tape_is : Takes tape said new
+  pub items : List Item
+  pub outcomes : List Outcome
+  pub states : List (List Held)
+  pub goes : Goes held_first items outcomes states
+  pub end_ : Result Served Stop
+  pub status_is : status ≡ status_of end_
+  pub ends : EndsSo taken rest said items outcomes end_
+  pub meanwhile : Meanwhile outcomes
 
--- the same, where the source and the host tell them
-abbrev pub RunsFrom : Option (List ℕ) → Option (List ℕ) → Option (List ℕ) → Option (List ℕ) → ℕ → Type 0
-RunsFrom script tape left new status = IfSome script (λ script. IfSome tape (λ tape. Runs script tape left new status))
+-- the same, where the source tells its bytes
+abbrev pub RunsFrom : Option (List ℕ) → Option (List ℕ) → Option (List ℕ) → Option (List ℕ) → ℕ → (List Outcome → Type 0) → Type 0
+RunsFrom script tape left new status Meanwhile = IfSome script (λ script. RunsScript script tape left new status Meanwhile)
 
 -- the source tells a script within the limit
-abbrev pub IsWithin : Option (List ℕ) → Type 0
-IsWithin None = ⊥
-IsWithin (Some script) = length script ≤ 67108864
-
--- the tape is told
-abbrev pub IsTold : Option (List ℕ) → Type 0
-IsTold None = ⊥
-IsTold (Some tape) = Unit {0}
+abbrev pub IsWithinLimit : Option (List ℕ) → Type 0
+IsWithinLimit None = ⊥
+IsWithinLimit (Some script) = length script ≤ script_limit

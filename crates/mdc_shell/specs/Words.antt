@@ -35,10 +35,19 @@ pub record IsCreateLine (words : List (List ℕ)) (path : List ℕ) (extents ext
   pub are : words ≡ codes "create" ∷ path ∷ extents_text ∷ pages_text ∷ []
   pub request : IsRequest path extents_text pages_text extents extent_pages
 
--- the words are no command line
-pub record IsNoLine (words : List (List ℕ)) : Type 0 where
-  pub no_run : IsRunLine words → ⊥
-  pub no_create : (path : List ℕ) (extents extent_pages : ℕ) → IsCreateLine words path extents extent_pages → ⊥
+-- what a command line asks for
+pub data Line : Type 0 where
+  RunScript : Line
+  CreateFile : (path : List ℕ) (extents extent_pages : ℕ) → Line
+
+-- the words spell a command line
+abbrev pub Spells : List (List ℕ) → Line → Type 0
+Spells words RunScript = IsRunLine words
+Spells words (CreateFile path extents extent_pages) = IsCreateLine words path extents extent_pages
+
+-- the words spell no command line
+abbrev pub IsNoLine : List (List ℕ) → Type 0
+IsNoLine words = (line : Line) → Spells words line → ⊥
 
 -- the word may be one of a command line: it isn't empty, and a hyphen is in front only where it is all of the word
 abbrev pub IsPlain : List ℕ → Type 0

@@ -6,30 +6,21 @@
 //! that nothing is read. `main` only makes the real source and host, of which nothing is told, and sees to it that no file
 //! is taken for a standard stream.
 //!
-//! It stands on `first_reader` for the items of a script and on `first_ast` for what they mean, on `page_store` for a database
-//! in a file, on `host_edge` for the real source and host (`mdc_outside`), and on `clap` for the words.
+//! It stands on `sql_reader` for the items of a script, on `plain_engine` for what statements do and on `answer_text` for how
+//! they are answered, each by what `mdc_ast` says that they mean; on `page_store` for a database in a file, on `host_edge`
+//! for the real source and host (`mdc_outside`), and on `clap` for the words.
 #![tactic(auto)]
 
-mod answer_text;
-mod cells;
-#[cfg(test)]
-mod cells_tests;
 mod command;
 mod create;
-mod definition;
-mod engine;
-mod fitting;
 mod grammar;
-mod lines;
 mod numeral;
 mod plain;
 mod program;
 #[cfg(test)]
 mod program_tests;
-mod refusals;
 mod session;
 mod status;
-mod table;
 
 use host_edge::{FileHost, StandIns, StdinSource};
 use program::run;

@@ -5,20 +5,20 @@ ghost use Rattle.mdc_outside.specs.Moments.{IsWithinCall};
 ghost use Rattle.mdc_words.specs.Faults.{CountsFault, Rose};
 ghost use Rattle.mdc_words.specs.Time.{OverTime};
 ghost use Rattle.mdc_shell.specs.Create.{Completes, Creates, MayAttach};
-ghost use Rattle.mdc_shell.specs.Leaving.{LeftByCreate, LeftByRun, LeftByScript, StaysTold};
-ghost use Rattle.mdc_shell.specs.Run.{RunsFrom, IsWithin, IsTold};
+ghost use Rattle.mdc_shell.specs.Leaving.{LeavesReplies, LeftByCreate, LeftByRun, LeftByScript, StaysTold};
+ghost use Rattle.mdc_shell.specs.Run.{RunsFrom, IsWithinLimit};
 ghost use Rattle.mdc_shell.specs.Status.{IsScriptStatus, IsStatus};
 ghost use Rattle.mdc_shell.specs.Untouched.{IsUntouched};
-ghost use Rattle.mdc_shell.specs.Words.{IsCreateLine, IsNoLine, IsRunLine, SaysUsage, usage};
+ghost use Rattle.mdc_shell.specs.Words.{CreateFile, IsNoLine, RunScript, SaysUsage, Spells, usage};
 
 use crate::command::Command;
 use crate::create::create;
 use crate::session::serve;
 use crate::status::Status;
-use first_reader::one_closing;
 use mdc_outside::{Failed, Host, Source};
 use mdc_values::Memory;
 use page_store::Shape;
+use sql_reader::{one_closing, one_reading};
 use std::alloc::Global;
 
 /// What a call of `run` ends with: its status, and the host that it was given.
@@ -43,12 +43,13 @@ pub fn run<I: Source, H: Host>(
     ensures statuses { IsStatus result.status.0 }
 
     // The words of a script: what it says, and what it takes, for each status.
-    ensures script { IsRunLine (map string_bytes words.now.items)
-        → RunsFrom (I.left input.old) (H.tape host) (I.left input.new) (H.tape result.host) result.status.0 }
-    ensures served { IsRunLine (map string_bytes words.now.items) → IsScriptStatus result.status.0 }
+    ensures script { Spells (map string_bytes words.now.items) RunScript
+        → RunsFrom (I.left input.old) (H.tape host) (I.left input.new) (H.tape result.host) result.status.0
+        (LeavesReplies H.clock H.moment H.file H.tape host result.host)
+        × IsScriptStatus result.status.0 }
 
     // The words of a create: what it does to the file and says, for each status.
-    ensures created { (path : List ℕ) (extents extent_pages : ℕ) → IsCreateLine (map string_bytes words.now.items) path extents extent_pages
+    ensures created { (path : List ℕ) (extents extent_pages : ℕ) → Spells (map string_bytes words.now.items) (CreateFile path extents extent_pages)
         → Creates extents extent_pages (H.file host) (H.file result.host) (H.tape host) (H.tape result.host) result.status.0
         × MayAttach (H.attaches host) path (H.attaches result.host) × (input.new ≡ input.old) }
 
@@ -57,7 +58,7 @@ pub fn run<I: Source, H: Host>(
         → SaysUsage (H.tape host) (H.tape result.host) result.status.0 × (input.new ≡ input.old) }
 
     // Only a create calls the disk.
-    ensures no_disk { ((path : List ℕ) (extents extent_pages : ℕ) → IsCreateLine (map string_bytes words.now.items) path extents extent_pages → ⊥)
+    ensures no_disk { ((path : List ℕ) (extents extent_pages : ℕ) → Spells (map string_bytes words.now.items) (CreateFile path extents extent_pages) → ⊥)
         → IsUntouched H.file H.attaches H.disk_faults host result.host }
 
     // The outside stops a run exactly where a call to it failed: each count of faults rose, or is as it was.
@@ -73,19 +74,20 @@ pub fn run<I: Source, H: Host>(
         → OverTime H.clock H.moment (LeftByRun (map string_bytes words.now.items) (I.left input.old) before said) host result.host }
 
     // Where nothing failed, a script within the limit is run to its end, unless memory is wanted.
-    ensures complete { IsRunLine (map string_bytes words.now.items)
+    ensures complete { Spells (map string_bytes words.now.items) RunScript
         → (Rose (I.read_faults input.old) (I.read_faults input.new) → ⊥)
         → (Rose (H.say_faults host) (H.say_faults result.host) → ⊥)
-        → IsWithin (I.left input.old) → IsTold (H.tape host)
+        → IsWithinLimit (I.left input.old)
         → (result.status.0 ≡ 0) ⊎ (result.status.0 ≡ 1) ⊎ (result.status.0 ≡ 8) }
 
     // Where nothing failed, a create makes a database of a file without a byte, unless memory is wanted.
-    ensures completes { (path : List ℕ) (extents extent_pages : ℕ) → IsCreateLine (map string_bytes words.now.items) path extents extent_pages
+    ensures completes { (path : List ℕ) (extents extent_pages : ℕ) → Spells (map string_bytes words.now.items) (CreateFile path extents extent_pages)
         → (Rose (H.disk_faults host) (H.disk_faults result.host) → ⊥)
         → (Rose (H.say_faults host) (H.say_faults result.host) → ⊥)
         → Completes (H.file host) result.status.0 }
 {
-    // The law that what a reader has given begins all that there is.
+    // The laws that a script has one list of items, and that what a reader has given begins it.
+    one_reading();
     one_closing();
     match Command::of_words(alloc, words.as_slice()) {
         Ok(Some(Command::RunScript)) => run_script(alloc, input, host),
@@ -100,7 +102,8 @@ pub fn run<I: Source, H: Host>(
 
 // Runs the script of the input.
 fn run_script<I: Source, H: Host>(alloc: Global, input: &mut I, host: H) -> Ended<H>
-    ensures runs { RunsFrom (I.left input.old) (H.tape host) (I.left input.new) (H.tape result.host) result.status.0 }
+    ensures runs { RunsFrom (I.left input.old) (H.tape host) (I.left input.new) (H.tape result.host) result.status.0
+        (LeavesReplies H.clock H.moment H.file H.tape host result.host) }
     ensures statuses { IsScriptStatus result.status.0 }
     ensures disk { IsUntouched H.file H.attaches H.disk_faults host result.host }
     ensures reads { CountsFault (result.status.0 ≡ 4) (I.read_faults input.old) (I.read_faults input.new) }

@@ -51,6 +51,18 @@ fn run_both<I: Source, H: Host>(
     run(alloc, second, input, between.host)
 }
 
+/// The status that the words of a line end with where they are run a second time, and the host.
+fn run_line_twice<I: Source, H: Host + Drop>(
+    alloc: Global,
+    line: &str,
+    input: &mut I,
+    host: H,
+) -> Result<(u8, H), Fail> {
+    let words = words_of(alloc, line)?;
+    let ended = run_both(alloc, &words, &words, input, host);
+    Ok((ended.status.0, ended.host))
+}
+
 /// How a run of a script in memory ends.
 #[derive(Debug, Drop)]
 struct Seen {
@@ -182,12 +194,11 @@ fn databases_within_the_limits_are_made(rt: HostRuntime) -> Result<(), Fail> {
 #[test]
 fn a_file_is_made_once(rt: HostRuntime) -> Result<(), Fail> {
     let alloc = rt.alloc();
-    let words = words_of(alloc, "create f 16 2")?;
     let mut source = MemSource::new(Vec::new(alloc), 1, Vec::new(alloc));
     let host = MemHost::new(alloc, None, Vec::new(alloc));
-    let ended = run_both(alloc, &words, &words, &mut source, host);
-    assert_eq!(rt; ended.status.0, 6);
-    assert_eq!(rt; ended.host.said(), b"OK\nFILE EXISTS\n".as_slice());
+    let (status, host) = run_line_twice(alloc, "create f 16 2", &mut source, host)?;
+    assert_eq!(rt; status, 6);
+    assert_eq!(rt; host.said(), b"OK\nFILE EXISTS\n".as_slice());
     Ok(())
 }
 

@@ -5,9 +5,9 @@ ghost use Rattle.mdc_shell.specs.Reader.{stop_of};
 ghost use Rattle.mdc_shell.specs.Status.{served_by, status_of, status_of_created};
 
 use crate::create::Created;
-use first_reader::ReadStop;
 use mdc_outside::Failed;
 use mdc_values::Memory;
+use sql_reader::ReadStop;
 
 /// The status that the program ends with.
 #[derive(Clone, Copy, Debug, PartialEq, Eq)]

@@ -52,6 +52,6 @@ TakesMemory (Ok value) = IsText value
 TakesMemory (Err fault) = ⊥
 
 -- the answer is this one, or want of memory for a text
-abbrev pub Gives : Result Value ValueFault → Result Value ValueFault → Type 0
-Gives fitted (Err Memory) = TakesMemory fitted
-Gives fitted result = result ≡ fitted
+abbrev pub AnswersFit : Result Value ValueFault → Result Value ValueFault → Type 0
+AnswersFit fitted (Err Memory) = TakesMemory fitted
+AnswersFit fitted result = result ≡ fitted

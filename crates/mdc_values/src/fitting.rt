@@ -1,6 +1,6 @@
 // Which literal fits which column.
 ghost use Rattle.std.specs.Prelude.{◌≡◌, ◌≤◌, ℕ, length, IfOk, IsErr, MatchResult};
-ghost use Rattle.mdc_values.specs.Fitting.{Gives, fit_of, in_bigint, in_integer, number_if, signed, text_within};
+ghost use Rattle.mdc_values.specs.Fitting.{AnswersFit, fit_of, in_bigint, in_integer, number_if, signed, text_within};
 ghost use Rattle.mdc_values.specs.Value.{trimmed};
 
 use crate::calendar::read_day;
@@ -25,7 +25,7 @@ impl From<Memory> for ValueFault {
 
 /// The value of a literal in a column. Only a text takes memory.
 pub fn fit(alloc: Global, ty: ColType, literal: &Literal) -> Result<Value, ValueFault>
-    ensures { Gives (fit_of ty literal.now) result }
+    ensures { AnswersFit (fit_of ty literal.now) result }
 {
     match (ty, literal) {
         (_, Literal::Null) => Ok(Value::Null),
@@ -67,7 +67,7 @@ fn fit_bigint(negative: bool, size: u64) -> Result<Value, ValueFault>
 }
 
 fn fit_text(alloc: Global, limit: u8, text: &[u8]) -> Result<Value, ValueFault>
-    ensures { Gives (text_within limit (trimmed text.now)) result }
+    ensures { AnswersFit (text_within limit (trimmed text.now)) result }
 {
     let text = trim(text);
     if text.len() > limit as usize {
@@ -79,7 +79,7 @@ fn fit_text(alloc: Global, limit: u8, text: &[u8]) -> Result<Value, ValueFault>
     }
 }
 
-/// A text without the blanks at its end.
+/// A text without the blanks at its end, lent from it.
 pub fn trim(text: &[u8]) -> &[u8]
     ensures { result.now ≡ trimmed text.now }
 {

@@ -23,7 +23,7 @@ pub use blocks::Blocks;
 pub use boxed::Boxed;
 pub use calendar::day;
 pub use chars::Chars;
-pub use fitting::{ValueFault, fit};
+pub use fitting::{ValueFault, fit, trim};
 pub use list::List;
 pub use literal::Literal;
 pub use memory::Memory;

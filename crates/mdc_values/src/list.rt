@@ -1,5 +1,5 @@
 // A vector that contracts see as the list of its elements.
-ghost use Rattle.std.specs.Prelude.{◌≡◌, ◌<◌, [], ◌∷◌, ◌++◌, length, slice_get, remove, OnOk, OnErr};
+ghost use Rattle.std.specs.Prelude.{◌≡◌, ◌<◌, [], ◌∷◌, ◌++◌, length, slice_get, slice_set, remove, OnOk, OnErr};
 
 use crate::Memory;
 use std::alloc::Global;
@@ -59,6 +59,13 @@ impl<T> List<T> {
     {
         self.elements.as_slice()
     }
+
+    /// The vector of the list's elements. It takes no memory.
+    pub fn into_vec(self) -> Vec<T>
+        ensures { result.items ≡ self }
+    {
+        self.elements
+    }
 }
 
 impl<T: Drop> List<T> {
@@ -69,6 +76,14 @@ impl<T: Drop> List<T> {
     {
         self.elements.push(element)?;
         Ok(())
+    }
+
+    /// Puts an element in the place of another, which is dropped. It takes no memory.
+    pub fn set(&mut self, i: usize, element: T)
+        requires { i < length self.old }
+        ensures { self.new ≡ slice_set self.old i element }
+    {
+        self.elements[i] = element;
     }
 
     /// Takes an element out and closes the list up. It takes no memory.

@@ -3,14 +3,15 @@ use Rattle.std.proofs.Common.{◌≡◌, ◌≢◌, ◌<◌, ◌≤◌, ◌⊎�
 use Rattle.std.specs.Cmp.{nat_eq_equiv}
 use Rattle.std.specs.List.{IsDistinct, AllByRecursion, list_any}
 use Rattle.std.specs.Map.{keys_of, lookup, set_value}
-use Rattle.std.proofs.lemmas.Bool.{cases_eq, cases_lt}
+use Rattle.std.proofs.lemmas.Bool.{cases_lt}
 use Rattle.std.proofs.lemmas.Bool.Decides.{Decides-eqb, nat_tests}
 use Rattle.std.specs.Prelude.{IsSome}
-use Rattle.std.specs.Option.{option_map, option_to_list}
-use Rattle.std.proofs.lemmas.Option.{get_or_from_slice_get, slice_get_within, slice_get-map, slice_get-get_or, same_Some}
+use Rattle.std.specs.Option.{option_to_list}
+use Rattle.std.proofs.lemmas.Option.{get_or_from_slice_get, slice_get_within, same_Some}
 use Rattle.std.proofs.lemmas.Map.Made.{is_some-lookup}
 use Rattle.std.proofs.lemmas.Map.Entries.{place_from_lookup, lookup_from_place}
 use Rattle.std.proofs.lemmas.Map.Keys.{IsDistinct-push, IsDistinct-cons, IsDistinct-head, IsDistinct-tail}
+use Rattle.store_api.proofs.BoxesLemmas.{length-unboxed, unboxed-push, page_there}
 use Rattle.page_changes.specs.Table.{Numbered, IsIndexed, LiesAt, Pops, unboxed, with_page}
 use Rattle.page_changes.proofs.Places.{slice_get-push, slice_get-take, slice_get-set_same, slice_get-set_other}
 
@@ -152,16 +153,6 @@ unboxed-set [] place entry d same = refl
 unboxed-set (first ∷ entries) zero entry d same = ap (λ n. (n, entry.1.value) ∷ unboxed entries) same
 unboxed-set (first ∷ entries) (suc place) entry d same = ap (λ rest. (first.0, first.1.value) ∷ rest) (unboxed-set entries place entry d same)
 
--- a box that comes last
-pub unboxed-push : (entries : List (ℕ × Box (List ℕ) Global)) (entry : ℕ × Box (List ℕ) Global) → unboxed (entries ++ entry ∷ []) ≡ unboxed entries ++ (entry.0, entry.1.value) ∷ []
-unboxed-push [] entry = refl
-unboxed-push (first ∷ entries) entry = ap (λ rest. (first.0, first.1.value) ∷ rest) (unboxed-push entries entry)
-
--- as many pages as boxes
-pub length-unboxed : (entries : List (ℕ × Box (List ℕ) Global)) → length (unboxed entries) ≡ length entries
-length-unboxed [] = refl
-length-unboxed (first ∷ entries) = ap suc (length-unboxed entries)
-
 -- a box that comes last has its place in the index
 pub IsIndexed-pushed : (places more : List ℕ) (entries new : List (ℕ × Box (List ℕ) Global)) (p place : ℕ) (box : Box (List ℕ) Global) (old : Numbered)
     → IsIndexed places (unboxed entries) → ((q i : ℕ) → slice_get places q ≡ Some i → slice_get more q ≡ Some i)
@@ -196,13 +187,6 @@ led_past places entries p place indexed read past = absent places (unboxed entri
     let same : i ≡ place = place_read places p i place led read in
     let lt = slice_get_within (unboxed entries) i page there in
     absurd (omega (arith, lt, length-unboxed entries)))
-
--- the page at a place, out of its box
-pub page_there : (entries : List (ℕ × Box (List ℕ) Global)) (place : ℕ) (entry : ℕ × Box (List ℕ) Global) → place < length entries → entry ≡ get_or entries place entry
-    → slice_get (unboxed entries) place ≡ Some (entry.0, entry.1.value)
-page_there entries place entry lt is =
-    slice_get-map (λ (e : ℕ × Box (List ℕ) Global). (e.0, e.1.value)) entries place
-    ∙ ap (option_map (λ (e : ℕ × Box (List ℕ) Global). (e.0, e.1.value))) (slice_get-get_or entries place entry lt ∙ ap (λ (e : ℕ × Box (List ℕ) Global). Some e) (sym is))
 
 -- the index leads to another number
 pub led_elsewhere : (places : List ℕ) (entries : List (ℕ × Box (List ℕ) Global)) (p place : ℕ) (entry : ℕ × Box (List ℕ) Global) → IsIndexed places (unboxed entries)

@@ -1,5 +1,5 @@
 -- Pages in the order of their numbers.
-use Rattle.std.proofs.Common.{◌≡◌, ◌≢◌, ◌<◌, ◌≤◌, ◌+◌, ℕ, zero, suc, List, [], ◌∷◌, length, set, get_or, map, Box, Global, Option, Some, None, nat_eq, true, false, slice_get, refl, sym, ap, subst, ◌∙◌, inl, inr, arith, add-one}
+use Rattle.std.proofs.Common.{◌≡◌, ◌≢◌, ◌<◌, ◌≤◌, ◌+◌, ℕ, zero, suc, List, [], ◌∷◌, length, set, get_or, map, Option, Some, None, nat_eq, true, false, slice_get, refl, sym, ap, subst, ◌∙◌, inl, inr, arith}
 use Rattle.std.specs.Cmp.{nat_eq_equiv}
 use Rattle.std.specs.List.{All, IsDistinct}
 use Rattle.std.specs.List.Sorted.{IsPermutation, IsNonDecreasingBy}
@@ -7,17 +7,13 @@ use Rattle.std.specs.Map.{keys_of, lookup}
 use Rattle.std.proofs.lemmas.Bool.{cases_eq, cases_lt}
 use Rattle.std.proofs.lemmas.Bool.Decides.{nat_tests}
 use Rattle.std.proofs.lemmas.List.Sorted.{IsPermutation-map, IsPermutation-sym, All-permutation, Contains-permutation}
-use Rattle.std.proofs.lemmas.Map.Entries.{place_from_lookup}
 use Rattle.std.proofs.lemmas.Map.Views.{lookup-from_Contains, Contains-from_lookup}
 use Rattle.std.proofs.lemmas.Map.Keys.{IsDistinct-IsPermutation, apart_from_distinct}
 use Rattle.std.proofs.lemmas.Option.{get_or_from_slice_get, slice_get_within, slice_get-get_or, slice_get-map}
-use Rattle.page_changes.specs.Table.{Numbered, IsIndexed, IsRising, unboxed}
+use Rattle.page_changes.specs.Table.{Numbered, IsIndexed, AreRising, unboxed}
 use Rattle.page_changes.proofs.Places.{slice_get-set_same, slice_get-set_other}
-use Rattle.page_changes.proofs.Indexed.{length-unboxed, page_there, key_at}
-
--- a page in its box, under its number
-abbrev pub Boxed : Type 0
-Boxed = ℕ × Box (List ℕ) Global
+use Rattle.store_api.proofs.BoxesLemmas.{Boxed, length-unboxed, page_there}
+use Rattle.page_changes.proofs.Indexed.{key_at}
 
 -- a number below the first is below all, where each is below the next
 above_all : (n : ℕ) (entries : List Boxed) → ((d : Boxed) → 0 < length entries → n < (get_or entries 0 d).0)
@@ -31,13 +27,13 @@ above_all n (e ∷ entries) first next (suc k) d lt =
     omega (arith, behind)
 
 -- pages of which each number is below the next rise
-pub rising_next : (entries : List Boxed) → ((k : ℕ) (d : Boxed) → suc k < length entries → (get_or entries k d).0 < (get_or entries (suc k) d).0) → IsRising (unboxed entries)
+pub rising_next : (entries : List Boxed) → ((k : ℕ) (d : Boxed) → suc k < length entries → (get_or entries k d).0 < (get_or entries (suc k) d).0) → AreRising (unboxed entries)
 rising_next [] next = tt
 rising_next (e ∷ entries) next =
     (above_all e.0 entries (λ d lt. next 0 d (omega arith)) (λ k d lt. next (suc k) d (omega arith)), rising_next entries (λ k d lt. next (suc k) d (omega arith)))
 
 -- the same, as a loop tells it
-pub rising_entries : (entries : List Boxed) → ((k : ℕ) (d : Boxed) → k + 1 < length entries → (get_or entries k d).0 < (get_or entries (k + 1) d).0) → IsRising (unboxed entries)
+pub rising_entries : (entries : List Boxed) → ((k : ℕ) (d : Boxed) → k + 1 < length entries → (get_or entries k d).0 < (get_or entries (k + 1) d).0) → AreRising (unboxed entries)
 rising_entries entries next = rising_next entries (λ k d lt.
     let more : k + 1 < length entries = omega arith in
     let same : k + 1 ≡ suc k = omega arith in
@@ -64,7 +60,7 @@ next_above entries sorted distinct k d lt =
     let most : (get_or entries k d).0 ≤ (get_or entries (suc k) d).0 = sorted k (suc k) d (omega arith) lt in
     grind (arith, nat_tests)
 
-pub rising_sorted : (entries : List Boxed) → IsNonDecreasingBy (λ e. e.0) entries → IsDistinct nat_eq (keys_of (unboxed entries)) → IsRising (unboxed entries)
+pub rising_sorted : (entries : List Boxed) → IsNonDecreasingBy (λ e. e.0) entries → IsDistinct nat_eq (keys_of (unboxed entries)) → AreRising (unboxed entries)
 rising_sorted entries sorted distinct = rising_next entries (next_above entries sorted distinct)
 
 -- the numbers, out of their boxes

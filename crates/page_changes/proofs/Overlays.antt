@@ -90,6 +90,13 @@ changed_in-length [] = omega arith
 changed_in-length (None ∷ changes) = omega (arith, changed_in-length changes)
 changed_in-length (Some page ∷ changes) = omega (arith, changed_in-length changes)
 
+-- where no page has a change, each has none
+pub changed_in-none : (changes : Overlay) (p : ℕ) → changed_in changes ≡ 0 → get_or changes p None ≡ None
+changed_in-none [] p none = refl
+changed_in-none (None ∷ changes) zero none = refl
+changed_in-none (None ∷ changes) (suc p) none = changed_in-none changes p none
+changed_in-none (Some page ∷ changes) p none = absurd (omega arith)
+
 -- a page more that has a change
 pub changed_in-set_new : (changes : Overlay) (p : ℕ) (w : List ℕ) → p < length changes → get_or changes p None ≡ None → changed_in (set changes p (Some w)) ≡ changed_in changes + 1
 changed_in-set_new [] p w lt none = absurd (omega arith)

@@ -3,18 +3,17 @@ use Rattle.std.proofs.Common.{◌≡◌, ◌≢◌, ◌≤◌, ◌<◌, ◌+◌,
 use Rattle.std.specs.Prelude.{IsSome, is_some}
 use Rattle.std.specs.Option.{option_map, option_or, ForSome}
 use Rattle.std.specs.List.{All}
-use Rattle.std.specs.Map.{lookup}
 use Rattle.std.proofs.lemmas.Bool.Decides.{nat_tests}
 use Rattle.std.proofs.lemmas.Bool.{cases_eq, cases_lt}
 use Rattle.std.proofs.lemmas.List.{take_all}
 use Rattle.std.proofs.lemmas.Option.{get_or_from_slice_get}
 use Rattle.store_api.specs.StoreState.{zero_page}
 use Rattle.page_changes.specs.declared.changes.Mark.{Mark}
-use Rattle.page_changes.specs.Changes.{Changed, changed_in, nothing}
+use Rattle.page_changes.specs.Changes.{Changed, changed_in}
 use Rattle.page_changes.specs.Table.{Numbered, IsPlace, LiesAt, with_page}
 use Rattle.page_changes.specs.ChangesView.{listed, or_grown, written, written_before, FitsCounts, FitsMark, Saves, is_free_in}
-use Rattle.page_changes.proofs.Overlays.{length-listed, set_listed, same_listed, listed_same, listed_more, grown_zeros, grown_written, grown_below, changed_alike, grown_some}
-use Rattle.page_changes.proofs.Written.{push_here, push_apart, put_here, put_apart, fits_new, fits_over, fits_same, fits_below, mark_push, marked_push, KeepsMark, keeps_free, keeps_saved, found_page, swapped_last}
+use Rattle.page_changes.proofs.Overlays.{length-listed, get_or-listed, changed_in-none, set_listed, listed_same, listed_more, grown_zeros, grown_written, grown_below, changed_alike, grown_some}
+use Rattle.page_changes.proofs.Written.{push_here, push_apart, put_here, put_apart, fits_new, fits_over, fits_below, mark_push, marked_push, KeepsMark, keeps_free, keeps_saved, found_page, swapped_last}
 
 -- a page that was written for the first time, in the counts
 pub add_counts : (base count below more : ℕ) (table new : Numbered) (p : ℕ) (w : List ℕ) → FitsCounts base count below (written table) → new ≡ table ++ (p, w) ∷ [] → written table p ≡ None
@@ -318,6 +317,19 @@ key_found (page ∷ pages) (suc k) d lt = found_behind (nat_eq (get_or pages k d
   found_behind : (b : Bool) (w : List ℕ) (o : Option (List ℕ)) → IsSome o → IsSome (cond b (Some w) o)
   found_behind true w o some = refl
   found_behind false w o some = some
+
+-- where no page has a change, none was written
+pub none_written : (base count below : ℕ) (pages : Numbered) → FitsCounts base count below (written pages) → below + (count - base) ≡ 0 → pages ≡ []
+none_written base count below [] fits none = refl
+none_written base count below (page ∷ pages) fits none =
+    let some : IsSome (written (page ∷ pages) page.0) = key_found (page ∷ pages) 0 page (omega arith) in
+    let absent : written (page ∷ pages) page.0 ≡ None = elim (cases_lt page.0 base) [
+      | inl low ↦
+          (let unchanged : changed_in (listed base (written (page ∷ pages))) ≡ 0 = omega (arith, fits.counted, none) in
+          sym (get_or-listed base (written (page ∷ pages)) page.0 None low) ∙ changed_in-none (listed base (written (page ∷ pages))) page.0 unchanged)
+      | inr high ↦ fits.within page.0 (omega (arith, high, none, fits.grown))
+    ] in
+    let wrong = subst IsSome absent some in absurd (cc)
 
 -- all pages that were written are below the count
 pub all_below : (base count below : ℕ) (pages : Numbered) (size : ℕ) → FitsCounts base count below (written pages) → size ≡ count → All (λ page. page.0 < size) pages

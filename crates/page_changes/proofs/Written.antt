@@ -1,7 +1,7 @@
 -- What was written over pages, as it is put, saved and counted.
 use Rattle.std.proofs.Common.{◌≡◌, ◌≢◌, ◌≤◌, ◌<◌, ◌+◌, ◌-◌, ◌||◌, ℕ, zero, suc, List, [], ◌∷◌, ◌++◌, Option, Some, None, length, take, get_or, set, cond, nat_eq, leb, ltb, true, false, slice_get, refl, sym, ap, ◌∙◌, subst, inl, inr, arith, length-append}
 use Rattle.std.specs.Prelude.{IsSome, is_some}
-use Rattle.std.specs.Option.{option_or, option_map, ForSome}
+use Rattle.std.specs.Option.{option_or}
 use Rattle.std.specs.Cmp.{nat_eq_equiv}
 use Rattle.std.specs.Map.{lookup, set_value}
 use Rattle.std.proofs.lemmas.Bool.{cases_eq, cases_lt}
@@ -39,6 +39,27 @@ push_apart (page ∷ pages) p w q ne = (elim (nat_eq q page.0) as (λ y. nat_eq 
   | true ↦ λ here. rw here refl
   | false ↦ λ apart. rw apart (push_apart pages p w q ne)
 ]) refl
+
+-- what comes last is there
+last_there : (pages : Numbered) (p : ℕ) (w : List ℕ) → slice_get (pages ++ (p, w) ∷ []) (length pages) ≡ Some (p, w)
+last_there [] p w = refl
+last_there (page ∷ pages) p w = last_there pages p w
+
+-- bytes that are put there are put under its number, where none has it
+put_last : (pages : Numbered) (p : ℕ) (w bytes : List ℕ) → written pages p ≡ None
+    → with_page (pages ++ (p, w) ∷ []) (length pages) bytes ≡ set_value (nat_eq p) (pages ++ (p, w) ∷ []) bytes
+put_last [] p w bytes none = let same = self p in rw same refl
+put_last (page ∷ pages) p w bytes none = (elim (nat_eq p page.0) as (λ y. nat_eq p page.0 ≡ y → with_page ((page ∷ pages) ++ (p, w) ∷ []) (length (page ∷ pages)) bytes ≡ set_value (nat_eq p) ((page ∷ pages) ++ (p, w) ∷ []) bytes) [
+  | true ↦ λ here. let there = rw here at none in absurd (cc)
+  | false ↦ λ apart. rw apart (ap (λ rest. page ∷ rest) (put_last pages p w bytes (rw apart at none)))
+]) refl
+
+-- so a page that came last lies there
+pub lies_last : (table new : Numbered) (p last : ℕ) (w : List ℕ) → written table p ≡ None → new ≡ table ++ (p, w) ∷ [] → last ≡ length new - 1 → LiesAt new p last
+lies_last table new p last w none is place =
+    let here : LiesAt (table ++ (p, w) ∷ []) p (length table) = record { page = w; there = last_there table p w; found = push_here table p w none; put = λ bytes. put_last table p w bytes none } in
+    let same : last ≡ length table = omega (arith, ap length is, length-append table ((p, w) ∷ [])) in
+    subst (λ (pages : Numbered). LiesAt pages p last) (sym is) (subst (λ k. LiesAt (table ++ (p, w) ∷ []) p k) (sym same) here)
 
 -- what tests as the same number is
 one_number : (p : ℕ) (x y : ℕ) → nat_eq p x ≡ true → nat_eq p y ≡ nat_eq x y

@@ -1,5 +1,5 @@
 -- What has changed of the pages of a store since its last commit.
-use Rattle.std.specs.Prelude.{◌≡◌, ℕ, ◌+◌, List, [], ◌∷◌, Option, Some, None, replicate}
+use Rattle.std.specs.Prelude.{ℕ, ◌+◌, List, [], ◌∷◌, Option, Some, None, replicate}
 use Rattle.page_changes.specs.Table.{Numbered}
 
 -- for each page what was written over it, or nothing where it is as it was

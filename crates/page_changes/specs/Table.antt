@@ -1,16 +1,9 @@
 -- Pages in memory under their numbers.
-use Rattle.std.specs.Prelude.{◌≡◌, ◌<◌, ℕ, zero, suc, List, [], ◌∷◌, ◌++◌, Option, Some, None, map, nat_eq, slice_get, Box}
-use Rattle.std.specs.List.{All, IsDistinct}
+pub use Rattle.store_api.specs.NumberedPages.{Numbered, AreRising, unboxed}
+use Rattle.std.specs.Prelude.{◌≡◌, ℕ, zero, suc, List, [], ◌∷◌, ◌++◌, Option, Some, None, nat_eq, slice_get, Box}
+use Rattle.std.specs.List.{IsDistinct}
 use Rattle.std.specs.Map.{keys_of, lookup, set_value}
 use Rattle.std.specs.declared.alloc.Global.{Global}
-
--- numbers of pages, each with the bytes of the page
-abbrev pub Numbered : Type 0
-Numbered = List (ℕ × List ℕ)
-
--- pages under their numbers, as they are in their boxes
-abbrev pub unboxed : List (ℕ × Box (List ℕ) Global) → Numbered
-unboxed = map (λ entry. (entry.0, entry.1.value))
 
 -- no number comes twice, and for each the index has the place of its page
 pub record IsIndexed (places : List ℕ) (pages : Numbered) : Type 0 where
@@ -34,11 +27,6 @@ pub record LiesAt (pages : Numbered) (p place : ℕ) : Type 0 where
 abbrev pub IsPlace : Numbered → ℕ → Option ℕ → Type 0
 IsPlace pages p None = lookup (nat_eq p) pages ≡ None
 IsPlace pages p (Some place) = LiesAt pages p place
-
--- each number is below all behind it
-abbrev pub IsRising : Numbered → Type 0
-IsRising [] = Unit {0}
-IsRising (page ∷ pages) = All (λ behind. page.0 < behind.0) pages × IsRising pages
 
 -- the last page was taken away, and none has its number then
 abbrev pub Pops : Numbered → Option (ℕ × Box (List ℕ) Global) → Numbered → Type 0

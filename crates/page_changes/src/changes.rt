@@ -3,7 +3,7 @@ ghost use Rattle.std.specs.Prelude.{◌≡◌, ◌<◌, ◌≤◌, ◌+◌, ◌+
 ghost use Rattle.std.specs.Option.{option_copied};
 ghost use Rattle.store_api.specs.StoreState.{zero_page};
 ghost use Rattle.page_changes.specs.Changes.{nothing, changed_in};
-ghost use Rattle.page_changes.specs.Table.{IsRising, LiesAt, unboxed};
+ghost use Rattle.page_changes.specs.Table.{AreRising, LiesAt, unboxed};
 ghost use Rattle.std.specs.List.{All};
 ghost use Rattle.std.specs.Map.{lookup};
 ghost use Rattle.std.specs.Borrow.{sem};
@@ -14,7 +14,7 @@ mod going_back;
 use crate::spares::Spares;
 use crate::table::PageTable;
 use filling::fill;
-use going_back::{is_free, put_back, save};
+use going_back::{cut, is_free, put_back, save};
 use mdc_values::Memory;
 use std::alloc::Global;
 use std::marker::Model;
@@ -32,6 +32,7 @@ pub struct Changes {
     mark: Option<Mark>,
     // What pages were at the mark that were written since, where they had been written before it too.
     saved: PageTable,
+    spares: Spares,
 }
 
 // How many pages there were at the mark, how many of them had been written, and how many of these below the base.
@@ -68,6 +69,7 @@ impl Changes {
             below: 0,
             mark: None,
             saved: PageTable::new(alloc),
+            spares: Spares::new(alloc),
         }
     }
 
@@ -99,15 +101,16 @@ impl Changes {
         }
     }
 
-    /// Lends the pages that were written, in their boxes.
+    /// Lends the pages that were written, in their boxes. Where no page has a change, there is none.
     pub fn pages(&self) -> &[(u32, Box<Page>)]
-        ensures { unboxed result.now ≡ self.now.pages }
+        ensures pages { unboxed result.now ≡ self.now.pages }
+        ensures none { self.now.kept ≡ 0 → self.now.pages ≡ [] }
     {
         self.table.pages()
     }
 
     /// Writes over a page. After `Memory` all is as before.
-    pub fn write(&mut self, spares: &mut Spares, p: u32, bytes: &Page) -> Result<(), Memory>
+    pub fn write(&mut self, p: u32, bytes: &Page) -> Result<(), Memory>
         requires { p < length self.old.now }
         ensures ok { OnOk result (self.new.now ≡ slice_set self.old.now p (Some bytes.now)) }
         ensures err { OnErr result (self.new.now ≡ self.old.now) }
@@ -116,13 +119,13 @@ impl Changes {
         ensures kept { self.new.kept ≤ self.old.kept + 1 }
     {
         match self.table.place_of(p) {
-            None => self.add(spares, p, bytes),
-            Some(place) => self.write_over(spares, p, place, bytes),
+            None => self.add(p, bytes),
+            Some(place) => self.write_over(p, place, bytes),
         }
     }
 
     // Writes over a page that wasn't written yet.
-    fn add(&mut self, spares: &mut Spares, p: u32, bytes: &Page) -> Result<(), Memory>
+    fn add(&mut self, p: u32, bytes: &Page) -> Result<(), Memory>
         requires within { p < length self.old.now }
         requires unwritten { lookup (nat_eq p) self.old.pages ≡ None }
         ensures ok { OnOk result (self.new.now ≡ slice_set self.old.now p (Some bytes.now)) }
@@ -131,20 +134,14 @@ impl Changes {
         ensures base { self.new.base ≡ self.old.base }
         ensures kept { self.new.kept ≤ self.old.kept + 1 }
     {
-        let page = spares.filled(bytes)?;
+        let page = self.spares.filled(bytes)?;
         self.table.push(p, page)?;
         self.below += u32::from(p < self.base);
         Ok(())
     }
 
     // Writes over a page that was written before. Where that was before the mark, what it was then is saved.
-    fn write_over(
-        &mut self,
-        spares: &mut Spares,
-        p: u32,
-        place: usize,
-        bytes: &Page,
-    ) -> Result<(), Memory>
+    fn write_over(&mut self, p: u32, place: usize, bytes: &Page) -> Result<(), Memory>
         requires { LiesAt self.old.pages p place }
         ensures ok { OnOk result (self.new.now ≡ slice_set self.old.now p (Some bytes.now)) }
         ensures err { OnErr result (self.new.now ≡ self.old.now) }
@@ -156,7 +153,7 @@ impl Changes {
             *self.table.at_mut(place) = *bytes;
             return Ok(());
         }
-        let page = spares.filled(bytes)?;
+        let page = self.spares.filled(bytes)?;
         self.saved.push(p, page)?;
         let last = self.saved.len() - 1;
         self.table.swap(place, &mut self.saved, last);
@@ -164,39 +161,45 @@ impl Changes {
     }
 
     /// Lends a page with a change, to be changed in place. After `Memory` all is as before.
-    pub fn edit(&mut self, alloc: Global, p: u32) -> Result<&mut Page, PageFault>
+    pub fn edit(&mut self, p: u32) -> Result<&mut Page, PageFault>
         requires within { p < length self.old.now }
         requires changed { IsSome (slice_index_or self.old.now p None) }
         ensures* lends { sem 𝓛 (LendsChange p self.entry result) }
         ensures page { IfOk result (λ page. slice_index_or self.old.now p None ≡ Some page.now) }
         ensures memory { IsErrOf result PageFault.Device → ⊥ }
     {
-        let mut spares = Spares::new(alloc);
-        let Ok(()) = self.hold(&mut spares, p) else {
+        let Ok(place) = self.hold(p) else {
             return Err(PageFault::Memory);
         };
-        match save(&self.table, &mut self.saved, &self.mark, &mut spares, p) {
-            Ok(place) => Ok(self.table.at_mut(place)),
+        match save(
+            &self.table,
+            &mut self.saved,
+            &self.mark,
+            &mut self.spares,
+            p,
+            place,
+        ) {
+            Ok(()) => Ok(self.table.at_mut(place)),
             Err(Memory) => Err(PageFault::Memory),
         }
     }
 
-    // Sees to it that a page with a change has its bytes.
-    fn hold(&mut self, spares: &mut Spares, p: u32) -> Result<(), Memory>
+    // Sees to it that a page with a change has its bytes, and gives its place.
+    fn hold(&mut self, p: u32) -> Result<usize, Memory>
         requires within { p < length self.old.now }
         requires changed { IsSome (slice_index_or self.old.now p None) }
         ensures now { self.new.now ≡ self.old.now }
         ensures marked { self.new.marked ≡ self.old.marked }
         ensures base { self.new.base ≡ self.old.base }
         ensures kept { self.new.kept ≡ self.old.kept }
-        ensures there { OnOk result (IsSome (lookup (nat_eq p) self.new.pages)) }
+        ensures there { IfOk result (LiesAt self.new.pages p) }
     {
-        if self.table.place_of(p).is_some() {
-            return Ok(());
+        if let Some(place) = self.table.place_of(p) {
+            return Ok(place);
         }
-        let page = spares.filled(blank_page())?;
+        let page = self.spares.filled(blank_page())?;
         self.table.push(p, page)?;
-        Ok(())
+        Ok(self.table.len() - 1)
     }
 
     /// Adds pages at the end. It takes no memory.
@@ -229,11 +232,11 @@ impl Changes {
         ensures { self.new ≡ record self.old { marked = None } }
     {
         self.mark = None;
-        self.saved.truncate(0);
+        cut(&mut self.saved, 0, &mut self.spares);
     }
 
     /// Goes back to the mark, and drops it. It takes no memory.
-    pub fn undo(&mut self, spares: &mut Spares)
+    pub fn undo(&mut self)
         requires { IsSome self.old.marked }
         ensures now { self.old.marked ≡ Some self.new.now }
         ensures marked { self.new.marked ≡ None }
@@ -241,8 +244,8 @@ impl Changes {
         ensures kept { self.new.kept ≤ self.old.kept }
     {
         if let Some(mark) = self.mark.take() {
-            self.table.truncate(mark.written);
-            put_back(&mut self.table, &mut self.saved, spares);
+            cut(&mut self.table, mark.written, &mut self.spares);
+            put_back(&mut self.table, &mut self.saved, &mut self.spares);
             self.count = mark.count;
             self.below = mark.below;
         }
@@ -253,8 +256,8 @@ impl Changes {
         ensures { self.new ≡ nothing count }
     {
         self.mark = None;
-        self.saved.truncate(0);
-        self.table.truncate(0);
+        cut(&mut self.saved, 0, &mut self.spares);
+        cut(&mut self.table, 0, &mut self.spares);
         self.below = 0;
         self.base = count;
         self.count = count;
@@ -262,7 +265,7 @@ impl Changes {
 
     /// Sees to it that each page with a change has its bytes, in the order of their numbers. After `Memory` the changes
     /// are as before.
-    pub fn prepare(&mut self, spares: &mut Spares) -> Result<(), Memory>
+    pub fn prepare(&mut self) -> Result<(), Memory>
         requires { self.old.marked ≡ None }
         ensures now { self.new.now ≡ self.old.now }
         ensures marked { self.new.marked ≡ None }
@@ -270,10 +273,10 @@ impl Changes {
         ensures kept { self.new.kept ≡ self.old.kept }
         ensures below { OnOk result (All (λ page. page.0 < length self.new.now) self.new.pages) }
         ensures grown { OnOk result ((p : ℕ) → self.new.base ≤ p → p < length self.new.now → IsSome (slice_index_or self.new.now p None)) }
-        ensures rising { OnOk result (IsRising self.new.pages) }
+        ensures rising { OnOk result (AreRising self.new.pages) }
         ensures found { OnOk result ((p : ℕ) → p < length self.new.now → lookup (nat_eq p) self.new.pages ≡ slice_index_or self.new.now p None) }
     {
-        fill(&mut self.table, spares, self.base, self.count)?;
+        fill(&mut self.table, &mut self.spares, self.base, self.count)?;
         self.table.sort()?;
         Ok(())
     }
@@ -289,6 +292,13 @@ impl Changes {
         self.below = 0;
         self.base = self.count;
         pages
+    }
+
+    /// Takes boxes that are no longer needed, for pages that come later. The changes stay.
+    pub fn reuse(&mut self, pages: Vec<(u32, Box<Page>)>)
+        ensures { self.new ≡ self.old }
+    {
+        self.spares.give_all(pages);
     }
 }
 

@@ -11,5 +11,4 @@ mod spares;
 mod table;
 
 pub use changes::Changes;
-pub use spares::Spares;
 pub use table::PageTable;

@@ -40,6 +40,13 @@ impl Spares {
             let _ = self.boxes.push(page);
         }
     }
+
+    /// Takes the boxes of these pages, as `give` does.
+    pub fn give_all(&mut self, pages: Vec<(u32, Box<Page>)>) {
+        for (_, page) in pages {
+            self.give(page);
+        }
+    }
 }
 
 // The box with these bytes in it.

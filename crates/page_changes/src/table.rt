@@ -4,7 +4,7 @@ ghost use Rattle.std.specs.Option.{option_copied};
 ghost use Rattle.std.specs.List.{All, IsDistinct};
 ghost use Rattle.std.specs.Borrow.{sem};
 ghost use Rattle.std.specs.Map.{keys_of, lookup};
-ghost use Rattle.page_changes.specs.Table.{IsIndexed, IsPlace, IsRising, Pops, unboxed, with_page};
+ghost use Rattle.page_changes.specs.Table.{IsIndexed, IsPlace, AreRising, Pops, unboxed, with_page};
 
 use mdc_values::Memory;
 use std::alloc::Global;
@@ -129,7 +129,7 @@ impl PageTable {
 
     /// Puts the pages in the order of their numbers. After `Memory` they are as before.
     pub fn sort(&mut self) -> Result<(), Memory>
-        ensures rising { OnOk result (IsRising self.new) }
+        ensures rising { OnOk result (AreRising self.new) }
         ensures same { (p : ℕ) → lookup (nat_eq p) self.new ≡ lookup (nat_eq p) self.old }
         ensures len { length self.new ≡ length self.old }
         ensures err { OnErr result (self.new ≡ self.old) }
@@ -144,7 +144,7 @@ impl PageTable {
 
     // Whether the pages are in the order of their numbers.
     fn is_rising(&self) -> bool
-        ensures { IsTrue result → IsRising self.now }
+        ensures { IsTrue result → AreRising self.now }
     {
         for i in 1..self.pages.len() {
             if self.pages[i - 1].0 >= self.pages[i].0 {

@@ -1,13 +1,14 @@
 -- What holds of the clean pages in memory once the file or its images have changed.
-use Rattle.std.proofs.Common.{◌≡◌, ◌≤◌, ◌<◌, ◌==◌, ℕ, zero, suc, ◌+◌, true, false, nat_eq, List, [], ◌∷◌, Some, None, unwrap_or, refl, ap, sym, ◌∙◌, subst, arith, length, drop, slice_get, get_or}
+use Rattle.std.proofs.Common.{◌≡◌, ◌≤◌, ◌<◌, ◌==◌, ℕ, zero, suc, ◌+◌, true, false, nat_eq, List, [], ◌∷◌, None, unwrap_or, refl, ap, sym, ◌∙◌, subst, arith, length, drop, get_or, set}
 use Rattle.std.proofs.lemmas.Bool.Decides.{Decides-eqb, nat_tests}
 use Rattle.std.proofs.lemmas.Grind.{common_steps}
+use Rattle.std.proofs.lemmas.List.{drop-set-lt}
 use Rattle.std.proofs.lemmas.Map.{keys-set_value}
-use Rattle.std.proofs.lemmas.Option.{get_or_from_slice_get, slice_get_within}
 use Rattle.std.proofs.lemmas.Map.Keys.{IsDistinct-head, IsDistinct-tail}
 use Rattle.std.specs.List.{All, AllByRecursion, IsDistinct}
 use Rattle.std.specs.Map.{keys_of, set_value}
-use Rattle.redo_journal.specs.Images.{Numbered, AreRising}
+use Rattle.redo_journal.specs.Images.{Numbered, AreRising, unboxed}
+use Rattle.store_api.proofs.BoxesLemmas.{Boxed}
 use Rattle.page_file.specs.Layout.{home_page}
 use Rattle.redo_journal.proofs.RisingLemmas.{All-rest}
 use Rattle.page_store.specs.Standing.{image_of}
@@ -59,21 +60,20 @@ pub renewed-none : (entries : Numbered) → renewed [] entries ≡ entries
 renewed-none [] = refl
 renewed-none (entry ∷ entries) = ap (λ rest. entry ∷ rest) (renewed-none entries)
 
--- the elements from a place on
-pub from_place : {X : Type 0} (xs : List X) (i : ℕ) (x : X) → slice_get xs i ≡ Some x → drop i xs ≡ x ∷ drop (i + 1) xs
-from_place xs i x is =
-    let lt : i < length xs = slice_get_within xs i x is in
-    let here : get_or xs i x ≡ x = get_or_from_slice_get xs i x x is in
-    grind (arith, common_steps)
+-- the boxes from a place on
+from_box : (boxes : List Boxed) (i : ℕ) (box : Boxed) → i < length boxes → box ≡ get_or boxes i box → drop i boxes ≡ box ∷ drop (i + 1) boxes
+from_box boxes i box lt is = grind (arith, common_steps)
 
 -- The pages once the image at a place has been put in, where those before it are in already.
-pub renewed-next : (images : Numbered) (i : ℕ) (image : ℕ × List ℕ) (entries new : Numbered) → slice_get images i ≡ Some image
-    → AreRising (drop i images) → IsDistinct nat_eq (keys_of entries) → new ≡ set_value (nat_eq image.0) entries image.1
-    → (renewed (drop (i + 1) images) new ≡ renewed (drop i images) entries) × AreRising (drop (i + 1) images) × IsDistinct nat_eq (keys_of new)
-renewed-next images i image entries new is rising distinct put =
-    let split : drop i images ≡ image ∷ drop (i + 1) images = from_place images i image is in
-    let rises : AreRising (image ∷ drop (i + 1) images) = subst AreRising split rising in (
-      ap (renewed (drop (i + 1) images)) put ∙ (renewed-step image (drop (i + 1) images) entries rises.0 distinct ∙ ap (λ all. renewed all entries) (sym split)),
-      rises.1,
-      subst (λ keys. IsDistinct nat_eq keys) (sym (ap keys_of put ∙ keys-set_value (nat_eq image.0) entries image.1)) distinct,
+pub renewed-next : (boxes : List Boxed) (i : ℕ) (image left : Boxed) (entries new : Numbered) → i < length boxes → image ≡ get_or boxes i image
+    → AreRising (unboxed (drop i boxes)) → IsDistinct nat_eq (keys_of entries) → new ≡ set_value (nat_eq image.0) entries image.1.value
+    → (renewed (unboxed (drop (i + 1) (set boxes i left))) new ≡ renewed (unboxed (drop i boxes)) entries) × AreRising (unboxed (drop (i + 1) (set boxes i left))) × IsDistinct nat_eq (keys_of new)
+renewed-next boxes i image left entries new lt is rising distinct put =
+    let split : drop i boxes ≡ image ∷ drop (i + 1) boxes = from_box boxes i image lt is in
+    let rest : drop (i + 1) (set boxes i left) ≡ drop (i + 1) boxes = drop-set-lt (i + 1) boxes i left (omega arith) in
+    let rises : AreRising (unboxed (image ∷ drop (i + 1) boxes)) = subst (λ (all : List Boxed). AreRising (unboxed all)) split rising in (
+      ap (λ (all : List Boxed). renewed (unboxed all) new) rest
+          ∙ (ap (renewed (unboxed (drop (i + 1) boxes))) put ∙ (renewed-step (image.0, image.1.value) (unboxed (drop (i + 1) boxes)) entries rises.0 distinct ∙ ap (λ (all : List Boxed). renewed (unboxed all) entries) (sym split))),
+      subst (λ (all : List Boxed). AreRising (unboxed all)) (sym rest) rises.1,
+      subst (λ keys. IsDistinct nat_eq keys) (sym (ap keys_of put ∙ keys-set_value (nat_eq image.0) entries image.1.value)) distinct,
     )

@@ -1,8 +1,8 @@
 -- What the calls of a commit leave, from the clauses of the journal's calls.
-use Rattle.std.proofs.Common.{◌≡◌, ℕ, Bool, IsTrue, IsFalse, List, [], ◌∷◌, Option, Some, None, Result, Ok, Err, OnOk, IfSome, arith, sym, subst, ◌∙◌, inr, refl}
+use Rattle.std.proofs.Common.{◌≡◌, ℕ, Bool, IsTrue, IsFalse, List, [], ◌∷◌, Option, Some, None, Result, Ok, Err, OnOk, arith, sym, subst, ◌∙◌, inr, refl}
 use Rattle.std.specs.Option.{ForSome, option_map}
 use Rattle.std.specs.List.{All}
-use Rattle.mdc_outside.specs.Disk.{File, Since, IsImage, IsSound, all_synced, torn, written, settled}
+use Rattle.mdc_outside.specs.Disk.{File, Since, IsImage, all_synced, torn, written, settled}
 use Rattle.mdc_outside.specs.Moments.{Beside}
 use Rattle.redo_journal.specs.Images.{Numbered, AreRising}
 use Rattle.page_file.specs.Layout.{home_page, IsReady}
@@ -10,7 +10,7 @@ use Rattle.redo_journal.specs.Layout.{is_open, journal_of, torn_journal, torn_ho
 use Rattle.page_file.specs.Runs.{Runs, IsWithin}
 use Rattle.page_file.specs.Leaving.{Leaves}
 use Rattle.page_store.specs.Standing.{pages_of, IsFormed, Stands}
-use Rattle.page_store.specs.Commit.{Both, StandsStill, StandsEither, IsReadyFor, IsCounting, IsClosed, IsCommitted, IsJournaled, HomeStays, RestsWith, pages_with}
+use Rattle.page_store.specs.Commit.{BothFiles, StandsStill, StandsEither, IsReadyFor, IsCounting, IsClosed, IsCommitted, IsJournaled, HomeStays, RestsWith, pages_with}
 use Rattle.page_file.proofs.LeavesLemmas.{runs_leave, leaves_then, one_file, told_before}
 use Rattle.page_store.proofs.Crashes.{while_home, while_closed}
 use Rattle.page_store.proofs.Committing.{journaled_written, journaled_opened, stands_through, stands_same}
@@ -81,7 +81,7 @@ module _ {D : Type 0} {file : D → Option File} {aside : D → Beside} {attache
       → Runs file aside attaches is_attached clock moment IsWithin (torn_journal start n) old middle → ForSome (file middle) (HoldsJournal start images)
       → Runs file aside attaches is_attached clock moment IsWithin (torn 512 1) middle new
       → OnOk result (file new ≡ option_map (λ file. settled (written 512 (79 ∷ []) file)) (file middle)) → OnOk result (ForSome (file new) (λ f. IsTrue (is_open f.bytes)))
-      → OnOk result (Both (file old) (file new) (λ before after. IsCounting images after × Stands before.bytes (pages_with images before.bytes) after.bytes))
+      → OnOk result (BothFiles (file old) (file new) (λ before after. IsCounting images after × Stands before.bytes (pages_with images before.bytes) after.bytes))
   opened_counts (Err e) start n images as_half as_read rising ready first holds second written_gate gate = gate
   opened_counts (Ok done) start n images {old} {middle} {new} as_half as_read rising ready first holds second written_gate gate = record {
     holds = λ before after is now.
@@ -139,7 +139,7 @@ module _ {D : Type 0} {file : D → Option File} {aside : D → Beside} {attache
 
   -- where the journal counts, so it does in each told file
   pub counts_there : (images : Numbered) {Kind : File → List ℕ → Type 0} {old new : D} → Leaves file aside attaches is_attached clock moment Kind old new
-      → Both (file old) (file new) (λ before after. IsCounting images after × Stands before.bytes (pages_with images before.bytes) after.bytes)
+      → BothFiles (file old) (file new) (λ before after. IsCounting images after × Stands before.bytes (pages_with images before.bytes) after.bytes)
       → ForSome (file new) (λ after. IsCounting images after × IsFormed after.bytes)
   counts_there images leaves both after now =
       let before = told_before leaves after now in
@@ -148,7 +148,7 @@ module _ {D : Type 0} {file : D → Option File} {aside : D → Beside} {attache
 
   -- a commit, whole or up to the journal
   pub commit_leaves : (images : Numbered) {old middle new : D} → Leaves file aside attaches is_attached clock moment (λ before. IsJournaled images before.bytes) old middle
-      → Both (file old) (file middle) (λ before after. IsCounting images after × Stands before.bytes (pages_with images before.bytes) after.bytes)
+      → BothFiles (file old) (file middle) (λ before after. IsCounting images after × Stands before.bytes (pages_with images before.bytes) after.bytes)
       → Leaves file aside attaches is_attached clock moment StandsStill middle new
       → Leaves file aside attaches is_attached clock moment (StandsEither images) old new
   commit_leaves images first counts second = leaves_then first second (λ before image is journaled. journaled.stands)
@@ -156,10 +156,10 @@ module _ {D : Type 0} {file : D → Option File} {aside : D → Beside} {attache
 
   -- what a crash leaves behind an open gate
   pub rests_with : (images : Numbered) {old middle new : D}
-      → Both (file old) (file middle) (λ before after. IsCounting images after × Stands before.bytes (pages_with images before.bytes) after.bytes)
+      → BothFiles (file old) (file middle) (λ before after. IsCounting images after × Stands before.bytes (pages_with images before.bytes) after.bytes)
       → Leaves file aside attaches is_attached clock moment (λ before. IsJournaled images before.bytes) old middle
       → Leaves file aside attaches is_attached clock moment StandsStill middle new
-      → Both (file old) (file new) (RestsWith images)
+      → BothFiles (file old) (file new) (RestsWith images)
   rests_with images counts first second = record {
     holds = λ before after is now image left.
         let half = first.told before is in
@@ -170,7 +170,7 @@ module _ {D : Type 0} {file : D → Option File} {aside : D → Beside} {attache
 
   -- up to the gate the home pages stay
   pub journaled_stays : (images : Numbered) {old new : D} → Leaves file aside attaches is_attached clock moment (λ before. IsJournaled images before.bytes) old new
-      → Both (file old) (file new) (λ before after. HomeStays before.bytes after.bytes)
+      → BothFiles (file old) (file new) (λ before after. HomeStays before.bytes after.bytes)
   journaled_stays images leaves = record {
     holds = λ before after is now.
         let told = leaves.told before is in
@@ -180,10 +180,10 @@ module _ {D : Type 0} {file : D → Option File} {aside : D → Beside} {attache
 
   -- after a commit
   pub committed_with : (images : Numbered) {old middle new : D}
-      → Both (file old) (file middle) (λ before after. IsCounting images after × Stands before.bytes (pages_with images before.bytes) after.bytes)
+      → BothFiles (file old) (file middle) (λ before after. IsCounting images after × Stands before.bytes (pages_with images before.bytes) after.bytes)
       → Leaves file aside attaches is_attached clock moment (λ before. IsJournaled images before.bytes) old middle
       → Leaves file aside attaches is_attached clock moment StandsStill middle new
-      → ForSome (file new) IsClosed → Both (file old) (file new) (IsCommitted images)
+      → ForSome (file new) IsClosed → BothFiles (file old) (file new) (IsCommitted images)
   committed_with images counts first second closed = record {
     holds = λ before after is now.
         let half = first.told before is in

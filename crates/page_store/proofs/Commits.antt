@@ -15,7 +15,7 @@ use Rattle.page_store.specs.Standing.{listed, image_of, page_of, count_of, pages
 use Rattle.page_store.specs.Changes.{Overlay, laid_over, image_in, HoldsBelow}
 use Rattle.page_store.specs.Opening.{IsAtRest}
 use Rattle.page_store.specs.Shape.{extents_in, extent_pages_in}
-use Rattle.page_store.specs.Commit.{Both, IsReadyFor, IsCommitted, StandsEither, count_with, pages_with}
+use Rattle.page_store.specs.Commit.{BothFiles, IsReadyFor, IsCommitted, StandsEither, count_with, pages_with}
 use Rattle.page_store.proofs.Listed.{length-listed, page_at-listed, listed_same}
 use Rattle.page_store.proofs.LaidOver.{listed-laid_over}
 use Rattle.page_store.proofs.Pages.{page_of-closed, pages_again}
@@ -52,7 +52,7 @@ committed_none start [] file none ready = (record { synced = ready.synced; close
 committed_none start (image ∷ images) file none ready = absurd (omega arith)
 
 -- and so it stays where nothing is called
-pub both_none : (start : ℕ) (images : Numbered) (told : Option File) → length images ≡ 0 → ForSome told (IsReadyFor start images) → Both told told (IsCommitted images)
+pub both_none : (start : ℕ) (images : Numbered) (told : Option File) → length images ≡ 0 → ForSome told (IsReadyFor start images) → BothFiles told told (IsCommitted images)
 both_none start images told none ready = record {
   holds = λ before after is now. subst (IsCommitted images before) (one_file is now) (committed_none start images before none (ready before is));
 }

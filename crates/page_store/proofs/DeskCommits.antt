@@ -1,5 +1,5 @@
 -- What a store has in memory, through a commit.
-use Rattle.std.proofs.Common.{◌≡◌, ◌⊎◌, ◌+◌, ℕ, Bool, true, false, List, [], length, replicate, Option, Some, None, Result, Err, IsErrOf, arith, sym, ap, subst, ◌∙◌, inl, inr, refl}
+use Rattle.std.proofs.Common.{◌≡◌, ◌⊎◌, ◌+◌, ℕ, Bool, IsTrue, true, false, List, [], length, replicate, Option, Some, None, Result, Err, IsErrOf, arith, sym, ap, subst, ◌∙◌, inl, inr, refl}
 use Rattle.std.specs.Option.{ForSome, option_map, is_some}
 use Rattle.std.proofs.lemmas.List.{length-replicate}
 use Rattle.store_api.specs.StoreState.{StoreState}
@@ -14,9 +14,9 @@ use Rattle.page_store.specs.declared.write_through.Halt.TheVariants.{BeforeHome,
 use Rattle.page_file.specs.Leaving.{Leaves}
 use Rattle.page_store.specs.Standing.{listed, pages_of, IsFormedAs, Stands}
 use Rattle.page_store.specs.Shape.{extents_in, extent_pages_in}
-use Rattle.page_store.specs.Changes.{nothing, Changed, laid_over, unchanged}
+use Rattle.page_store.specs.Changes.{nothing, Changed, HoldsBelow, image_in, laid_over, unchanged}
 use Rattle.page_store.specs.Cached.{renewed}
-use Rattle.page_store.specs.Commit.{Both, IsReadyFor, IsCommitted, StandsEither, HomeStays, RestsWith, pages_with}
+use Rattle.page_store.specs.Commit.{BothFiles, IsReadyFor, IsCommitted, StandsEither, HomeStays, RestsWith, pages_with}
 use Rattle.page_store.specs.Desk.{IsKept, IsPrepared, Does, StandsForEither, CommitLeaves, RestsEither, base_in, base_of, work_of, state_of}
 use Rattle.page_file.proofs.LeavesLemmas.{one_file}
 use Rattle.page_file.proofs.LeavesLemmas.{told_before}
@@ -32,12 +32,12 @@ settled images desk = record desk {
   changes = nothing (length desk.changes.now);
   cache = renewed images desk.cache;
   hand = None;
-  images = None;
+  prepared = false;
 }
 
 -- the desk once a commit has failed
 abbrev pub halted : Halt → Desk → Desk
-halted halt desk = record desk { hand = None; images = None; halt = Some halt }
+halted halt desk = record desk { hand = None; prepared = false; halt = Some halt }
 
 -- a file is told after a run just where it was told before
 pub record KeepsTold (told left : Option File) : Type 0 where
@@ -77,8 +77,8 @@ FailsBy images BehindGate before after = RestsWith images before after
 
 -- it is what the call says of its error
 pub fails_by : {T : Type 0} (result : Result T Halt) (halt : Halt) (images : Numbered) (told left : Option File) → result ≡ Err halt
-    → (IsErrOf result BeforeHome → Both told left (λ before after. HomeStays before.bytes after.bytes)) → (IsErrOf result BehindGate → Both told left (RestsWith images))
-    → Both told left (FailsBy images halt)
+    → (IsErrOf result BeforeHome → BothFiles told left (λ before after. HomeStays before.bytes after.bytes)) → (IsErrOf result BehindGate → BothFiles told left (RestsWith images))
+    → BothFiles told left (FailsBy images halt)
 fails_by result BeforeHome images told left is stays counts = record { holds = (stays (subst (λ r. IsErrOf r BeforeHome) (sym is) refl)).holds }
 fails_by result BehindGate images told left is stays counts = record { holds = (counts (subst (λ r. IsErrOf r BehindGate) (sym is) refl)).holds }
 
@@ -89,29 +89,28 @@ same_state : (s : StoreState) (told_a told_b : Bool) (base_a base_b work_a work_
 same_state s told_a told_b base_a base_b work_a work_b marked_a marked_b told base work marked = cc
 
 -- a desk whose parts are as after a commit
-pub settled_as : (images : Numbered) (desk : Desk) (count : ℕ) (changes : Changed) (cache : Numbered) (left : Option Numbered) → count ≡ length desk.changes.now
-    → changes ≡ nothing count → cache ≡ renewed images desk.cache → left ≡ None
-    → settled images desk ≡ record desk { base = count; changes = changes; cache = cache; hand = None; images = left }
-settled_as images desk count changes cache left is_count is_changes is_cache none = rw (is_changes, is_cache, none, is_count) refl
+pub settled_as : (images pages : Numbered) (desk : Desk) (count : ℕ) (changes : Changed) (cache : Numbered) → count ≡ length desk.changes.now
+    → changes ≡ nothing (length desk.changes.now) → cache ≡ renewed pages desk.cache → pages ≡ images
+    → settled images desk ≡ record desk { base = count; changes = changes; cache = cache; hand = None; prepared = false }
+settled_as images pages desk count changes cache is_count is_changes is_cache same = rw (is_changes, is_cache, same, is_count) refl
 
--- a desk whose parts are as after a commit that failed
-pub halted_as : (halt : Halt) (desk : Desk) (left : Option Numbered) → left ≡ None → halted halt desk ≡ record desk { hand = None; images = left; halt = Some halt }
-halted_as halt desk left none = rw none refl
-
-module _ (desk : Desk) (told : Option File) (images : Numbered) (kept : IsKept desk told) (going : desk.halt ≡ None) (ready : desk.images ≡ Some images) where
+module _ (desk : Desk) (told : Option File) (images : Numbered) (kept : IsKept desk told) (going : desk.halt ≡ None) (ready : IsTrue desk.prepared) (same : images ≡ desk.changes.pages) where
   -- the images are those of the work
-  prepared : IsPrepared desk told images
-  prepared = kept.ready images ready
+  prepared : IsPrepared desk told
+  prepared = kept.ready ready
+
+  holds : HoldsBelow (length desk.changes.now) (image_in desk.base desk.changes.now) images
+  holds = subst (HoldsBelow (length desk.changes.now) (image_in desk.base desk.changes.now)) (sym same) prepared.holds
 
   -- what the images make is the work
   made : (file : File) → told ≡ Some file → MakesWork desk.base desk.changes.now images file.bytes
-  made file is = made_by desk.base desk.changes.now images file.bytes (omega (arith, kept.some, kept.count.0)) prepared.holds (prepared.counted file is)
+  made file is = made_by desk.base desk.changes.now images file.bytes (omega (arith, kept.some, kept.count.0)) holds (prepared.counted file is)
 
   -- the file is ready for the images
   pub ready_desk : (count : ℕ) → count ≡ length desk.changes.now → ForSome told (IsReadyFor (66 + count) images)
   ready_desk count is_count file is =
       subst (λ n. IsReadyFor (66 + n) images file) (sym is_count)
-      (ready_for desk.shape.extents desk.shape.extent_pages desk.base desk.changes.now images file (kept.at_rest file is) (omega (arith, kept.some)) kept.count.0 prepared.holds (made file is))
+      (ready_for desk.shape.extents desk.shape.extent_pages desk.base desk.changes.now images file (kept.at_rest file is) (omega (arith, kept.some)) kept.count.0 holds (made file is))
 
   -- the base is the home pages
   base_is : (file : File) → base_of (Some file) desk ≡ listed desk.base (home_page file.bytes)
@@ -173,7 +172,7 @@ module _ (desk : Desk) (told : Option File) (images : Numbered) (kept : IsKept d
 
   module _ (left : Option File) (keeps : KeepsTold told left) where
     -- what a crash leaves from now on
-    pub rests_either : (halt : Halt) → Both told left (FailsBy images halt) → ((f : File) → left ≡ Some f → IsImage f.since f.bytes)
+    pub rests_either : (halt : Halt) → BothFiles told left (FailsBy images halt) → ((f : File) → left ≡ Some f → IsImage f.since f.bytes)
         → ((before after : File) (image : List ℕ) → told ≡ Some before → left ≡ Some after → IsImage after.since image → StandsEither images before image)
         → ForSome left (RestsEither (halted halt desk))
     rests_either halt fails as_read stands after now image left_image =
@@ -188,7 +187,7 @@ module _ (desk : Desk) (told : Option File) (images : Numbered) (kept : IsKept d
     ]
 
     -- the base and the work after a commit that failed
-    ended_pages : (halt : Halt) → Both told left (FailsBy images halt) → ((f : File) → left ≡ Some f → IsImage f.since f.bytes)
+    ended_pages : (halt : Halt) → BothFiles told left (FailsBy images halt) → ((f : File) → left ≡ Some f → IsImage f.since f.bytes)
         → ((base_of left (halted halt desk) ≡ base_of told desk) ⊎ (base_of left (halted halt desk) ≡ work_of told desk desk.changes.now))
         × (work_of left (halted halt desk) desk.changes.now ≡ work_of told desk desk.changes.now)
     ended_pages halt fails as_read = elim (both_told told left keeps) [
@@ -199,7 +198,7 @@ module _ (desk : Desk) (told : Option File) (images : Numbered) (kept : IsKept d
     ]
 
     -- a commit that failed ends the store
-    pub ends : (halt : Halt) → Both told left (FailsBy images halt) → ((f : File) → left ≡ Some f → IsImage f.since f.bytes)
+    pub ends : (halt : Halt) → BothFiles told left (FailsBy images halt) → ((f : File) → left ≡ Some f → IsImage f.since f.bytes)
         → Does Ends told desk left (halted halt desk)
     ends halt fails as_read tape attaches =
         let pages = ended_pages halt fails as_read in
@@ -213,7 +212,7 @@ module _ (desk : Desk) (told : Option File) (images : Numbered) (kept : IsKept d
         )
 
     -- the base and the work after a commit
-    committed_pages : Both told left (IsCommitted images)
+    committed_pages : BothFiles told left (IsCommitted images)
         → (base_of left (settled images desk) ≡ work_of told desk desk.changes.now)
         × (work_of left (settled images desk) (unchanged (length desk.changes.now)) ≡ work_of told desk desk.changes.now)
     committed_pages both = elim (both_told told left keeps) [
@@ -230,7 +229,7 @@ module _ (desk : Desk) (told : Option File) (images : Numbered) (kept : IsKept d
     ]
 
     -- a commit makes the work the base
-    pub commits : Both told left (IsCommitted images) → Does Commits told desk left (settled images desk)
+    pub commits : BothFiles told left (IsCommitted images) → Does Commits told desk left (settled images desk)
     commits both tape attaches =
         let pages = committed_pages both in
         same_state (record (state_of told tape attaches desk) { hand = None; prepared = false }) (is_some left) (is_some told)
@@ -238,7 +237,7 @@ module _ (desk : Desk) (told : Option File) (images : Numbered) (kept : IsKept d
         None None told_same pages.0 pages.1 refl
 
     -- what is in memory fits the file after a commit
-    pub kept_after : Both told left (IsCommitted images) → IsKept (settled images desk) left
+    pub kept_after : BothFiles told left (IsCommitted images) → IsKept (settled images desk) left
     kept_after both = record {
       at_rest = λ after now.
           let before = keeps.back after now in
@@ -252,5 +251,5 @@ module _ (desk : Desk) (told : Option File) (images : Numbered) (kept : IsKept d
       count = (omega (arith, length-replicate {A = Option (List ℕ)} (length desk.changes.now) None), omega (arith, length-replicate {A = Option (List ℕ)} (length desk.changes.now) None, kept.count.1));
       marked = λ changes is. absurd (cc);
       hand = λ some. absurd (cc);
-      ready = λ some is. absurd (cc);
+      ready = λ is. absurd (cc);
     }

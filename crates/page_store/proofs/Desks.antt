@@ -9,7 +9,6 @@ use Rattle.store_api.specs.Calls.{Fetches, FetchesCommitted, LosesReadiness, Wri
 use Rattle.mdc_outside.specs.Disk.{File}
 use Rattle.redo_journal.specs.Images.{Numbered}
 use Rattle.page_file.specs.Layout.{home_page}
-use Rattle.page_changes.specs.declared.spares.Spares.{Spares}
 use Rattle.page_store.specs.declared.desk.Desk.{Desk}
 use Rattle.page_store.specs.declared.desk.Hand.{Hand}
 use Rattle.page_store.specs.declared.write_through.Halt.{Halt}
@@ -128,7 +127,7 @@ kept_with told desk hand cache kept clean there = record {
   count = kept.count;
   marked = kept.marked;
   hand = there;
-  ready = λ images is. let ready = kept.ready images is in record { unmarked = ready.unmarked; holds = ready.holds; counted = ready.counted };
+  ready = λ is. let ready = kept.ready is in record { unmarked = ready.unmarked; holds = ready.holds; rising = ready.rising; counted = ready.counted };
 }
 
 -- a page of the base came to hand that is the page of the work
@@ -139,21 +138,21 @@ brings_shown told now desk new p same does tape attaches = let brought = does ta
 -- pages of zeros were added
 pub grows : (told : Option File) (desk : Desk) (n : ℕ) (changes : Changed) → desk.base ≤ length desk.changes.now → desk.halt ≡ None
     → changes.now ≡ desk.changes.now ++ replicate n (Some zero_page) → changes.marked ≡ desk.changes.marked
-    → Does (Grows n) told desk told (record desk { changes = changes; hand = None; images = None })
+    → Does (Grows n) told desk told (record desk { changes = changes; hand = None; prepared = false })
 grows None desk n changes le going is marked tape attaches = let more = grown_work None desk n le going in rw (is, marked, more) refl
 grows (Some file) desk n changes le going is marked tape attaches = let more = grown_work (Some file) desk n le going in rw (is, marked, more) refl
 
 -- a page was written over
-pub writes : (told : Option File) (desk : Desk) (p : ℕ) (page : List ℕ) (changes : Changed) (spares : Spares)
+pub writes : (told : Option File) (desk : Desk) (p : ℕ) (page : List ℕ) (changes : Changed)
     → changes.now ≡ set desk.changes.now p (Some page) → changes.marked ≡ desk.changes.marked
-    → Does (Writes p page) told desk told (record desk { changes = changes; spares = spares; hand = None; images = None })
-writes None desk p page changes spares now marked tape attaches = let put = written_work None desk p page in rw (now, marked, put) refl
-writes (Some file) desk p page changes spares now marked tape attaches = let put = written_work (Some file) desk p page in rw (now, marked, put) refl
+    → Does (Writes p page) told desk told (record desk { changes = changes; hand = None; prepared = false })
+writes None desk p page changes now marked tape attaches = let put = written_work None desk p page in rw (now, marked, put) refl
+writes (Some file) desk p page changes now marked tape attaches = let put = written_work (Some file) desk p page in rw (now, marked, put) refl
 
 -- all changes were forgotten
 pub rolls_back : (told : Option File) (desk : Desk) (changes : Changed) → desk.halt ≡ None
     → changes ≡ nothing desk.base
-    → Does RollsBack told desk told (record desk { changes = changes; hand = None; images = None })
+    → Does RollsBack told desk told (record desk { changes = changes; hand = None; prepared = false })
 rolls_back None desk changes going is tape attaches = let back = unchanged_work None desk going in rw (is, back) refl
 rolls_back (Some file) desk changes going is tape attaches = let back = unchanged_work (Some file) desk going in rw (is, back) refl
 
@@ -185,7 +184,7 @@ unplaced desk p based none grown = elim (cases_lt p desk.base) [
 ]
 
 -- a desk with nothing at hand, which isn't ready for a commit
-pub kept_bare : (told : Option File) (desk : Desk) → IsKept desk told → IsKept (record desk { hand = None; images = None }) told
+pub kept_bare : (told : Option File) (desk : Desk) → IsKept desk told → IsKept (record desk { hand = None; prepared = false }) told
 kept_bare told desk kept = record {
   at_rest = kept.at_rest;
   clean = kept.clean;
@@ -194,11 +193,11 @@ kept_bare told desk kept = record {
   count = kept.count;
   marked = kept.marked;
   hand = λ some. absurd (cc);
-  ready = λ images is. absurd (cc);
+  ready = λ is. absurd (cc);
 }
 
 -- nothing is at hand, and the desk isn't ready for a commit
-pub bares : (told : Option File) (desk : Desk) (cache : Numbered) → Does LosesReadiness told desk told (record desk { cache = cache; hand = None; images = None })
+pub bares : (told : Option File) (desk : Desk) (cache : Numbered) → Does LosesReadiness told desk told (record desk { cache = cache; hand = None; prepared = false })
 bares None desk cache tape attaches = refl
 bares (Some file) desk cache tape attaches = refl
 
@@ -212,21 +211,21 @@ same_over (Some file) desk p page is lt =
     ∙ set-get_or (laid_over desk.changes.now (base_in desk.halt desk.base file.bytes)) p [])
 
 -- a page of the base was written over itself
-pub admits : (told now : Option File) (desk : Desk) (p : ℕ) (page : List ℕ) (changes : Changed) (spares : Spares) (cache : Numbered) → now ≡ told
+pub admits : (told now : Option File) (desk : Desk) (p : ℕ) (page : List ℕ) (changes : Changed) (cache : Numbered) → now ≡ told
     → (IsTrue (is_some told) → page ≡ page_at (work_of told desk desk.changes.now) p) → p < length desk.changes.now
     → changes.now ≡ set desk.changes.now p (Some page) → changes.marked ≡ desk.changes.marked
-    → Does LosesReadiness told desk now (record desk { changes = changes; spares = spares; cache = cache; hand = None; images = None })
-admits told now desk p page changes spares cache same is lt put marked =
-    subst (λ (t : Option File). Does LosesReadiness told desk t (record desk { changes = changes; spares = spares; cache = cache; hand = None; images = None })) (sym same) (go told is) where
-      go : (t : Option File) → (IsTrue (is_some t) → page ≡ page_at (work_of t desk desk.changes.now) p) → Does LosesReadiness t desk t (record desk { changes = changes; spares = spares; cache = cache; hand = None; images = None })
+    → Does LosesReadiness told desk now (record desk { changes = changes; cache = cache; hand = None; prepared = false })
+admits told now desk p page changes cache same is lt put marked =
+    subst (λ (t : Option File). Does LosesReadiness told desk t (record desk { changes = changes; cache = cache; hand = None; prepared = false })) (sym same) (go told is) where
+      go : (t : Option File) → (IsTrue (is_some t) → page ≡ page_at (work_of t desk desk.changes.now) p) → Does LosesReadiness t desk t (record desk { changes = changes; cache = cache; hand = None; prepared = false })
       go None at tape attaches = let over = same_over None desk p page at lt in rw (put, marked, over) refl
       go (Some file) at tape attaches = let over = same_over (Some file) desk p page at lt in rw (put, marked, over) refl
 
 -- a desk with other changes of the same pages, and other clean pages
-pub kept_changed : (told : Option File) (desk : Desk) (changes : Changed) (spares : Spares) (cache : Numbered) → IsKept desk told → length changes.now ≡ length desk.changes.now → changes.marked ≡ desk.changes.marked
+pub kept_changed : (told : Option File) (desk : Desk) (changes : Changed) (cache : Numbered) → IsKept desk told → length changes.now ≡ length desk.changes.now → changes.marked ≡ desk.changes.marked
     → changes.base ≡ desk.changes.base → ForSome told (λ file. AreHome file.bytes desk.base cache)
-    → IsKept (record desk { changes = changes; spares = spares; cache = cache; hand = None; images = None }) told
-kept_changed told desk changes spares cache kept size marked based clean = record {
+    → IsKept (record desk { changes = changes; cache = cache; hand = None; prepared = false }) told
+kept_changed told desk changes cache kept size marked based clean = record {
   at_rest = kept.at_rest;
   clean = clean;
   some = kept.some;
@@ -234,7 +233,7 @@ kept_changed told desk changes spares cache kept size marked based clean = recor
   count = (omega (arith, kept.count.0, size), omega (arith, kept.count.1, size));
   marked = λ before is. let was = kept.marked before (sym marked ∙ is) in (was.0, omega (arith, was.1, size));
   hand = λ some. absurd (cc);
-  ready = λ images is. absurd (cc);
+  ready = λ is. absurd (cc);
 }
 
 -- a page that came first among the clean ones is the page of the work, where it has no change

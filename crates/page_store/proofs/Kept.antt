@@ -1,10 +1,7 @@
 -- Bytes that two files share, and what they share with them.
-use Rattle.std.proofs.Common.{◌≡◌, ◌≢◌, ◌≤◌, ◌<◌, ◌+◌, ◌*◌, ℕ, zero, suc, List, [], ◌∷◌, length, take, drop, get_or, nat_eq, min, arith, refl, sym, ap, ◌∙◌, inl, inr}
+use Rattle.std.proofs.Common.{◌≡◌, ◌≢◌, ◌≤◌, ◌<◌, ◌+◌, ◌*◌, ℕ, zero, suc, List, [], ◌∷◌, length, take, drop, get_or, nat_eq, min, arith, refl, ap, ◌∙◌, inl, inr}
 use Rattle.std.specs.List.{All}
 use Rattle.std.proofs.lemmas.Bool.{cases_order}
-use Rattle.std.proofs.lemmas.List.{ext_get_or, length-take, length-drop, get_or-take, get_or-drop}
-use Rattle.byteorder.specs.Endian.{big_number}
-use Rattle.byteorder.specs.Numbers.{big_from-take}
 use Rattle.mdc_outside.specs.Disk.{Since, IsImage, IsInNone, IsOutside, all_synced, torn}
 use Rattle.redo_journal.specs.Images.{Numbered}
 use Rattle.page_file.specs.Layout.{file_page, home_page, FrontStays}

@@ -1,5 +1,5 @@
 -- What a page that was lent leaves of a desk.
-use Rattle.std.proofs.Common.{◌≡◌, ◌≤◌, ◌<◌, ℕ, Bool, List, Option, Some, None, IsTrue, is_some, IsSome, length, set, get_or, leb, arith, refl, sym, ap, ◌∙◌, subst}
+use Rattle.std.proofs.Common.{◌≡◌, ◌<◌, ℕ, List, Option, Some, None, IsTrue, false, is_some, IsSome, length, set, get_or, arith, refl, sym, ◌∙◌, subst}
 use Rattle.std.specs.Prelude.{Result, Err, IsErrOf}
 use Rattle.mdc_words.specs.Faults.{CountsFault}
 use Rattle.mdc_words.proofs.FaultsLemmas.{counts_fault_as}
@@ -15,24 +15,24 @@ use Rattle.page_store.specs.LentWork.{SameDesk}
 use Rattle.page_store.proofs.Desks.{written_work, image_page}
 
 -- the work with the page as its borrower left it
-pub edits_does : (told : Option File) (desk new : Desk) (p : ℕ) (page : List ℕ) → SameDesk desk new → new.changes.now ≡ set desk.changes.now p (Some page) → desk.hand ≡ None → desk.images ≡ None → Does (Writes p page) told desk told new
-edits_does None desk new p page same now hand images tape attaches =
+pub edits_does : (told : Option File) (desk new : Desk) (p : ℕ) (page : List ℕ) → SameDesk desk new → new.changes.now ≡ set desk.changes.now p (Some page) → desk.hand ≡ None → desk.prepared ≡ false → Does (Writes p page) told desk told new
+edits_does None desk new p page same now hand unready tape attaches =
     let put = written_work None desk p page in
-    rw (now, same.changes.marked, same.base, same.hand, same.images, same.halt, hand, images, put) refl
-edits_does (Some file) desk new p page same now hand images tape attaches =
+    rw (now, same.changes.marked, same.base, same.hand, same.prepared, same.halt, hand, unready, put) refl
+edits_does (Some file) desk new p page same now hand unready tape attaches =
     let put = written_work (Some file) desk p page in
-    rw (now, same.changes.marked, same.base, same.hand, same.images, same.halt, hand, images, put) refl
+    rw (now, same.changes.marked, same.base, same.hand, same.prepared, same.halt, hand, unready, put) refl
 
 -- the work as it was
-pub keeps_does : (told : Option File) (desk new : Desk) → SameDesk desk new → new.changes.now ≡ desk.changes.now → desk.hand ≡ None → desk.images ≡ None → Does LosesReadiness told desk told new
-keeps_does None desk new same now hand images tape attaches =
-    rw (now, same.changes.marked, same.base, same.hand, same.images, same.halt, hand, images) refl
-keeps_does (Some file) desk new same now hand images tape attaches =
-    rw (now, same.changes.marked, same.base, same.hand, same.images, same.halt, hand, images) refl
+pub keeps_does : (told : Option File) (desk new : Desk) → SameDesk desk new → new.changes.now ≡ desk.changes.now → desk.hand ≡ None → desk.prepared ≡ false → Does LosesReadiness told desk told new
+keeps_does None desk new same now hand unready tape attaches =
+    rw (now, same.changes.marked, same.base, same.hand, same.prepared, same.halt, hand, unready) refl
+keeps_does (Some file) desk new same now hand unready tape attaches =
+    rw (now, same.changes.marked, same.base, same.hand, same.prepared, same.halt, hand, unready) refl
 
 -- what is in memory still fits the file
-pub kept_same : (told : Option File) (desk new : Desk) → IsKept desk told → SameDesk desk new → desk.hand ≡ None → desk.images ≡ None → IsKept new told
-kept_same told desk new kept same hand images = record {
+pub kept_same : (told : Option File) (desk new : Desk) → IsKept desk told → SameDesk desk new → desk.hand ≡ None → desk.prepared ≡ false → IsKept new told
+kept_same told desk new kept same hand unready = record {
   at_rest = rw (same.shape, same.base) kept.at_rest;
   clean = rw (same.base, same.cache) kept.clean;
   some = omega (arith, same.base, kept.some);
@@ -40,7 +40,7 @@ kept_same told desk new kept same hand images = record {
   count = (omega (arith, kept.count.0, same.changes.size, same.base), omega (arith, kept.count.1, same.changes.size));
   marked = λ before is. let was = kept.marked before (sym same.changes.marked ∙ is) in (omega (arith, was.0, same.base), omega (arith, was.1, same.changes.size));
   hand = λ some. let none : new.hand ≡ None = same.hand ∙ hand in let wrong = subst IsSome none some in absurd (cc);
-  ready = λ all is. let none : new.images ≡ None = same.images ∙ images in absurd (cc);
+  ready = λ is. let none : new.prepared ≡ false = same.prepared ∙ unready in absurd (cc);
 }
 
 -- a call that takes readiness away, and then a write

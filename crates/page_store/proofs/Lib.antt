@@ -9,7 +9,6 @@ pub mod Desks
 pub mod FreshBytes
 pub mod FrontAgreesLemmas
 pub mod FreshDatabase
-pub mod Gathered
 pub mod Journals
 pub mod Judged
 pub mod Kept
@@ -20,6 +19,8 @@ pub mod MakeCrashes
 pub mod Openings
 pub mod Pages
 pub mod Passing
+pub mod Prepared
+pub mod Reaches
 pub mod Recent
 pub mod Repairs
 pub mod Roots

@@ -116,7 +116,7 @@ empty_kept told desk empty rests some few =
       count = (omega arith, omega arith);
       marked = λ changes is. (let none = ap (λ changes. changes.marked) empty.changes in absurd (cc));
       hand = λ there. (let none : false ≡ true = rw empty.hand at there in absurd (cc));
-      ready = λ images is. (let none = empty.images in absurd (cc));
+      ready = λ is. (let none = empty.prepared in absurd (cc));
     }
 
 -- what a store with an empty desk is seen as
@@ -126,9 +126,9 @@ just_opened told tape attaches desk empty =
     let work : work_of told desk desk.changes.now ≡ base_of told desk = ap (λ changes. work_of told desk changes.now) empty.changes ∙ unchanged_work told desk empty.halt in
     let marked : desk.changes.marked ≡ None = ap (λ changes. changes.marked) empty.changes in
     let hand = empty.hand in
-    let images = empty.images in
+    let unready = empty.prepared in
     let halt = empty.halt in
-    rw (work, marked, hand, images, halt) refl
+    rw (work, marked, hand, unready, halt) refl
 
 -- the same by what the host told before
 pub shown_as_before : (told : Option File) (tape before : Option (List ℕ)) (attaches listed : Option (List (List ℕ × Bool))) (is_told : Bool) (desk : Desk) → IsEmptyDesk desk

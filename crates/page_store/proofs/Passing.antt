@@ -1,5 +1,5 @@
 -- How the moments of a host are those of the store that owns it.
-use Rattle.std.proofs.Common.{◌≡◌, ◌⊎◌, ◌≤◌, ℕ, Bool, List, [], true, false, IsSome, Option, Some, None, Result, Ok, Err, OnOk, OnErr, IfSome, is_some, inl, inr, arith, sym, ap, subst, ◌∙◌}
+use Rattle.std.proofs.Common.{◌≡◌, ◌⊎◌, ℕ, Bool, List, [], true, false, IsSome, Option, Some, None, Result, Ok, Err, OnOk, OnErr, IfSome, is_some, inl, inr, arith, sym, ap, subst, ◌∙◌}
 use Rattle.std.proofs.Common.{◌↔◌}
 use Rattle.std.specs.Option.{ForSome}
 use Rattle.store_api.specs.StoreState.{StoreState}
@@ -8,12 +8,11 @@ use Rattle.store_api.specs.Moments.{Outcomes, OnlyBase, BaseOrWork, AtRest}
 use Rattle.mdc_outside.specs.Disk.{File, IsImage}
 use Rattle.mdc_outside.specs.Moments.{Beside, IsMoment, WhereTold}
 use Rattle.page_store.specs.declared.desk.Desk.{Desk}
-use Rattle.page_store.specs.declared.shape.Shape.{Shape}
 use Rattle.page_store.specs.Standing.{pages_of, page_of, FrontAgrees, IsStoreImage, Reopens, listed}
 use Rattle.page_file.specs.Layout.{home_page}
 use Rattle.page_file.specs.Leaving.{Leaves}
 use Rattle.page_store.specs.Desk.{IsKept, StandsForEither, CommitLeaves, RestsEither, state_of, base_of, base_in, work_of}
-use Rattle.page_store.specs.FileStore.{Held, left_of}
+use Rattle.page_store.specs.FileStore.{HeldStore, left_of}
 use Rattle.page_file.proofs.LeavesLemmas.{nothing_said}
 use Rattle.mdc_outside.proofs.MomentLemmas.{where_told}
 use Rattle.page_store.proofs.FrontAgreesLemmas.{front_agrees_itself, front_agrees_back, front_agrees_stays, reopens_as, agrees_same}
@@ -78,12 +77,12 @@ commit_rests (Err e) told tape attaches desk going kept halted rests fronts afte
 
 module _ {H : Type 0} {file : H → Option File} {aside : H → Beside} {attaches : H → Option (List (List ℕ × Bool))} {is_attached : H → Bool} {clock : H → ℕ} {moment : H → ℕ → List ℕ → List ℕ → Type 0} where
   -- time goes on over a call of the store as over its calls of the host
-  pub passes : {Kind : File → List ℕ → Type 0} (Within : Outcomes) (old new : Held H)
+  pub passes : {Kind : File → List ℕ → Type 0} (Within : Outcomes) (old new : HeldStore H)
       → Leaves file aside attaches is_attached clock moment Kind old.host new.host
       → new.desk.shape ≡ old.desk.shape
       → ((before after : File) → file old.host ≡ Some before → file new.host ≡ Some after → FrontAgrees before.bytes after.bytes)
       → ((before : File) (said image : List ℕ) (pages : Option (List (List ℕ))) → file old.host ≡ Some before → (aside old.host).tape ≡ Some said → Kind before image → Reopens old.desk.shape before.bytes image pages → Within pages said)
-      → OverTime (λ (s : Held H). clock s.host) (λ (s : Held H). left_of s.desk.shape (file s.host) (aside s.host).tape (moment s.host)) Within old new
+      → OverTime (λ (s : HeldStore H). clock s.host) (λ (s : HeldStore H). left_of s.desk.shape (file s.host) (aside s.host).tape (moment s.host)) Within old new
   passes {Kind} Within old new leaves shape agrees within = record {
     later = leaves.later;
     keeps = λ t pages heard early left.
@@ -100,10 +99,10 @@ module _ {H : Type 0} {file : H → Option File} {aside : H → Beside} {attache
   }
 
   -- a call that tears nothing of a file at rest leaves the base alone
-  pub keeps_base : (old new : Held H)
+  pub keeps_base : (old new : HeldStore H)
       → Leaves file aside attaches is_attached clock moment (λ before image. IsImage before.since image) old.host new.host
       → file new.host ≡ file old.host → IsKept old.desk (file old.host) → old.desk.halt ≡ None → new.desk.shape ≡ old.desk.shape
-      → OverTime (λ (s : Held H). clock s.host) (λ (s : Held H). left_of s.desk.shape (file s.host) (aside s.host).tape (moment s.host))
+      → OverTime (λ (s : HeldStore H). clock s.host) (λ (s : HeldStore H). left_of s.desk.shape (file s.host) (aside s.host).tape (moment s.host))
       (OnlyBase (state_of (file old.host) (aside old.host).tape (attaches old.host) old.desk)) old new
   keeps_base old new leaves same kept going shape =
       passes (OnlyBase (state_of (file old.host) (aside old.host).tape (attaches old.host) old.desk)) old new leaves shape (agrees_same same)
@@ -112,7 +111,7 @@ module _ {H : Type 0} {file : H → Option File} {aside : H → Beside} {attache
 -- a call that makes no call of the host leaves what was left
 pub stays : {H : Type 0} (file : H → Option File) (aside : H → Beside) (clock : H → ℕ) (moment : H → ℕ → List ℕ → List ℕ → Type 0) (Within : Outcomes) (host : H) (desk new : Desk)
     → new.shape ≡ desk.shape
-    → OverTime (λ (s : Held H). clock s.host) (λ (s : Held H). left_of s.desk.shape (file s.host) (aside s.host).tape (moment s.host)) Within (record { host = host; desk = desk }) (record { host = host; desk = new })
+    → OverTime (λ (s : HeldStore H). clock s.host) (λ (s : HeldStore H). left_of s.desk.shape (file s.host) (aside s.host).tape (moment s.host)) Within (record { host = host; desk = desk }) (record { host = host; desk = new })
 stays {H} file aside clock moment Within host desk new shape = record {
   later = omega arith;
   keeps = λ t pages heard early left. (left.0, left.1, left.2, left.3, left.4, left.5, reopens_as (sym shape) (front_agrees_itself left.0.bytes) left.4 pages left.6);
@@ -120,11 +119,11 @@ stays {H} file aside clock moment Within host desk new shape = record {
 }
 
 -- what is left at rest, by what the file leaves
-pub rests : {H : Type 0} (file : H → Option File) (aside : H → Beside) (attaches : H → Option (List (List ℕ × Bool))) (clock : H → ℕ) (moment : H → ℕ → List ℕ → List ℕ → Type 0) (held : Held H)
+pub rests : {H : Type 0} (file : H → Option File) (aside : H → Beside) (attaches : H → Option (List (List ℕ × Bool))) (clock : H → ℕ) (moment : H → ℕ → List ℕ → List ℕ → Type 0) (held : HeldStore H)
     → WhereTold (file held.host) (aside held.host).tape (λ f said. (image tape : List ℕ) → moment held.host (clock held.host) image tape ↔ IsMoment f.since said [] image tape)
     → ((after : File) (said image : List ℕ) (pages : Option (List (List ℕ))) → file held.host ≡ Some after → (aside held.host).tape ≡ Some said → IsImage after.since image → Reopens held.desk.shape after.bytes image pages
     → AtRest (state_of (file held.host) (aside held.host).tape (attaches held.host) held.desk) pages said)
-    → RestsAt (λ (s : Held H). clock s.host) (λ (s : Held H). left_of s.desk.shape (file s.host) (aside s.host).tape (moment s.host))
+    → RestsAt (λ (s : HeldStore H). clock s.host) (λ (s : HeldStore H). left_of s.desk.shape (file s.host) (aside s.host).tape (moment s.host))
     (AtRest (state_of (file held.host) (aside held.host).tape (attaches held.host) held.desk)) held
 rests {H} file aside attaches clock moment held only_now at_rest = record {
   only_rest = λ pages heard left.
@@ -135,10 +134,10 @@ rests {H} file aside attaches clock moment held only_now at_rest = record {
 }
 
 -- a store that fits a file at rest leaves its base
-pub rests_kept : {H : Type 0} (file : H → Option File) (aside : H → Beside) (attaches : H → Option (List (List ℕ × Bool))) (clock : H → ℕ) (moment : H → ℕ → List ℕ → List ℕ → Type 0) (held : Held H)
+pub rests_kept : {H : Type 0} (file : H → Option File) (aside : H → Beside) (attaches : H → Option (List (List ℕ × Bool))) (clock : H → ℕ) (moment : H → ℕ → List ℕ → List ℕ → Type 0) (held : HeldStore H)
     → WhereTold (file held.host) (aside held.host).tape (λ f said. (image tape : List ℕ) → moment held.host (clock held.host) image tape ↔ IsMoment f.since said [] image tape)
     → IsKept held.desk (file held.host) → held.desk.halt ≡ None
-    → RestsAt (λ (s : Held H). clock s.host) (λ (s : Held H). left_of s.desk.shape (file s.host) (aside s.host).tape (moment s.host))
+    → RestsAt (λ (s : HeldStore H). clock s.host) (λ (s : HeldStore H). left_of s.desk.shape (file s.host) (aside s.host).tape (moment s.host))
     (AtRest (state_of (file held.host) (aside held.host).tape (attaches held.host) held.desk)) held
 rests_kept {H} file aside attaches clock moment held only_now kept going = rests file aside attaches clock moment held only_now (λ after said image pages is tape left reopens.
     rests_with_base (state_of (file held.host) (aside held.host).tape (attaches held.host) held.desk) pages said (ap (λ halt. is_some halt) going)

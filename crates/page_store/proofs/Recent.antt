@@ -12,11 +12,9 @@ use Rattle.lru.specs.LruCache.{LruCache, promoted, put_entries}
 use Rattle.lru.proofs.Pairs.{promoted_absent}
 use Rattle.redo_journal.specs.Images.{Numbered}
 use Rattle.page_file.specs.Layout.{home_page}
-use Rattle.page_store.specs.Cached.{AreHome, Leads, unboxed}
-
--- a page in its box, under its number
-abbrev pub Boxed : Type 0
-Boxed = ℕ × Box (List ℕ) Global
+use Rattle.store_api.proofs.BoxesLemmas.{Boxed}
+use Rattle.redo_journal.specs.Images.{unboxed}
+use Rattle.page_store.specs.Cached.{AreHome, Leads}
 
 -- the page under its number
 abbrev seen : Boxed → ℕ × List ℕ

@@ -1,5 +1,5 @@
 -- What a crash leaves while a journal that counts is brought home.
-use Rattle.std.proofs.Common.{◌≡◌, ℕ, Bool, List, length, Option, Some, arith, refl, sym, ap, ◌∙◌, subst, inl, inr}
+use Rattle.std.proofs.Common.{◌≡◌, ℕ, Bool, List, length, Option, Some, arith, refl, sym, ap, ◌∙◌, subst}
 use Rattle.std.specs.Option.{ForSome}
 use Rattle.std.proofs.lemmas.List.FromFn.{length-map-range_with_len}
 use Rattle.mdc_outside.specs.Disk.{File, Since, IsImage, all_synced}
@@ -7,13 +7,12 @@ use Rattle.mdc_outside.specs.Moments.{Beside}
 use Rattle.page_file.specs.Layout.{file_page}
 use Rattle.page_file.specs.Runs.{Runs, IsCovered}
 use Rattle.page_file.proofs.RunsLemmas.{runs_within}
-use Rattle.page_file.proofs.RunsLemmas.{cases_Option}
 use Rattle.page_file.specs.Leaving.{Leaves}
 use Rattle.page_store.specs.Commit.{IsClosed, StandsStill}
 use Rattle.page_store.specs.Opening.{IsAtRest, StandsAs}
 use Rattle.page_store.specs.Shape.{extents_in, extent_pages_in}
 use Rattle.page_file.proofs.FrontLemmas.{front_stays_itself, front_stays_then}
-use Rattle.page_store.specs.Standing.{Stands, count_of, page_of, pages_of}
+use Rattle.page_store.specs.Standing.{count_of, page_of, pages_of}
 use Rattle.page_file.proofs.LeavesLemmas.{one_file}
 use Rattle.page_store.proofs.Crashes.{only_itself}
 use Rattle.page_file.proofs.LeavesLemmas.{runs_leave, leaves_then, leaves_as}

@@ -1,5 +1,5 @@
 -- What a crash leaves while bytes are told.
-use Rattle.std.proofs.Common.{◌≡◌, ◌⊎◌, ◌≤◌, ℕ, Bool, List, [], ◌∷◌, ◌++◌, Option, Some, None, Result, Ok, Err, OnOk, OnErr, IfSome, is_some, inl, inr, arith, refl, sym, ap, subst, ◌∙◌, append-nil}
+use Rattle.std.proofs.Common.{◌≡◌, ℕ, Bool, List, [], ◌++◌, Option, Some, None, Result, Ok, Err, OnOk, OnErr, IfSome, inl, inr, refl, sym, ap, ◌∙◌}
 use Rattle.mdc_words.specs.Time.{OverTime}
 use Rattle.store_api.specs.Calls.{Tells, TellsPart, continued}
 use Rattle.store_api.specs.Moments.{BaseWithFront}
@@ -8,7 +8,7 @@ use Rattle.mdc_outside.specs.Moments.{Beside, IsMoment, IsWithinCall}
 use Rattle.mdc_outside.specs.Outside.{Takes, TakesPart}
 use Rattle.page_store.specs.declared.desk.Desk.{Desk}
 use Rattle.page_store.specs.Desk.{IsKept, state_of}
-use Rattle.page_store.specs.FileStore.{Held, left_of}
+use Rattle.page_store.specs.FileStore.{HeldStore, left_of}
 use Rattle.page_store.proofs.FrontAgreesLemmas.{front_agrees_itself, reopens_as}
 use Rattle.page_store.proofs.Passing.{kept_reopens}
 use Rattle.mdc_outside.proofs.MomentLemmas.{where_told}
@@ -44,11 +44,11 @@ tells_part told (Some before) new attaches desk piece takes = (takes.0, (takes.1
 
 -- time goes on over a call that says a piece
 pub tells_pass : {H : Type 0} (file : H → Option File) (aside : H → Beside) (attaches : H → Option (List (List ℕ × Bool))) (clock : H → ℕ) (moment : H → ℕ → List ℕ → List ℕ → Type 0)
-    (old new : Held H) (piece : List ℕ)
+    (old new : HeldStore H) (piece : List ℕ)
     → file new.host ≡ file old.host → TakesPart (aside old.host).tape piece (aside new.host).tape
     → OverTime clock moment (IsWithinCall (file old.host) (aside old.host).tape piece) old.host new.host
     → IsKept old.desk (file old.host) → old.desk.halt ≡ None → new.desk.shape ≡ old.desk.shape
-    → OverTime (λ (s : Held H). clock s.host) (λ (s : Held H). left_of s.desk.shape (file s.host) (aside s.host).tape (moment s.host))
+    → OverTime (λ (s : HeldStore H). clock s.host) (λ (s : HeldStore H). left_of s.desk.shape (file s.host) (aside s.host).tape (moment s.host))
     (BaseWithFront piece (state_of (file old.host) (aside old.host).tape (attaches old.host) old.desk)) old new
 tells_pass {H} file aside attaches clock moment old new piece same takes time kept going shape = record {
   later = time.later;

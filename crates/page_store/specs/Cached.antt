@@ -1,7 +1,6 @@
 -- The clean pages of a store that are in memory: numbers with the bytes of the pages, the one that was used last first.
-use Rattle.std.specs.Prelude.{◌≡◌, ◌<◌, ℕ, List, ◌∷◌, map, unwrap_or, Box}
+use Rattle.std.specs.Prelude.{◌≡◌, ◌<◌, ℕ, List, ◌∷◌, map, unwrap_or}
 use Rattle.std.specs.List.{All}
-use Rattle.std.specs.declared.alloc.Global.{Global}
 use Rattle.redo_journal.specs.Images.{Numbered}
 use Rattle.page_file.specs.Layout.{home_page}
 use Rattle.page_store.specs.Standing.{image_of}
@@ -17,7 +16,3 @@ renewed images = map (λ entry. (entry.0, unwrap_or (image_of images entry.0) en
 -- the first page is this one
 abbrev pub Leads : ℕ → List ℕ → Numbered → Type 0
 Leads p page entries = (rest : Numbered) × (entries ≡ (p, page) ∷ rest)
-
--- pages under their numbers, as they are in their boxes
-abbrev pub unboxed : List (ℕ × Box (List ℕ) Global) → Numbered
-unboxed = map (λ entry. (entry.0, entry.1.value))

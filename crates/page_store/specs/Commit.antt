@@ -1,5 +1,5 @@
 -- What a commit needs of its images, and what it leaves of the file.
-use Rattle.std.specs.Prelude.{◌≡◌, ◌⊎◌, ◌≤◌, ◌<◌, ℕ, ◌+◌, ◌*◌, IsTrue, IsFalse, IsSome, List, length, Option, Some, unwrap_or}
+use Rattle.std.specs.Prelude.{◌≡◌, ◌⊎◌, ◌≤◌, ◌<◌, ℕ, ◌+◌, IsTrue, IsFalse, IsSome, List, length, max, Option, Some, unwrap_or}
 use Rattle.std.specs.List.{All}
 use Rattle.store_api.specs.StoreState.{stated_in}
 use Rattle.mdc_outside.specs.Disk.{File, IsImage, all_synced}
@@ -64,8 +64,16 @@ StandsStill before image = Stands before.bytes (pages_of before.bytes) image
 abbrev pub StandsEither : Numbered → File → List ℕ → Type 0
 StandsEither images before image = Stands before.bytes (pages_of before.bytes) image ⊎ Stands before.bytes (pages_with images before.bytes) image
 
+-- an image is no longer than the file
+abbrev pub NoLonger : File → List ℕ → Type 0
+NoLonger before image = length image ≤ length before.bytes
+
+-- an image is no longer than the file, or than up to the end of the journal of n images that starts at this file page
+abbrev pub ReachesTo : ℕ → ℕ → File → List ℕ → Type 0
+ReachesTo start n before image = length image ≤ max (length before.bytes) (page_start (start + index_pages n + n))
+
 -- a fact of the file before and after, where both are told
-pub record Both (old new : Option File) (fact : File → File → Type 0) : Type 0 where
+pub record BothFiles (old new : Option File) (fact : File → File → Type 0) : Type 0 where
   pub holds : (before after : File) → old ≡ Some before → new ≡ Some after → fact before after
 
 -- after a commit: the journal is closed, and the home pages are those with the images

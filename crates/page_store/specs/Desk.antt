@@ -1,9 +1,9 @@
 -- What a store has in memory beside its file, and what the two together are seen as.
-use Rattle.std.specs.Prelude.{◌≡◌, ◌⊎◌, ◌≤◌, ◌<◌, ℕ, Bool, IsSome, is_some, List, [], length, replicate, slice_get, slice_index_or, Option, Some, None, Result, OnOk, OnErr}
+use Rattle.std.specs.Prelude.{◌≡◌, ◌⊎◌, ◌≤◌, ◌<◌, ℕ, Bool, IsTrue, IsSome, is_some, List, [], length, replicate, slice_get, slice_index_or, Option, Some, None, Result, OnOk, OnErr}
 use Rattle.std.specs.Option.{ForSome, option_map}
 use Rattle.store_api.specs.StoreState.{StoreState, stated_count}
 use Rattle.mdc_outside.specs.Disk.{File, IsImage}
-use Rattle.redo_journal.specs.Images.{Numbered}
+use Rattle.redo_journal.specs.Images.{Numbered, AreRising}
 use Rattle.page_file.specs.Layout.{home_page, FrontStays}
 use Rattle.page_store.specs.declared.desk.Desk.{Desk}
 use Rattle.page_store.specs.declared.desk.Hand.{Hand}
@@ -45,16 +45,18 @@ state_of told tape attaches desk = record {
   work = work_of told desk desk.changes.now;
   marked = option_map (work_of told desk) desk.changes.marked;
   hand = page_at_hand desk.hand desk.changes.now desk.cache;
-  prepared = is_some desk.images;
+  prepared = desk.prepared;
   ended = is_some desk.halt;
   told = tape;
   fetched = None;
   attached = attaches;
 }
 
--- The images are those that make the work, whose page 0 states how many pages it has, and no mark is open.
-pub record IsPrepared (desk : Desk) (told : Option File) (images : Numbered) : Type 0 where
-  pub holds : HoldsBelow (length desk.changes.now) (image_in desk.base desk.changes.now) images
+-- The pages that were written are the images that make the work, in the order of their numbers. Its page 0 states how many
+-- pages it has, and no mark is open.
+pub record IsPrepared (desk : Desk) (told : Option File) : Type 0 where
+  pub holds : HoldsBelow (length desk.changes.now) (image_in desk.base desk.changes.now) desk.changes.pages
+  pub rising : AreRising desk.changes.pages
   pub counted : ForSome told (λ file. stated_count (laid_over desk.changes.now (listed desk.base (home_page file.bytes))) ≡ length desk.changes.now)
   pub unmarked : desk.changes.marked ≡ None
 
@@ -71,7 +73,7 @@ pub record IsKept (desk : Desk) (told : Option File) : Type 0 where
   pub count : IsBetween desk.base 262289 (length desk.changes.now)
   pub marked : ForSome desk.changes.marked (λ changes. IsBetween desk.base (length desk.changes.now) (length changes))
   pub hand : IsSome desk.hand → IsSome (page_at_hand desk.hand desk.changes.now desk.cache)
-  pub ready : ForSome desk.images (IsPrepared desk told)
+  pub ready : IsTrue desk.prepared → IsPrepared desk told
 
 -- where the page of a number lies in memory: it was changed or grown, or else it is a clean page
 abbrev pub IsPlaced : ℕ → Desk → Option Hand → Type 0

@@ -8,7 +8,7 @@ use Rattle.page_store.specs.Standing.{Reopens, IsStoreImage, pages_of}
 use Rattle.page_store.specs.Desk.{IsKept}
 
 -- a host, and what the store has in memory beside it
-pub record Held (H : Type 0) : Type 0 where
+pub record HeldStore (H : Type 0) : Type 0 where
   pub host : H
   pub desk : Desk
 

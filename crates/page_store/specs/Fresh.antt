@@ -1,5 +1,5 @@
 -- The file that is made: empty but for its gates, its birth page and its root page (docs/FORMAT.md, "Making").
-use Rattle.std.specs.Prelude.{◌≡◌, ◌⊎◌, ◌<◌, ℕ, ◌+◌, ◌*◌, List, [], ◌∷◌, ◌++◌, length, drop, replicate, IsFalse}
+use Rattle.std.specs.Prelude.{◌≡◌, ◌⊎◌, ◌<◌, ℕ, ◌+◌, List, [], ◌∷◌, ◌++◌, length, drop, replicate, IsFalse}
 use Rattle.byteorder.specs.Endian.{big_bytes}
 use Rattle.mdc_outside.specs.Disk.{File, IsImage, all_synced}
 use Rattle.store_api.specs.StoreState.{zero_page}

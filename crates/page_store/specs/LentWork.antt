@@ -6,14 +6,14 @@ use Rattle.page_changes.specs.LentChange.{SameFrame}
 use Rattle.page_store.specs.declared.desk.Desk.{Desk}
 use Rattle.page_store.specs.contracts.desk.Desk.{the_row}
 
--- but for the bytes of the changes and the boxes that are used again, all is as it was
+-- but for the bytes of the changes all is as it was
 pub record SameDesk (old new : Desk) : Type 0 where
   pub changes : SameFrame old.changes new.changes
   pub shape : new.shape ≡ old.shape
   pub base : new.base ≡ old.base
   pub cache : new.cache ≡ old.cache
   pub hand : new.hand ≡ old.hand
-  pub images : new.images ≡ old.images
+  pub prepared : new.prepared ≡ old.prepared
   pub halt : new.halt ≡ old.halt
 
 -- the desk ends with page p as the borrower leaves it, and as it was where no page was lent

@@ -7,7 +7,7 @@ use Rattle.mdc_words.specs.Time.{OverTime, RestsAt}
 use Rattle.mdc_outside.specs.Disk.{File, IsImage}
 use Rattle.mdc_outside.specs.Moments.{Beside}
 use Rattle.page_store.specs.declared.desk.Desk.{Desk}
-use Rattle.page_store.specs.Changes.{nothing, unchanged}
+use Rattle.page_store.specs.Changes.{nothing}
 use Rattle.page_file.specs.Leaving.{LeavesImage}
 use Rattle.page_store.specs.Opening.{StandsAs}
 use Rattle.page_store.specs.Standing.{pages_of}
@@ -54,7 +54,7 @@ pub record IsEmptyDesk (desk : Desk) : Type 0 where
   pub changes : desk.changes ≡ nothing desk.base
   pub cache : desk.cache ≡ []
   pub hand : desk.hand ≡ None
-  pub images : desk.images ≡ None
+  pub prepared : desk.prepared ≡ false
   pub halt : desk.halt ≡ None
 
 -- a store that was just opened over a host that tells its file or not, this tape and these attaches

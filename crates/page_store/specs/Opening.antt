@@ -47,8 +47,8 @@ abbrev pub IsOther : List ℕ → Type 0
 IsOther file = IsMade file × (¬ IsBirth (file_page file 1))
 
 -- the file is damaged there
-abbrev pub IsDamaged : Damage → List ℕ → Type 0
-IsDamaged damage file = IsMade file × IsBirth (file_page file 1) × IsDamage damage file
+abbrev pub IsDamagedFile : Damage → List ℕ → Type 0
+IsDamagedFile damage file = IsMade file × IsBirth (file_page file 1) × IsDamage damage file
 
 -- the file is of another version
 abbrev pub IsOfVersion : ℕ → List ℕ → Type 0
@@ -80,5 +80,5 @@ Refuses Unmade file = IsUnmade file
 Refuses NotMdc file = IsOther file
 Refuses (Version version) file = IsOfVersion version file
 Refuses Device file = Unit {0}
-Refuses (Damaged damage) file = IsDamaged damage file
+Refuses (Damaged damage) file = IsDamagedFile damage file
 Refuses Memory file = Unit {0}

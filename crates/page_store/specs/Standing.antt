@@ -1,5 +1,5 @@
 -- What the bytes of a database file stand for (docs/FORMAT.md).
-use Rattle.std.specs.Prelude.{◌≡◌, ◌≤◌, ◌<◌, ◌==◌, ℕ, ◌+◌, ◌*◌, Bool, IsTrue, if◌then◌else◌, Option, Some, None, unwrap_or, List, [], ◌∷◌, length, map, slice_index}
+use Rattle.std.specs.Prelude.{◌≡◌, ◌≤◌, ◌<◌, ◌==◌, ℕ, ◌+◌, Bool, IsTrue, if◌then◌else◌, Option, Some, None, unwrap_or, List, [], ◌∷◌, length, map, slice_index}
 use Rattle.std.specs.List.{All, range_with_len}
 use Rattle.store_api.specs.StoreState.{stated_in}
 use Rattle.redo_journal.specs.Images.{Numbered}

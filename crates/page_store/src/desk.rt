@@ -1,5 +1,5 @@
 // What a store has in memory beside its host: its changes, clean pages, and where the page at hand lies.
-ghost use Rattle.std.specs.Prelude.{◌≡◌, ◌<◌, ◌≤◌, ◌+◌, IsTrue, IsSome, Option, None, Some, [], length, slice_index_or, IfOk, OnOk, OnErr, IsErrOf, IsErr};
+ghost use Rattle.std.specs.Prelude.{◌≡◌, ◌<◌, ◌≤◌, ◌+◌, IsTrue, IsSome, Option, None, Some, [], false, length, slice_index_or, IfOk, IsOk, OnOk, OnErr, IsErrOf, IsErr};
 ghost use Rattle.std.specs.Option.{ForSome};
 ghost use Rattle.std.specs.Borrow.{sem};
 ghost use Rattle.store_api.specs.Calls.{Fetches, FetchesCommitted, LosesHand, LosesReadiness, Writes, Grows, Marks, Keeps, Undoes, Prepares, Commits, Ends, RollsBack};
@@ -9,18 +9,18 @@ ghost use Rattle.mdc_words.specs.Faults.{CountsFault};
 ghost use Rattle.page_file.specs.Bound.{RunsOf};
 ghost use Rattle.page_file.specs.Runs.{IsCovered};
 ghost use Rattle.page_file.specs.Bound.{LeavesOf};
+ghost use Rattle.page_file.specs.declared.layout.TheConstants.{FIRST_PAGE};
+ghost use Rattle.page_store.specs.Commit.{ReachesTo};
 ghost use Rattle.page_store.specs.Desk.{IsKept, IsPlaced, Does, DoesOnOk, DoesOnErr, CommitLeaves, RestsEither, page_at_hand, base_of, work_of, written_in};
 
-use crate::gathering::images_of;
 use crate::page_cache::PageCache;
 use crate::shape::Shape;
 use crate::write_through::{Halt, write_any};
 use mdc_outside::Disk;
 use mdc_values::Memory;
-use page_changes::{Changes, Spares};
+use page_changes::Changes;
 use page_file::FIRST_PAGE;
-use redo_journal::Images;
-use std::alloc::Global;
+use redo_journal::LentImages;
 use store_api::{DeviceFault, Page, PageFault};
 
 // The file page of the store's page 0.
@@ -38,14 +38,13 @@ pub(crate) enum Hand {
 /// What a store has in memory. `base` is how many pages it had at the last commit.
 #[derive(Drop)]
 pub(crate) struct Desk {
-    pub(crate) alloc: Global,
     pub(crate) shape: Shape,
     pub(crate) base: u32,
     pub(crate) changes: Changes,
-    pub(crate) spares: Spares,
     pub(crate) cache: PageCache,
     pub(crate) hand: Option<Hand>,
-    pub(crate) images: Option<Images>,
+    // Whether the pages that were written are the images of a commit.
+    pub(crate) prepared: bool,
     pub(crate) halt: Option<Halt>,
 }
 
@@ -138,8 +137,8 @@ impl Desk {
         ensures written { written_in self.new ≤ written_in self.old + 1 }
     {
         self.hand = None;
-        self.images = None;
-        match self.changes.write(&mut self.spares, p, bytes) {
+        self.prepared = false;
+        match self.changes.write(p, bytes) {
             Ok(()) => Ok(()),
             Err(Memory) => Err(PageFault::Memory),
         }
@@ -157,19 +156,19 @@ impl Desk {
         ensures written { written_in self.new ≤ written_in self.old + 1 }
         ensures shape { self.new.shape ≡ self.old.shape }
         ensures going_on { self.new.halt ≡ None }
-        ensures bare { (self.new.hand ≡ None) × (self.new.images ≡ None) }
+        ensures bare { (self.new.hand ≡ None) × (self.new.prepared ≡ false) }
         ensures still_kept { IsKept self.new (D.file disk.new) }
         ensures cause { CountsFault (IsErrOf result PageFault.Device) (D.disk_faults disk.old) (D.disk_faults disk.new) }
         ensures same { D.file disk.new ≡ D.file disk.old }
         ensures runs { RunsOf D.Disk IsCovered (λ since. since) disk.old disk.new }
     {
         self.hand = None;
-        self.images = None;
+        self.prepared = false;
         if self.changes.get(p).is_some() {
             return Ok(());
         }
         self.cache.bring(disk, p)?;
-        match self.changes.write(&mut self.spares, p, self.cache.first()) {
+        match self.changes.write(p, self.cache.first()) {
             Ok(()) => Ok(()),
             Err(Memory) => Err(PageFault::Memory),
         }
@@ -183,8 +182,7 @@ impl Desk {
         ensures page { IfOk result (λ page. slice_index_or self.old.changes.now p None ≡ Some page.now) }
         ensures memory { IsErrOf result PageFault.Device → ⊥ }
     {
-        let alloc = self.alloc;
-        self.changes.edit(alloc, p)
+        self.changes.edit(p)
     }
 
     /// Adds pages of zeros at the end of the work. It takes no memory.
@@ -197,7 +195,7 @@ impl Desk {
         ensures written { written_in self.new ≤ written_in self.old + n }
     {
         self.hand = None;
-        self.images = None;
+        self.prepared = false;
         self.changes.grow(n);
     }
 
@@ -211,7 +209,7 @@ impl Desk {
         ensures written { written_in self.new ≡ written_in self.old }
     {
         self.hand = None;
-        self.images = None;
+        self.prepared = false;
         self.changes.mark();
     }
 
@@ -238,8 +236,8 @@ impl Desk {
         ensures written { (told : Option File) → IsKept self.old told → written_in self.new ≤ written_in self.old }
     {
         self.hand = None;
-        self.images = None;
-        self.changes.undo(&mut self.spares);
+        self.prepared = false;
+        self.changes.undo();
     }
 
     /// Goes back to the base, and drops a mark. It takes no memory.
@@ -251,7 +249,7 @@ impl Desk {
         ensures written { written_in self.new ≡ 0 }
     {
         self.hand = None;
-        self.images = None;
+        self.prepared = false;
         self.changes.clear(self.base);
     }
 
@@ -280,10 +278,10 @@ impl Desk {
         ensures written { written_in self.new ≡ written_in self.old }
     {
         self.hand = None;
-        self.images = None;
-        match images_of(self.alloc, &mut self.changes, &mut self.spares) {
-            Ok(images) => {
-                self.images = Some(images);
+        self.prepared = false;
+        match self.changes.prepare() {
+            Ok(()) => {
+                self.prepared = true;
                 Ok(())
             }
             Err(Memory) => Err(PageFault::Memory),
@@ -291,12 +289,13 @@ impl Desk {
     }
 
     /// Makes the work the base, whole or not at all. It takes no memory. After a fault a crash leaves the one or the other.
-    /// Where no page changed, it makes no call of the disk.
+    /// Where no page has a change, it makes no call of the disk. The file then reaches no further than a journal of the
+    /// pages that have one.
     pub(crate) fn commit<D: Disk>(&mut self, disk: &mut D) -> Result<(), DeviceFault>
         requires attached { IsTrue (D.is_attached disk.old) }
         requires going { self.old.halt ≡ None }
         requires kept { IsKept self.old (D.file disk.old) }
-        requires prepared { IsSome self.old.images }
+        requires prepared { IsTrue self.old.prepared }
         ensures ok { DoesOnOk result Commits (D.file disk.old) self.old (D.file disk.new) self.new }
         ensures err { DoesOnErr result Ends (D.file disk.old) self.old (D.file disk.new) self.new }
         ensures rests { OnErr result (ForSome (D.file disk.new) (RestsEither self.new)) }
@@ -305,22 +304,23 @@ impl Desk {
         ensures halted { OnErr result (IsSome self.new.halt) }
         ensures still_kept { OnOk result (IsKept self.new (D.file disk.new)) }
         ensures written { OnOk result (written_in self.new ≡ 0) }
-        ensures quiet { self.old.images ≡ Some [] → disk.new ≡ disk.old }
+        ensures quiet { written_in self.old ≡ 0 → IsOk result × (disk.new ≡ disk.old) }
         ensures leaves { LeavesOf D.Disk (CommitLeaves self.old) disk.old disk.new }
+        ensures reach { LeavesOf D.Disk (ReachesTo (FIRST_PAGE + length self.old.changes.now) (length self.old.changes.pages)) disk.old disk.new }
         ensures cause { CountsFault (IsErr result) (D.disk_faults disk.old) (D.disk_faults disk.new) }
     {
         self.hand = None;
-        let Some(images) = self.images.take() else {
-            unreachable!();
-        };
+        self.prepared = false;
         let count = self.changes.count();
+        let images = LentImages::new(self.changes.pages());
         if let Err(halt) = write_any(disk, FIRST + count, &images) {
             self.halt = Some(halt);
             return Err(DeviceFault);
         }
-        self.cache.renew(&images);
         self.base = count;
-        self.changes.clear(count);
+        let mut pages = self.changes.settle();
+        self.cache.renew(&mut pages);
+        self.changes.reuse(pages);
         Ok(())
     }
 }

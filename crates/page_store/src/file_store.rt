@@ -20,9 +20,9 @@ pub struct FileStore<H: Host> {
 }
 
 impl<H: Host> Model for FileStore<H> {
-    ghost use Rattle.page_store.specs.FileStore.{Held, FitsFile};
+    ghost use Rattle.page_store.specs.FileStore.{HeldStore, FitsFile};
 
-    ghost Value = { Held H };
+    ghost Value = { HeldStore H };
 
     ghost view = { λ s. record { host = s.host; desk = s.desk } };
 

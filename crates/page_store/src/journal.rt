@@ -5,7 +5,7 @@ ghost use Rattle.page_store.specs.Standing.{counted, image_of};
 ghost use Rattle.page_store.specs.Reading.{IsJournalIn, IsBehind};
 
 use page_file::FIRST_PAGE;
-use redo_journal::Images;
+use redo_journal::{Images, LentImages};
 use store_api::Page;
 
 /// A journal that counts: the file page at which it starts, and its images.
@@ -22,12 +22,12 @@ pub(crate) fn is_behind(journal: &Option<Journal>, count: u32) -> bool
     match journal {
         None => true,
         Some(journal) => u64::from(journal.start) >= FIRST_PAGE + u64::from(count)
-            && are_below(&journal.images, count),
+            && are_below(&journal.images.lend(), count),
     }
 }
 
 // Whether all images are of pages below this one.
-fn are_below(images: &Images, count: u32) -> bool
+fn are_below(images: &LentImages<'_>, count: u32) -> bool
     ensures { IsTrue result ↔ All (λ image. image.0 < count) images.now }
 {
     for i in 0..images.len() {
@@ -45,12 +45,12 @@ pub(crate) fn root_image(journal: &Option<Journal>) -> Option<Page>
 {
     match journal {
         None => None,
-        Some(journal) => first_image(&journal.images),
+        Some(journal) => first_image(&journal.images.lend()),
     }
 }
 
 // The image of page 0. Their numbers rise, so it is the first one.
-fn first_image(images: &Images) -> Option<Page>
+fn first_image(images: &LentImages<'_>) -> Option<Page>
     ensures { result ≡ image_of images.now 0 }
 {
     if images.len() == 0 {

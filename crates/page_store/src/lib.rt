@@ -9,7 +9,6 @@ mod desk;
 mod fault;
 mod file_store;
 mod fresh;
-mod gathering;
 mod journal;
 mod judging;
 mod laws;

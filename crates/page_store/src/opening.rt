@@ -1,5 +1,5 @@
 // How a store opens the database in a file, and gives its host back.
-ghost use Rattle.std.specs.Prelude.{◌≡◌, ◌≢◌, ◌⊎◌, ◌≤◌, ℕ, List, Some, [], IsTrue, false, IfOk, IfErr, OnOk, IsErrOf, is_some};
+ghost use Rattle.std.specs.Prelude.{◌≡◌, ◌≢◌, ◌⊎◌, ◌≤◌, length, ℕ, List, Some, [], IsTrue, false, IfOk, IfErr, OnOk, IsErrOf, is_some};
 ghost use Rattle.std.specs.Option.{ForSome};
 ghost use Rattle.mdc_words.specs.Faults.{CountsFault};
 ghost use Rattle.mdc_outside.specs.Disk.{File};
@@ -22,7 +22,7 @@ use crate::page_cache::PageCache;
 use crate::recovery::{Opened, recover};
 use crate::{FileStore, OpenFault};
 use mdc_outside::{Disk, Host};
-use page_changes::{Changes, Spares};
+use page_changes::Changes;
 use page_file::settle;
 use std::alloc::Global;
 use store_api::Pages;
@@ -53,7 +53,10 @@ impl<H: Host> FileStore<H> {
         ensures just_opened { IfOk result (λ store. IsJustOpened (is_some (H.file host)) (H.tape host) (H.attaches host) (⟦<FileStore<H> as Pages>⟧.state store)) }
         ensures unwritten { IfOk result (λ store. ⟦<FileStore<H> as Pages>⟧.written store ≡ 0) }
         ensures refused { IfErr result (λ unopened. ForSome (H.file host) (λ file. Refuses unopened.fault file.bytes)) }
+        ensures limits { IfOk result (λ store. (18 ≤ length (⟦<FileStore<H> as Pages>⟧.state store).base) × (length (⟦<FileStore<H> as Pages>⟧.state store).base ≤ MAX_PAGES)) }
         ensures never { IfErr result (λ unopened. unopened.fault ≢ OpenFault.Exists) }
+        // Nothing is written to a file that is refused: at each moment a crash leaves what it could leave before.
+        ensures left_alone { IfErr result (λ unopened. unopened.fault ≢ OpenFault.Device → LeavesOf H.Disk CouldBeLeft host unopened.host) }
         ensures untouched { IfErr result (λ unopened. unopened.fault ≢ OpenFault.Device → bytes_of (H.file unopened.host) ≡ bytes_of (H.file host)) }
         ensures count { IfOk result (λ store. H.disk_faults store.host ≡ H.disk_faults host) }
         ensures cause { IfErr result (λ unopened. CountsFault (unopened.fault ≡ OpenFault.Device) (H.disk_faults host) (H.disk_faults unopened.host)) }
@@ -117,6 +120,7 @@ fn lay_out<D: Disk>(alloc: Global, disk: &mut D, cache: usize) -> Result<Desk, O
     ensures kept { IfOk result (λ desk. IsKept desk (D.file disk.new)) }
     ensures refused { IfErr result (λ fault. ForSome (D.file disk.old) (λ file. Refuses fault file.bytes)) }
     ensures untouched { IfErr result (λ fault. fault ≢ OpenFault.Device → bytes_of (D.file disk.new) ≡ bytes_of (D.file disk.old)) }
+    ensures left_alone { IfErr result (λ fault. fault ≢ OpenFault.Device → LeavesOf D.Disk CouldBeLeft disk.old disk.new) }
     ensures never { IsErrOf result OpenFault.Exists → ⊥ }
     ensures cause { CountsFault (IsErrOf result OpenFault.Device) (D.disk_faults disk.old) (D.disk_faults disk.new) }
     ensures opens { OnOk result (OpensOf D.Disk disk.old disk.new) }
@@ -137,14 +141,12 @@ fn desk_of(alloc: Global, opened: Opened, cache: PageCache) -> Desk
     ensures base { result.base ≡ opened.count }
 {
     Desk {
-        alloc,
         shape: opened.shape,
         base: opened.count,
         changes: Changes::new(alloc, opened.count),
-        spares: Spares::new(alloc),
         cache,
         hand: None,
-        images: None,
+        prepared: false,
         halt: None,
     }
 }
@@ -157,6 +159,7 @@ fn come_to_rest<D: Disk>(alloc: Global, disk: &mut D) -> Result<Opened, OpenFaul
     ensures limits { IfOk result (λ opened. (18 ≤ opened.count) × (opened.count ≤ MAX_PAGES)) }
     ensures refused { IfErr result (λ fault. ForSome (D.file disk.old) (λ file. Refuses fault file.bytes)) }
     ensures untouched { IfErr result (λ fault. fault ≢ OpenFault.Device → bytes_of (D.file disk.new) ≡ bytes_of (D.file disk.old)) }
+    ensures left_alone { IfErr result (λ fault. fault ≢ OpenFault.Device → LeavesOf D.Disk CouldBeLeft disk.old disk.new) }
     ensures never { IsErrOf result OpenFault.Exists → ⊥ }
     ensures cause { CountsFault (IsErrOf result OpenFault.Device) (D.disk_faults disk.old) (D.disk_faults disk.new) }
     ensures opens { OnOk result (OpensOf D.Disk disk.old disk.new) }

@@ -6,17 +6,19 @@ ghost use Rattle.std.specs.Option.{ForSome};
 ghost use Rattle.mdc_words.specs.Faults.{CountsFault};
 ghost use Rattle.mdc_outside.specs.Disk.{File};
 ghost use Rattle.page_file.specs.Bound.{RunsOf};
-ghost use Rattle.page_file.specs.Layout.{home_page};
+ghost use Rattle.page_file.specs.Layout.{home_page, home_start};
+ghost use Rattle.page_file.specs.declared.layout.TheConstants.{PAGE_BYTES};
 ghost use Rattle.page_file.specs.Runs.{IsCovered};
+ghost use Rattle.redo_journal.specs.Images.{AreRising, unboxed};
 ghost use Rattle.page_store.specs.Cached.{AreHome, Leads, renewed};
 
 use lru::LruCache;
 use mdc_outside::{Disk, Failed};
 use mdc_values::Memory;
 use page_file::{FIRST_PAGE, PAGE_BYTES, get};
-use redo_journal::Images;
 use std::alloc::Global;
 use std::marker::Model;
+use std::mem;
 use std::num::NonZeroUsize;
 use store_api::{Page, PageFault, blank_page};
 
@@ -30,8 +32,7 @@ pub(crate) struct PageCache {
 }
 
 impl Model for PageCache {
-    ghost use Rattle.redo_journal.specs.Images.{Numbered};
-    ghost use Rattle.page_store.specs.Cached.{unboxed};
+    ghost use Rattle.redo_journal.specs.Images.{Numbered, unboxed};
 
     ghost Value = { Numbered };
 
@@ -58,7 +59,7 @@ impl PageCache {
     /// `Device` where the disk failed, and `Memory` where memory ran out. A page that is here takes neither.
     pub(crate) fn bring<D: Disk>(&mut self, disk: &mut D, p: u32) -> Result<(), PageFault>
         requires attached { IsTrue (D.is_attached disk.old) }
-        requires within { ForSome (D.file disk.old) (λ file. 4096 * (66 + p) + 4096 ≤ length file.bytes) }
+        requires within { ForSome (D.file disk.old) (λ file. home_start p + PAGE_BYTES ≤ length file.bytes) }
         ensures first { OnOk result ((page : List ℕ) × Leads p page self.new) }
         ensures page { OnOk result ((file : File) (count : ℕ) → D.file disk.old ≡ Some file → p < count → AreHome file.bytes count self.old → Leads p (home_page file.bytes p) self.new) }
         ensures clean { (file : File) (count : ℕ) → D.file disk.old ≡ Some file → p < count → AreHome file.bytes count self.old → AreHome file.bytes count self.new }
@@ -71,6 +72,23 @@ impl PageCache {
         if self.pages.promote(&p) {
             return Ok(());
         }
+        self.take_in(disk, p)
+    }
+
+    // Brings a page to the front that isn't here. It stays a call of its own, so that a page that is here costs no more than
+    // its look-up.
+    #[inline(never)]
+    fn take_in<D: Disk>(&mut self, disk: &mut D, p: u32) -> Result<(), PageFault>
+        requires attached { IsTrue (D.is_attached disk.old) }
+        requires within { ForSome (D.file disk.old) (λ file. home_start p + PAGE_BYTES ≤ length file.bytes) }
+        ensures first { OnOk result ((page : List ℕ) × Leads p page self.new) }
+        ensures page { OnOk result (ForSome (D.file disk.old) (λ file. Leads p (home_page file.bytes p) self.new)) }
+        ensures clean { (file : File) (count : ℕ) → D.file disk.old ≡ Some file → p < count → AreHome file.bytes count self.old → AreHome file.bytes count self.new }
+        ensures err { OnErr result (self.new ≡ self.old) }
+        ensures cause { CountsFault (IsErrOf result PageFault.Device) (D.disk_faults disk.old) (D.disk_faults disk.new) }
+        ensures same { D.file disk.new ≡ D.file disk.old }
+        ensures runs { RunsOf D.Disk IsCovered (λ since. since) disk.old disk.new }
+    {
         let page = self.read_in(disk, p)?;
         self.put_first(p, page)
     }
@@ -78,7 +96,7 @@ impl PageCache {
     // Reads a page into a box, the spare one if there is one. The pages stay.
     fn read_in<D: Disk>(&mut self, disk: &mut D, p: u32) -> Result<Box<Page>, PageFault>
         requires attached { IsTrue (D.is_attached disk.old) }
-        requires within { ForSome (D.file disk.old) (λ file. 4096 * (66 + p) + 4096 ≤ length file.bytes) }
+        requires within { ForSome (D.file disk.old) (λ file. home_start p + PAGE_BYTES ≤ length file.bytes) }
         ensures page { IfOk result (λ page. ForSome (D.file disk.old) (λ file. page.value ≡ home_page file.bytes p)) }
         ensures pages { self.new ≡ self.old }
         ensures cause { CountsFault (IsErrOf result PageFault.Device) (D.disk_faults disk.old) (D.disk_faults disk.new) }
@@ -120,16 +138,18 @@ impl PageCache {
         page
     }
 
-    /// Puts each image in the place of its page, where the page is here. It takes no memory, and the order stays.
-    pub(crate) fn renew(&mut self, images: &Images)
-        ensures { self.new ≡ renewed images.now self.old }
+    /// Puts each image in the place of its page, where the page is here, and leaves its box in the place of the image. It
+    /// takes no memory, and the order stays.
+    pub(crate) fn renew(&mut self, images: &mut [(u32, Box<Page>)])
+        requires { AreRising (unboxed images.old) }
+        ensures { self.new ≡ renewed (unboxed images.old) self.old }
     {
         if self.is_empty() {
             return;
         }
         for i in 0..images.len() {
-            let (p, image) = images.at(i);
-            self.replace(p, image);
+            let (p, image) = &mut images[i];
+            self.exchange(*p, image);
         }
     }
 
@@ -141,12 +161,12 @@ impl PageCache {
         self.pages.len() == 0
     }
 
-    // Puts an image in the place of a page, where the page is here.
-    fn replace(&mut self, p: u32, image: &Page)
-        ensures { self.new ≡ set_value (nat_eq p) self.old image.now }
+    // Exchanges the box of a page for that of its image, where the page is here.
+    fn exchange(&mut self, p: u32, image: &mut Box<Page>)
+        ensures { self.new ≡ set_value (nat_eq p) self.old image.old.value }
     {
         if let Some(page) = self.pages.peek_mut(&p) {
-            **page = *image;
+            mem::swap(page, image);
         }
     }
 }
@@ -154,7 +174,7 @@ impl PageCache {
 // Reads the home page of a number over what a page has.
 fn read_home<D: Disk>(disk: &mut D, p: u32, page: &mut Page) -> Result<(), Failed>
     requires attached { IsTrue (D.is_attached disk.old) }
-    requires within { ForSome (D.file disk.old) (λ file. 4096 * (66 + p) + 4096 ≤ length file.bytes) }
+    requires within { ForSome (D.file disk.old) (λ file. home_start p + PAGE_BYTES ≤ length file.bytes) }
     ensures page { OnOk result (ForSome (D.file disk.old) (λ file. page.new ≡ home_page file.bytes p)) }
     ensures cause { CountsFault (IsErr result) (D.disk_faults disk.old) (D.disk_faults disk.new) }
     ensures same { D.file disk.new ≡ D.file disk.old }

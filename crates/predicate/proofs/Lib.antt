@@ -1,2 +1,5 @@
+pub mod OppositeLemmas
 pub mod PredLemmas
+pub mod PushedLemmas
+pub mod PushedTests
 pub mod TruthLemmas

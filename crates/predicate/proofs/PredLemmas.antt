@@ -1,31 +1,24 @@
--- The truth of AND and OR of many predicates.
-use Rattle.std.proofs.Common.{◌≡◌, ℕ, zero, suc, ◌<◌, List, [], ◌∷◌, Bool, true, false, length, get_or, map, arith, sym, ap, ◌∙◌}
-use Rattle.std.specs.Prelude.{IsTrue, ◌&&◌}
-use Rattle.std.proofs.lemmas.Bool.{false≢true}
-use Rattle.mdc_values.specs.declared.truth.Truth.{Truth}
-use Rattle.mdc_values.specs.declared.value.Value.{Value}
+-- The truth of predicates, layer by layer.
+use Rattle.std.proofs.Common.{◌≡◌, ℕ, zero, suc, ◌<◌, List, [], ◌∷◌, Bool, length, get_or, map, arith, sym, ap, ◌∙◌}
+use Rattle.std.specs.Prelude.{IsTrue}
+use Rattle.mdc_ast.specs.declared.predicate.Atom.{Atom}
 use Rattle.mdc_ast.specs.declared.predicate.Pred.{Pred}
 use Rattle.mdc_ast.specs.declared.predicate.Pred.TheFolds.{fold-roll-Pred}
 use Rattle.mdc_ast.specs.declared.predicate.Pred.TheOpen as layer
-use Rattle.mdc_ast.specs.declared.predicate.Pred.TheVariants.{All, Any, rolls-All, rolls-Any}
-use Rattle.mdc_ast.specs.Truth.{all_of, all_true, any_of, layer_may_test, layer_truth, may_judge, truth}
+use Rattle.mdc_ast.specs.declared.predicate.Pred.TheVariants as pred
+use Rattle.mdc_ast.specs.declared.predicate.Pred.TheVariants.{All, Any, rolls-All, rolls-Any, rolls-Atom, rolls-Not}
+use Rattle.mdc_ast.specs.Truth.{all_true}
+use Rattle.mdc_ast.proofs.TestsLemmas.{both}
+use Rattle.predicate.specs.Pushed.{is_pushed, is_pushed_test, layer_is_pushed}
 
-pub truth-All : (values : List Value) (preds : List Pred) → truth values (All preds) ≡ all_of (map (truth values) preds)
-truth-All values preds = ap (truth values) (sym (rolls-All preds)) ∙ fold-roll-Pred Truth (layer_truth values) (layer.All preds)
+pub is_pushed-Atom : (atom : Atom) → is_pushed (pred.Atom atom) ≡ is_pushed_test atom.negated atom.test
+is_pushed-Atom atom = ap is_pushed (sym (rolls-Atom atom)) ∙ fold-roll-Pred Bool layer_is_pushed (layer.Atom atom)
 
-pub truth-Any : (values : List Value) (preds : List Pred) → truth values (Any preds) ≡ any_of (map (truth values) preds)
-truth-Any values preds = ap (truth values) (sym (rolls-Any preds)) ∙ fold-roll-Pred Truth (layer_truth values) (layer.Any preds)
+pub is_pushed-All : (preds : List Pred) → is_pushed (All preds) ≡ all_true (map is_pushed preds)
+is_pushed-All preds = ap is_pushed (sym (rolls-All preds)) ∙ fold-roll-Pred Bool layer_is_pushed (layer.All preds)
 
-pub may_judge-All : (values : List Value) (preds : List Pred) → may_judge values (All preds) ≡ all_true (map (may_judge values) preds)
-may_judge-All values preds = ap (may_judge values) (sym (rolls-All preds)) ∙ fold-roll-Pred Bool (layer_may_test values) (layer.All preds)
-
-pub may_judge-Any : (values : List Value) (preds : List Pred) → may_judge values (Any preds) ≡ all_true (map (may_judge values) preds)
-may_judge-Any values preds = ap (may_judge values) (sym (rolls-Any preds)) ∙ fold-roll-Pred Bool (layer_may_test values) (layer.Any preds)
-
-both : (a b : Bool) → IsTrue (a && b) → IsTrue a × IsTrue b
-both true true h = (h, h)
-both true false h = absurd (false≢true h)
-both false b h = absurd (false≢true h)
+pub is_pushed-Any : (preds : List Pred) → is_pushed (Any preds) ≡ all_true (map is_pushed preds)
+is_pushed-Any preds = ap is_pushed (sym (rolls-Any preds)) ∙ fold-roll-Pred Bool layer_is_pushed (layer.Any preds)
 
 -- what all of them pass, each passes
 pub all_true-at : {X : Type 0} (f : X → Bool) (xs : List X) (i : ℕ) (x : X) → i < length xs → IsTrue (all_true (map f xs)) → IsTrue (f (get_or xs i x))

@@ -1,5 +1,5 @@
 -- AND and OR of many truths, one after another.
-use Rattle.std.proofs.Common.{◌≡◌, ℕ, suc, ◌+◌, ◌<◌, ◌≤◌, List, [], ◌∷◌, length, drop, get_or, map, refl, drop-cons, add-one, sym}
+use Rattle.std.proofs.Common.{◌≡◌, ℕ, suc, ◌+◌, ◌<◌, ◌≤◌, List, length, drop, get_or, map, refl, drop-cons, add-one, sym}
 use Rattle.std.proofs.lemmas.List.{drop_all}
 use Rattle.mdc_values.specs.declared.truth.Truth.{Truth}
 use Rattle.mdc_values.specs.declared.truth.Truth.TheVariants.{True, False, Unknown}

@@ -1,13 +1,17 @@
-//! The truth of predicates over the values of a row.
+//! The truth of predicates over the values of a row, and predicates without NOT.
 //!
-//! It promises that a predicate has the truth that the definitions of `mdc_ast` give it, with no memory taken. It
-//! stands on `mdc_ast` and `mdc_values`.
+//! It promises that a predicate has the truth that the definitions of `mdc_ast` give it, with no memory taken, and that
+//! a predicate whose NOTs were pushed to its tests has the same truth on each row. It stands on `mdc_ast` and
+//! `mdc_values`.
 #![tactic(auto)]
 
 mod combining;
+mod comparing;
 mod judging;
+mod pushing;
 
 pub use judging::truth;
+pub use pushing::push_not;
 
 #[cfg(test)]
 mod tests;

@@ -3,7 +3,7 @@ use Rattle.std.proofs.Common.{◌≡◌, ◌≤◌, ◌<◌, ◌+◌, ◌-◌, �
 use Rattle.std.specs.Option.{ForSome, option_map}
 use Rattle.std.specs.List.{All}
 use Rattle.std.proofs.lemmas.List.{length-take, length-take-le, take_at, drop_at, length-replicate, take-append-le, drop-take, take-take, take_all}
-use Rattle.std.proofs.lemmas.List.Elements.{All-append, All-take}
+use Rattle.std.proofs.lemmas.List.Elements.{All-append}
 use Rattle.redo_journal.proofs.RisingLemmas.{All-one, All-at}
 use Rattle.redo_journal.proofs.PiecesLemmas.{take_next}
 use Rattle.page_file.proofs.RunsLemmas.{was_told}
@@ -11,7 +11,7 @@ use Rattle.page_file.proofs.BetweenLemmas.{mapped}
 use Rattle.std.proofs.lemmas.Option.{slice_get_within}
 use Rattle.mdc_outside.specs.Disk.{File, Since, torn, overwritten, settled}
 use Rattle.mdc_outside.specs.Moments.{Beside}
-use Rattle.redo_journal.specs.Images.{Numbered, AreRising, AreImages, IsPageImage}
+use Rattle.redo_journal.specs.Images.{Numbered, AreRising, IsPageImage}
 use Rattle.page_file.specs.Layout.{IsReady, home_page, home_start}
 use Rattle.redo_journal.specs.Layout.{HoldsHome, torn_home}
 use Rattle.redo_journal.specs.Pieces.{placed, homed}
@@ -125,16 +125,16 @@ images_next images i x is = let zero_more : 0 + i ≡ i = omega arith in take_ne
 module _ {D : Type 0} {file : D → Option File} {aside : D → Beside} {attaches : D → Option (List (List ℕ × Bool))} {is_attached : D → Bool} {clock : D → ℕ} {moment : D → ℕ → List ℕ → List ℕ → Type 0} where
   -- the same of a file
   pub home_step : {Within1 Within2 : Since → Since → Type 0} {a1 a2 : Since → Since} {old middle new : D} (images : Numbered) (i number place end : ℕ) (page : List ℕ)
-      → AreImages images → slice_get images i ≡ Some (number, page) → place ≡ home_start number
+      → AreRising images → All IsPageImage (take i images) → length page ≡ 4096 → slice_get images i ≡ Some (number, page) → place ≡ home_start number
       → Runs file aside attaches is_attached clock moment Within1 a1 old middle → Between (file old) (file middle) (λ before after. after ≡ before ++ replicate (place - end) 0)
       → Runs file aside attaches is_attached clock moment Within2 a2 middle new → Between (file middle) (file new) (λ before after. after ≡ overwritten place page before)
       → ForSome (file old) (λ f. end ≡ length f.bytes) → ForSome (file old) (λ f. All (λ y. home_page f.bytes y.0 ≡ y.1) (take i images))
       → ForSome (file new) (λ f. All (λ y. home_page f.bytes y.0 ≡ y.1) (take (i + 1) images) × (max end (place + 4096) ≡ length f.bytes))
-  home_step images i number place end page are at place_is r1 filled r2 put size home = λ after is.
+  home_step images i number place end page rising each page_size at place_is r1 filled r2 put size home = λ after is.
       let f1 = was_told r2 after is in
       let f0 = was_told r1 f1.0 f1.1 in
-      let both = stays_home (take i images) number place end page f0.0.bytes f1.0.bytes after.bytes (home f0.0 f0.1) (All-take IsPageImage i images are.each)
-      (rising_before images i (number, page) are.rising at) (All-at IsPageImage images i (number, page) are.each at).1 place_is (size f0.0 f0.1) (filled.holds f0.0 f1.0 f0.1 f1.1) (put.holds f1.0 after f1.1 is) in
+      let both = stays_home (take i images) number place end page f0.0.bytes f1.0.bytes after.bytes (home f0.0 f0.1) each
+      (rising_before images i (number, page) rising at) page_size place_is (size f0.0 f0.1) (filled.holds f0.0 f1.0 f0.1 f1.1) (put.holds f1.0 after f1.1 is) in
       (rw (images_next images i (number, page) at) both.0, both.1)
 
 -- after the sync all images stand in their places

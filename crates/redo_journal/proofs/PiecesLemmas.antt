@@ -1,5 +1,5 @@
 -- Bytes that are written behind others.
-use Rattle.std.proofs.Common.{◌≡◌, ◌≤◌, ◌<◌, ◌+◌, ◌-◌, ◌*◌, ℕ, List, [], ◌∷◌, ◌++◌, length, take, drop, arith, refl, ap, sym, ◌∙◌, append_assoc, append-nil, length-append, length-drop, min, slice_get, get_or, Some, zero, suc, add-one}
+use Rattle.std.proofs.Common.{◌≡◌, ◌≤◌, ◌<◌, ◌+◌, ◌-◌, ◌*◌, ℕ, List, [], ◌∷◌, ◌++◌, length, take, drop, arith, refl, ap, sym, subst, ◌∙◌, append_assoc, append-nil, length-append, length-drop, min, slice_get, get_or, Some, zero, suc, add-one}
 use Rattle.std.proofs.lemmas.List.{take_all, drop_all, length-replicate, take_at, length-take-le}
 use Rattle.std.proofs.lemmas.Grind.{common_steps, flat_map-append}
 use Rattle.std.proofs.lemmas.List.{drop-drop, drop_at, take_min, length-take}
@@ -11,8 +11,8 @@ use Rattle.std.specs.List.{All}
 use Rattle.mdc_outside.specs.Disk.{overwritten}
 use Rattle.redo_journal.specs.Images.{Numbered, IsPageImage}
 use Rattle.redo_journal.specs.Pieces.{Replaces, number_bytes, page_bytes, chunk, index_page, index_bytes}
-use Rattle.redo_journal.proofs.RisingLemmas.{All-rest}
-use Rattle.std.proofs.lemmas.List.Elements.{All-take}
+use Rattle.redo_journal.proofs.RisingLemmas.{All-rest, All-one}
+use Rattle.std.proofs.lemmas.List.Elements.{All-append}
 
 -- nothing is replaced yet
 pub replaces_nothing : (at : ℕ) (bytes : List ℕ) → Replaces at [] bytes bytes
@@ -121,10 +121,16 @@ length-page_bytes (image ∷ images) all =
     omega (arith, length-append image.1 (page_bytes images), rest, first)
 
 -- the pages of the first images
-pub length-first_pages : (images : Numbered) (i : ℕ) → All IsPageImage images → i ≤ length images → length (page_bytes (take i images)) ≡ 4096 * i
+pub length-first_pages : (images : Numbered) (i : ℕ) → All IsPageImage (take i images) → i ≤ length images → length (page_bytes (take i images)) ≡ 4096 * i
 length-first_pages images i all le =
     let size : length (take i images) ≡ i = length-take-le i images le in
-    length-page_bytes (take i images) (All-take IsPageImage i images all) ∙ ap (λ n. 4096 * n) size
+    length-page_bytes (take i images) all ∙ ap (λ n. 4096 * n) size
+
+-- what holds of the first of a list, holds of one more
+pub All-next : {X : Type 0} (P : X → Type 0) (xs : List X) (i : ℕ) (x : X) → All P (take i xs) → slice_get xs i ≡ Some x → P x → All P (take (i + 1) xs)
+All-next P xs i x all is here =
+    let zero_more : 0 + i ≡ i = omega arith in
+    subst (All P) (sym (take_next xs 0 i x (rw zero_more is))) (All-append P (take i xs) (x ∷ []) all (All-one P x here))
 
 -- one page more
 pub next_page : (images : Numbered) (i : ℕ) (number : ℕ) (page : List ℕ) → slice_get images i ≡ Some (number, page) → page_bytes (take (i + 1) images) ≡ page_bytes (take i images) ++ page

@@ -10,7 +10,7 @@ ghost use Rattle.redo_journal.specs.Layout.{HoldsHome, torn_home};
 ghost use Rattle.redo_journal.specs.Pieces.{homed};
 ghost use Rattle.page_file.specs.Runs.{IsWithin, Between};
 
-use crate::Images;
+use crate::LentImages;
 use mdc_outside::{Disk, Failed};
 use page_file::{FIRST_PAGE, PAGE_BYTES, end_of, fill, put, settle};
 
@@ -18,7 +18,7 @@ use page_file::{FIRST_PAGE, PAGE_BYTES, end_of, fill, put, settle};
 ///
 /// It answers `Failed` only where the disk did. Only the home pages of the images and what is behind the file's old end
 /// may then be other than before.
-pub fn home<D: Disk>(disk: &mut D, images: &Images) -> Result<(), Failed>
+pub fn home<D: Disk>(disk: &mut D, images: &LentImages<'_>) -> Result<(), Failed>
     requires attached { IsTrue (D.is_attached disk.old) }
     requires ready { ForSome (D.file disk.old) IsReady }
     ensures home { OnOk result (ForSome (D.file disk.new) (HoldsHome images.now)) }

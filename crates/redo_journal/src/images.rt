@@ -1,7 +1,8 @@
 // Images of pages under their numbers.
-ghost use Rattle.std.specs.Prelude.{◌≡◌, ◌<◌, ◌++◌, ◌∷◌, [], Some, length, slice_get, OnOk, OnErr, IsTrue, ◌↔◌};
+ghost use Rattle.std.specs.Prelude.{◌≡◌, ◌<◌, ◌++◌, ◌∷◌, [], OnOk, OnErr, IsTrue, ◌↔◌};
 ghost use Rattle.std.specs.List.{All};
 
+use crate::LentImages;
 use mdc_values::Memory;
 use std::alloc::Global;
 use std::marker::Model;
@@ -10,22 +11,20 @@ use store_api::Page;
 /// Pages under their numbers, which rise.
 #[derive(Debug, Drop)]
 pub struct Images {
-    images: Vec<(u32, Page)>,
+    images: Vec<(u32, Box<Page>)>,
 }
 
 impl Model for Images {
-    ghost use Rattle.redo_journal.specs.Images.{Numbered, AreImages};
+    ghost use Rattle.redo_journal.specs.Images.{Numbered, AreRising, unboxed};
 
     ghost Value = { Numbered };
 
-    ghost view = { λ it. it.images.items };
+    ghost view = { λ it. unboxed it.images.items };
 
-    ghost invariant = { λ it. AreImages it.images.items };
+    ghost invariant = { λ it. AreRising (unboxed it.images.items) };
 }
 
 impl Images {
-    ghost use Rattle.redo_journal.specs.Images.{AreImages};
-
     /// No images. It takes no memory.
     pub fn new(alloc: Global) -> Images
         ensures { result ≡ [] }
@@ -35,24 +34,14 @@ impl Images {
         }
     }
 
-    /// How many there are.
-    pub fn len(&self) -> usize
-        ensures len { result ≡ length self.now }
-        ensures images { AreImages self.now }
+    /// Lends them.
+    pub fn lend(&self) -> LentImages<'_>
+        ensures { result ≡ self.now }
     {
-        self.images.len()
+        LentImages::new(&self.images)
     }
 
-    /// The number and the page at a place, counted from 0.
-    pub fn at(&self, i: usize) -> (u32, &Page)
-        requires { i < length self.now }
-        ensures { slice_get self.now i ≡ Some (result.0, result.1.now) }
-    {
-        let (number, page) = &self.images[i];
-        (*number, page)
-    }
-
-    /// Takes room for so many more images, so that none is copied while they are put. The list stays.
+    /// Takes room for so many more images, so that none is moved while they are put. The list stays.
     pub fn reserve(&mut self, n: usize) -> Result<(), Memory>
         ensures { self.new ≡ self.old }
     {
@@ -61,12 +50,12 @@ impl Images {
     }
 
     /// Puts an image last. After `Memory` the list is as before.
-    pub fn push(&mut self, p: u32, image: &Page) -> Result<(), Memory>
+    pub fn push(&mut self, p: u32, image: Box<Page>) -> Result<(), Memory>
         requires { All (λ before. before.0 < p) self.old }
-        ensures ok { OnOk result (self.new ≡ self.old ++ (p, image.now) ∷ []) }
+        ensures ok { OnOk result (self.new ≡ self.old ++ (p, image.value) ∷ []) }
         ensures err { OnErr result (self.new ≡ self.old) }
     {
-        self.images.push((p, *image))?;
+        self.images.push((p, image))?;
         Ok(())
     }
 

@@ -1,17 +1,18 @@
 // The journal: index pages with the numbers of the images, and then the images.
 ghost use Rattle.std.specs.Prelude.{◌≡◌, ◌≤◌, ◌<◌, ◌+◌, ◌*◌, ◌^◌, length, IsErr, IsTrue, IsFalse, OnOk};
 ghost use Rattle.std.specs.Option.{ForSome};
+ghost use Rattle.std.specs.List.{All};
 ghost use Rattle.mdc_outside.specs.Disk.{torn};
 ghost use Rattle.mdc_words.specs.Faults.{CountsFault};
 ghost use Rattle.page_file.specs.Bound.{RunsOf, LeavesOf};
-ghost use Rattle.redo_journal.specs.Images.{AreRising};
+ghost use Rattle.redo_journal.specs.Images.{AreRising, IsPageImage};
 ghost use Rattle.page_file.specs.Layout.{IsReady, FrontStays, page_start};
 ghost use Rattle.page_file.specs.declared.layout.TheConstants.{FIRST_PAGE};
 ghost use Rattle.redo_journal.specs.Layout.{HoldsJournal, index_pages, is_open, torn_journal};
 ghost use Rattle.redo_journal.specs.Pieces.{Replaces, header, index_bytes, page_bytes};
 ghost use Rattle.page_file.specs.Runs.{IsWithin, IsCovered, Between};
 
-use crate::Images;
+use crate::LentImages;
 use crate::page::index_page;
 use byteorder::{BigEndian, ByteOrder};
 use mdc_outside::{Disk, Failed};
@@ -21,7 +22,11 @@ use page_file::{HEADER, PAGE_BYTES, end_of, fill, put, settle};
 pub(crate) const NUMBERS: usize = 1024;
 
 /// Writes a journal that starts at this file page, and has all on the disk.
-pub fn write_journal<D: Disk>(disk: &mut D, start: u32, images: &Images) -> Result<(), Failed>
+pub fn write_journal<D: Disk>(
+    disk: &mut D,
+    start: u32,
+    images: &LentImages<'_>,
+) -> Result<(), Failed>
     requires attached { IsTrue (D.is_attached disk.old) }
     requires ready { ForSome (D.file disk.old) IsReady }
     requires closed { ForSome (D.file disk.old) (λ file. IsFalse (is_open file.bytes)) }
@@ -55,7 +60,7 @@ fn header(start: u32, number: u32) -> [u8; 8]
 }
 
 // Writes the index pages from a place on.
-fn write_index<D: Disk>(disk: &mut D, place: u64, images: &Images) -> Result<(), Failed>
+fn write_index<D: Disk>(disk: &mut D, place: u64, images: &LentImages<'_>) -> Result<(), Failed>
     requires attached { IsTrue (D.is_attached disk.old) }
     requires within { ForSome (D.file disk.old) (λ file. place ≤ length file.bytes) }
     requires low { place < 2 ^ 48 }
@@ -72,12 +77,13 @@ fn write_index<D: Disk>(disk: &mut D, place: u64, images: &Images) -> Result<(),
 }
 
 // Writes the pages of the images from a place on.
-fn write_pages<D: Disk>(disk: &mut D, place: u64, images: &Images) -> Result<(), Failed>
+fn write_pages<D: Disk>(disk: &mut D, place: u64, images: &LentImages<'_>) -> Result<(), Failed>
     requires attached { IsTrue (D.is_attached disk.old) }
     requires within { ForSome (D.file disk.old) (λ file. place ≤ length file.bytes) }
     requires low { place < 2 ^ 48 }
     requires few { length images.now < 2 ^ 32 }
     ensures pages { OnOk result (Between (D.file disk.old) (D.file disk.new) (Replaces place (page_bytes images.now))) }
+    ensures each { OnOk result (All IsPageImage images.now) }
     ensures runs { RunsOf D.Disk IsCovered (torn place (page_start (length images.now))) disk.old disk.new }
     ensures cause { CountsFault (IsErr result) (D.disk_faults disk.old) (D.disk_faults disk.new) }
 {

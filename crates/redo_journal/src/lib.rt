@@ -9,6 +9,7 @@ mod gate;
 mod home_pages;
 mod images;
 mod journal;
+mod lent_images;
 mod page;
 mod replaying;
 
@@ -16,6 +17,7 @@ pub use gate::{close_gate, open_gate};
 pub use home_pages::home;
 pub use images::Images;
 pub use journal::write_journal;
+pub use lent_images::LentImages;
 pub use replaying::{ReplayFault, replay};
 
 #[cfg(test)]

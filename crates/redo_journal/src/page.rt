@@ -3,13 +3,13 @@ ghost use Rattle.std.specs.Prelude.{◌≡◌, ◌≤◌, ◌<◌, ◌+◌, ◌*
 ghost use Rattle.byteorder.specs.Endian.{big_bytes};
 ghost use Rattle.redo_journal.specs.Pieces.{chunk, index_page};
 
-use crate::Images;
+use crate::LentImages;
 use crate::journal::NUMBERS;
 use byteorder::{BigEndian, ByteOrder};
 use store_api::{Page, blank_page};
 
 /// The index page with the numbers of the images from this place on.
-pub(crate) fn index_page(images: &Images, first: usize) -> Page
+pub(crate) fn index_page(images: &LentImages<'_>, first: usize) -> Page
     requires { first ≤ length images.now }
     ensures { result ≡ index_page (chunk first images.now) }
 {

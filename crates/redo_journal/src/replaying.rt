@@ -16,7 +16,7 @@ use mdc_outside::{Disk, Failed};
 use mdc_values::Memory;
 use page_file::{FIRST_PAGE, GATE, HEADER, PAGE_BYTES, end_of, get, read_number, read_page};
 use std::alloc::Global;
-use store_api::Damage;
+use store_api::{Damage, Page};
 
 /// Why a replay failed.
 #[derive(Clone, Copy, Debug, PartialEq, Eq)]
@@ -83,9 +83,16 @@ fn read_images<D: Disk>(
             return Err(DAMAGED);
         }
         let page = read_page(disk, pages + PAGE_BYTES * k)?;
-        images.push(p, &page)?;
+        images.push(p, boxed(alloc, page)?)?;
     }
     Ok(images)
+}
+
+// The page in a box.
+fn boxed(alloc: Global, page: Page) -> Result<Box<Page>, Memory>
+    ensures { IfOk result (λ boxed. boxed.value ≡ page) }
+{
+    Ok(Box::new(alloc, page)?)
 }
 
 // Whether the gate is open, where the file ends there.

@@ -12,8 +12,8 @@ fn page_of(byte: u8) -> Page {
 // Two images, of the pages 2 and 3.
 fn two_images(alloc: Global) -> Result<Images, Fail> {
     let mut images = Images::new(alloc);
-    images.push(2, &page_of(7))?;
-    images.push(3, &page_of(8))?;
+    images.push(2, Box::new(alloc, page_of(7))?)?;
+    images.push(3, Box::new(alloc, page_of(8))?)?;
     Ok(images)
 }
 
@@ -31,6 +31,7 @@ fn replayed(alloc: Global, disk: &mut Scratch) -> Result<Option<Vec<(u32, u8)>>,
         return Ok(None);
     };
     let mut seen = Vec::new(alloc);
+    let images = images.lend();
     for i in 0..images.len() {
         let (number, page) = images.at(i);
         seen.push((number, page[0]))?;
@@ -49,14 +50,14 @@ fn byte_at(disk: &mut Scratch, at: u64) -> Result<u8, Failed> {
 fn a_journal_counts_while_its_gate_is_open(rt: HostRuntime) -> Result<(), Fail> {
     let alloc = rt.alloc();
     let images = two_images(alloc)?;
-    assert_eq!(rt; images.len(), 2);
+    assert_eq!(rt; images.lend().len(), 2);
     let mut disk = blank(alloc)?;
-    write_journal(&mut disk, 70, &images)?;
+    write_journal(&mut disk, 70, &images.lend())?;
     assert_eq!(rt; replayed(alloc, &mut disk)?.is_none(), true);
     open_gate(&mut disk)?;
     let seen = replayed(alloc, &mut disk)?.unwrap_or(Vec::new(alloc));
     assert_eq!(rt; seen.as_slice(), [(2, 7), (3, 8)].as_slice());
-    home(&mut disk, &images)?;
+    home(&mut disk, &images.lend())?;
     close_gate(&mut disk)?;
     assert_eq!(rt; replayed(alloc, &mut disk)?.is_none(), true);
     assert_eq!(rt; disk.len()?, 73 * 4096);
@@ -67,11 +68,11 @@ fn a_journal_counts_while_its_gate_is_open(rt: HostRuntime) -> Result<(), Fail> 
 fn bytes_stand_where_the_format_says(rt: HostRuntime) -> Result<(), Fail> {
     let alloc = rt.alloc();
     let images = two_images(alloc)?;
-    assert_eq!(rt; images.len(), 2);
+    assert_eq!(rt; images.lend().len(), 2);
     let mut disk = blank(alloc)?;
-    write_journal(&mut disk, 70, &images)?;
+    write_journal(&mut disk, 70, &images.lend())?;
     open_gate(&mut disk)?;
-    home(&mut disk, &images)?;
+    home(&mut disk, &images.lend())?;
     // The gate; the start and the number; the second number of the index; the second image; the home page of the first.
     for (at, byte) in [
         (512, 0x4f),

@@ -4,7 +4,6 @@ mod Exact
 mod Folding
 mod Forks
 mod Fronts
-mod Giving
 mod Items
 mod Language
 mod Lexing
@@ -15,6 +14,7 @@ mod Pieces
 mod Rules
 mod Scanning
 mod Separated
+mod Standings
 mod Steady
 mod Stranging
 mod Telling
@@ -22,3 +22,4 @@ mod Trimming
 mod Unique
 mod Whole
 mod WorkedLemmas
+pub mod Giving

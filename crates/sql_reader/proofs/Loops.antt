@@ -7,7 +7,7 @@ use Rattle.mdc_ast.specs.Classes.{Class}
 use Rattle.mdc_ast.specs.Phrases.{front_of}
 use Rattle.sql_reader.specs.declared.cursor.Stop.{Stop}
 use Rattle.sql_reader.specs.declared.cursor.Stop.TheVariants.{NotSpelled, Memory}
-use Rattle.sql_reader.specs.Gives.{StopsAt}
+use Rattle.sql_reader.specs.Parses.{StopsAt}
 use Rattle.sql_reader.specs.Token.{token_of, tokens_of}
 use Rattle.sql_reader.specs.declared.token.Token.{Token as Lent}
 use Rattle.sql_reader.specs.Readers.{Reader, ◌>>=◌, begins, skip, then_read, map_read, many_at, many, separated_at}
@@ -93,6 +93,11 @@ module _ {X : Type 0} (c : Class) (a : Reader X) where
       ∙ list_next (left_at c push a (length mid) mid) x
       ∙ sym (ap (λ (r : Result (X × List Token) (List Token)). (r >>= λ p. many (c ∷ []) (then_read c a) p.1 >>= λ q. let l : Pairs = Ok ((p.0, q.0), q.1) in l) >>= λ p. Ok (front_of p.0, p.1)) h)
 
+  -- one phrase alone
+  pub list_alone : (tokens mid : List Token) (x : X) → a tokens ≡ Ok (x, mid) → begins (c ∷ []) mid ≡ false → separated_at c a tokens ≡ Ok (x ∷ [], mid)
+  list_alone tokens mid x h none =
+      is_done c push a (x ∷ []) (length mid - 0) mid (separated_at c a tokens) none (list_starts tokens mid (length mid) x refl h)
+
   pub list_stops : (tokens rest : List Token) (stop : Stop) → StopsAt stop rest (a tokens) → StopsAt stop rest (separated_at c a tokens)
   unfolding separated_at
   list_stops tokens rest Memory h = tt
@@ -107,3 +112,7 @@ length-tokens_of tokens = sym (length-map tokens token_of)
 pub map_stops : {X Y : Type 0} (f : X → Y) (a : Reader X) (tokens rest : List Token) (stop : Stop) → StopsAt stop rest (a tokens) → StopsAt stop rest (map_read f a tokens)
 map_stops f a tokens rest Memory h = tt
 map_stops {X} f a tokens rest NotSpelled h = ap (λ (r : Result (X × List Token) (List Token)). r >>= λ p. Ok (f p.0, p.1)) h
+
+-- what is read is seen so
+pub map_gives : {X Y : Type 0} (f : X → Y) (a : Reader X) (tokens rest : List Token) (x : X) → a tokens ≡ Ok (x, rest) → map_read f a tokens ≡ Ok (f x, rest)
+map_gives {X} f a tokens rest x h = ap (λ (r : Result (X × List Token) (List Token)). r >>= λ p. Ok (f p.0, p.1)) h

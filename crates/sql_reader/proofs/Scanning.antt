@@ -1,110 +1,78 @@
--- How a scan goes on over the bytes held, and which pieces it finds.
-use Rattle.std.proofs.Common.{◌≡◌, ◌<◌, ◌≤◌, ◌+◌, ◌-◌, ℕ, List, [], ◌∷◌, ◌++◌, Some, None, take, drop, length, get_or, slice_range, refl, sym, ap, ◌∙◌, subst, arith, append_assoc, length-drop, min, max}
-use Rattle.std.specs.List.{fold}
+-- How a scan goes on over the bytes held, and what it leaves of them.
+use Rattle.std.proofs.Common.{◌≡◌, ◌<◌, ◌≤◌, ◌+◌, ◌-◌, ℕ, suc, List, [], ◌∷◌, ◌++◌, Some, None, take, drop, length, get_or, slice_range, sym, ap, ◌∙◌, subst, arith, length-drop, length-take}
 use Rattle.std.proofs.Math.Nat.{sub_self}
-use Rattle.std.proofs.Math.Seq.{take-add}
-use Rattle.std.proofs.lemmas.Grind.{fold-append}
-use Rattle.std.proofs.lemmas.List.{take_at, drop-drop, get_or-drop, take_all, take_more}
-use Rattle.mdc_ast.specs.Cutting.{Piece, Cut}
+use Rattle.std.proofs.Math.ListN.{drop_of_length-le}
+use Rattle.std.proofs.Math.Seq.{drop-cons, take-add, take-length}
+use Rattle.std.proofs.lemmas.List.{drop-drop, drop-take, get_or-drop, take-append-drop, take-take}
 use Rattle.sql_reader.specs.declared.place.Place.{Place}
-use Rattle.sql_reader.specs.declared.place.Place.TheVariants.{Outside}
-use Rattle.sql_reader.specs.Scan.{EndsPiece, IsLast, IsScanned, next_place, place_after, place_behind}
+use Rattle.sql_reader.specs.Holding.{Holding}
+use Rattle.sql_reader.specs.Scan.{place_after, place_behind}
 use Rattle.sql_reader.proofs.Trimming.{slice_from}
-use Rattle.sql_reader.proofs.Pieces.{cut_closed, only_semicolon, piece_before, piece_behind}
+use Rattle.sql_reader.proofs.Pieces.{only_semicolon}
 
--- a reader that holds nothing is sound
-pub nothing_scanned : (held : List ℕ) → held ≡ [] → IsScanned held 0 0 Outside
-nothing_scanned held e = subst (λ l. IsScanned l 0 0 Outside) (sym e) (record {
-  order = omega arith;
-  within = omega arith;
-  closed = [];
-  cut = record { each = tt; behind = Piece.nothing; bytes = refl };
-  came = refl;
-})
+-- a scan went over the first bytes ahead
+abbrev pub WentOver : Holding → Holding → Type 0
+WentOver old new = (piece : List ℕ) × (old.ahead ≡ piece ++ new.ahead) × (new.scanned ≡ old.scanned ++ piece) × (place_behind old.place piece ≡ Some new.place)
 
--- a scan goes on from where it came to
-pub scan_on : (held : List ℕ) (start scanned count : ℕ) (place to : Place) → IsScanned held start scanned place → count ≤ length (drop scanned held) → place_behind place (take count (drop scanned held)) ≡ Some to
-    → scanned + count ≤ length held → IsScanned held start (scanned + count) to
-scan_on held start scanned count place to was fits came within =
-    let behind : start + (scanned - start) ≡ scanned = omega (arith, was.order) in
-    let sum : scanned + count - start ≡ (scanned - start) + count = omega (arith, was.order) in
+-- the bytes ahead are those gone over and those still ahead
+pub ahead_splits : (held : List ℕ) (scanned count : ℕ) → drop scanned held ≡ take count (drop scanned held) ++ drop (scanned + count) held
+ahead_splits held scanned count = sym (take-append-drop count (drop scanned held)) ∙ ap (λ l. take count (drop scanned held) ++ l) (drop-drop count scanned held)
+
+-- the bytes scanned are those from before and those gone over
+pub scanned_grows : (held : List ℕ) (start scanned count : ℕ) → start ≤ scanned → slice_range held start (scanned + count) ≡ slice_range held start scanned ++ take count (drop scanned held)
+scanned_grows held start scanned count order =
+    let behind : start + (scanned - start) ≡ scanned = omega (arith, order) in
+    let sum : scanned + count - start ≡ (scanned - start) + count = omega (arith, order) in
     let at : drop (scanned - start) (drop start held) ≡ drop scanned held = drop-drop (scanned - start) start held ∙ ap (λ n. drop n held) behind in
-    let bytes : take (scanned + count - start) (drop start held) ≡ take (scanned - start) (drop start held) ++ take count (drop scanned held) =
-    ap (λ n. take n (drop start held)) sum ∙ (take-add (scanned - start) count (drop start held) ∙ ap (λ l. take (scanned - start) (drop start held) ++ take count l) at) in
-    record {
-      order = omega (arith, was.order);
-      within = within;
-      closed = was.closed;
-      cut = was.cut;
-      came = ap (place_behind Outside) bytes
-          ∙ (fold-append next_place (Some Outside) (take (scanned - start) (drop start held)) (take count (drop scanned held))
-          ∙ (ap (λ o. fold next_place o (take count (drop scanned held))) was.came ∙ came));
-    }
+    ap (λ n. take n (drop start held)) sum ∙ (take-add (scanned - start) count (drop start held) ∙ ap (λ l. take (scanned - start) (drop start held) ++ take count l) at)
 
--- where a scan stops, a semicolon closes the piece
-pub ends_piece : (held : List ℕ) (start scanned : ℕ) (place : Place) → IsScanned held start scanned place → scanned < length held → place_after place (get_or held scanned 0) ≡ None
-    → EndsPiece held start scanned
-ends_piece held start scanned place was within stops =
-    let semicolon : get_or held scanned 0 ≡ 59 = only_semicolon place (get_or held scanned 0) stops in
-    record {
-      order = was.order;
-      within = within;
-      closed = was.closed;
-      cut = was.cut;
-      piece = piece_before (take (scanned - start) (drop start held)) place was.came (subst (λ b. place_after place b ≡ None) semicolon stops);
-      semicolon = semicolon;
-    }
+-- the place behind the bytes gone over
+pub came_on : (held bytes : List ℕ) (scanned count : ℕ) (place to : Place) → bytes ≡ held → place_behind place (take count (take (length bytes - scanned) (drop scanned bytes))) ≡ Some to
+    → place_behind place (take count (drop scanned held)) ≡ Some to
+came_on held bytes scanned count place to e came = subst (λ l. place_behind place (take count l) ≡ Some to) (slice_from scanned bytes ∙ ap (drop scanned) e) came
 
--- where it comes to the end, the rest is the last piece
-pub is_last : (held : List ℕ) (start scanned : ℕ) (place : Place) → IsScanned held start scanned place → length held ≤ scanned → IsLast held start
-is_last held start scanned place was all =
-    let rest : take (scanned - start) (drop start held) ≡ drop start held = take_all (scanned - start) (drop start held) (simp length-drop (omega arith)) in
-    record { closed = was.closed; cut = was.cut; piece = piece_behind (drop start held) place (subst (λ l. place_behind Outside l ≡ Some place) rest was.came) }
-
--- the bytes up to a semicolon are those before the piece, the piece and the semicolon
-pub take_piece : (held : List ℕ) (start end : ℕ) → EndsPiece held start end → take (end + 1) held ≡ take start held ++ (slice_range held start end ++ 59 ∷ [])
-take_piece held start end ends =
-    let sum : start + (end - start) ≡ end = omega (arith, ends.order) in
-    let lt : end < length held = ends.within in
-    take_more held end 0 lt
-    ∙ (ap (λ b. take end held ++ b ∷ []) ends.semicolon
-    ∙ (ap (λ l. l ++ 59 ∷ []) (ap (λ n. take n held) (sym sum) ∙ take-add start (end - start) held)
-    ∙ append_assoc (take start held) (take (end - start) (drop start held)) (59 ∷ [])))
-
--- a reader that passes a semicolon is sound
-pub pass_scanned : (held : List ℕ) (start scanned end : ℕ) (place : Place) → IsScanned held start scanned place → EndsPiece held start end → IsScanned held (end + 1) (end + 1) Outside
-pass_scanned held start scanned end place was ends = record {
-  order = omega arith;
-  within = omega (arith, ends.within);
-  closed = was.closed ++ slice_range held start end ∷ [];
-  cut = subst (λ l. Cut l (was.closed ++ slice_range held start end ∷ []) []) (sym (take_piece held start end ends)) (cut_closed (take start held) (slice_range held start end) was.closed was.cut ends.piece);
-  came = ap (λ n. place_behind Outside (take n (drop (end + 1) held))) (sub_self (end + 1));
-}
-
--- the scan of the slice of what is held went on
-pub scan_went : (held bytes : List ℕ) (start scanned count : ℕ) (place to : Place) → IsScanned held start scanned place → bytes ≡ held → count ≤ length (take (length bytes - scanned) (drop scanned bytes))
-    → place_behind place (take count (take (length bytes - scanned) (drop scanned bytes))) ≡ Some to → IsScanned held start (scanned + count) to
-scan_went held bytes start scanned count place to was e fits came =
-    let at : take (length bytes - scanned) (drop scanned bytes) ≡ drop scanned held = slice_from scanned bytes ∙ ap (drop scanned) e in
-    let short : count ≤ length (drop scanned held) = subst (λ l. count ≤ length l) at fits in
-    let size : length (drop scanned held) ≡ length held - scanned = simp length-drop in
-    scan_on held start scanned count place to was short (subst (λ l. place_behind place (take count l) ≡ Some to) at came) (omega (arith, was.within))
-
--- where it stopped, a semicolon cuts
-pub scan_stopped : (held bytes : List ℕ) (scanned count : ℕ) (to : Place) → bytes ≡ held → scanned + count < length held
+-- where the scan stopped, a semicolon cuts
+pub stops_at : (held bytes : List ℕ) (scanned count : ℕ) (to : Place) → bytes ≡ held → scanned + count < length held
     → (count < length (take (length bytes - scanned) (drop scanned bytes)) → place_after to (get_or (take (length bytes - scanned) (drop scanned bytes)) count 0) ≡ None)
-    → place_after to (get_or held (scanned + count) 0) ≡ None
-scan_stopped held bytes scanned count to e more stopped =
+    → (rest : List ℕ) × (drop (scanned + count) held ≡ 59 ∷ rest) × (place_after to 59 ≡ None)
+stops_at held bytes scanned count to e more stopped =
     let at : take (length bytes - scanned) (drop scanned bytes) ≡ drop scanned held = slice_from scanned bytes ∙ ap (drop scanned) e in
-    let size : length (drop scanned held) ≡ length held - scanned = simp length-drop in
+    let size : length (drop scanned held) ≡ length held - scanned = length-drop scanned held in
     let short : count < length (drop scanned held) = omega arith in
-    let stops : place_after to (get_or (drop scanned held) count 0) ≡ None =
-    subst (λ l. count < length l → place_after to (get_or l count 0) ≡ None) at stopped short in
-    subst (λ b. place_after to b ≡ None) (get_or-drop scanned held count 0) stops
+    let stops : place_after to (get_or (drop scanned held) count 0) ≡ None = subst (λ l. count < length l → place_after to (get_or l count 0) ≡ None) at stopped short in
+    let there : place_after to (get_or held (scanned + count) 0) ≡ None = subst (λ b. place_after to b ≡ None) (get_or-drop scanned held count 0) stops in
+    let is : get_or held (scanned + count) 0 ≡ 59 = only_semicolon to (get_or held (scanned + count) 0) there in (
+      drop (suc (scanned + count)) held,
+      drop-cons held (scanned + count) 0 more ∙ ap (λ b. b ∷ drop (suc (scanned + count)) held) is,
+      subst (λ b. place_after to b ≡ None) is there,
+    )
 
--- what passes the limit was at it before, and is its front
-pub at_limit : (limit most size count : ℕ) (old piece new : List ℕ) → new ≡ old ++ piece → length new ≤ length old + count → limit < length new → length old ≤ limit → count ≤ size
-    → size ≡ max 1 (min (limit - length old) most) → take limit new ≡ old
-at_limit limit most size count old piece new e grown passed within fits is =
-    let full : length old ≡ limit = omega arith in
-    ap (take limit) e ∙ take_at old piece limit full
+-- where it went over all, nothing is ahead
+pub none_ahead : (held : List ℕ) (scanned : ℕ) → length held ≤ scanned → drop scanned held ≡ []
+none_ahead held scanned all = drop_of_length-le held all
+
+-- the bytes from a place to the same one
+pub no_bytes : (held : List ℕ) (place : ℕ) → slice_range held place place ≡ []
+no_bytes held place = ap (λ n. take n (drop place held)) (sub_self place)
+
+-- a part of a part of the bytes
+pub slice_within : (held : List ℕ) (start scanned begin end : ℕ) → start ≤ scanned → scanned ≤ length held → begin ≤ end → end ≤ length (slice_range held start scanned)
+    → slice_range held (start + begin) (start + end) ≡ slice_range (slice_range held start scanned) begin end
+slice_within held start scanned begin end order within first fits =
+    let size : length (slice_range held start scanned) ≤ scanned - start = omega (arith, length-take (scanned - start) (drop start held)) in
+    let more : ℕ = scanned - start - begin in
+    let sum : begin + more ≡ scanned - start = omega (arith, size, first, fits) in
+    let count : start + end - (start + begin) ≡ end - begin = omega arith in
+    let inner : drop begin (slice_range held start scanned) ≡ take more (drop (start + begin) held) =
+    ap (λ n. drop begin (take n (drop start held))) (sym sum) ∙ (drop-take begin more (drop start held) ∙ ap (take more) (drop-drop begin start held)) in
+    let part : slice_range (slice_range held start scanned) begin end ≡ take (end - begin) (drop (start + begin) held) =
+    ap (take (end - begin)) inner ∙ take-take (end - begin) more (drop (start + begin) held) (omega (arith, size, fits)) in
+    ap (λ n. take n (drop (start + begin) held)) count ∙ sym part
+
+-- all bytes up to their number
+pub slice_all : (held : List ℕ) (count : ℕ) → count ≡ length held → slice_range held 0 count ≡ held
+slice_all held count e = ap (λ n. take n held) (omega (arith, e)) ∙ take-length held
+
+-- the length of a part of the bytes
+pub part_length : (bytes : List ℕ) (begin end : ℕ) → begin ≤ end → end ≤ length bytes → length (slice_range bytes begin end) ≡ end - begin
+part_length bytes begin end order fits = omega (arith, length-take (end - begin) (drop begin bytes), length-drop begin bytes, order, fits)

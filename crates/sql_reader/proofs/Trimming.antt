@@ -1,14 +1,12 @@
 -- Each piece has one statement, or none.
-use Rattle.std.proofs.Common.{◌≡◌, ◌≢◌, ◌⊎◌, inl, inr, ℕ, true, false, IsTrue, List, [], ◌∷◌, ◌++◌, ◌<◌, ◌-◌, length, take, drop, arith, length-drop, refl, sym, ap, ◌∙◌, subst}
-use Rattle.std.proofs.lemmas.List.{take_all}
+use Rattle.std.proofs.Common.{◌≡◌, ◌≢◌, inl, inr, ℕ, true, false, IsTrue, List, [], ◌∷◌, ◌++◌, ◌<◌, ◌≤◌, ◌+◌, ◌-◌, length, take, drop, slice_range, arith, length-append, length-drop, append_assoc, refl, sym, ap, ◌∙◌, subst}
+use Rattle.std.proofs.Math.Seq.{drop-append_seam, take-length}
+use Rattle.std.proofs.lemmas.List.{append-nil, take_all}
 use Rattle.std.proofs.lemmas.Bool.{cases_eq, cases_Bool, both_ways}
 use Rattle.mdc_ast.specs.Cutting.{Lacks, BeginsWith, BeginsNoComment, is_blank, Trims}
-use Rattle.sql_reader.specs.Trim.{IsComment}
+use Rattle.sql_reader.specs.Standing.{BeginsStatement, StandsFor}
+use Rattle.sql_reader.specs.Trim.{IsComment, IsLead, IsOpenComment, StandsBehindLine}
 use Rattle.sql_reader.proofs.Pieces.{heads, tails}
-
--- the rest stands behind the first line feed, or is empty where there is none
-abbrev pub IsBehindLine : List ℕ → List ℕ → Type 0
-IsBehindLine bytes rest = ((inside : List ℕ) × Lacks 10 inside × (bytes ≡ inside ++ 10 ∷ rest)) ⊎ (Lacks 10 bytes × (rest ≡ []))
 
 -- nothing has no statement
 nothing_trims : {statement : List ℕ} → Trims [] statement → statement ≡ []
@@ -21,13 +19,6 @@ dash_no_blank b blank e = both_ways (is_blank 45) refl (subst (λ x. IsTrue (is_
 -- two dashes begin a comment
 dashes_begin : (b : ℕ) (rest behind : List ℕ) → BeginsNoComment b rest → b ∷ rest ≡ 45 ∷ 45 ∷ behind → ⊥
 dashes_begin b rest behind no_comment e = no_comment (heads e) (subst (BeginsWith 45) (sym (tails e)) refl)
-
--- a piece that a line feed follows has the statement of what is behind
-pub comment_trims : (bytes rest statement : List ℕ) → IsBehindLine bytes rest → Trims rest statement → Trims (45 ∷ 45 ∷ bytes) statement
-comment_trims bytes rest statement (inl line) trims = Trims.comment line.0 rest line.1 trims line.2
-comment_trims bytes rest statement (inr none) trims =
-    let is : statement ≡ [] = nothing_trims (subst (λ r. Trims r statement) none.1 trims) in
-    subst (Trims (45 ∷ 45 ∷ bytes)) (sym is) (Trims.open_comment none.0)
 
 -- the first line feed is at one place
 one_line : (inside other rest behind : List ℕ) → Lacks 10 inside → Lacks 10 other → inside ++ 10 ∷ rest ≡ other ++ 10 ∷ behind → rest ≡ behind
@@ -153,24 +144,125 @@ no_comment bytes b (c ∷ rest) isnt e dash h =
     let two : 1 < length (b ∷ c ∷ rest) = omega arith in
     isnt (subst IsComment (sym e) (two, dash, h))
 
--- nothing is in no statement
-pub empty_trims : (bytes : List ℕ) → length bytes ≡ 0 → Trims bytes bytes
-empty_trims [] e = Trims.nothing
-empty_trims (b ∷ bytes) e = absurd (omega (arith, e))
-
 -- the slice from an index on is what is left there
 pub slice_from : (n : ℕ) (bytes : List ℕ) → take (length bytes - n) (drop n bytes) ≡ drop n bytes
 slice_from n bytes = take_all (length bytes - n) (drop n bytes) (simp length-drop (omega arith))
 
--- what is behind a blank has the statement
-pub blank_trims : (bytes : List ℕ) (b : ℕ) (rest statement : List ℕ) → bytes ≡ b ∷ rest → is_blank b ≡ true → Trims rest statement → Trims bytes statement
-blank_trims bytes b rest statement e blank trims = subst (λ l. Trims l statement) (sym e) (Trims.blank blank trims)
+-- a byte more before a line feed
+pub line_more : (b : ℕ) (bytes behind : List ℕ) → b ≢ 10 → StandsBehindLine bytes behind → StandsBehindLine (b ∷ bytes) behind
+line_more b bytes behind n (inside, lacks, e) = (b ∷ inside, (n, lacks), ap (λ l. b ∷ l) e)
 
--- what is behind a comment has it
-pub behind_trims : (bytes rest statement : List ℕ) → IsComment bytes → IsBehindLine (take (length bytes - 2) (drop 2 bytes)) rest → Trims rest statement → Trims bytes statement
-behind_trims bytes rest statement is line trims =
-    subst (λ l. Trims l statement) (sym (comment_bytes bytes is)) (comment_trims (drop 2 bytes) rest statement (subst (λ l. IsBehindLine l rest) (slice_from 2 bytes) line) trims)
+-- bytes stand for themselves
+pub stands_itself : (bytes : List ℕ) → StandsFor bytes bytes
+stands_itself bytes rest statement trims = trims
 
--- and what is neither is it
-pub statement_trims : (bytes : List ℕ) (b : ℕ) (rest : List ℕ) → bytes ≡ b ∷ rest → is_blank b ≡ false → (IsComment bytes → ⊥) → Trims bytes bytes
-statement_trims bytes b rest e not_blank isnt = subst (λ l. Trims l l) (sym e) (Trims.statement not_blank (no_comment bytes b rest isnt e))
+-- and what stands for what stands for them does
+pub stands_then : (bytes between kept : List ℕ) → StandsFor bytes between → StandsFor between kept → StandsFor bytes kept
+stands_then bytes between kept first second rest statement trims = first rest statement (second rest statement trims)
+
+-- where nothing follows, they have the statement of what stands for them
+pub stands_whole : (bytes kept statement : List ℕ) → StandsFor bytes kept → Trims kept statement → Trims bytes statement
+stands_whole bytes kept statement stands trims =
+    subst (λ l. Trims l statement) (append-nil bytes) (stands [] statement (subst (λ l. Trims l statement) (sym (append-nil kept)) trims))
+
+-- more bytes follow
+pub stands_more : (bytes kept more : List ℕ) → StandsFor bytes kept → StandsFor (bytes ++ more) (kept ++ more)
+stands_more bytes kept more stands rest statement trims =
+    subst (λ l. Trims l statement) (sym (append_assoc bytes more rest)) (stands (more ++ rest) statement (subst (λ l. Trims l statement) (append_assoc kept more rest) trims))
+
+-- what is behind a blank stands for all
+pub behind_blank_stands : (bytes : List ℕ) (b : ℕ) (behind : List ℕ) → bytes ≡ b ∷ behind → is_blank b ≡ true → StandsFor bytes behind
+behind_blank_stands bytes b behind e blank rest statement trims = subst (λ l. Trims (l ++ rest) statement) (sym e) (Trims.blank blank trims)
+
+-- and so does what is behind a comment
+pub behind_comment_stands : (bytes behind : List ℕ) → IsComment bytes → StandsBehindLine (take (length bytes - 2) (drop 2 bytes)) behind → StandsFor bytes behind
+behind_comment_stands bytes behind is (inside, lacks, e) rest statement trims =
+    let inner : drop 2 bytes ≡ inside ++ 10 ∷ behind = sym (slice_from 2 bytes) ∙ e in
+    let whole : bytes ≡ 45 ∷ 45 ∷ (inside ++ 10 ∷ behind) = comment_bytes bytes is ∙ ap (λ l. 45 ∷ 45 ∷ l) inner in
+    subst (λ l. Trims (l ++ rest) statement) (sym whole) (Trims.comment inside (behind ++ rest) lacks trims (append_assoc inside (10 ∷ behind) rest))
+
+-- what is behind a comment is shorter
+pub behind_comment_shorter : (bytes behind : List ℕ) → IsComment bytes → StandsBehindLine (take (length bytes - 2) (drop 2 bytes)) behind → length behind < length bytes
+behind_comment_shorter bytes behind is (inside, lacks, e) =
+    let inner : drop 2 bytes ≡ inside ++ 10 ∷ behind = sym (slice_from 2 bytes) ∙ e in
+    let long : length (inside ++ 10 ∷ behind) ≡ length inside + length (10 ∷ behind) = length-append inside (10 ∷ behind) in
+    let one : length (10 ∷ behind) ≡ length behind + 1 = omega arith in
+    let all : length (drop 2 bytes) ≡ length bytes - 2 = length-drop 2 bytes in
+    omega (arith, is.0, ap length inner, long, one, all)
+
+-- bytes in an open comment may be left out
+in_comment : (inside rest : List ℕ) {statement : List ℕ} → Lacks 10 inside → Trims (45 ∷ 45 ∷ rest) statement → Trims (45 ∷ 45 ∷ (inside ++ rest)) statement
+in_comment [] rest lacks trims = trims
+in_comment (b ∷ inside) rest lacks trims = comment_on (in_comment inside rest lacks.1 trims) b (inside ++ rest) refl lacks.0
+
+-- the dashes of an open comment stand for it
+pub dashes_stand : (bytes : List ℕ) → IsOpenComment bytes → StandsFor bytes (take 2 bytes)
+dashes_stand bytes (inside, e, lacks) =
+    subst (λ l. StandsFor l (take 2 l)) (sym e) (λ rest statement trims. in_comment inside rest lacks trims)
+
+-- a lead that begins with two dashes is an open comment
+pub lead_open : (bytes : List ℕ) → IsLead bytes → IsComment bytes → IsOpenComment bytes
+lead_open bytes (inl none) is = absurd (omega (arith, is.0, ap length none))
+lead_open bytes (inr (inl (b, rest, e, not_blank, plain))) is = absurd (dashes_begin b rest (drop 2 bytes) plain (sym e ∙ comment_bytes bytes is))
+lead_open bytes (inr (inr is_open)) is = is_open
+
+-- and its piece has no statement
+pub lead_none : (bytes : List ℕ) → IsLead bytes → IsComment bytes → Trims bytes []
+lead_none bytes lead is =
+    let o = lead_open bytes lead is in
+    subst (λ l. Trims l []) (sym o.1) (Trims.open_comment o.2)
+
+-- an open comment begins with two dashes
+open_begins : (bytes : List ℕ) → IsOpenComment bytes → IsComment bytes
+open_begins bytes (inside, e, lacks) = subst IsComment (sym e) (omega arith, refl, refl)
+
+-- any other lead is its piece's statement
+pub lead_trims : (bytes : List ℕ) → IsLead bytes → (IsComment bytes → ⊥) → Trims bytes bytes
+lead_trims bytes (inl none) isnt = subst (λ l. Trims l l) (sym none) Trims.nothing
+lead_trims bytes (inr (inl (b, rest, e, not_blank, plain))) isnt = subst (λ l. Trims l l) (sym e) (Trims.statement not_blank plain)
+lead_trims bytes (inr (inr is_open)) isnt = absurd (isnt (open_begins bytes is_open))
+
+-- whatever follows two bytes of a statement, it begins with them
+first_begins : (b : ℕ) (rest : List ℕ) → is_blank b ≡ false → BeginsNoComment b rest → 2 < length (b ∷ rest) → BeginsStatement (b ∷ rest)
+first_begins b [] not_blank plain two = absurd (omega (arith, two))
+first_begins b (c ∷ rest) not_blank plain two = λ more. Trims.statement not_blank plain
+
+-- so does a lead of more than two bytes, where it is no comment
+pub lead_begins : (bytes : List ℕ) → IsLead bytes → (IsComment bytes → ⊥) → 2 < length bytes → BeginsStatement bytes
+lead_begins bytes (inl none) isnt two = absurd (omega (arith, two, ap length none))
+lead_begins bytes (inr (inl (b, rest, e, not_blank, plain))) isnt two =
+    subst BeginsStatement (sym e) (first_begins b rest not_blank plain (subst (λ l. 2 < length l) e two))
+lead_begins bytes (inr (inr is_open)) isnt two = absurd (isnt (open_begins bytes is_open))
+
+-- the bytes of a suffix stand where it begins
+pub suffix_slice : (bytes front suffix : List ℕ) (n : ℕ) → bytes ≡ front ++ suffix → slice_range bytes (length bytes - length suffix) (length bytes - length suffix + n) ≡ take n suffix
+suffix_slice bytes front suffix n e =
+    let begin : length bytes - length suffix ≡ length front = omega (arith, ap length e, length-append front suffix) in
+    let count : length bytes - length suffix + n - (length bytes - length suffix) ≡ n = omega arith in
+    ap (λ k. take k (drop (length bytes - length suffix) bytes)) count
+    ∙ ap (take n) (ap (λ k. drop k bytes) begin ∙ (ap (drop (length front)) e ∙ drop-append_seam front suffix))
+
+-- all of them, up to the end
+pub suffix_rest : (bytes front suffix : List ℕ) → bytes ≡ front ++ suffix → slice_range bytes (length bytes - length suffix) (length bytes) ≡ suffix
+suffix_rest bytes front suffix e =
+    let fits : length suffix ≤ length bytes = omega (arith, ap length e, length-append front suffix) in
+    let end : length bytes ≡ length bytes - length suffix + length suffix = omega (arith, fits) in
+    ap (slice_range bytes (length bytes - length suffix)) end ∙ (suffix_slice bytes front suffix (length suffix) e ∙ take-length suffix)
+
+-- a suffix is no longer than all
+pub suffix_fits : (bytes front suffix : List ℕ) → bytes ≡ front ++ suffix → length suffix ≤ length bytes
+suffix_fits bytes front suffix e = omega (arith, ap length e, length-append front suffix)
+
+-- a suffix behind one byte more
+pub suffix_more : (whole bytes front : List ℕ) (b : ℕ) (behind : List ℕ) → whole ≡ front ++ bytes → bytes ≡ b ∷ behind → (before : List ℕ) × (whole ≡ before ++ behind)
+suffix_more whole bytes front b behind e is =
+    (front ++ b ∷ [], e ∙ (ap (λ l. front ++ l) is ∙ sym (append_assoc front (b ∷ []) behind)))
+
+-- a suffix behind a comment
+pub suffix_comment : (whole bytes front behind : List ℕ) → whole ≡ front ++ bytes → IsComment bytes → StandsBehindLine (take (length bytes - 2) (drop 2 bytes)) behind → (before : List ℕ) × (whole ≡ before ++ behind)
+suffix_comment whole bytes front behind e is (inside, lacks, f) =
+    let inner : drop 2 bytes ≡ inside ++ 10 ∷ behind = sym (slice_from 2 bytes) ∙ f in
+    let all : bytes ≡ 45 ∷ 45 ∷ (inside ++ 10 ∷ behind) = comment_bytes bytes is ∙ ap (λ l. 45 ∷ 45 ∷ l) inner in
+    let line : List ℕ = 45 ∷ 45 ∷ (inside ++ 10 ∷ []) in
+    let same : 45 ∷ 45 ∷ (inside ++ 10 ∷ behind) ≡ line ++ behind = ap (λ l. 45 ∷ 45 ∷ l) (sym (append_assoc inside (10 ∷ []) behind)) in
+    (front ++ line, e ∙ (ap (λ l. front ++ l) (all ∙ same) ∙ sym (append_assoc front line behind)))

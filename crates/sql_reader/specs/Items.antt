@@ -7,8 +7,8 @@ use Rattle.sql_reader.specs.Item.{item_of}
 use Rattle.sql_reader.specs.Progress.{Progress, Given}
 
 -- the items given are as before
-abbrev pub Keeps : Progress → Progress → Type 0
-Keeps old new = (given : List Item) → Given old given → Given new given
+abbrev pub KeepsGiven : Progress → Progress → Type 0
+KeepsGiven old new = (given : List Item) → Given old given → Given new given
 
 -- one more item is given
 abbrev pub GivesOne : Progress → Progress → Item → Type 0

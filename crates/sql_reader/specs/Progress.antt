@@ -1,5 +1,5 @@
 -- How far a reader is, and what it may have given by then.
-use Rattle.std.specs.Prelude.{◌≡◌, ◌⊎◌, ◌<◌, ◌≤◌, length, ℕ, List, [], ◌++◌, Bool, true, false, Option, Some, None, take}
+use Rattle.std.specs.Prelude.{◌≡◌, ◌≤◌, ◌-◌, length, ℕ, List, [], ◌++◌, Bool, true, false, Option, Some, None, take}
 use Rattle.mdc_ast.specs.Reading.{Item, Reads, Closes}
 
 -- The bytes that a reader took, how many of them belong to pieces that are done with, and whether the last piece,
@@ -36,8 +36,6 @@ pub record IsLastRead (old : Progress) (taken : List ℕ) : Type 0 where
   pub short : length piece ≤ 4096
   pub given : (items : List Item) → Given old items → Closes before items
 
--- more pieces are done with, or the last one is
-abbrev pub Advances : Progress → Progress → Type 0
-Advances old new =
-    ((old.past < new.past) × (new.past ≤ length new.taken))
-    ⊎ ((old.past ≤ new.past) × (old.finished ≡ false) × (new.finished ≡ true))
+-- what was taken but for its last 4,096 bytes closes no more than what was given before
+abbrev pub IsJustClosed : Progress → List ℕ → Type 0
+IsJustClosed old taken = (given closed : List Item) → Given old given → Closes (take (length taken - 4096) taken) closed → length closed ≤ length given

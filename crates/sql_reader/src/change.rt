@@ -1,7 +1,7 @@
 // INSERT, UPDATE and DELETE.
 ghost use Rattle.std.specs.Prelude.{◌≡◌};
 ghost use Rattle.mdc_ast.specs.Grammar as grammar;
-ghost use Rattle.sql_reader.specs.Gives.{Gives};
+ghost use Rattle.sql_reader.specs.Parses.{Parses};
 ghost use Rattle.sql_reader.specs.Readers.{read, listed_at};
 ghost use Rattle.sql_reader.specs.Token.{tokens_of};
 
@@ -15,7 +15,7 @@ use mdc_values::List;
 /// What is behind INSERT.
 #[tactic(auto, unfolding(mdc_ast::specs::Grammar::insert_rule))]
 pub fn insert(cursor: &mut Cursor) -> Result<Stmt, Stop>
-    ensures { Gives result (tokens_of cursor.new.tokens.now) (read grammar.insert_rule (tokens_of cursor.old.tokens.now)) }
+    ensures { Parses result (tokens_of cursor.new.tokens.now) (read grammar.insert_rule (tokens_of cursor.old.tokens.now)) }
 {
     cursor.word(b"INTO")?;
     let table = cursor.name()?;
@@ -31,7 +31,7 @@ pub fn insert(cursor: &mut Cursor) -> Result<Stmt, Stop>
 
 #[tactic(auto, unfolding(mdc_ast::specs::Grammar::columns_rule))]
 fn columns(cursor: &mut Cursor) -> Result<Option<List<Name>>, Stop>
-    ensures { Gives result (tokens_of cursor.new.tokens.now) (read grammar.columns_rule (tokens_of cursor.old.tokens.now)) }
+    ensures { Parses result (tokens_of cursor.new.tokens.now) (read grammar.columns_rule (tokens_of cursor.old.tokens.now)) }
 {
     if cursor.at_symbol(Symbol::Opening) {
         let names = cursor.listed()?;
@@ -66,7 +66,7 @@ impl Part for InsertItem {
 /// What is behind UPDATE.
 #[tactic(auto, unfolding(mdc_ast::specs::Grammar::update_rule))]
 pub fn update(cursor: &mut Cursor, depth: u8) -> Result<Stmt, Stop>
-    ensures { Gives result (tokens_of cursor.new.tokens.now) (read (grammar.update_rule depth) (tokens_of cursor.old.tokens.now)) }
+    ensures { Parses result (tokens_of cursor.new.tokens.now) (read (grammar.update_rule depth) (tokens_of cursor.old.tokens.now)) }
 {
     let table = cursor.name()?;
     cursor.word(b"SET")?;
@@ -89,7 +89,7 @@ impl Part for SetText {
 
 #[tactic(auto, unfolding(mdc_ast::specs::Grammar::item_rule))]
 fn item(cursor: &mut Cursor) -> Result<SetItem, Stop>
-    ensures { Gives result (tokens_of cursor.new.tokens.now) (read grammar.item_rule (tokens_of cursor.old.tokens.now)) }
+    ensures { Parses result (tokens_of cursor.new.tokens.now) (read grammar.item_rule (tokens_of cursor.old.tokens.now)) }
 {
     let first = operand(cursor)?;
     match rest(cursor)? {
@@ -101,7 +101,7 @@ fn item(cursor: &mut Cursor) -> Result<SetItem, Stop>
 /// The second operand, if there is one, and what joins it.
 #[tactic(auto, unfolding(mdc_ast::specs::Grammar::rest_rule))]
 fn rest(cursor: &mut Cursor) -> Result<Option<(Sign, Operand)>, Stop>
-    ensures { Gives result (tokens_of cursor.new.tokens.now) (read grammar.rest_rule (tokens_of cursor.old.tokens.now)) }
+    ensures { Parses result (tokens_of cursor.new.tokens.now) (read grammar.rest_rule (tokens_of cursor.old.tokens.now)) }
 {
     if cursor.at_symbol(Symbol::Plus) {
         cursor.symbol(Symbol::Plus)?;
@@ -124,7 +124,7 @@ fn rest(cursor: &mut Cursor) -> Result<Option<(Sign, Operand)>, Stop>
 /// What is behind DELETE.
 #[tactic(auto, unfolding(mdc_ast::specs::Grammar::delete_rule))]
 pub fn delete(cursor: &mut Cursor, depth: u8) -> Result<Stmt, Stop>
-    ensures { Gives result (tokens_of cursor.new.tokens.now) (read (grammar.delete_rule depth) (tokens_of cursor.old.tokens.now)) }
+    ensures { Parses result (tokens_of cursor.new.tokens.now) (read (grammar.delete_rule depth) (tokens_of cursor.old.tokens.now)) }
 {
     cursor.word(b"FROM")?;
     let table = cursor.name()?;

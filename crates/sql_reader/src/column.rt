@@ -2,7 +2,7 @@
 ghost use Rattle.std.specs.Prelude.{◌≡◌};
 ghost use Rattle.mdc_ast.specs.Grammar as grammar;
 ghost use Rattle.mdc_ast.specs.Rules.{perhaps};
-ghost use Rattle.sql_reader.specs.Gives.{Gives};
+ghost use Rattle.sql_reader.specs.Parses.{Parses};
 ghost use Rattle.sql_reader.specs.Readers.{read};
 ghost use Rattle.sql_reader.specs.Token.{tokens_of};
 
@@ -29,7 +29,7 @@ impl Part for ColumnText {
 
 #[tactic(auto, unfolding(mdc_ast::specs::Grammar::type_rule))]
 fn type_text(cursor: &mut Cursor) -> Result<TypeText, Stop>
-    ensures { Gives result (tokens_of cursor.new.tokens.now) (read grammar.type_rule (tokens_of cursor.old.tokens.now)) }
+    ensures { Parses result (tokens_of cursor.new.tokens.now) (read grammar.type_rule (tokens_of cursor.old.tokens.now)) }
 {
     if cursor.at_word(b"INTEGER") {
         cursor.word(b"INTEGER")?;
@@ -58,7 +58,7 @@ fn type_text(cursor: &mut Cursor) -> Result<TypeText, Stop>
 /// What is behind CHAR.
 #[tactic(auto, unfolding(mdc_ast::specs::Grammar::char_rule))]
 fn char_type(cursor: &mut Cursor) -> Result<TypeText, Stop>
-    ensures { Gives result (tokens_of cursor.new.tokens.now) (read grammar.char_rule (tokens_of cursor.old.tokens.now)) }
+    ensures { Parses result (tokens_of cursor.new.tokens.now) (read grammar.char_rule (tokens_of cursor.old.tokens.now)) }
 {
     if cursor.at_symbol(Symbol::Opening) {
         cursor.symbol(Symbol::Opening)?;
@@ -72,7 +72,7 @@ fn char_type(cursor: &mut Cursor) -> Result<TypeText, Stop>
 /// Whether a column takes no nulls, and what it is made from.
 #[tactic(auto, unfolding(mdc_ast::specs::Grammar::options_rule, mdc_ast::specs::Grammar::generated_rule))]
 fn options(cursor: &mut Cursor) -> Result<(bool, Option<GenText>), Stop>
-    ensures { Gives result (tokens_of cursor.new.tokens.now) (read grammar.options_rule (tokens_of cursor.old.tokens.now)) }
+    ensures { Parses result (tokens_of cursor.new.tokens.now) (read grammar.options_rule (tokens_of cursor.old.tokens.now)) }
 {
     if cursor.at_word(b"NOT") {
         cursor.word(b"NOT")?;
@@ -90,7 +90,7 @@ fn options(cursor: &mut Cursor) -> Result<(bool, Option<GenText>), Stop>
 
 #[tactic(auto, unfolding(mdc_ast::specs::Grammar::not_null_rule))]
 fn not_null(cursor: &mut Cursor) -> Result<bool, Stop>
-    ensures { Gives result (tokens_of cursor.new.tokens.now) (read grammar.not_null_rule (tokens_of cursor.old.tokens.now)) }
+    ensures { Parses result (tokens_of cursor.new.tokens.now) (read grammar.not_null_rule (tokens_of cursor.old.tokens.now)) }
 {
     if cursor.at_word(b"NOT") {
         cursor.word(b"NOT")?;
@@ -102,7 +102,7 @@ fn not_null(cursor: &mut Cursor) -> Result<bool, Stop>
 
 #[tactic(auto, unfolding(mdc_ast::specs::Grammar::generated_rule))]
 fn generated_if_any(cursor: &mut Cursor) -> Result<Option<GenText>, Stop>
-    ensures { Gives result (tokens_of cursor.new.tokens.now) (read (perhaps grammar.generated_rule) (tokens_of cursor.old.tokens.now)) }
+    ensures { Parses result (tokens_of cursor.new.tokens.now) (read (perhaps grammar.generated_rule) (tokens_of cursor.old.tokens.now)) }
 {
     if cursor.at_word(b"GENERATED") {
         let made = generated(cursor)?;
@@ -113,7 +113,7 @@ fn generated_if_any(cursor: &mut Cursor) -> Result<Option<GenText>, Stop>
 
 #[tactic(auto, unfolding(mdc_ast::specs::Grammar::generated_rule))]
 fn generated(cursor: &mut Cursor) -> Result<GenText, Stop>
-    ensures { Gives result (tokens_of cursor.new.tokens.now) (read grammar.generated_rule (tokens_of cursor.old.tokens.now)) }
+    ensures { Parses result (tokens_of cursor.new.tokens.now) (read grammar.generated_rule (tokens_of cursor.old.tokens.now)) }
 {
     cursor.word(b"GENERATED")?;
     cursor.word(b"ALWAYS")?;
@@ -127,7 +127,7 @@ fn generated(cursor: &mut Cursor) -> Result<GenText, Stop>
 /// An expression. INTEGER, INT, YEAR and MONTH are names where no parenthesis opens behind them.
 #[tactic(auto, unfolding(mdc_ast::specs::Grammar::expression_rule, mdc_ast::specs::Grammar::divided_rule, mdc_ast::specs::Grammar::call_rule))]
 fn expression(cursor: &mut Cursor) -> Result<GenText, Stop>
-    ensures { Gives result (tokens_of cursor.new.tokens.now) (read grammar.expression_rule (tokens_of cursor.old.tokens.now)) }
+    ensures { Parses result (tokens_of cursor.new.tokens.now) (read grammar.expression_rule (tokens_of cursor.old.tokens.now)) }
 {
     if cursor.takes_call(b"INTEGER") {
         return divided(cursor);
@@ -168,7 +168,7 @@ fn part_of(kind: GenKind, base: Name) -> GenText
 /// What is behind INTEGER.
 #[tactic(auto, unfolding(mdc_ast::specs::Grammar::divided_rule))]
 fn divided(cursor: &mut Cursor) -> Result<GenText, Stop>
-    ensures { Gives result (tokens_of cursor.new.tokens.now) (read grammar.divided_rule (tokens_of cursor.old.tokens.now)) }
+    ensures { Parses result (tokens_of cursor.new.tokens.now) (read grammar.divided_rule (tokens_of cursor.old.tokens.now)) }
 {
     let base = call(cursor)?;
     let mut k = 1;
@@ -187,7 +187,7 @@ fn divided(cursor: &mut Cursor) -> Result<GenText, Stop>
 /// What is done to a number: the kind of expression, whether its number is below zero, and the number.
 #[tactic(auto, unfolding(mdc_ast::specs::Grammar::change_rule))]
 fn change(cursor: &mut Cursor) -> Result<(GenKind, bool, u64), Stop>
-    ensures { Gives result (tokens_of cursor.new.tokens.now) (read grammar.change_rule (tokens_of cursor.old.tokens.now)) }
+    ensures { Parses result (tokens_of cursor.new.tokens.now) (read grammar.change_rule (tokens_of cursor.old.tokens.now)) }
 {
     if cursor.at_symbol(Symbol::Slash) {
         cursor.symbol(Symbol::Slash)?;
@@ -207,7 +207,7 @@ fn change(cursor: &mut Cursor) -> Result<(GenKind, bool, u64), Stop>
 /// A name in parentheses.
 #[tactic(auto, unfolding(mdc_ast::specs::Grammar::call_rule))]
 pub fn call(cursor: &mut Cursor) -> Result<Name, Stop>
-    ensures { Gives result (tokens_of cursor.new.tokens.now) (read grammar.call_rule (tokens_of cursor.old.tokens.now)) }
+    ensures { Parses result (tokens_of cursor.new.tokens.now) (read grammar.call_rule (tokens_of cursor.old.tokens.now)) }
 {
     cursor.symbol(Symbol::Opening)?;
     let name = cursor.name()?;

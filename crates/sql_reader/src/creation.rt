@@ -1,7 +1,7 @@
 // CREATE TABLE, CREATE INDEX and DROP.
 ghost use Rattle.std.specs.Prelude.{◌≡◌};
 ghost use Rattle.mdc_ast.specs.Grammar as grammar;
-ghost use Rattle.sql_reader.specs.Gives.{Gives};
+ghost use Rattle.sql_reader.specs.Parses.{Parses};
 ghost use Rattle.sql_reader.specs.Readers.{read};
 ghost use Rattle.sql_reader.specs.Token.{tokens_of};
 
@@ -13,7 +13,7 @@ use mdc_values::List;
 /// What is behind CREATE.
 #[tactic(auto, unfolding(mdc_ast::specs::Grammar::create_rule))]
 pub fn create(cursor: &mut Cursor) -> Result<Stmt, Stop>
-    ensures { Gives result (tokens_of cursor.new.tokens.now) (read grammar.create_rule (tokens_of cursor.old.tokens.now)) }
+    ensures { Parses result (tokens_of cursor.new.tokens.now) (read grammar.create_rule (tokens_of cursor.old.tokens.now)) }
 {
     if cursor.at_word(b"TABLE") {
         cursor.word(b"TABLE")?;
@@ -28,7 +28,7 @@ pub fn create(cursor: &mut Cursor) -> Result<Stmt, Stop>
 
 #[tactic(auto, unfolding(mdc_ast::specs::Grammar::table_rule))]
 fn table(cursor: &mut Cursor) -> Result<Stmt, Stop>
-    ensures { Gives result (tokens_of cursor.new.tokens.now) (read grammar.table_rule (tokens_of cursor.old.tokens.now)) }
+    ensures { Parses result (tokens_of cursor.new.tokens.now) (read grammar.table_rule (tokens_of cursor.old.tokens.now)) }
 {
     let name = cursor.name()?;
     let columns = cursor.listed()?;
@@ -44,7 +44,7 @@ fn table(cursor: &mut Cursor) -> Result<Stmt, Stop>
 
 #[tactic(auto, unfolding(mdc_ast::specs::Grammar::dims_rule))]
 fn dims(cursor: &mut Cursor) -> Result<List<List<Name>>, Stop>
-    ensures { Gives result (tokens_of cursor.new.tokens.now) (read grammar.dims_rule (tokens_of cursor.old.tokens.now)) }
+    ensures { Parses result (tokens_of cursor.new.tokens.now) (read grammar.dims_rule (tokens_of cursor.old.tokens.now)) }
 {
     if cursor.at_word(b"DIMENSIONS") {
         cursor.word(b"DIMENSIONS")?;
@@ -71,7 +71,7 @@ impl Part for List<Name> {
 
 #[tactic(auto, unfolding(mdc_ast::specs::Grammar::index_rule))]
 fn index(cursor: &mut Cursor, unique: bool) -> Result<Stmt, Stop>
-    ensures { Gives result (tokens_of cursor.new.tokens.now) (read (grammar.index_rule unique) (tokens_of cursor.old.tokens.now)) }
+    ensures { Parses result (tokens_of cursor.new.tokens.now) (read (grammar.index_rule unique) (tokens_of cursor.old.tokens.now)) }
 {
     cursor.word(b"INDEX")?;
     let name = cursor.name()?;
@@ -99,7 +99,7 @@ impl Part for KeyText {
 
 #[tactic(auto, unfolding(mdc_ast::specs::Grammar::descending_rule))]
 fn descending(cursor: &mut Cursor) -> Result<bool, Stop>
-    ensures { Gives result (tokens_of cursor.new.tokens.now) (read grammar.descending_rule (tokens_of cursor.old.tokens.now)) }
+    ensures { Parses result (tokens_of cursor.new.tokens.now) (read grammar.descending_rule (tokens_of cursor.old.tokens.now)) }
 {
     if cursor.at_word(b"ASC") {
         cursor.word(b"ASC")?;
@@ -115,7 +115,7 @@ fn descending(cursor: &mut Cursor) -> Result<bool, Stop>
 /// What is behind DROP.
 #[tactic(auto, unfolding(mdc_ast::specs::Grammar::drop_rule))]
 pub fn drop_statement(cursor: &mut Cursor) -> Result<Stmt, Stop>
-    ensures { Gives result (tokens_of cursor.new.tokens.now) (read grammar.drop_rule (tokens_of cursor.old.tokens.now)) }
+    ensures { Parses result (tokens_of cursor.new.tokens.now) (read grammar.drop_rule (tokens_of cursor.old.tokens.now)) }
 {
     if cursor.at_word(b"TABLE") {
         cursor.word(b"TABLE")?;

@@ -3,7 +3,7 @@ ghost use Rattle.std.specs.Prelude.{◌≡◌, [], ◌∷◌, true, false, IfOk,
 ghost use Rattle.mdc_ast.specs.Classes.{W, S, AnyName, AnyNumber, AnyText, opening, comma, name_in, number_in, text_in};
 ghost use Rattle.mdc_ast.specs.Reading.{bytes_left};
 ghost use Rattle.mdc_ast.specs.Tokens.{upper};
-ghost use Rattle.sql_reader.specs.Gives.{Gives, Skips};
+ghost use Rattle.sql_reader.specs.Parses.{Parses, Skips};
 ghost use Rattle.sql_reader.specs.Readers.{begins, skip, one, forks, behind_first, separated_at, listed_at};
 ghost use Rattle.sql_reader.specs.Token.{bytes_of, tokens_of, undoubled};
 
@@ -38,7 +38,7 @@ pub trait Part: Sized + Drop {
     ghost part_at: { Reader Self };
 
     fn take(cursor: &mut Cursor) -> Result<Self, Stop>
-        ensures { Gives result (tokens_of cursor.new.tokens.now) (part_at (tokens_of cursor.old.tokens.now)) };
+        ensures { Parses result (tokens_of cursor.new.tokens.now) (part_at (tokens_of cursor.old.tokens.now)) };
 }
 
 /// The tokens from a place on.
@@ -191,7 +191,7 @@ impl<'t> Cursor<'t> {
 
     /// Takes a name.
     pub fn name(&mut self) -> Result<Name, Stop>
-        ensures { Gives result (tokens_of self.new.tokens.now) (one AnyName name_in (tokens_of self.old.tokens.now)) }
+        ensures { Parses result (tokens_of self.new.tokens.now) (one AnyName name_in (tokens_of self.old.tokens.now)) }
     {
         let [token, rest @ ..] = self.tokens else {
             return Err(Stop::NotSpelled);
@@ -209,7 +209,7 @@ impl<'t> Cursor<'t> {
 
     /// Takes a number.
     pub fn number(&mut self) -> Result<u64, Stop>
-        ensures { Gives result (tokens_of self.new.tokens.now) (one AnyNumber number_in (tokens_of self.old.tokens.now)) }
+        ensures { Parses result (tokens_of self.new.tokens.now) (one AnyNumber number_in (tokens_of self.old.tokens.now)) }
     {
         let [token, rest @ ..] = self.tokens else {
             return Err(Stop::NotSpelled);
@@ -223,7 +223,7 @@ impl<'t> Cursor<'t> {
 
     /// Takes a text.
     pub fn text(&mut self) -> Result<Chars, Stop>
-        ensures { Gives result (tokens_of self.new.tokens.now) (one AnyText text_in (tokens_of self.old.tokens.now)) }
+        ensures { Parses result (tokens_of self.new.tokens.now) (one AnyText text_in (tokens_of self.old.tokens.now)) }
     {
         let [token, rest @ ..] = self.tokens else {
             return Err(Stop::NotSpelled);
@@ -238,7 +238,7 @@ impl<'t> Cursor<'t> {
 
     /// Takes one part or more, with a comma between two of them.
     pub fn separated<P: Part>(&mut self) -> Result<List<P>, Stop>
-        ensures { Gives result (tokens_of self.new.tokens.now) (separated_at comma P.part_at (tokens_of self.old.tokens.now)) }
+        ensures { Parses result (tokens_of self.new.tokens.now) (separated_at comma P.part_at (tokens_of self.old.tokens.now)) }
     {
         let first = P::take(self)?;
         let mut parts = List::new(self.alloc);
@@ -256,7 +256,7 @@ impl<'t> Cursor<'t> {
     /// Takes such parts in parentheses.
     #[tactic(auto, unfolding(crate::specs::Readers::listed_at))]
     pub fn listed<P: Part>(&mut self) -> Result<List<P>, Stop>
-        ensures { Gives result (tokens_of self.new.tokens.now) (listed_at P.part_at (tokens_of self.old.tokens.now)) }
+        ensures { Parses result (tokens_of self.new.tokens.now) (listed_at P.part_at (tokens_of self.old.tokens.now)) }
     {
         self.symbol(Symbol::Opening)?;
         let parts = self.separated()?;

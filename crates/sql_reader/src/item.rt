@@ -17,7 +17,7 @@ use mdc_values::{Chars, Memory};
 use std::alloc::Global;
 
 /// The greatest number of bytes of a statement.
-const STATEMENT_LIMIT: usize = 65_536;
+pub(crate) const STATEMENT_LIMIT: usize = 65_536;
 
 /// How many NOTs and parentheses of a predicate may stand within one another.
 const NESTING_LIMIT: u8 = 64;

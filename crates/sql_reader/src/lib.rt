@@ -1,4 +1,5 @@
-//! The items of a script, as its bytes come in: one for each statement, understood or refused.
+//! The items of a script, as its bytes come in: one for each statement, understood or refused. One statement is kept at a
+//! time.
 //!
 //! It promises that the items are those of the grammar of `mdc_ast`, whatever pieces the bytes come in: a statement
 //! exactly where the bytes spell one, a refusal with the place of the first byte or token with which none goes on; and
@@ -27,6 +28,3 @@ mod upkeep;
 
 pub use laws::{one_closing, one_reading, worked_reading};
 pub use statements::{Read, ReadStop, SCRIPT_LIMIT, Statements};
-
-#[cfg(test)]
-mod tests;

@@ -1,7 +1,7 @@
 // Names, literals and operands.
 ghost use Rattle.std.specs.Prelude.{◌≡◌};
 ghost use Rattle.mdc_ast.specs.Grammar as grammar;
-ghost use Rattle.sql_reader.specs.Gives.{Gives};
+ghost use Rattle.sql_reader.specs.Parses.{Parses};
 ghost use Rattle.sql_reader.specs.LookAhead.{starts};
 ghost use Rattle.sql_reader.specs.Readers.{begins, read};
 ghost use Rattle.sql_reader.specs.Token.{tokens_of};
@@ -36,7 +36,7 @@ impl Part for Literal {
 /// An operand. DATE is the name of a column where no text stands behind it.
 #[tactic(auto, unfolding(mdc_ast::specs::Grammar::operand_rule))]
 pub fn operand(cursor: &mut Cursor) -> Result<Operand, Stop>
-    ensures { Gives result (tokens_of cursor.new.tokens.now) (read grammar.operand_rule (tokens_of cursor.old.tokens.now)) }
+    ensures { Parses result (tokens_of cursor.new.tokens.now) (read grammar.operand_rule (tokens_of cursor.old.tokens.now)) }
 {
     if at_plain(cursor) {
         let literal = plain(cursor)?;
@@ -65,7 +65,7 @@ fn at_plain(cursor: &Cursor) -> bool
 /// A literal other than a date.
 #[tactic(auto, unfolding(mdc_ast::specs::Grammar::plain_rule))]
 fn plain(cursor: &mut Cursor) -> Result<Literal, Stop>
-    ensures { Gives result (tokens_of cursor.new.tokens.now) (read grammar.plain_rule (tokens_of cursor.old.tokens.now)) }
+    ensures { Parses result (tokens_of cursor.new.tokens.now) (read grammar.plain_rule (tokens_of cursor.old.tokens.now)) }
 {
     if cursor.at_symbol(Symbol::Plus) {
         cursor.symbol(Symbol::Plus)?;

@@ -1,7 +1,7 @@
 // The statement that tokens spell, or where they go wrong.
 ghost use Rattle.std.specs.Prelude.{◌≡◌, ◌<◌, IfOk, Err};
 ghost use Rattle.mdc_ast.specs.Grammar as grammar;
-ghost use Rattle.sql_reader.specs.Gives.{Gives};
+ghost use Rattle.sql_reader.specs.Parses.{Parses};
 ghost use Rattle.sql_reader.specs.Readers.{read};
 ghost use Rattle.sql_reader.specs.Parsed.{IsParsed};
 ghost use Rattle.sql_reader.specs.Token.{tokens_of};
@@ -69,7 +69,7 @@ fn judge(alloc: Global, tokens: &[Token], limit: u8, stopped: Cursor) -> Result<
 /// A statement whose predicate nests at most `depth` deep.
 #[tactic(auto, unfolding(mdc_ast::specs::Grammar::statement_rule, mdc_ast::specs::Grammar::query_rule))]
 fn statement(cursor: &mut Cursor, depth: u8) -> Result<Stmt, Stop>
-    ensures { Gives result (tokens_of cursor.new.tokens.now) (read (grammar.statement_rule depth) (tokens_of cursor.old.tokens.now)) }
+    ensures { Parses result (tokens_of cursor.new.tokens.now) (read (grammar.statement_rule depth) (tokens_of cursor.old.tokens.now)) }
 {
     if cursor.at_word(b"INSERT") {
         cursor.word(b"INSERT")?;
@@ -98,7 +98,7 @@ fn statement(cursor: &mut Cursor, depth: u8) -> Result<Stmt, Stop>
 /// A statement without a predicate, other than INSERT.
 #[tactic(auto, unfolding(mdc_ast::specs::Grammar::other_rule))]
 fn other(cursor: &mut Cursor) -> Result<Stmt, Stop>
-    ensures { Gives result (tokens_of cursor.new.tokens.now) (read grammar.other_rule (tokens_of cursor.old.tokens.now)) }
+    ensures { Parses result (tokens_of cursor.new.tokens.now) (read grammar.other_rule (tokens_of cursor.old.tokens.now)) }
 {
     if cursor.at_word(b"CREATE") {
         cursor.word(b"CREATE")?;

@@ -1,7 +1,7 @@
 // Predicates.
 ghost use Rattle.std.specs.Prelude.{◌≡◌, ◌<◌, length};
 ghost use Rattle.mdc_ast.specs.Grammar as grammar;
-ghost use Rattle.sql_reader.specs.Gives.{Gives};
+ghost use Rattle.sql_reader.specs.Parses.{Parses};
 ghost use Rattle.sql_reader.specs.Readers.{read};
 ghost use Rattle.sql_reader.specs.Token.{tokens_of};
 
@@ -14,7 +14,7 @@ use mdc_values::{Boxed, List, Op};
 /// The predicate behind WHERE, if there is one, with at most `depth` NOTs and parentheses within one another.
 #[tactic(auto, unfolding(mdc_ast::specs::Grammar::where_rule))]
 pub fn filter(cursor: &mut Cursor, depth: u8) -> Result<Option<PredText>, Stop>
-    ensures { Gives result (tokens_of cursor.new.tokens.now) (read (grammar.where_rule depth) (tokens_of cursor.old.tokens.now)) }
+    ensures { Parses result (tokens_of cursor.new.tokens.now) (read (grammar.where_rule depth) (tokens_of cursor.old.tokens.now)) }
 {
     if cursor.at_word(b"WHERE") {
         cursor.word(b"WHERE")?;
@@ -27,9 +27,12 @@ pub fn filter(cursor: &mut Cursor, depth: u8) -> Result<Option<PredText>, Stop>
 /// Conjunctions joined by OR.
 #[cycle(pred)]
 fn pred(cursor: &mut Cursor, depth: u8) -> Result<PredText, Stop>
-    ensures { Gives result (tokens_of cursor.new.tokens.now) (read (grammar.pred_rule (grammar.factor_rule depth)) (tokens_of cursor.old.tokens.now)) }
+    ensures { Parses result (tokens_of cursor.new.tokens.now) (read (grammar.pred_rule (grammar.factor_rule depth)) (tokens_of cursor.old.tokens.now)) }
 {
     let first = conj(cursor, depth)?;
+    if !cursor.at_word(b"OR") {
+        return Ok(first);
+    }
     let mut parts = List::new(cursor.alloc);
     parts.push(first)?;
     for _ in 0..cursor.tokens.len() {
@@ -45,9 +48,12 @@ fn pred(cursor: &mut Cursor, depth: u8) -> Result<PredText, Stop>
 /// Factors joined by AND.
 #[cycle(pred)]
 fn conj(cursor: &mut Cursor, depth: u8) -> Result<PredText, Stop>
-    ensures { Gives result (tokens_of cursor.new.tokens.now) (read (grammar.conj_rule (grammar.factor_rule depth)) (tokens_of cursor.old.tokens.now)) }
+    ensures { Parses result (tokens_of cursor.new.tokens.now) (read (grammar.conj_rule (grammar.factor_rule depth)) (tokens_of cursor.old.tokens.now)) }
 {
     let first = factor(cursor, depth)?;
+    if !cursor.at_word(b"AND") {
+        return Ok(first);
+    }
     let mut parts = List::new(cursor.alloc);
     parts.push(first)?;
     for _ in 0..cursor.tokens.len() {
@@ -85,7 +91,7 @@ fn all_of(parts: List<PredText>) -> PredText
 #[cycle(pred)]
 #[tactic(auto, unfolding(mdc_ast::specs::Grammar::factor_body))]
 fn factor(cursor: &mut Cursor, depth: u8) -> Result<PredText, Stop>
-    ensures { Gives result (tokens_of cursor.new.tokens.now) (read (grammar.factor_rule depth) (tokens_of cursor.old.tokens.now)) }
+    ensures { Parses result (tokens_of cursor.new.tokens.now) (read (grammar.factor_rule depth) (tokens_of cursor.old.tokens.now)) }
 {
     if depth == 0 {
         return atom(cursor);
@@ -107,7 +113,7 @@ fn factor(cursor: &mut Cursor, depth: u8) -> Result<PredText, Stop>
 
 #[tactic(auto, unfolding(mdc_ast::specs::Grammar::atom_rule))]
 fn atom(cursor: &mut Cursor) -> Result<PredText, Stop>
-    ensures { Gives result (tokens_of cursor.new.tokens.now) (read grammar.atom_rule (tokens_of cursor.old.tokens.now)) }
+    ensures { Parses result (tokens_of cursor.new.tokens.now) (read grammar.atom_rule (tokens_of cursor.old.tokens.now)) }
 {
     let column = cursor.name()?;
     let (negated, test) = test(cursor)?;
@@ -121,7 +127,7 @@ fn atom(cursor: &mut Cursor) -> Result<PredText, Stop>
 /// A test, and whether NOT stands in it.
 #[tactic(auto, unfolding(mdc_ast::specs::Grammar::test_rule))]
 fn test(cursor: &mut Cursor) -> Result<(bool, TestText), Stop>
-    ensures { Gives result (tokens_of cursor.new.tokens.now) (read grammar.test_rule (tokens_of cursor.old.tokens.now)) }
+    ensures { Parses result (tokens_of cursor.new.tokens.now) (read grammar.test_rule (tokens_of cursor.old.tokens.now)) }
 {
     if cursor.at_word(b"NOT") {
         cursor.word(b"NOT")?;
@@ -139,7 +145,7 @@ fn test(cursor: &mut Cursor) -> Result<(bool, TestText), Stop>
 /// What is behind IS.
 #[tactic(auto, unfolding(mdc_ast::specs::Grammar::null_rule))]
 fn null(cursor: &mut Cursor) -> Result<(bool, TestText), Stop>
-    ensures { Gives result (tokens_of cursor.new.tokens.now) (read grammar.null_rule (tokens_of cursor.old.tokens.now)) }
+    ensures { Parses result (tokens_of cursor.new.tokens.now) (read grammar.null_rule (tokens_of cursor.old.tokens.now)) }
 {
     if cursor.at_word(b"NOT") {
         cursor.word(b"NOT")?;
@@ -152,7 +158,7 @@ fn null(cursor: &mut Cursor) -> Result<(bool, TestText), Stop>
 
 #[tactic(auto, unfolding(mdc_ast::specs::Grammar::plain_test_rule))]
 fn plain_test(cursor: &mut Cursor) -> Result<TestText, Stop>
-    ensures { Gives result (tokens_of cursor.new.tokens.now) (read grammar.plain_test_rule (tokens_of cursor.old.tokens.now)) }
+    ensures { Parses result (tokens_of cursor.new.tokens.now) (read grammar.plain_test_rule (tokens_of cursor.old.tokens.now)) }
 {
     if cursor.at_symbol(Symbol::Equal) {
         cursor.symbol(Symbol::Equal)?;
@@ -189,7 +195,7 @@ fn plain_test(cursor: &mut Cursor) -> Result<TestText, Stop>
 
 #[tactic(auto, unfolding(mdc_ast::specs::Grammar::range_rule))]
 fn range(cursor: &mut Cursor) -> Result<TestText, Stop>
-    ensures { Gives result (tokens_of cursor.new.tokens.now) (read grammar.range_rule (tokens_of cursor.old.tokens.now)) }
+    ensures { Parses result (tokens_of cursor.new.tokens.now) (read grammar.range_rule (tokens_of cursor.old.tokens.now)) }
 {
     if cursor.at_word(b"BETWEEN") {
         cursor.word(b"BETWEEN")?;

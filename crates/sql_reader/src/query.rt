@@ -2,7 +2,7 @@
 ghost use Rattle.std.specs.Prelude.{◌≡◌};
 ghost use Rattle.mdc_ast.specs.Grammar as grammar;
 ghost use Rattle.mdc_ast.specs.Rules.{choice, nothing};
-ghost use Rattle.sql_reader.specs.Gives.{Gives};
+ghost use Rattle.sql_reader.specs.Parses.{Parses};
 ghost use Rattle.sql_reader.specs.Readers.{read};
 ghost use Rattle.sql_reader.specs.Token.{tokens_of};
 
@@ -16,7 +16,7 @@ use mdc_values::List;
 /// A query, from SELECT on.
 #[tactic(auto, unfolding(mdc_ast::specs::Grammar::query_rule))]
 pub fn query(cursor: &mut Cursor, depth: u8) -> Result<Select, Stop>
-    ensures { Gives result (tokens_of cursor.new.tokens.now) (read (grammar.query_rule depth) (tokens_of cursor.old.tokens.now)) }
+    ensures { Parses result (tokens_of cursor.new.tokens.now) (read (grammar.query_rule depth) (tokens_of cursor.old.tokens.now)) }
 {
     cursor.word(b"SELECT")?;
     let list = list(cursor)?;
@@ -38,7 +38,7 @@ pub fn query(cursor: &mut Cursor, depth: u8) -> Result<Select, Stop>
 
 #[tactic(auto, unfolding(mdc_ast::specs::Grammar::list_rule))]
 fn list(cursor: &mut Cursor) -> Result<OutList, Stop>
-    ensures { Gives result (tokens_of cursor.new.tokens.now) (read grammar.list_rule (tokens_of cursor.old.tokens.now)) }
+    ensures { Parses result (tokens_of cursor.new.tokens.now) (read grammar.list_rule (tokens_of cursor.old.tokens.now)) }
 {
     if cursor.at_symbol(Symbol::Star) {
         cursor.symbol(Symbol::Star)?;
@@ -77,7 +77,7 @@ impl Part for Out {
 /// What is behind COUNT.
 #[tactic(auto, unfolding(mdc_ast::specs::Grammar::counted_rule))]
 fn counted(cursor: &mut Cursor) -> Result<Out, Stop>
-    ensures { Gives result (tokens_of cursor.new.tokens.now) (read grammar.counted_rule (tokens_of cursor.old.tokens.now)) }
+    ensures { Parses result (tokens_of cursor.new.tokens.now) (read grammar.counted_rule (tokens_of cursor.old.tokens.now)) }
 {
     cursor.symbol(Symbol::Opening)?;
     if cursor.at_symbol(Symbol::Star) {
@@ -92,7 +92,7 @@ fn counted(cursor: &mut Cursor) -> Result<Out, Stop>
 
 #[tactic(auto, unfolding(mdc_ast::specs::Grammar::group_rule))]
 fn group(cursor: &mut Cursor) -> Result<List<Name>, Stop>
-    ensures { Gives result (tokens_of cursor.new.tokens.now) (read grammar.group_rule (tokens_of cursor.old.tokens.now)) }
+    ensures { Parses result (tokens_of cursor.new.tokens.now) (read grammar.group_rule (tokens_of cursor.old.tokens.now)) }
 {
     if cursor.at_word(b"GROUP") {
         cursor.word(b"GROUP")?;
@@ -104,7 +104,7 @@ fn group(cursor: &mut Cursor) -> Result<List<Name>, Stop>
 
 #[tactic(auto, unfolding(mdc_ast::specs::Grammar::order_rule))]
 fn order(cursor: &mut Cursor) -> Result<List<KeyText>, Stop>
-    ensures { Gives result (tokens_of cursor.new.tokens.now) (read grammar.order_rule (tokens_of cursor.old.tokens.now)) }
+    ensures { Parses result (tokens_of cursor.new.tokens.now) (read grammar.order_rule (tokens_of cursor.old.tokens.now)) }
 {
     if cursor.at_word(b"ORDER") {
         cursor.word(b"ORDER")?;
@@ -117,7 +117,7 @@ fn order(cursor: &mut Cursor) -> Result<List<KeyText>, Stop>
 /// How many lines come first.
 #[tactic(auto, unfolding(mdc_ast::specs::Grammar::first_rule))]
 fn first(cursor: &mut Cursor) -> Result<Option<u64>, Stop>
-    ensures { Gives result (tokens_of cursor.new.tokens.now) (read grammar.first_rule (tokens_of cursor.old.tokens.now)) }
+    ensures { Parses result (tokens_of cursor.new.tokens.now) (read grammar.first_rule (tokens_of cursor.old.tokens.now)) }
 {
     if cursor.at_word(b"FETCH") {
         cursor.word(b"FETCH")?;
@@ -131,7 +131,7 @@ fn first(cursor: &mut Cursor) -> Result<Option<u64>, Stop>
 
 /// A number, or 1 where there is none.
 fn count(cursor: &mut Cursor) -> Result<u64, Stop>
-    ensures { Gives result (tokens_of cursor.new.tokens.now) (read (choice grammar.number_rule (nothing 1)) (tokens_of cursor.old.tokens.now)) }
+    ensures { Parses result (tokens_of cursor.new.tokens.now) (read (choice grammar.number_rule (nothing 1)) (tokens_of cursor.old.tokens.now)) }
 {
     if cursor.at_number() {
         return cursor.number();
@@ -141,7 +141,7 @@ fn count(cursor: &mut Cursor) -> Result<u64, Stop>
 
 #[tactic(auto, unfolding(mdc_ast::specs::Grammar::rows_rule))]
 fn rows_only(cursor: &mut Cursor) -> Result<(), Stop>
-    ensures { Gives result (tokens_of cursor.new.tokens.now) (read grammar.rows_rule (tokens_of cursor.old.tokens.now)) }
+    ensures { Parses result (tokens_of cursor.new.tokens.now) (read grammar.rows_rule (tokens_of cursor.old.tokens.now)) }
 {
     if cursor.at_word(b"ROW") {
         cursor.word(b"ROW")?;

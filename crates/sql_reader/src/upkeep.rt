@@ -1,7 +1,7 @@
 // Settings, upkeep and transactions.
 ghost use Rattle.std.specs.Prelude.{◌≡◌};
 ghost use Rattle.mdc_ast.specs.Grammar as grammar;
-ghost use Rattle.sql_reader.specs.Gives.{Gives};
+ghost use Rattle.sql_reader.specs.Parses.{Parses};
 ghost use Rattle.sql_reader.specs.Readers.{read};
 ghost use Rattle.sql_reader.specs.Token.{tokens_of};
 
@@ -11,7 +11,7 @@ use mdc_ast::{PlanMode, RolloutMode, Stmt};
 /// What is behind SET.
 #[tactic(auto, unfolding(mdc_ast::specs::Grammar::setting_rule))]
 pub fn setting(cursor: &mut Cursor) -> Result<Stmt, Stop>
-    ensures { Gives result (tokens_of cursor.new.tokens.now) (read grammar.setting_rule (tokens_of cursor.old.tokens.now)) }
+    ensures { Parses result (tokens_of cursor.new.tokens.now) (read grammar.setting_rule (tokens_of cursor.old.tokens.now)) }
 {
     if cursor.at_word(b"CURRENT") {
         cursor.word(b"CURRENT")?;
@@ -34,7 +34,7 @@ pub fn setting(cursor: &mut Cursor) -> Result<Stmt, Stop>
 
 #[tactic(auto, unfolding(mdc_ast::specs::Grammar::rollout_rule))]
 fn rollout_mode(cursor: &mut Cursor) -> Result<RolloutMode, Stop>
-    ensures { Gives result (tokens_of cursor.new.tokens.now) (read grammar.rollout_rule (tokens_of cursor.old.tokens.now)) }
+    ensures { Parses result (tokens_of cursor.new.tokens.now) (read grammar.rollout_rule (tokens_of cursor.old.tokens.now)) }
 {
     if cursor.at_word(b"NONE") {
         cursor.word(b"NONE")?;
@@ -50,7 +50,7 @@ fn rollout_mode(cursor: &mut Cursor) -> Result<RolloutMode, Stop>
 
 #[tactic(auto, unfolding(mdc_ast::specs::Grammar::plan_rule))]
 fn plan_mode(cursor: &mut Cursor) -> Result<PlanMode, Stop>
-    ensures { Gives result (tokens_of cursor.new.tokens.now) (read grammar.plan_rule (tokens_of cursor.old.tokens.now)) }
+    ensures { Parses result (tokens_of cursor.new.tokens.now) (read grammar.plan_rule (tokens_of cursor.old.tokens.now)) }
 {
     if cursor.at_word(b"AUTO") {
         cursor.word(b"AUTO")?;
@@ -71,7 +71,7 @@ fn plan_mode(cursor: &mut Cursor) -> Result<PlanMode, Stop>
 /// What is behind CLEAN.
 #[tactic(auto, unfolding(mdc_ast::specs::Grammar::clean_rule))]
 pub fn clean(cursor: &mut Cursor) -> Result<Stmt, Stop>
-    ensures { Gives result (tokens_of cursor.new.tokens.now) (read grammar.clean_rule (tokens_of cursor.old.tokens.now)) }
+    ensures { Parses result (tokens_of cursor.new.tokens.now) (read grammar.clean_rule (tokens_of cursor.old.tokens.now)) }
 {
     if cursor.at_word(b"TABLE") {
         cursor.word(b"TABLE")?;
@@ -86,7 +86,7 @@ pub fn clean(cursor: &mut Cursor) -> Result<Stmt, Stop>
 /// What is behind LIST.
 #[tactic(auto, unfolding(mdc_ast::specs::Grammar::blocks_rule))]
 pub fn list_blocks(cursor: &mut Cursor) -> Result<Stmt, Stop>
-    ensures { Gives result (tokens_of cursor.new.tokens.now) (read grammar.blocks_rule (tokens_of cursor.old.tokens.now)) }
+    ensures { Parses result (tokens_of cursor.new.tokens.now) (read grammar.blocks_rule (tokens_of cursor.old.tokens.now)) }
 {
     cursor.word(b"BLOCKS")?;
     let table = cursor.name()?;
@@ -96,7 +96,7 @@ pub fn list_blocks(cursor: &mut Cursor) -> Result<Stmt, Stop>
 /// What is behind REORG.
 #[tactic(auto, unfolding(mdc_ast::specs::Grammar::reclaim_rule))]
 pub fn reclaim(cursor: &mut Cursor) -> Result<Stmt, Stop>
-    ensures { Gives result (tokens_of cursor.new.tokens.now) (read grammar.reclaim_rule (tokens_of cursor.old.tokens.now)) }
+    ensures { Parses result (tokens_of cursor.new.tokens.now) (read grammar.reclaim_rule (tokens_of cursor.old.tokens.now)) }
 {
     cursor.word(b"TABLE")?;
     let table = cursor.name()?;
@@ -108,7 +108,7 @@ pub fn reclaim(cursor: &mut Cursor) -> Result<Stmt, Stop>
 /// COMMIT or ROLLBACK, whether WORK stands behind it or not.
 #[tactic(auto, unfolding(mdc_ast::specs::Grammar::work_rule))]
 pub fn work(cursor: &mut Cursor, statement: Stmt) -> Result<Stmt, Stop>
-    ensures { Gives result (tokens_of cursor.new.tokens.now) (read (grammar.work_rule statement) (tokens_of cursor.old.tokens.now)) }
+    ensures { Parses result (tokens_of cursor.new.tokens.now) (read (grammar.work_rule statement) (tokens_of cursor.old.tokens.now)) }
 {
     if cursor.at_word(b"WORK") {
         cursor.word(b"WORK")?;

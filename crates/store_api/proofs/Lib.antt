@@ -1,3 +1,4 @@
+pub mod BoxesLemmas
 pub mod CausesLemmas
 mod Differing
 pub mod FetchingLemmas

@@ -7,6 +7,7 @@ pub mod History
 pub mod Lending
 pub mod MemStore
 pub mod Moments
+pub mod NumberedPages
 pub mod RunsOverPages
 pub mod StoreState
 pub mod Works

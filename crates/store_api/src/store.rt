@@ -1,5 +1,5 @@
 // A store of pages whose work becomes its base whole or not at all, and which tells bytes.
-ghost use Rattle.std.specs.Prelude.{◌≡◌, ◌<◌, ◌≤◌, IsTrue, true, false, length, None, OnOk, OnErr, IsErr, IsErrOf};
+ghost use Rattle.std.specs.Prelude.{◌≡◌, ◌<◌, ◌≤◌, IsTrue, true, false, length, None, IsOk, OnOk, OnErr, IsErr, IsErrOf};
 ghost use Rattle.mdc_words.specs.Faults.{CountsFault};
 ghost use Rattle.mdc_words.specs.Time.{OverTime, RestsAt};
 ghost use Rattle.store_api.specs.StoreState.{stated_count, differing};
@@ -40,13 +40,14 @@ pub trait Store: Pages {
         ensures time { OverTime Self.clock Self.left (OnlyBase (Self.state self.old)) self.old self.new };
 
     /// Makes the work the base. A crash within it leaves the one or the other, and after a fault so does each later
-    /// crash: the store then takes no further call.
+    /// crash: the store then takes no further call. Where no page differs, it can't fail, and no time passes.
     fn commit(&mut self) -> Result<(), DeviceFault>
         requires going { (Self.state self.old).ended ≡ false }
         requires prepared { (Self.state self.old).prepared ≡ true }
         ensures ok { OnOk result (Commits (Self.state self.old) (Self.state self.new)) }
         ensures err { OnErr result (Ends (Self.state self.old) (Self.state self.new)) }
         ensures written { OnOk result (Self.written self.new ≡ 0) }
+        ensures quiet { Self.written self.old ≡ 0 → IsOk result × (Self.clock self.new ≡ Self.clock self.old) }
         ensures disk_faults { CountsFault (IsErr result) (Self.disk_faults self.old) (Self.disk_faults self.new) }
         ensures say_faults { Self.say_faults self.new ≡ Self.say_faults self.old }
         ensures time { OverTime Self.clock Self.left (BaseOrWork (Self.state self.old)) self.old self.new }

@@ -2,7 +2,10 @@
 ghost use Rattle.std.specs.Prelude.{◌≡◌, false, None, IsSome, OnOk};
 
 use crate::stop::Stop;
-use store_api::{Page, Pages, Store, stated_count};
+use store_api::{Page, Pages, Store, put, stated_count};
+
+// Where in a page bytes are written over.
+const PLACE: usize = 1000;
 
 /// Brings a page of the work to hand.
 pub fn fetch<S: Pages>(store: &mut S, p: u32) -> Result<(), Stop>
@@ -28,6 +31,19 @@ pub fn write<S: Pages>(store: &mut S, p: u32, bytes: &Page) -> Result<(), Stop>
         return Err(Stop::TooLarge);
     }
     store.write(p, bytes)?;
+    Ok(())
+}
+
+/// Writes bytes over ten of a page of the work.
+pub fn edit<S: Pages>(store: &mut S, p: u32, bytes: &[u8; 10]) -> Result<(), Stop>
+    requires { (S.state store.old).ended ≡ false }
+    ensures going { (S.state store.new).ended ≡ false }
+    ensures marked { (S.state store.new).marked ≡ (S.state store.old).marked }
+{
+    if p >= store.count() {
+        return Err(Stop::TooLarge);
+    }
+    put(store.edit(p)?, PLACE, bytes);
     Ok(())
 }
 

@@ -20,7 +20,7 @@ use stop::Stop;
 fn main(rt: HostRuntime) -> Result<(), Stop> {
     let words = words(&rt)?;
     let Some(plan) = plan_of(&words) else {
-        println!(rt; "usage: store_bench open|hot|cold|commit|undo SIZE TIMES")?;
+        println!(rt; "usage: store_bench open|hot|cold|commit|undo|first|again SIZE TIMES")?;
         return Ok(());
     };
     let host = FileHost::new(rt.alloc(), rt.clone()?, rt.stdout());
@@ -37,6 +37,8 @@ fn carry_out<H: Host + Drop>(alloc: Global, host: H, plan: Plan) -> Result<u64, 
         What::Cold => work::cold(alloc, host, plan.size, plan.times),
         What::Commit => work::commit(alloc, host, plan.size, plan.times),
         What::Undo => work::undo(alloc, host, plan.size, plan.times),
+        What::First => work::first(alloc, host, plan.size, plan.times),
+        What::Again => work::again(alloc, host, plan.size, plan.times),
     }
 }
 

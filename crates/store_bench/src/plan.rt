@@ -13,6 +13,10 @@ pub enum What {
     Commit,
     /// Write so many pages under a mark, and go back to it.
     Undo,
+    /// Edit each of so many pages once under a mark.
+    First,
+    /// Edit pages that were edited under the mark so many times.
+    Again,
 }
 
 /// What to do, of what size, and how often.
@@ -43,6 +47,8 @@ fn what_of(word: &str) -> Option<What> {
         "cold" => Some(What::Cold),
         "commit" => Some(What::Commit),
         "undo" => Some(What::Undo),
+        "first" => Some(What::First),
+        "again" => Some(What::Again),
         _ => None,
     }
 }

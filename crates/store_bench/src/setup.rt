@@ -20,8 +20,8 @@ const EXTENTS: u32 = 7680;
 
 const EXTENT_PAGES: u32 = 32;
 
-// How many pages a file grows by in one commit.
-const STEP: u32 = 4096;
+// How many pages a file grows by in one commit: so few that a commit of many pages needs more memory than the growth did.
+const STEP: u32 = 64;
 
 /// Makes a file of at least so many pages, and opens it.
 pub fn made<H: Host + Drop>(alloc: Global, mut host: H, pages: u32) -> Result<FileStore<H>, Stop>

@@ -14,6 +14,9 @@ const CACHED: u32 = 1024;
 // How many pages there are where none is found in the cache, and where pages are committed.
 const MANY: u32 = 8192;
 
+// How many pages there are where each is edited again and again.
+const FEW: u32 = 8;
+
 /// Opens a file of at least so many pages, and closes it.
 pub fn open<H: Host + Drop>(alloc: Global, host: H, pages: u32, times: u32) -> Result<u64, Stop> {
     let mut host = made(alloc, host, pages)?.close();
@@ -56,6 +59,24 @@ pub fn undo<H: Host + Drop>(alloc: Global, host: H, pages: u32, times: u32) -> R
     fetch_around(&mut store, MANY, MANY)
 }
 
+/// Edits each of so many pages once under a mark, over pages that were written before it, and keeps what was done.
+pub fn first<H: Host + Drop>(alloc: Global, host: H, pages: u32, times: u32) -> Result<u64, Stop> {
+    let mut store = made(alloc, host, MANY)?;
+    write_pages(&mut store, pages, &[5; 4096])?;
+    edit_times(&mut store, pages, times)?;
+    fetch_around(&mut store, MANY, MANY)
+}
+
+/// Edits pages under one mark so many times, each of which was edited under it before.
+pub fn again<H: Host + Drop>(alloc: Global, host: H, edits: u32, times: u32) -> Result<u64, Stop> {
+    let mut store = made(alloc, host, MANY)?;
+    write_pages(&mut store, FEW, &[5; 4096])?;
+    store.mark();
+    edit_pages(&mut store, FEW)?;
+    edit_rounds(&mut store, FEW, (edits / FEW).saturating_mul(times))?;
+    fetch_around(&mut store, MANY, MANY)
+}
+
 // Fetches so many pages, from page 0 again after each round of that many.
 fn fetch_around<S: Pages>(store: &mut S, round: u32, pages: u32) -> Result<u64, Stop>
     requires going { (S.state store.old).ended ≡ false }
@@ -63,9 +84,12 @@ fn fetch_around<S: Pages>(store: &mut S, round: u32, pages: u32) -> Result<u64, 
     ensures going { (S.state store.new).ended ≡ false }
     ensures marked { (S.state store.new).marked ≡ (S.state store.old).marked }
 {
+    if round > store.count() {
+        return Err(Stop::TooLarge);
+    }
     let mut sum: u64 = 0;
     for i in 0..pages {
-        calls::fetch(store, i % round)?;
+        store.fetch(i % round)?;
         sum = sum.wrapping_add(u64::from(store.page()[0]));
     }
     Ok(sum)
@@ -104,6 +128,43 @@ fn undo_times<S: Pages>(store: &mut S, pages: u32, times: u32) -> Result<(), Sto
         store.mark();
         write_pages(store, pages, &[7; 4096])?;
         store.undo();
+    }
+    Ok(())
+}
+
+// Edits each of so many pages once under a mark that is then kept, so many times.
+fn edit_times<S: Pages>(store: &mut S, pages: u32, times: u32) -> Result<(), Stop>
+    requires going { (S.state store.old).ended ≡ false }
+    requires unmarked { (S.state store.old).marked ≡ None }
+    ensures { (S.state store.new).ended ≡ false }
+{
+    for _ in 0..times {
+        store.mark();
+        edit_pages(store, pages)?;
+        store.keep()?;
+    }
+    Ok(())
+}
+
+// Edits the first pages behind page 0 in so many rounds.
+fn edit_rounds<S: Pages>(store: &mut S, pages: u32, rounds: u32) -> Result<(), Stop>
+    requires { (S.state store.old).ended ≡ false }
+    ensures { (S.state store.new).ended ≡ false }
+{
+    for _ in 0..rounds {
+        edit_pages(store, pages)?;
+    }
+    Ok(())
+}
+
+// Edits each of so many pages behind page 0.
+fn edit_pages<S: Pages>(store: &mut S, pages: u32) -> Result<(), Stop>
+    requires { (S.state store.old).ended ≡ false }
+    ensures going { (S.state store.new).ended ≡ false }
+    ensures marked { (S.state store.new).marked ≡ (S.state store.old).marked }
+{
+    for i in 0..pages {
+        calls::edit(store, i + 1, &[9; 10])?;
     }
     Ok(())
 }

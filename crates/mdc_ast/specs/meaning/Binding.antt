@@ -3,7 +3,7 @@ use Rattle.std.specs.Prelude.{ℕ, List, [], ◌∷◌, map, if◌then◌else◌
 use Rattle.std.specs.List.{position_from}
 use Rattle.mdc_values.specs.declared.literal.Literal.{Literal}
 use Rattle.mdc_values.specs.declared.value.ColType.{ColType}
-use Rattle.mdc_values.specs.declared.value.ColType.TheVariants.{Integer, Bigint, Char, Date}
+use Rattle.mdc_values.specs.declared.value.ColType.TheVariants.{Bigint}
 use Rattle.mdc_values.specs.declared.value.Value.{Value}
 use Rattle.mdc_values.specs.declared.value.Value.TheVariants.{Null}
 use Rattle.mdc_values.specs.Fitting.{fit_of}
@@ -47,11 +47,9 @@ use Rattle.mdc_ast.specs.declared.statement.SetItem.TheVariants.{One, Two}
 use Rattle.mdc_ast.specs.declared.statement.SetText.{SetText}
 use Rattle.mdc_ast.specs.declared.statement.Stmt.{Stmt}
 use Rattle.mdc_ast.specs.declared.statement.Stmt.TheVariants as stmt
-use Rattle.mdc_ast.specs.declared.statement.TypeText.{TypeText}
-use Rattle.mdc_ast.specs.declared.statement.TypeText.TheVariants as type
-use Rattle.mdc_ast.specs.meaning.Database.{Database, PlainTable, table_named, place_of, column_place, column_named, is_same}
-use Rattle.mdc_ast.specs.meaning.Judging.{names_of, fit_compared, judged_value}
-use Rattle.mdc_ast.specs.meaning.Judged.{targets}
+use Rattle.mdc_ast.specs.meaning.Definitions.{Definitions, def_named, place_of, column_place, column_named, column_names, is_same}
+use Rattle.mdc_ast.specs.meaning.Judging.{fit_compared, judged_value}
+use Rattle.mdc_ast.specs.meaning.Judged.{targets, type_of}
 
 -- the place of a column that is there
 abbrev pub the_place : List ColumnDef → Name → ℕ
@@ -122,12 +120,6 @@ bound_tuple columns names items = map (λ column. given_for column names items) 
 
 -- ---- CREATE TABLE
 
-abbrev pub type_of : TypeText → ColType
-type_of type.Integer = Integer
-type_of type.Bigint = Bigint
-type_of (type.Char n) = Char n
-type_of type.Date = Date
-
 abbrev pub text_place : List ColumnText → Name → ℕ
 text_place columns name = unwrap_or (position_from (λ column. is_same name column.name) 0 columns) 0
 
@@ -158,32 +150,32 @@ bound_out_of columns (out.Max name) = bound_out.Max (the_place columns name)
 
 -- `*` shows all columns in table order
 abbrev pub shown : List ColumnDef → OutList → List BoundOut
-shown columns Star = map (λ name. bound_out.Column (the_place columns name)) (names_of columns)
+shown columns Star = map (λ name. bound_out.Column (the_place columns name)) (column_names columns)
 shown columns (Outs outs) = map (bound_out_of columns) outs
 
 -- ---- any statement that is built
 
-abbrev pub columns_of : Option PlainTable → List ColumnDef
+abbrev pub columns_of : Option TableDef → List ColumnDef
 columns_of None = []
-columns_of (Some table) = table.def.columns
+columns_of (Some def) = def.columns
 
 -- the place of the table of that name, and its columns; a statement on a table that isn't there is refused
 abbrev pub on_place : Option ℕ → List ColumnDef → (ℕ → List ColumnDef → Bound) → Bound
 on_place None columns bind = bound.Begin
 on_place (Some place) columns bind = bind place columns
 
-abbrev pub bound_on : Database → Name → (ℕ → List ColumnDef → Bound) → Bound
-bound_on db name bind = on_place (place_of db name) (columns_of (table_named db name)) bind
+abbrev pub bound_on : Definitions → Name → (ℕ → List ColumnDef → Bound) → Bound
+bound_on defs name bind = on_place (place_of defs name) (columns_of (def_named defs name)) bind
 
-abbrev pub bound_of : Database → Stmt → Bound
-bound_of db (stmt.CreateTable name columns dims) = bound.CreateTable (bound_table name columns dims)
-bound_of db (stmt.DropTable name) = bound_on db name (λ place columns. bound.DropTable place)
-bound_of db (stmt.Insert name listed tuples) =
-    bound_on db name (λ place columns. bound.Insert place (map (bound_tuple columns (targets columns listed)) tuples))
-bound_of db (stmt.Update name sets text) =
-    bound_on db name (λ place columns. bound.Update place (map (bound_set columns) sets) (bound_where columns text))
-bound_of db (stmt.Delete name text) = bound_on db name (λ place columns. bound.Delete place (bound_where columns text))
-bound_of db (stmt.Query select) = bound_on db select.table (λ place columns. bound.Query (record {
+abbrev pub bound_of : Definitions → Stmt → Bound
+bound_of defs (stmt.CreateTable name columns dims) = bound.CreateTable (bound_table name columns dims)
+bound_of defs (stmt.DropTable name) = bound_on defs name (λ place columns. bound.DropTable place)
+bound_of defs (stmt.Insert name listed tuples) =
+    bound_on defs name (λ place columns. bound.Insert place (map (bound_tuple columns (targets columns listed)) tuples))
+bound_of defs (stmt.Update name sets text) =
+    bound_on defs name (λ place columns. bound.Update place (map (bound_set columns) sets) (bound_where columns text))
+bound_of defs (stmt.Delete name text) = bound_on defs name (λ place columns. bound.Delete place (bound_where columns text))
+bound_of defs (stmt.Query select) = bound_on defs select.table (λ place columns. bound.Query (record {
   table = place;
   outs = shown columns select.list;
   pred = bound_where columns select.pred;
@@ -191,4 +183,4 @@ bound_of db (stmt.Query select) = bound_on db select.table (λ place columns. bo
   order = [];
   first = None;
 }))
-bound_of db statement = bound.Begin
+bound_of defs statement = bound.Begin

@@ -26,7 +26,8 @@ use Rattle.mdc_ast.specs.declared.statement.Sign.{Sign}
 use Rattle.mdc_ast.specs.declared.statement.Sign.TheVariants.{Plus, Minus, Times}
 use Rattle.mdc_ast.specs.Truth.{is_true, truth, value_at}
 use Rattle.mdc_ast.specs.meaning.Cause.{Cause, cause_if, Overflow, TextTooLong, NullIn, NumbersUsedUp}
-use Rattle.mdc_ast.specs.meaning.Database.{Database, PlainTable, table_at, empty_place, with_place, changed_at, is_null}
+use Rattle.mdc_ast.specs.meaning.Database.{Database, PlainTable, defs_of, table_at, with_place, changed_at, is_null}
+use Rattle.mdc_ast.specs.meaning.Definitions.{empty_place}
 use Rattle.mdc_ast.specs.meaning.Judging.{of_some}
 
 -- ---- which rows
@@ -183,7 +184,7 @@ columns_at (Some table) = table.def.columns
 
 -- the database after a bound statement, and the reply
 abbrev pub effect : Database → Bound → Database × Reply
-effect db (bound.CreateTable def) = (entered db (empty_place db) def, Done)
+effect db (bound.CreateTable def) = (entered db (empty_place (defs_of db)) def, Done)
 effect db (bound.DropTable place) = (with_place db place None, Done)
 effect db (bound.Insert place tuples) = (changed_at db place (appended tuples), Inserted (length tuples))
 effect db (bound.Update place sets pred) = (changed_at db place (changed_table sets pred), Updated (length (hits pred (table_at db place))))

@@ -1,6 +1,8 @@
 -- What is said against each form of a statement before a row is looked at.
 use Rattle.std.specs.Prelude.{ℕ, ◌+◌, List, [], ◌∷◌, ◌++◌, map, flat_map, length, Bool, true, false, not, ◌==◌, ◌&&◌, nat_le, nat_lt, if◌then◌else◌, Option, Some, None, is_some, is_none}
 use Rattle.mdc_values.specs.declared.literal.Literal.TheVariants as literal
+use Rattle.mdc_values.specs.declared.value.ColType.{ColType}
+use Rattle.mdc_values.specs.declared.value.ColType.TheVariants.{Integer, Bigint, Char, Date}
 use Rattle.mdc_values.specs.Fitting.{fit_of, in_bigint, signed}
 use Rattle.mdc_ast.specs.declared.definition.ColumnDef.{ColumnDef}
 use Rattle.mdc_ast.specs.declared.name.Name.{Name}
@@ -22,8 +24,8 @@ use Rattle.mdc_ast.specs.declared.statement.Stmt.TheVariants.{CreateTable, DropT
 use Rattle.mdc_ast.specs.declared.statement.TypeText.{TypeText}
 use Rattle.mdc_ast.specs.declared.statement.TypeText.TheVariants as type
 use Rattle.mdc_ast.specs.meaning.Cause.{Cause, cause_if, TableExists, ColumnTwice, Limit, WrongType, OutOfRange, WrongCount, GivenGenerated}
-use Rattle.mdc_ast.specs.meaning.Database.{Database, table_named, place_of, empty_place, column_named}
-use Rattle.mdc_ast.specs.meaning.Judging.{Judged, no_fault, of_some, on_table, is_among, listed_names, names_of, used_name, type_cause, value_cause, operand_columns, kinds_meet, is_number, where_judged, then_judged}
+use Rattle.mdc_ast.specs.meaning.Definitions.{Definitions, place_of, def_named, empty_place, column_named, column_names, is_among, row_width, key_width}
+use Rattle.mdc_ast.specs.meaning.Judging.{Judged, no_fault, of_some, on_table, listed_names, used_name, type_cause, value_cause, operand_columns, kinds_meet, is_number, where_judged, then_judged}
 
 -- ---- CREATE TABLE
 
@@ -51,35 +53,33 @@ bad_length type.Bigint = []
 bad_length (type.Char n) = cause_if (not (nat_le 1 n && nat_le n 254)) (Limit 254)
 bad_length type.Date = []
 
--- the bytes that a value takes in a row
-abbrev pub width : TypeText → ℕ
-width type.Integer = 4
-width type.Bigint = 8
-width (type.Char n) = n
-width type.Date = 4
+-- the type of a column that is made
+abbrev pub type_of : TypeText → ColType
+type_of type.Integer = Integer
+type_of type.Bigint = Bigint
+type_of (type.Char n) = Char n
+type_of type.Date = Date
 
--- a row has its number and two bytes of null bits besides
-abbrev pub row_width : List ColumnText → ℕ
-row_width [] = 10
-row_width (column ∷ columns) = width column.ty + row_width columns
+-- the types of the columns of these names, of those that are there
+abbrev pub types_named : List ColumnText → List Name → List ColType
+types_named columns [] = []
+types_named columns (name ∷ names) = with_type (text_named columns name) (types_named columns names)
+  where
+    with_type : Option ColumnText → List ColType → List ColType
+    with_type None types = types
+    with_type (Some column) types = type_of column.ty ∷ types
 
-abbrev pub part_width : Option ColumnText → ℕ
-part_width None = 0
-part_width (Some column) = 1 + width column.ty
-
--- a key has a byte for null before each part
-abbrev pub key_width : List ColumnText → List Name → ℕ
-key_width columns [] = 0
-key_width columns (name ∷ names) = part_width (text_named columns name) + key_width columns names
+abbrev pub text_types : List ColumnText → List ColType
+text_types columns = map (λ column. type_of column.ty) columns
 
 -- the columns from place i on, and the row behind the last
 abbrev pub column_limits : ℕ → List ColumnText → List ColumnText → List Cause
-column_limits i all [] = cause_if (nat_lt 1000 (row_width all)) (Limit 1000)
+column_limits i all [] = cause_if (nat_lt 1000 (row_width (text_types all))) (Limit 1000)
 column_limits i all (column ∷ columns) =
     cause_if (i == 16) (Limit 16) ++ long_name column.name ++ bad_length column.ty ++ column_limits (i + 1) all columns
 
 abbrev pub long_key : List ColumnText → List Name → List Cause
-long_key columns names = cause_if (nat_lt 128 (key_width columns names)) (Limit 128)
+long_key columns names = cause_if (nat_lt 128 (key_width (types_named columns names))) (Limit 128)
 
 -- the dimensions from place i on, and the key of all of them behind the last
 abbrev pub dim_limits : ℕ → List ColumnText → List Name → List (List Name) → List Cause
@@ -87,12 +87,12 @@ dim_limits i columns all [] = long_key columns all
 dim_limits i columns all (dim ∷ dims) =
     cause_if (i == 4) (Limit 4) ++ long_key columns dim ++ dim_limits (i + 1) columns all dims
 
-abbrev pub create_judged : Database → Name → List ColumnText → List (List Name) → Judged
-create_judged db name columns dims = record {
-  names = cause_if (is_some (place_of db name)) (TableExists name);
+abbrev pub create_judged : Definitions → Name → List ColumnText → List (List Name) → Judged
+create_judged defs name columns dims = record {
+  names = cause_if (is_some (place_of defs name)) (TableExists name);
   columns = twice_named [] columns ++ listed_names (text_names columns) [] (flat_map (λ dim. dim) dims);
   types = [];
-  limits = long_name name ++ cause_if (is_none (empty_place db)) (Limit 16)
+  limits = long_name name ++ cause_if (is_none (empty_place defs)) (Limit 16)
       ++ column_limits 0 columns columns ++ dim_limits 0 columns (flat_map (λ dim. dim) dims) dims;
   values = [];
 }
@@ -101,7 +101,7 @@ create_judged db name columns dims = record {
 
 -- the columns that a tuple gives, in its order
 abbrev pub targets : List ColumnDef → Option (List Name) → List Name
-targets columns None = names_of columns
+targets columns None = column_names columns
 targets columns (Some names) = names
 
 abbrev pub given_to : ColumnDef → InsertItem → List Cause
@@ -126,7 +126,7 @@ tuple_types columns names items =
 
 abbrev pub insert_judged : Option (List Name) → List (List InsertItem) → List ColumnDef → Judged
 insert_judged listed tuples columns = record no_fault {
-  columns = of_some listed (listed_names (names_of columns) []);
+  columns = of_some listed (listed_names (column_names columns) []);
   types = flat_map (tuple_types columns (targets columns listed)) tuples;
   values = flat_map (each_item columns given_value (targets columns listed)) tuples;
 }
@@ -201,12 +201,12 @@ query_judged select columns =
 
 -- ---- any statement that is built
 
-abbrev pub judged_of : Database → Stmt → Judged
-judged_of db (CreateTable name columns dims) = create_judged db name columns dims
-judged_of db (DropTable name) = on_table name (table_named db name) (λ columns. no_fault)
-judged_of db (Insert name listed tuples) = on_table name (table_named db name) (insert_judged listed tuples)
-judged_of db (Update name sets pred) =
-    on_table name (table_named db name) (λ columns. then_judged (sets_judged sets columns) (where_judged columns pred))
-judged_of db (Delete name pred) = on_table name (table_named db name) (λ columns. where_judged columns pred)
-judged_of db (Query select) = on_table select.table (table_named db select.table) (query_judged select)
-judged_of db stmt = no_fault
+abbrev pub judged_of : Definitions → Stmt → Judged
+judged_of defs (CreateTable name columns dims) = create_judged defs name columns dims
+judged_of defs (DropTable name) = on_table name (def_named defs name) (λ columns. no_fault)
+judged_of defs (Insert name listed tuples) = on_table name (def_named defs name) (insert_judged listed tuples)
+judged_of defs (Update name sets pred) =
+    on_table name (def_named defs name) (λ columns. then_judged (sets_judged sets columns) (where_judged columns pred))
+judged_of defs (Delete name pred) = on_table name (def_named defs name) (λ columns. where_judged columns pred)
+judged_of defs (Query select) = on_table select.table (def_named defs select.table) (query_judged select)
+judged_of defs stmt = no_fault

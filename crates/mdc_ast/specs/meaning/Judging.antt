@@ -1,7 +1,6 @@
 -- What is said against a statement before a row is looked at: for each class of the order of refusals a flat list, in the
 -- order of the text. A class says nothing of what an earlier one refuses.
-use Rattle.std.specs.Prelude.{List, [], ◌∷◌, ◌++◌, map, flat_map, Bool, true, false, not, Option, Some, None, is_none, Result, Ok, Err}
-use Rattle.std.specs.List.{list_any}
+use Rattle.std.specs.Prelude.{List, [], ◌∷◌, ◌++◌, flat_map, Bool, true, false, not, Option, Some, None, is_none, Result, Ok, Err}
 use Rattle.mdc_values.specs.declared.fitting.ValueFault.{ValueFault}
 use Rattle.mdc_values.specs.declared.fitting.ValueFault.TheVariants as fault
 use Rattle.mdc_values.specs.declared.literal.Literal.{Literal}
@@ -13,6 +12,7 @@ use Rattle.mdc_values.specs.declared.value.Value.TheVariants as value
 use Rattle.mdc_values.specs.Fitting.{fit_of}
 use Rattle.mdc_values.specs.Value.{trimmed}
 use Rattle.mdc_ast.specs.declared.definition.ColumnDef.{ColumnDef}
+use Rattle.mdc_ast.specs.declared.definition.TableDef.{TableDef}
 use Rattle.mdc_ast.specs.declared.name.Name.{Name}
 use Rattle.mdc_ast.specs.declared.predicate.AtomText.{AtomText}
 use Rattle.mdc_ast.specs.declared.predicate.PredText.{PredText}
@@ -24,7 +24,7 @@ use Rattle.mdc_ast.specs.declared.predicate.TestText.TheVariants.{Compare, Betwe
 use Rattle.mdc_ast.specs.declared.statement.Operand.{Operand}
 use Rattle.mdc_ast.specs.declared.statement.Operand.TheVariants as operand
 use Rattle.mdc_ast.specs.meaning.Cause.{Cause, cause_if, NoTable, NoColumn, ColumnTwice, WrongType, OutOfRange, TextTooLong, NoDate}
-use Rattle.mdc_ast.specs.meaning.Database.{PlainTable, column_named, is_same}
+use Rattle.mdc_ast.specs.meaning.Definitions.{column_named, is_among}
 
 -- The classes that are judged by the text and the definitions alone.
 pub record Judged : Type 0 where
@@ -57,14 +57,11 @@ of_some None judge = []
 of_some (Some x) judge = judge x
 
 -- a statement on a table that is there is judged by its columns
-abbrev pub on_table : Name → Option PlainTable → (List ColumnDef → Judged) → Judged
+abbrev pub on_table : Name → Option TableDef → (List ColumnDef → Judged) → Judged
 on_table name None judge = record no_fault { names = NoTable name ∷ [] }
-on_table name (Some table) judge = judge table.def.columns
+on_table name (Some def) judge = judge def.columns
 
 -- ---- names
-
-abbrev pub is_among : Name → List Name → Bool
-is_among name names = list_any (is_same name) names
 
 -- for each name of a list that isn't a column, or that stands before
 abbrev pub listed_names : List Name → List Name → List Name → List Cause
@@ -72,9 +69,6 @@ listed_names columns earlier [] = []
 listed_names columns earlier (name ∷ names) =
     cause_if (not (is_among name columns)) (NoColumn name) ++ cause_if (is_among name earlier) (ColumnTwice name)
     ++ listed_names columns (name ∷ earlier) names
-
-abbrev pub names_of : List ColumnDef → List Name
-names_of columns = map (λ column. column.name) columns
 
 abbrev pub used_name : List ColumnDef → Name → List Cause
 used_name columns name = cause_if (is_none (column_named columns name)) (NoColumn name)

@@ -19,38 +19,40 @@ use Rattle.mdc_ast.specs.declared.statement.Stmt.TheVariants.{CreateTable, Delet
 use Rattle.mdc_ast.specs.declared.statement.TypeText.{TypeText}
 use Rattle.mdc_ast.specs.declared.statement.TypeText.TheVariants.{Integer, Char, Date}
 use Rattle.mdc_ast.specs.meaning.Database.{empty_database}
-use Rattle.mdc_ast.specs.meaning.Session.{Statement, answers_from, session_on, texts}
+use Rattle.mdc_ast.specs.Reading.{Statement}
+use Rattle.mdc_ast.specs.meaning.Session.{outcomes_from, session_on}
+use Rattle.mdc_ast.specs.meaning.Texts.{texts}
 
-abbrev named : String → Name
+abbrev pub named : String → Name
 named s = record { 0 = codes s }
 
-abbrev number : ℕ → InsertItem
+abbrev pub number : ℕ → InsertItem
 number n = item.Literal (literal.Number false n)
 
-abbrev below_zero : ℕ → InsertItem
+abbrev pub below_zero : ℕ → InsertItem
 below_zero n = item.Literal (literal.Number true n)
 
-abbrev text : String → InsertItem
+abbrev pub text : String → InsertItem
 text s = item.Literal (literal.Text (codes s))
 
-abbrev null : InsertItem
+abbrev pub null : InsertItem
 null = item.Literal literal.Null
 
-abbrev column : String → TypeText → Bool → ColumnText
+abbrev pub column : String → TypeText → Bool → ColumnText
 column s ty not_null = record { name = named s; ty = ty; not_null = not_null; made = None }
 
 -- T (A INTEGER, B INTEGER) organized by A
-abbrev t_of_numbers : Stmt
+abbrev pub t_of_numbers : Stmt
 t_of_numbers = CreateTable (named "T") (column "A" Integer false ∷ column "B" Integer false ∷ []) ((named "A" ∷ []) ∷ [])
 
 -- T (A DATE NOT NULL, B CHAR(3)) organized by A
 abbrev t_of_dates : Stmt
 t_of_dates = CreateTable (named "T") (column "A" Date true ∷ column "B" (Char 3) false ∷ []) ((named "A" ∷ []) ∷ [])
 
-abbrev into : List (List InsertItem) → Stmt
+abbrev pub into : List (List InsertItem) → Stmt
 into tuples = Insert (named "T") None tuples
 
-abbrev query : OutList → Option PredText → Stmt
+abbrev pub query : OutList → Option PredText → Stmt
 query list where_ = Query (record { list = list; table = named "T"; pred = where_; group = []; order = []; first = None })
 
 abbrev only : String → OutList
@@ -60,8 +62,8 @@ only s = Outs (out.Column (named s) ∷ [])
 abbrev up_by_one : Stmt
 up_by_one = Update (named "T") (record { column = named "A"; item = Two (operand.Column (named "A")) Plus (operand.Literal (literal.Number false 1)) } ∷ []) None
 
-abbrev answers : List Stmt → List ℕ
-answers stmts = texts (answers_from (session_on empty_database) (map Statement stmts))
+abbrev pub answers : List Stmt → List ℕ
+answers stmts = texts (outcomes_from (session_on empty_database) (map Statement stmts))
 
 -- rows come in the order of insertion
 rows_in_order : answers (t_of_numbers ∷ into ((number 2 ∷ number 10 ∷ []) ∷ (number 1 ∷ number 20 ∷ []) ∷ []) ∷ into ((number 2 ∷ number 30 ∷ []) ∷ []) ∷ query Star None ∷ [])

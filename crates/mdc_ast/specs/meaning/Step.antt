@@ -1,9 +1,8 @@
 -- What a statement does to the plain database: the first cause against it, in the order of refusals, or else its effect.
-use Rattle.std.specs.Prelude.{ℕ, List, [], ◌∷◌, ◌++◌, Bool, true, false, ◌&&◌, if◌then◌else◌, is_none, codes}
-use Rattle.std.specs.Fmt.{decimal}
+use Rattle.std.specs.Prelude.{List, [], ◌∷◌, ◌++◌, Bool, true, false, ◌&&◌, if◌then◌else◌, is_none}
 use Rattle.std.specs.List.{list_all}
+use Rattle.mdc_ast.specs.declared.refusal.Refusal.{Refusal}
 use Rattle.mdc_ast.specs.declared.reply.Reply.{Reply}
-use Rattle.mdc_ast.specs.declared.reply.Reply.TheVariants as reply
 use Rattle.mdc_ast.specs.declared.statement.ColumnText.{ColumnText}
 use Rattle.mdc_ast.specs.declared.statement.Out.{Out}
 use Rattle.mdc_ast.specs.declared.statement.Out.TheVariants as out
@@ -13,8 +12,8 @@ use Rattle.mdc_ast.specs.declared.statement.Select.{Select}
 use Rattle.mdc_ast.specs.declared.statement.Stmt.{Stmt}
 use Rattle.mdc_ast.specs.declared.statement.Stmt.TheVariants.{CreateTable, DropTable, Insert, Update, Delete, Query}
 use Rattle.mdc_ast.specs.meaning.Binding.{bound_of}
-use Rattle.mdc_ast.specs.meaning.Cause.{Cause, NotBuilt, refusal_line}
-use Rattle.mdc_ast.specs.meaning.Database.{Database}
+use Rattle.mdc_ast.specs.meaning.Cause.{Cause, NotBuilt, refusal_of}
+use Rattle.mdc_ast.specs.meaning.Database.{Database, defs_of}
 use Rattle.mdc_ast.specs.meaning.Doing.{causes_of_rows, effect}
 use Rattle.mdc_ast.specs.meaning.Judged.{judged_of}
 use Rattle.mdc_ast.specs.meaning.Judging.{in_order}
@@ -52,38 +51,21 @@ is_built stmt = false
 
 -- ---- the step
 
--- all that is said against a statement, in the order of refusals
+-- What is said against a statement, in the order of refusals. The first is the answer; behind a literal that doesn't fit,
+-- rows are judged with a null in its place.
 abbrev pub faults : Database → Stmt → List Cause
 faults db stmt =
-    if is_built stmt then in_order (judged_of db stmt) ++ causes_of_rows db (bound_of db stmt) else NotBuilt ∷ []
+    if is_built stmt then in_order (judged_of (defs_of db) stmt) ++ causes_of_rows db (bound_of (defs_of db) stmt) else NotBuilt ∷ []
 
 -- the end of a statement: what it replies, or why it isn't done
 pub data Answer : Type 0 where
   Replied : Reply → Answer
-  Refused : Cause → Answer
+  Refused : Refusal → Answer
 
 -- the first cause, or the effect
 abbrev pub step_by : Database → List Cause → Database × Reply → Database × Answer
 step_by db [] (new, reply) = (new, Replied reply)
-step_by db (cause ∷ causes) done = (db, Refused cause)
+step_by db (cause ∷ causes) done = (db, Refused (refusal_of cause))
 
 abbrev pub step : Database → Stmt → Database × Answer
-step db stmt = step_by db (faults db stmt) (effect db (bound_of db stmt))
-
--- ---- texts
-
--- the text of a reply
-abbrev pub reply_text : Reply → List ℕ
-reply_text reply.Done = codes "OK\n"
-reply_text (reply.Inserted rows) = decimal rows ++ codes " ROWS INSERTED\n"
-reply_text (reply.Updated rows) = decimal rows ++ codes " ROWS UPDATED\n"
-reply_text (reply.Deleted rows) = decimal rows ++ codes " ROWS DELETED\n"
-reply_text (reply.Lines lines) = lines
-
-abbrev pub answer_text : Answer → List ℕ
-answer_text (Replied reply) = reply_text reply
-answer_text (Refused cause) = refusal_line cause
-
-abbrev pub is_refusal : Answer → Bool
-is_refusal (Replied reply) = false
-is_refusal (Refused cause) = true
+step db stmt = step_by db (faults db stmt) (effect db (bound_of (defs_of db) stmt))

@@ -1,5 +1,5 @@
 // The way back to the mark.
-ghost use Rattle.std.specs.Prelude.{◌≡◌, ◌⊎◌, ◌<◌, ℕ, [], nat_eq, IsSome, OnErr, IfOk, true, length};
+ghost use Rattle.std.specs.Prelude.{◌≡◌, ◌⊎◌, ◌<◌, ℕ, [], nat_eq, IsSome, OnErr, OnOk, true, length, take};
 ghost use Rattle.std.specs.Map.{lookup};
 ghost use Rattle.page_changes.specs.Table.{LiesAt};
 ghost use Rattle.page_changes.specs.ChangesView.{written, written_before, is_free_in, Saves};
@@ -8,6 +8,18 @@ use super::Mark;
 use crate::spares::Spares;
 use crate::table::PageTable;
 use mdc_values::Memory;
+
+/// Leaves the first so many pages.
+pub(super) fn cut(table: &mut PageTable, n: usize, spares: &mut Spares)
+    ensures { table.new ≡ take n table.old }
+{
+    while table.len() > n {
+        let Some((_, page)) = table.pop() else {
+            unreachable!();
+        };
+        spares.give(page);
+    }
+}
 
 /// Makes each page that was saved as it was.
 pub(super) fn put_back(table: &mut PageTable, saved: &mut PageTable, spares: &mut Spares)
@@ -23,27 +35,25 @@ pub(super) fn put_back(table: &mut PageTable, saved: &mut PageTable, spares: &mu
     }
 }
 
-/// Sees to it that a page may be written over in its place, and gives the place.
+/// Sees to it that a page may be written over in its place.
 pub(super) fn save(
     table: &PageTable,
     saved: &mut PageTable,
     mark: &Option<Mark>,
     spares: &mut Spares,
     p: u32,
-) -> Result<usize, Memory>
-    requires { IsSome (lookup (nat_eq p) table.now) }
-    ensures place { IfOk result (λ place. LiesAt table.now p place × (is_free_in mark.now saved.new p place ≡ true)) }
+    place: usize,
+) -> Result<(), Memory>
+    requires { LiesAt table.now p place }
+    ensures free { OnOk result (is_free_in mark.now saved.new p place ≡ true) }
     ensures saved { Saves mark.now table.now p saved.old saved.new }
 {
-    let Some(place) = table.place_of(p) else {
-        unreachable!();
-    };
     if is_free(mark, saved, p, place) {
-        return Ok(place);
+        return Ok(());
     }
     let page = spares.filled(table.at(place))?;
     saved.push(p, page)?;
-    Ok(place)
+    Ok(())
 }
 
 // Whether a page may be written over in its place: what it was at the mark is saved, or it wasn't written then.

@@ -1,167 +1,142 @@
-use Rattle.std.proofs.Common.{[], ◌∷◌, ◌++◌, Err, refl, sym, ap, inl, inr, arith, ◌∙◌, Bool, Ok, subst}
-use Rattle.first_reader.specs.Progress.{IsGivenAt}
+use Rattle.std.proofs.Common.{[], ◌∷◌, ◌++◌, Err, Ok, refl, ap, inl, inr, arith, ◌∙◌}
 use Rattle.std.proofs.lemmas.Result.{err_from_is_err_and}
-use Rattle.mdc_shell.specs.declared.status.Stop.TheVariants.{Memory}
-use Rattle.mdc_shell.proofs.Ends.{runs_to, runs_to_part, none_given, ends_reading, ends_answering, stops_within, nothing_left, still_ended}
-use Rattle.mdc_shell.proofs.Sessions.{says_nothing, says_all, says_part, engine_goes, less_to_do, refused_goes, tape_goes}
-use Rattle.first_ast.specs.Answer.{text_of}
-use Rattle.mdc_shell.specs.Session.{turn, outcomes, texts}
-use Rattle.first_reader.specs.Item.{item_of}
-use Rattle.mdc_shell.specs.Reader.{stop_of}
-use Rattle.mdc_shell.specs.Status.{served_by}
+use Rattle.mdc_ast.specs.meaning.Texts.{outcome_text}
 use Rattle.mdc_outside.specs.Moments.{IsWithinCall}
-use Rattle.mdc_outside.proofs.MomentLemmas.{within_call-told}
-use Rattle.mdc_shell.proofs.LeavingLemmas.{ScriptLaws, first_replies, told_behind, within_next}
-use Rattle.mdc_shell.proofs.Told.{same-told, takes-told, takes_part-told, told_then, took_nothing, takes_nothing}
-use Rattle.first_reader.proofs.Giving.{took_more}
 use Rattle.mdc_words.proofs.TimeLemmas.{over_time_none, over_time_then, over_time_wider}
+use Rattle.sql_reader.specs.Holding.{Holding}
+use Rattle.mdc_shell.specs.declared.status.Stop.TheVariants.{Memory}
+use Rattle.mdc_shell.proofs.Ends.{ends_first, runs_to}
+use Rattle.mdc_shell.specs.Leaving.{LeavesReplies}
+use Rattle.mdc_shell.proofs.LeavingLemmas.{leaves_replies-more, leaves_replies-none, leaves_replies-wider}
+use Rattle.mdc_shell.proofs.Scripts.{ScriptLaws, laws_by}
+use Rattle.mdc_shell.proofs.Serving.{asked_next, exit_done, exit_reading, exit_unanswered, exit_unsaid, left_by_next, served_first, served_more}
+use Rattle.mdc_shell.proofs.Told.{same-told, takes-told, takes_nothing, takes_part-told, told_then, took_nothing}
 use Rattle.mdc_shell.proofs.session.serve.Goals as goal
 
 pub returns-in_err-statements-clause-runs : goal.returns-in_err-statements-clause-runs
 returns-in_err-statements-clause-runs g c =
+    let laws : ScriptLaws = laws_by c.one_reading.ensures.some c.one_closing.ensures.some c.one_closing.ensures.one c.one_closing.ensures.front c.one_closing.ensures.first in
     let p = err_from_is_err_and c.from_residual.result c.from_residual.ensures.1 in
-    let closed = c.one_closing.ensures.some [] in
-    rw (p.1, p.2) (runs_to _ _ _ _ [] [] (Err Memory) (took_nothing _ []) (takes_nothing _) (λ rest is. (inl (closed.0, closed.1, says_nothing closed.0), omega arith)))
+    rw (p.1, p.2) (runs_to _ _ _ _ [] [] (Err Memory) (LeavesReplies g.H.Disk.clock g.H.Disk.moment g.H.Disk.file g.H.Host.tape c.args.host.now c.args.host.now) [] (leaves_replies-wider g.H.Disk.clock g.H.Disk.moment g.H.Disk.file g.H.Host.tape c.args.host.now c.args.host.now) (leaves_replies-none g.H.Disk.clock g.H.Disk.moment g.H.Disk.file g.H.Host.tape c.args.host.now []) (took_nothing _ []) (takes_nothing _) (λ rest is. ends_first laws rest))
+
+pub returns-in_err-session-clause-runs : goal.returns-in_err-session-clause-runs
+returns-in_err-session-clause-runs g c =
+    let laws : ScriptLaws = laws_by c.one_reading.ensures.some c.one_closing.ensures.some c.one_closing.ensures.one c.one_closing.ensures.front c.one_closing.ensures.first in
+    let p = err_from_is_err_and c.from_residual-in_err-session.result c.from_residual-in_err-session.ensures.1 in
+    rw (p.1, p.2) (runs_to _ _ _ _ [] [] (Err Memory) (LeavesReplies g.H.Disk.clock g.H.Disk.moment g.H.Disk.file g.H.Host.tape c.args.host.now c.args.host.now) [] (leaves_replies-wider g.H.Disk.clock g.H.Disk.moment g.H.Disk.file g.H.Host.tape c.args.host.now c.args.host.now) (leaves_replies-none g.H.Disk.clock g.H.Disk.moment g.H.Disk.file g.H.Host.tape c.args.host.now []) (took_nothing _ []) (takes_nothing _) (λ rest is. ends_first laws rest))
 
 pub loop-session-init : goal.loop-session-init
-loop-session-init g c = rw c.in_ok-statements.ensures (record {
-  given = ([], none_given, c.new-2.ensures, refl, takes_nothing _);
-  took = took_nothing _ [];
-  limit = omega arith;
-  at_end = λ e. cc;
-  reads = refl;
-  says = refl;
-  disk = record { same_file = refl; same_attaches = refl; same_faults = refl };
-  time = λ before told is heard. over_time_none;
-  later = omega arith;
-})
+loop-session-init g c =
+    let laws : ScriptLaws = laws_by c.one_reading.ensures.some c.one_closing.ensures.some c.one_closing.ensures.one c.one_closing.ensures.front c.one_closing.ensures.first in
+    record {
+      outcomes = [];
+      served = served_first laws _ _ _ _ _ c.in_ok-statements.ensures.at c.in_ok-session.ensures.0 c.in_ok-session.ensures.1;
+      meanwhile = leaves_replies-none g.H.Disk.clock g.H.Disk.moment g.H.Disk.file g.H.Host.tape c.args.host.now [];
+      fits = omega (arith, ap (λ (reader : Holding). reader.count) c.in_ok-statements.ensures.held);
+      reads = refl;
+      says = refl;
+      disk = record { same_file = refl; same_attaches = refl; same_faults = refl };
+      time = λ before told is heard. over_time_none;
+      later = omega arith;
+    }
 
 pub returns-in_err-read-clause-runs : goal.returns-in_err-read-clause-runs
 returns-in_err-read-clause-runs g c =
-    let inv = c.loop-session.invariant in
-    let said = c.in_err-read.ensures in
-    let items = inv.given.0 in
+    let laws : ScriptLaws = laws_by c.one_reading.ensures.some c.one_closing.ensures.some c.one_closing.ensures.one c.one_closing.ensures.front c.one_closing.ensures.first in
+    let asked = asked_next laws g.I.Source.left c.loop-session.input c.next.new.source c.loop-session.statements c.next.new.self (Err c.in_err-read.field-0.0)
+    (g.I.Source.left c.args.input.now) (g.H.Host.tape c.args.host.now) (g.H.Host.tape c.loop-session.host) c.loop-session.session.engine c.loop-session.session.refused c.loop-session.invariant.outcomes
+    c.loop-session.invariant.served c.in_err-read.ensures.goes c.in_err-read.ensures.finished c.in_err-read.ensures.within in
     let p = err_from_is_err_and c.from_residual-in_err-read.result c.from_residual-in_err-read.ensures.1 in
-    let closed = c.one_closing.ensures.some c.next.new.self.taken in
-    let ended = still_ended g.I.Source.left c.loop-session.input c.next.new.source c.loop-session.statements.finished c.next.new.self.finished inv.at_end said.at_end said.finished in
-    let took = took_more _ _ _ _ _ _ inv.took said.taken in
-    rw (p.1, p.2) (runs_to _ _ _ _ _ _ (Err (stop_of c.in_err-read.field-0.0)) took inv.given.4 (λ rest is.
-    ends_reading c.in_err-read.field-0.0 c.next.new.self.taken rest items
-    (λ e. (said.source (ap Err e)).1 items inv.given.1)
-    (λ e. let l = said.too_long (ap Err e) in (l.0, l.1 items inv.given.1))
-    (elim said.within [ inl fits ↦ inl fits | inr e ↦ inr cc ])
-    (λ e. stops_within c.next.new.self.finished _ rest _ c.next.new.self.past items closed.0 (said.kept items inv.given.1)
-    (λ f. nothing_left _ rest (ended f) is) closed.1 (λ front closes. c.one_closing.ensures.front _ _ front closed.0 closes closed.1) (says_all items))))
+    rw (p.1, p.2) (exit_reading laws _ _ _ _ _ _ _ c.loop-session.invariant.outcomes c.in_err-read.field-0.0 (LeavesReplies g.H.Disk.clock g.H.Disk.moment g.H.Disk.file g.H.Host.tape c.args.host.now c.loop-session.host) (leaves_replies-wider g.H.Disk.clock g.H.Disk.moment g.H.Disk.file g.H.Host.tape c.args.host.now c.loop-session.host) c.loop-session.invariant.meanwhile asked)
+
+pub returns-in_err-outcome-clause-runs : goal.returns-in_err-outcome-clause-runs
+returns-in_err-outcome-clause-runs g c =
+    let laws : ScriptLaws = laws_by c.one_reading.ensures.some c.one_closing.ensures.some c.one_closing.ensures.one c.one_closing.ensures.front c.one_closing.ensures.first in
+    let before = c.loop-session.session in
+    let item = c.in-Some.read in
+    let asked = rw c.in-Some.is at (asked_next laws g.I.Source.left c.loop-session.input c.next.new.source c.loop-session.statements c.next.new.self (Ok c.in_ok-read.field-0)
+    (g.I.Source.left c.args.input.now) (g.H.Host.tape c.args.host.now) (g.H.Host.tape c.loop-session.host) before.engine before.refused c.loop-session.invariant.outcomes
+    c.loop-session.invariant.served c.in_ok-read.ensures.goes c.in_ok-read.ensures.finished c.in_ok-read.ensures.within) in
+    let p = err_from_is_err_and c.from_residual-in_err-outcome.result c.from_residual-in_err-outcome.ensures.1 in
+    rw (p.1, p.2) (exit_unanswered laws _ _ _ _ _ _ _ c.loop-session.invariant.outcomes item (LeavesReplies g.H.Disk.clock g.H.Disk.moment g.H.Disk.file g.H.Host.tape c.args.host.now c.loop-session.host) (leaves_replies-wider g.H.Disk.clock g.H.Disk.moment g.H.Disk.file g.H.Host.tape c.args.host.now c.loop-session.host) c.loop-session.invariant.meanwhile asked)
+
+pub returns-in_err-say-clause-runs : goal.returns-in_err-say-clause-runs
+returns-in_err-say-clause-runs g c =
+    let laws : ScriptLaws = laws_by c.one_reading.ensures.some c.one_closing.ensures.some c.one_closing.ensures.one c.one_closing.ensures.front c.one_closing.ensures.first in
+    let before = c.loop-session.session in
+    let item = c.in-Some.read in
+    let asked = rw c.in-Some.is at (asked_next laws g.I.Source.left c.loop-session.input c.next.new.source c.loop-session.statements c.next.new.self (Ok c.in_ok-read.field-0)
+    (g.I.Source.left c.args.input.now) (g.H.Host.tape c.args.host.now) (g.H.Host.tape c.loop-session.host) before.engine before.refused c.loop-session.invariant.outcomes
+    c.loop-session.invariant.served c.in_ok-read.ensures.goes c.in_ok-read.ensures.finished c.in_ok-read.ensures.within) in
+    let say = c.in_err-say.ensures in
+    let p = err_from_is_err_and c.from_residual-in_err-say.result c.from_residual-in_err-say.ensures.1 in
+    rw (p.1, p.2) (exit_unsaid laws _ _ _ _ _ _ before.engine c.outcome.new.self.engine before.refused c.loop-session.invariant.outcomes item c.in_ok-outcome.outcome c.in_err-say.field-0.0 (LeavesReplies g.H.Disk.clock g.H.Disk.moment g.H.Disk.file g.H.Host.tape c.args.host.now c.say.new.host) (leaves_replies-wider g.H.Disk.clock g.H.Disk.moment g.H.Disk.file g.H.Host.tape c.args.host.now c.say.new.host)
+    (leaves_replies-more g.H.Disk.clock g.H.Disk.moment g.H.Disk.file g.H.Host.tape c.args.host.now c.loop-session.host c.say.new.host c.loop-session.invariant.outcomes c.in_ok-outcome.outcome c.loop-session.invariant.meanwhile c.loop-session.invariant.disk.same_file asked.answered.said say.time) asked c.in_ok-outcome.ensures.met
+    (elim say.cause [ inl e ↦ inl cc | inr e ↦ inr cc ]) say.part)
+
+pub returns-in_err-say-clause-time : goal.returns-in_err-say-clause-time
+returns-in_err-say-clause-time g c =
+    let laws : ScriptLaws = laws_by c.one_reading.ensures.some c.one_closing.ensures.some c.one_closing.ensures.one c.one_closing.ensures.front c.one_closing.ensures.first in
+    let before = c.loop-session.session in
+    let item = c.in-Some.read in
+    let asked = rw c.in-Some.is at (asked_next laws g.I.Source.left c.loop-session.input c.next.new.source c.loop-session.statements c.next.new.self (Ok c.in_ok-read.field-0)
+    (g.I.Source.left c.args.input.now) (g.H.Host.tape c.args.host.now) (g.H.Host.tape c.loop-session.host) before.engine before.refused c.loop-session.invariant.outcomes
+    c.loop-session.invariant.served c.in_ok-read.ensures.goes c.in_ok-read.ensures.finished c.in_ok-read.ensures.within) in
+    let inv = c.loop-session.invariant in
+    let within = left_by_next laws _ _ _ _ (g.H.Disk.file c.loop-session.host) _ before.engine c.outcome.new.self.engine before.refused c.loop-session.invariant.outcomes item c.in_ok-outcome.outcome asked c.in_ok-outcome.ensures.met in
+    λ was told is heard. over_time_then (inv.time was told is heard) (over_time_wider {Within = IsWithinCall (g.H.Disk.file c.loop-session.host) (g.H.Host.tape c.loop-session.host) (outcome_text c.in_ok-outcome.outcome)}
+    c.in_err-say.ensures.time (within was told (inv.disk.same_file ∙ is) heard))
 
 pub loop-session-preserved : goal.loop-session-preserved
 loop-session-preserved g c =
+    let laws : ScriptLaws = laws_by c.one_reading.ensures.some c.one_closing.ensures.some c.one_closing.ensures.one c.one_closing.ensures.front c.one_closing.ensures.first in
+    let before = c.loop-session.session in
+    let item = c.in-Some.read in
+    let asked = rw c.in-Some.is at (asked_next laws g.I.Source.left c.loop-session.input c.next.new.source c.loop-session.statements c.next.new.self (Ok c.in_ok-read.field-0)
+    (g.I.Source.left c.args.input.now) (g.H.Host.tape c.args.host.now) (g.H.Host.tape c.loop-session.host) before.engine before.refused c.loop-session.invariant.outcomes
+    c.loop-session.invariant.served c.in_ok-read.ensures.goes c.in_ok-read.ensures.finished c.in_ok-read.ensures.within) in
     let inv = c.loop-session.invariant in
-    let said = c.in_ok-read.ensures in
-    let answer = c.in_ok-answer.ensures in
-    let items = inv.given.0 in
-    let item = item_of c.in-Some.read in
-    let found = rw c.in-Some.is at said.item in
-    let ended = still_ended g.I.Source.left c.loop-session.input c.next.new.source c.loop-session.statements.finished c.next.new.self.finished inv.at_end said.at_end said.finished in
-    let laws : ScriptLaws = record {
-      some_reading = c.one_reading.ensures.some;
-      some_closing = c.one_closing.ensures.some;
-      front = c.one_closing.ensures.front;
-      first = c.one_closing.ensures.first;
-    } in
-    let took = took_more _ _ _ _ _ _ inv.took said.taken in
-    let replies = first_replies laws _ _ c.next.new.self.taken c.next.new.self.finished c.next.new.self.past (items ++ item ∷ []) took (found items inv.given.1) (λ f rest is. nothing_left _ rest (ended f) is) in
+    let say = c.in_ok-say.ensures in
+    let within = left_by_next laws _ _ _ _ (g.H.Disk.file c.loop-session.host) _ before.engine c.outcome.new.self.engine before.refused c.loop-session.invariant.outcomes item c.in_ok-outcome.outcome asked c.in_ok-outcome.ensures.met in
     record {
-      given = (
-        items ++ item ∷ [],
-        found items inv.given.1,
-        engine_goes items item _ _ inv.given.2 answer.engine,
-        refused_goes items item _ _ _ inv.given.2 inv.given.3 answer.refused,
-        tape_goes items item _ _ _ _ inv.given.2 inv.given.4 answer.said,
-      );
-      took = took;
-      limit = elim said.within [ inl fits ↦ fits | inr e ↦ cc ];
-      at_end = ended;
-      reads = elim said.no_fault [ inl e ↦ cc | inr still ↦ still ∙ inv.reads ];
-      says = answer.says.still (λ e. cc) ∙ inv.says;
+      outcomes = inv.outcomes ++ c.in_ok-outcome.outcome ∷ [];
+      served = rw (say.engine, say.refused) (served_more _ _ _ _ _ _ before.engine c.outcome.new.self.engine before.refused c.outcome.new.self.refused inv.outcomes item c.in_ok-outcome.outcome asked c.in_ok-outcome.ensures.met c.in_ok-outcome.ensures.noted say.said);
+      meanwhile = leaves_replies-more g.H.Disk.clock g.H.Disk.moment g.H.Disk.file g.H.Host.tape c.args.host.now c.loop-session.host c.say.new.host inv.outcomes c.in_ok-outcome.outcome inv.meanwhile inv.disk.same_file asked.answered.said say.time;
+      fits = elim c.in_ok-read.ensures.within [ inl fits ↦ fits | inr e ↦ cc ];
+      reads = elim c.in_ok-read.ensures.no_fault [ inl e ↦ cc | inr still ↦ still ∙ inv.reads ];
+      says = say.says.still (λ e. cc) ∙ inv.says;
       disk = record {
-        same_file = answer.disk.same_file ∙ inv.disk.same_file;
-        same_attaches = answer.disk.same_attaches ∙ inv.disk.same_attaches;
-        same_faults = answer.disk.same_faults ∙ inv.disk.same_faults;
+        same_file = say.disk.same_file ∙ inv.disk.same_file;
+        same_attaches = say.disk.same_attaches ∙ inv.disk.same_attaches;
+        same_faults = say.disk.same_faults ∙ inv.disk.same_faults;
       };
-      time = λ before told is heard. over_time_then (inv.time before told is heard) (over_time_wider {Within = IsWithinCall (g.H.Disk.file c.loop-session.host) (g.H.Host.tape c.loop-session.host) (text_of (turn c.loop-session.session.engine item).1)} answer.time (λ image taken within.
-          within_next before told items item _ replies (ap (λ db. text_of (turn db item).1) inv.given.2) image taken
-          (within_call-told before (told ++ texts (outcomes items)) image taken (inv.disk.same_file ∙ is) (told_behind _ _ _ told heard inv.given.4) within)));
-      later = omega (arith, inv.later, answer.time.later);
+      time = λ was told is heard. over_time_then (inv.time was told is heard) (over_time_wider {Within = IsWithinCall (g.H.Disk.file c.loop-session.host) (g.H.Host.tape c.loop-session.host) (outcome_text c.in_ok-outcome.outcome)}
+          say.time (within was told (inv.disk.same_file ∙ is) heard));
+      later = omega (arith, inv.later, say.time.later);
     }
-
-pub returns-in_err-answer-clause-runs : goal.returns-in_err-answer-clause-runs
-returns-in_err-answer-clause-runs g c =
-    let inv = c.loop-session.invariant in
-    let said = c.in_ok-read.ensures in
-    let answer = c.in_err-answer.ensures in
-    let items = inv.given.0 in
-    let item = item_of c.in-Some.read in
-    let found = rw c.in-Some.is at said.item in
-    let p = err_from_is_err_and c.from_residual-in_err-answer.result c.from_residual-in_err-answer.ensures.1 in
-    let closed = c.one_closing.ensures.some c.next.new.self.taken in
-    let ended = still_ended g.I.Source.left c.loop-session.input c.next.new.source c.loop-session.statements.finished c.next.new.self.finished inv.at_end said.at_end said.finished in
-    let took = took_more _ _ _ _ _ _ inv.took said.taken in
-    rw (p.1, p.2) (runs_to_part _ _ _ _ _ _ _ _ (Err c.in_err-answer.field-0.0) took inv.given.4 answer.part (λ rest part unsaid is e.
-    ends_answering c.in_err-answer.field-0.0 c.next.new.self.taken rest _ (elim answer.cause [ inl e ↦ inl cc | inr e ↦ inr cc ]) (elim said.within [ inl fits ↦ fits | inr e ↦ cc ])
-    (stops_within c.next.new.self.finished _ rest _ c.next.new.self.past (items ++ item ∷ []) closed.0 (found items inv.given.1)
-    (λ f. nothing_left _ rest (ended f) is) closed.1 (λ front closes. c.one_closing.ensures.front _ _ front closed.0 closes closed.1)
-    (says_part items item part unsaid (ap (λ db. text_of (turn db item).1) (sym inv.given.2) ∙ e)))))
 
 pub returns-clause-runs : goal.returns-clause-runs
 returns-clause-runs g c =
-    let inv = c.loop-session.invariant in
-    let said = c.in_ok-read.ensures in
-    let items = inv.given.0 in
-    let end = rw c.in_default.is at said.end in
-    let P : Bool → Type 0 = λ finished. IsGivenAt finished c.next.new.self.taken c.next.new.self.past items in
-    let reads = subst P end.0 (end.1 items inv.given.1) in
-    let ended = still_ended g.I.Source.left c.loop-session.input c.next.new.source c.loop-session.statements.finished c.next.new.self.finished inv.at_end said.at_end said.finished end.0 in
-    let took = took_more _ _ _ _ _ _ inv.took said.taken in
-    runs_to _ _ _ _ _ _ (Ok c.by_refusal.result) took inv.given.4 (λ rest is.
-    (items, reads, nothing_left _ rest ended is, refl, c.by_refusal.ensures ∙ ap served_by inv.given.3, elim said.within [ inl fits ↦ fits | inr e ↦ cc ]))
-
-pub loop-session-smaller : goal.loop-session-smaller
-loop-session-smaller g c =
-    let said = c.in_ok-read.ensures in
-    less_to_do c.loop-session.statements c.next.new.self (rw c.in-Some.is at said.progress) (elim said.within [ inl fits ↦ fits | inr e ↦ cc ])
-
-pub returns-in_err-statements-clause-time : goal.returns-in_err-statements-clause-time
-returns-in_err-statements-clause-time g c = λ before told is heard. over_time_none
-
-pub returns-in_err-answer-clause-time : goal.returns-in_err-answer-clause-time
-returns-in_err-answer-clause-time g c =
-    let inv = c.loop-session.invariant in
-    let said = c.in_ok-read.ensures in
-    let answer = c.in_err-answer.ensures in
-    let items = inv.given.0 in
-    let item = item_of c.in-Some.read in
-    let found = rw c.in-Some.is at said.item in
-    let ended = still_ended g.I.Source.left c.loop-session.input c.next.new.source c.loop-session.statements.finished c.next.new.self.finished inv.at_end said.at_end said.finished in
-    let took = took_more _ _ _ _ _ _ inv.took said.taken in
-    let laws : ScriptLaws = record {
-      some_reading = c.one_reading.ensures.some;
-      some_closing = c.one_closing.ensures.some;
-      front = c.one_closing.ensures.front;
-      first = c.one_closing.ensures.first;
-    } in
-    let replies = first_replies laws _ _ c.next.new.self.taken c.next.new.self.finished c.next.new.self.past (items ++ item ∷ []) took (found items inv.given.1) (λ f rest is. nothing_left _ rest (ended f) is) in
-    λ before told is heard. over_time_then (inv.time before told is heard) (over_time_wider {Within = IsWithinCall (g.H.Disk.file c.loop-session.host) (g.H.Host.tape c.loop-session.host) (text_of (turn c.loop-session.session.engine item).1)} answer.time (λ image taken within.
-    within_next before told items item _ replies (ap (λ db. text_of (turn db item).1) inv.given.2) image taken
-    (within_call-told before (told ++ texts (outcomes items)) image taken (inv.disk.same_file ∙ is) (told_behind _ _ _ told heard inv.given.4) within)))
+    let laws : ScriptLaws = laws_by c.one_reading.ensures.some c.one_closing.ensures.some c.one_closing.ensures.one c.one_closing.ensures.front c.one_closing.ensures.first in
+    let asked = rw c.in_default.is at (asked_next laws g.I.Source.left c.loop-session.input c.next.new.source c.loop-session.statements c.next.new.self (Ok c.in_ok-read.field-0)
+    (g.I.Source.left c.args.input.now) (g.H.Host.tape c.args.host.now) (g.H.Host.tape c.loop-session.host) c.loop-session.session.engine c.loop-session.session.refused c.loop-session.invariant.outcomes
+    c.loop-session.invariant.served c.in_ok-read.ensures.goes c.in_ok-read.ensures.finished c.in_ok-read.ensures.within) in
+    rw c.by_refusal.ensures (exit_done _ _ _ _ _ _ _ c.loop-session.invariant.outcomes (LeavesReplies g.H.Disk.clock g.H.Disk.moment g.H.Disk.file g.H.Host.tape c.args.host.now c.loop-session.host) (leaves_replies-wider g.H.Disk.clock g.H.Disk.moment g.H.Disk.file g.H.Host.tape c.args.host.now c.loop-session.host) c.loop-session.invariant.meanwhile asked)
 
 pub returns-in_err-statements-clause-told : goal.returns-in_err-statements-clause-told
 returns-in_err-statements-clause-told g c = same-told _ _ refl
 
-pub returns-in_err-read-clause-told : goal.returns-in_err-read-clause-told
-returns-in_err-read-clause-told g c = takes-told _ _ _ c.loop-session.invariant.given.4
+pub returns-in_err-session-clause-told : goal.returns-in_err-session-clause-told
+returns-in_err-session-clause-told g c = same-told _ _ refl
 
-pub returns-in_err-answer-clause-told : goal.returns-in_err-answer-clause-told
-returns-in_err-answer-clause-told g c = told_then _ _ _ (takes-told _ _ _ c.loop-session.invariant.given.4) (takes_part-told _ _ _ c.in_err-answer.ensures.part)
+pub returns-in_err-read-clause-told : goal.returns-in_err-read-clause-told
+returns-in_err-read-clause-told g c = takes-told _ _ _ c.loop-session.invariant.served.answered.said
+
+pub returns-in_err-outcome-clause-told : goal.returns-in_err-outcome-clause-told
+returns-in_err-outcome-clause-told g c = takes-told _ _ _ c.loop-session.invariant.served.answered.said
+
+pub returns-in_err-say-clause-told : goal.returns-in_err-say-clause-told
+returns-in_err-say-clause-told g c = told_then _ _ _ (takes-told _ _ _ c.loop-session.invariant.served.answered.said) (takes_part-told _ _ _ c.in_err-say.ensures.part)
 
 pub returns-clause-told : goal.returns-clause-told
-returns-clause-told g c = takes-told _ _ _ c.loop-session.invariant.given.4
+returns-clause-told g c = takes-told _ _ _ c.loop-session.invariant.served.answered.said

@@ -1,4 +1,4 @@
-use Rattle.std.proofs.Common.{◌≡◌, ◌<◌, length, get_or, arith, ap}
+use Rattle.std.proofs.Common.{◌≡◌, get_or, arith, ap}
 use Rattle.page_changes.proofs.Order.{placed_next, IsIndexed-all}
 use Rattle.page_changes.proofs.table.index.Goals as goal
 

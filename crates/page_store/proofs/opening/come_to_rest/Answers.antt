@@ -6,6 +6,7 @@ use Rattle.page_store.specs.declared.fault.OpenFault.TheVariants.{Device}
 use Rattle.page_store.specs.Opened.{bytes_of}
 use Rattle.page_file.proofs.LeavesLemmas.{sound_image}
 use Rattle.page_file.proofs.LeavesLemmas.{runs_leave}
+use Rattle.page_file.proofs.RunsLemmas.{runs_then, runs_within}
 use Rattle.page_store.proofs.Openings.{opens, on_ok, if_err, if_err_as, settled_bytes, settled_told}
 use Rattle.page_store.proofs.opening.come_to_rest.Goals as goal
 
@@ -22,6 +23,15 @@ returns-clause-refused g c = IfErr-weaker c.recover.result _ _ (λ fault refused
 
 pub returns-clause-untouched : goal.returns-clause-untouched
 returns-clause-untouched g c = IfErr-weaker c.recover.result _ _ (λ fault untouched other. ap bytes_of (untouched other) ∙ settled_bytes _ _ c.in_ok-settle.ensures.settled) c.recover.ensures.untouched
+
+pub returns-in_err-settle-clause-left_alone : goal.returns-in_err-settle-clause-left_alone
+returns-in_err-settle-clause-left_alone g c = if_err_as c.from_residual.result Device _ c.from_residual.ensures.1 (λ other. absurd (other refl))
+
+pub returns-clause-left_alone : goal.returns-clause-left_alone
+returns-clause-left_alone g c =
+    IfErr-weaker c.recover.result _ _ (λ fault unwritten other.
+    runs_leave (runs_then c.settle.ensures.runs (runs_within (unwritten other)) (λ before half is_before is_half settled. settled) (λ before half after is_before is_half is_after settled later image left. settled image (later image left)))
+    (λ f is. sound_image _ f (g.met.D.Disk.sound c.recover.new.disk) is) (λ before image is left. left)) c.recover.ensures.left_alone
 
 pub returns-clause-opens : goal.returns-clause-opens
 returns-clause-opens g c = on_ok c.recover.result (opens c.in_ok-settle.ensures.settled c.settle.ensures.runs (g.met.D.Disk.only_now c.settle.new.disk) c.recover.ensures.leaves)

@@ -12,6 +12,12 @@ returns-in_err-cache-clause-opens_or_leaves g c =
     (λ f is. sound_image _ f (g.met.D.Disk.sound c.args.disk.now) is) (λ before image is left. left) in
     if_err_as c.from_residual.result Memory _ c.from_residual.ensures.1 (inr (inr refl, leaves))
 
+pub returns-in_err-cache-clause-left_alone : goal.returns-in_err-cache-clause-left_alone
+returns-in_err-cache-clause-left_alone g c =
+    let leaves = leaves_itself {file = g.D.Disk.file} {aside = g.D.Disk.beside} {attaches = g.D.Disk.attaches} {is_attached = g.D.Disk.is_attached} {clock = g.D.Disk.clock} {moment = g.D.Disk.moment}
+    (λ f is. sound_image _ f (g.met.D.Disk.sound c.args.disk.now) is) (λ before image is left. left) in
+    if_err_as c.from_residual.result Memory _ c.from_residual.ensures.1 (λ other. leaves)
+
 pub returns-clause-served : goal.returns-clause-served
 returns-clause-served g c = λ file is.
     let served = c.in_ok-opened.ensures.served file is in

@@ -1,5 +1,7 @@
 -- Where no journal counts, the file rests as it was found; else it rests after the repair, and stands for the same pages.
-use Rattle.std.proofs.Common.{ap, sym, ◌∙◌}
+use Rattle.std.proofs.Common.{ap, sym, refl, ◌∙◌}
+use Rattle.page_store.specs.declared.fault.OpenFault.TheVariants.{Device}
+use Rattle.page_store.proofs.Openings.{if_err, if_err_as}
 use Rattle.page_store.proofs.Judged.{found_at_rest, rests_as_found, served_formed}
 use Rattle.page_store.proofs.Repairs.{home_keeps, home_rests, keeps_then, looked_leaves}
 use Rattle.page_file.proofs.LeavesLemmas.{told_before}
@@ -10,7 +12,7 @@ bring_home-requires-clause-counts g c = λ file is.
     let told = sym c.inspect.ensures.same ∙ is in
     let served = c.in_ok-found.ensures.served file told in
     let counting = rw c.in-Some.is at served.1 in
-    record { synced = c.requires.synced file told; gate = counting.0; journal = sym (ap (λ journal. journal.images) c.in-Some.journal-is ∙ counting.2) }
+    record { synced = c.requires.synced file told; gate = counting.0; journal = sym (c.lend.ensures ∙ (ap (λ journal. journal.images) c.in-Some.journal-is ∙ counting.2)) }
 
 pub bring_home-requires-clause-formed : goal.bring_home-requires-clause-formed
 bring_home-requires-clause-formed g c = λ file is. served_formed file.bytes (c.in_ok-found.ensures.served file (sym c.inspect.ensures.same ∙ is)).0
@@ -44,3 +46,9 @@ returns-clause-at_rest g c = λ after is.
 
 pub returns-clause-leaves : goal.returns-clause-leaves
 returns-clause-leaves g c = keeps_then (looked_leaves c.inspect.ensures.runs c.inspect.ensures.same c.requires.synced) (home_keeps c.bring_home.ensures.leaves)
+
+pub returns-in_err-found-clause-left_alone : goal.returns-in_err-found-clause-left_alone
+returns-in_err-found-clause-left_alone g c = if_err c.from_residual.result (λ fault other. c.inspect.ensures.runs)
+
+pub returns-in_err-bring_home-clause-left_alone : goal.returns-in_err-bring_home-clause-left_alone
+returns-in_err-bring_home-clause-left_alone g c = if_err_as c.from_residual-in_err-bring_home.result Device _ c.from_residual-in_err-bring_home.ensures.1 (λ other. absurd (other refl))

@@ -1,5 +1,7 @@
 -- Up to the gate the file stands for its pages or for those with the images, and behind it for the latter.
+use Rattle.std.proofs.Common.{length}
 use Rattle.page_file.proofs.LeavesLemmas.{leaves_as}
+use Rattle.page_store.proofs.Reaches.{reaches_then}
 use Rattle.page_store.proofs.Calls.{counts_there, commit_leaves, rests_with, journaled_stays, committed_with}
 use Rattle.page_store.proofs.write_through.write_through.Goals as goal
 
@@ -26,3 +28,9 @@ returns-in-Ok-bring_home-clause-committed g c = committed_with c.args.images.now
 
 pub returns-in-Ok-bring_home-clause-leaves : goal.returns-in-Ok-bring_home-clause-leaves
 returns-in-Ok-bring_home-clause-leaves g c = commit_leaves c.args.images.now c.commit_to_journal.ensures.leaves c.in-Ok.ensures.counts c.bring_home.ensures.leaves
+
+pub returns-in-Err-bring_home-clause-reach : goal.returns-in-Err-bring_home-clause-reach
+returns-in-Err-bring_home-clause-reach g c = reaches_then c.args.start (length c.args.images.now) c.commit_to_journal.ensures.reach c.bring_home.ensures.reach
+
+pub returns-in-Ok-bring_home-clause-reach : goal.returns-in-Ok-bring_home-clause-reach
+returns-in-Ok-bring_home-clause-reach g c = reaches_then c.args.start (length c.args.images.now) c.commit_to_journal.ensures.reach c.bring_home.ensures.reach

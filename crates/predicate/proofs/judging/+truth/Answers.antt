@@ -3,7 +3,8 @@ use Rattle.std.proofs.Common.{rules, ap, map, sym, subst, ◌∙◌}
 use Rattle.std.specs.Prelude.{IsTrue}
 use Rattle.mdc_ast.specs.declared.predicate.Pred.{the_lemmas}
 use Rattle.mdc_ast.specs.Truth.{all_of, all_true, any_of, may_judge, truth}
-use Rattle.predicate.proofs.PredLemmas.{all_true-at, may_judge-All, may_judge-Any, truth-All, truth-Any}
+use Rattle.mdc_ast.proofs.PredLemmas.{may_judge-All, may_judge-Any, truth-All, truth-Any}
+use Rattle.predicate.proofs.PredLemmas.{all_true-at}
 use Rattle.predicate.proofs.TruthLemmas.{and_of-all_of_end, or_of-any_of_end}
 use Rattle.predicate.proofs.judging.+truth.Goals as goal
 

@@ -2,6 +2,7 @@ use Rattle.std.proofs.Common.{◌≡◌, ◌≤◌, length, take}
 use Rattle.std.specs.Option.{ForSome}
 use Rattle.std.specs.List.{All}
 use Rattle.page_file.specs.Layout.{home_page}
+use Rattle.redo_journal.specs.Images.{IsPageImage}
 use Rattle.redo_journal.specs.Layout.{torn_home}
 use Rattle.redo_journal.specs.Pieces.{homed}
 use Rattle.page_file.specs.Bound.{RunsOf}
@@ -17,5 +18,6 @@ invariant-loop-i g l = record {
   short : ForSome (g.D.Disk.file l.fn.disk) (λ f. l.end ≤ (torn_home l.images f.since).longest);
   home : ForSome (g.D.Disk.file l.disk) (λ f. All (λ image. home_page f.bytes image.0 ≡ image.1) (take l.i l.images));
   bytes : Between (g.D.Disk.file l.fn.disk) (g.D.Disk.file l.disk) (λ old new. new ≡ homed (take l.i l.images) old);
+  each : All IsPageImage (take l.i l.images);
   faults : g.D.Disk.disk_faults l.disk ≡ g.D.Disk.disk_faults l.fn.disk;
 }

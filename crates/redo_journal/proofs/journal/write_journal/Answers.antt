@@ -41,7 +41,7 @@ pub returns-clause-written : goal.returns-clause-written
 returns-clause-written g c =
     let size : length c.header.result ≡ 8 = ap length c.header.ensures in
     written_stands c.settle.result c.args.start c.args.images.now c.in_ok-end.end (c.from-index.result * 4096) (c.from-index.result * 4096 + c.index_len.result * 4096) c.header.result
-    c.len-number.ensures.images.each (omega arith) c.requires.few c.requires.behind_gates (omega arith) (omega arith) (c.header.ensures ∙ ap (λ n. header c.args.start n) c.len-number.ensures.len) size
+    c.in_ok-write_pages.ensures.each (omega arith) c.requires.few c.requires.behind_gates (omega arith) (omega arith) (c.header.ensures ∙ ap (λ n. header c.args.start n) c.len-number.ensures.len) size
     c.requires.ready c.requires.closed c.end_of.ensures.same c.in_ok-end.ensures.end
     (runs_then_settle (runs_header c.args.start (length c.args.images.now) (runs_journal c.args.start (length c.args.images.now) _ _ (omega arith) (omega arith) (runs_journal c.args.start (length c.args.images.now) _ _ (omega arith) (omega arith) (runs_zeros c.args.start (length c.args.images.now) c.in_ok-end.end _ c.requires.ready c.in_ok-end.ensures.end (omega arith) (runs_wider (journal_covers c.args.start (length c.args.images.now)) c.end_of.ensures.runs) c.fill.ensures.runs) c.write_index.ensures.runs) c.write_pages.ensures.runs) (rw size at c.put.ensures.runs)) c.settle.ensures.runs)
     c.fill.ensures.runs c.in_ok-fill.ensures.filled c.write_index.ensures.runs c.in_ok-write_index.ensures.index c.write_pages.ensures.runs c.in_ok-write_pages.ensures.pages

@@ -33,7 +33,7 @@ loop-k-preserved g c = record {
   runs = runs_on (runs_on c.loop-k.invariant.runs c.read_number.ensures.runs) c.read_page.ensures.runs;
   same = c.read_page.ensures.same ∙ (c.read_number.ensures.same ∙ c.loop-k.invariant.same);
   images = λ x is. images_read c.loop-k.k c.args.index c.args.pages x.bytes c.loop-k.images c.push.new.self c.in_ok-p.p _ (c.loop-k.invariant.images x is)
-      (c.in_ok-p.ensures.number x (c.loop-k.invariant.same ∙ is)) (c.in_ok-page.ensures.page x (c.read_number.ensures.same ∙ (c.loop-k.invariant.same ∙ is))) c.in_ok-push.ensures.ok;
+      (c.in_ok-p.ensures.number x (c.loop-k.invariant.same ∙ is)) (c.in_ok-boxed.ensures ∙ c.in_ok-page.ensures.page x (c.read_number.ensures.same ∙ (c.loop-k.invariant.same ∙ is))) c.in_ok-push.ensures.ok;
   rising = rw c.in_ok-push.ensures.ok (AreRising-push c.loop-k.images (c.in_ok-p.p, _) c.loop-k.invariant.rising (c.rise_to.ensures.0 (search rules)));
   faults = search rules;
 }

@@ -1,8 +1,7 @@
 -- A page more was written.
-use Rattle.std.proofs.Common.{◌≡◌, ◌<◌, ◌+◌, ◌++◌, ◌∷◌, [], None, Bool, true, false, refl, cond, ltb, length, nat_eq, arith, ap, sym, subst, ◌∙◌}
+use Rattle.std.proofs.Common.{◌≡◌, ◌<◌, ◌+◌, ◌++◌, ◌∷◌, [], None, Bool, true, false, refl, cond, ltb, length, nat_eq, arith, ap, sym, ◌∙◌}
 use mir.Val.{bool_byte}
 use Rattle.std.specs.Map.{lookup}
-use Rattle.page_changes.specs.Table.{Numbered}
 use Rattle.page_changes.specs.ChangesView.{listed, or_grown, written, FitsCounts}
 use Rattle.page_changes.proofs.Overlays.{length-listed, changed_in-length}
 use Rattle.page_changes.proofs.Steps.{add_counts, add_now, add_mark, add_marked}

@@ -1,5 +1,5 @@
 -- What was written over the page, or zeros where it was grown.
-use Rattle.std.proofs.Common.{◌≡◌, Some, None, ap, sym, ◌∙◌, arith}
+use Rattle.std.proofs.Common.{ap, sym, arith}
 use Rattle.page_changes.specs.ChangesView.{written}
 use Rattle.page_changes.proofs.Steps.{found_there, found_grown, found_some}
 use Rattle.page_changes.proofs.changes.Changes.get.Goals as goal

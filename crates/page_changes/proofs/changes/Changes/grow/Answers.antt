@@ -1,4 +1,4 @@
-use Rattle.std.proofs.Common.{◌≡◌, ◌+◌, length, ap, arith}
+use Rattle.std.proofs.Common.{length, ap, arith}
 use Rattle.page_changes.specs.ChangesView.{or_grown, written}
 use Rattle.page_changes.proofs.Overlays.{length-listed}
 use Rattle.page_changes.proofs.Steps.{grow_now}

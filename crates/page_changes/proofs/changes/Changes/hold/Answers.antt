@@ -1,10 +1,11 @@
 -- The page was grown, and has its zeros now.
-use Rattle.std.proofs.Common.{◌≡◌, ◌<◌, ◌≤◌, ◌++◌, ◌∷◌, [], None, false, length, rules, arith, ap, sym, ◌∙◌}
+use Rattle.std.proofs.Common.{◌≡◌, ◌<◌, ◌≤◌, ◌-◌, ◌++◌, ◌∷◌, [], None, false, length, rules, arith, ap, sym, ◌∙◌}
 use Rattle.std.specs.Prelude.{is_some}
 use Rattle.store_api.specs.StoreState.{zero_page}
 use Rattle.page_changes.specs.ChangesView.{or_grown, written}
 use Rattle.page_changes.proofs.Overlays.{length-listed}
-use Rattle.page_changes.proofs.Steps.{place_none, found_base, zeros_counts, zeros_now, zeros_mark, zeros_there, add_marked}
+use Rattle.page_changes.proofs.Steps.{place_none, found_base, zeros_counts, zeros_now, zeros_mark, add_marked}
+use Rattle.page_changes.proofs.Written.{lies_last}
 use Rattle.page_changes.proofs.changes.Changes.hold.Goals as goal
 
 pub invariant_of-self-2 : goal.invariant_of-self-2
@@ -41,4 +42,4 @@ returns-clause-there c =
     let none : written c.self.inside.table c.args.p ≡ None = place_none c.self.inside.table c.args.p c.place_of.result c.place_of.ensures unplaced in
     let pushed : c.push.new.self ≡ c.self.inside.table ++ (c.args.p, zero_page) ∷ [] = c.in_ok-push.ensures.ok ∙ ap (λ w. c.self.inside.table ++ (c.args.p, w) ∷ []) (c.in_ok-page.ensures ∙ c.blank_page.ensures) in
     let low : c.self.inside.base ≤ c.args.p = found_base c.self.inside.base c.self.inside.count (written c.self.inside.table) c.args.self.now c.args.p (ap (λ v. v.now) c.self.view_is) c.requires.within none c.requires.changed in
-    zeros_there c.args.p c.self.inside.table c.push.new.self none pushed
+    lies_last c.self.inside.table c.push.new.self c.args.p (c.len.result - 1) zero_page none pushed (ap (λ n. n - 1) c.len.ensures)

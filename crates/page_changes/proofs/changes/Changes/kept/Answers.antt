@@ -1,6 +1,6 @@
-use Rattle.std.proofs.Common.{◌≡◌, ◌≤◌, ◌+◌, ◌-◌, ap, sym, ◌∙◌, arith}
+use Rattle.std.proofs.Common.{◌+◌, ◌-◌, ap, sym, ◌∙◌, arith}
 use Rattle.page_changes.specs.Changes.{changed_in}
-use Rattle.page_changes.specs.ChangesView.{listed, or_grown, written}
+use Rattle.page_changes.specs.ChangesView.{listed, written}
 use Rattle.page_changes.proofs.Overlays.{length-listed, changed_in-length, changed_in-listed}
 use Rattle.page_changes.proofs.Steps.{found_some}
 use Rattle.page_changes.proofs.changes.Changes.kept.Goals as goal

@@ -1,4 +1,4 @@
-use Rattle.std.proofs.Common.{◌≡◌, ◌+◌, ◌-◌, ap, ◌∙◌}
+use Rattle.std.proofs.Common.{◌+◌, ◌-◌}
 use Rattle.page_changes.proofs.Steps.{mark_view}
 use Rattle.page_changes.proofs.changes.Changes.mark.Goals as goal
 

@@ -1,6 +1,3 @@
-use Rattle.std.proofs.Common.{◌≡◌, ◌<◌, ◌-◌, None, [], cond, leb, false, refl, arith}
-use Rattle.page_changes.specs.ChangesView.{or_grown, written}
-use Rattle.page_changes.proofs.Overlays.{listed_none, grown_below}
 use Rattle.page_changes.proofs.Written.{fits_none, new_view}
 use Rattle.page_changes.proofs.changes.Changes.new.Goals as goal
 

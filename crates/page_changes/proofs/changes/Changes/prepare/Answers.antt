@@ -1,5 +1,5 @@
 -- The pages that are added stand for what they stood for before.
-use Rattle.std.proofs.Common.{◌≡◌, ◌<◌, ◌≤◌, None, [], length, refl, ap, sym, subst, ◌∙◌}
+use Rattle.std.proofs.Common.{None, [], length, refl, ap, sym, subst, ◌∙◌}
 use Rattle.std.specs.Prelude.{IsSome}
 use Rattle.page_changes.specs.ChangesView.{listed, or_grown, written}
 use Rattle.page_changes.proofs.Overlays.{length-listed}

@@ -1,4 +1,4 @@
-use Rattle.std.proofs.Common.{◌≡◌, length, ap, sym, ◌∙◌}
+use Rattle.std.proofs.Common.{length, ap, sym, ◌∙◌}
 use Rattle.page_changes.specs.Changes.{nothing}
 use Rattle.page_changes.specs.ChangesView.{or_grown, written}
 use Rattle.page_changes.proofs.Overlays.{length-listed}

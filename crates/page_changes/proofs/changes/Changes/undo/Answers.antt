@@ -1,5 +1,5 @@
 -- The changes are those of the mark again.
-use Rattle.std.proofs.Common.{◌≡◌, None, Some, ap, sym, ◌∙◌}
+use Rattle.std.proofs.Common.{◌≡◌, None, ap, sym, ◌∙◌}
 use Rattle.page_changes.specs.ChangesView.{FitsMark, written_before}
 use Rattle.page_changes.proofs.Steps.{back_counts}
 use Rattle.page_changes.proofs.changes.Changes.undo.Goals as goal
@@ -8,6 +8,6 @@ pub invariant_of-self : goal.invariant_of-self
 invariant_of-self c =
     let fits : FitsMark c.self.inside.base c.self.inside.count c.self.inside.below c.self.inside.table c.self.inside.saved c.in-Some.mark = c.self.invariant.mark c.in-Some.mark (sym c.take.ensures.value ∙ c.in-Some.is) in
     let none : c.take.new.self ≡ None = c.take.ensures.after in record {
-      counts = back_counts c.self.inside.base c.self.inside.below c.self.inside.table c.self.inside.saved c.put_back.new.table c.in-Some.mark c.self.inside.count fits (λ q. c.put_back.ensures.back q ∙ ap (λ pages. written_before c.self.inside.saved pages q) c.truncate.ensures);
+      counts = back_counts c.self.inside.base c.self.inside.below c.self.inside.table c.self.inside.saved c.put_back.new.table c.in-Some.mark c.self.inside.count fits (λ q. c.put_back.ensures.back q ∙ ap (λ pages. written_before c.self.inside.saved pages q) c.cut.ensures);
       mark = λ mark is. absurd (cc);
     }

@@ -1,8 +1,5 @@
 -- One page more is there.
-use Rattle.std.proofs.Common.{◌≡◌, ◌≢◌, ◌≤◌, ◌<◌, ℕ, arith, subst, ◌∙◌, inl, inr}
-use Rattle.std.specs.Prelude.{IsSome}
-use Rattle.std.proofs.lemmas.Bool.{cases_eq}
-use Rattle.page_changes.specs.ChangesView.{written}
+use Rattle.std.proofs.Common.{arith, ◌∙◌}
 use Rattle.page_changes.proofs.Steps.{still_there}
 use Rattle.page_changes.proofs.changes.filling.fill.Goals as goal
 

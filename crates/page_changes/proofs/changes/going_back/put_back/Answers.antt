@@ -1,9 +1,8 @@
 -- One page less is saved each round, and it is back.
-use Rattle.std.proofs.Common.{◌≡◌, ◌<◌, ◌++◌, ◌∷◌, [], None, Some, length, nat_eq, slice_get, ap, sym, subst, ◌∙◌, refl, arith}
+use Rattle.std.proofs.Common.{◌≡◌, None, subst, ◌∙◌}
 use Rattle.std.specs.Prelude.{IsSome}
-use Rattle.std.specs.Map.{lookup}
 use Rattle.std.proofs.lemmas.Option.{slice_get_within}
-use Rattle.page_changes.specs.Table.{LiesAt, with_page}
+use Rattle.page_changes.specs.Table.{LiesAt}
 use Rattle.page_changes.specs.ChangesView.{written}
 use Rattle.page_changes.proofs.Steps.{back_over, back_same, saved_there}
 use Rattle.page_changes.proofs.changes.going_back.put_back.Goals as goal

@@ -1,8 +1,9 @@
 -- Whatever the borrower leaves stands under the number that was there.
-use Rattle.std.proofs.Common.{◌≡◌, ◌<◌, List, ℕ, length, get_or, refl, ap, sym, ◌∙◌, arith}
+use Rattle.std.proofs.Common.{◌<◌, length, get_or, refl, ap, sym, ◌∙◌, arith}
 use Rattle.std.specs.Box.{with_value}
-use Rattle.page_changes.specs.Table.{unboxed, with_page}
-use Rattle.page_changes.proofs.Indexed.{IsIndexed-set, unboxed-set, length-unboxed, bytes_there}
+use Rattle.page_changes.specs.Table.{with_page}
+use Rattle.store_api.proofs.BoxesLemmas.{length-unboxed}
+use Rattle.page_changes.proofs.Indexed.{IsIndexed-set, unboxed-set, bytes_there}
 use Rattle.page_changes.proofs.table.PageTable.at_mut.Goals as goal
 
 pub invariant_of-self-lent : goal.invariant_of-self-lent

@@ -1,5 +1,5 @@
 -- The number stays, so the page is found where it was.
-use Rattle.std.proofs.Common.{◌≡◌, get_or, ap, ◌∙◌}
+use Rattle.std.proofs.Common.{ap, ◌∙◌}
 use Rattle.page_changes.specs.Table.{unboxed, with_page}
 use Rattle.page_changes.proofs.Indexed.{IsIndexed-set, unboxed-set}
 use Rattle.page_changes.proofs.table.PageTable.exchange.Goals as goal

@@ -1,4 +1,4 @@
-use Rattle.std.proofs.Common.{◌≤◌, ◌<◌, ◌+◌, ℕ, List, length, slice_index_or, Box}
+use Rattle.std.proofs.Common.{◌≤◌, ◌<◌, ◌+◌, ℕ, List, slice_index_or, Box}
 use Rattle.std.specs.declared.alloc.Global.{Global}
 use Rattle.page_changes.proofs.table.PageTable.is_rising.Given as goal
 

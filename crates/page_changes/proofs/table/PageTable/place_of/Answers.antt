@@ -1,7 +1,7 @@
 -- The index leads to the page of a number, if it is there.
-use Rattle.std.proofs.Common.{◌≡◌, ◌≢◌, ◌<◌, ◌≤◌, ℕ, List, None, length, get_or, slice_get, nat_eq, arith, ap, sym, subst, ◌∙◌}
+use Rattle.std.proofs.Common.{◌≡◌, ◌<◌, ◌≤◌, None, length, get_or, nat_eq, arith, ap, subst, ◌∙◌}
 use Rattle.std.specs.Map.{lookup}
-use Rattle.page_changes.specs.Table.{Numbered, LiesAt, unboxed}
+use Rattle.page_changes.specs.Table.{Numbered, LiesAt}
 use Rattle.page_changes.proofs.Indexed.{unled, led_past, led_elsewhere, led_there}
 use Rattle.page_changes.proofs.table.PageTable.place_of.Goals as goal
 

@@ -1,5 +1,5 @@
 -- What is left was there before the last page.
-use Rattle.std.proofs.Common.{◌≡◌, ◌-◌, length, take, ap, sym, subst, ◌∙◌, arith}
+use Rattle.std.proofs.Common.{◌≡◌, ◌-◌, take, ap, sym, subst, ◌∙◌, arith}
 use Rattle.std.proofs.lemmas.List.{take-map}
 use Rattle.page_changes.specs.Table.{IsIndexed, unboxed}
 use Rattle.page_changes.proofs.Indexed.{IsIndexed-take, pops_as}

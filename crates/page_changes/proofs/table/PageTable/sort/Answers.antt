@@ -1,12 +1,12 @@
 -- A sort moves the pages, and their numbers, of which none comes twice, then rise.
-use Rattle.std.proofs.Common.{◌≡◌, ◌<◌, nat_eq, length, arith, ap, sym, subst, ◌∙◌, rules}
+use Rattle.std.proofs.Common.{◌<◌, nat_eq, length, arith, ap, sym, subst, ◌∙◌, rules}
 use Rattle.std.specs.List.{All, IsDistinct}
-use Rattle.std.specs.List.Sorted.{IsNonDecreasingBy}
 use Rattle.std.specs.Vec.{vec_len}
 use Rattle.std.specs.Map.{keys_of, lookup}
 use Rattle.std.proofs.lemmas.List.Sorted.{IsNonDecreasingBy-from_sort_by_key}
-use Rattle.page_changes.specs.Table.{IsRising, unboxed}
-use Rattle.page_changes.proofs.Order.{Boxed, rising_sorted, distinct_permuted, within_permuted, lookup-permuted}
+use Rattle.page_changes.specs.Table.{unboxed}
+use Rattle.store_api.proofs.BoxesLemmas.{Boxed}
+use Rattle.page_changes.proofs.Order.{rising_sorted, distinct_permuted, within_permuted, lookup-permuted}
 use Rattle.page_changes.proofs.table.PageTable.sort.Goals as goal
 
 pub index-requires-clause-distinct : goal.index-requires-clause-distinct

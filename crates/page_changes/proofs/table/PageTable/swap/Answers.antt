@@ -1,7 +1,8 @@
 -- The numbers stay, so each page is found where the other was.
-use Rattle.std.proofs.Common.{◌≡◌, ◌<◌, length, get_or, ap, sym, ◌∙◌, arith}
+use Rattle.std.proofs.Common.{◌<◌, length, get_or, ap, sym, ◌∙◌, arith}
 use Rattle.page_changes.specs.Table.{unboxed, with_page}
-use Rattle.page_changes.proofs.Indexed.{IsIndexed-set, unboxed-set, length-unboxed, bytes_there}
+use Rattle.store_api.proofs.BoxesLemmas.{length-unboxed}
+use Rattle.page_changes.proofs.Indexed.{IsIndexed-set, unboxed-set, bytes_there}
 use Rattle.page_changes.proofs.table.PageTable.swap.Goals as goal
 
 pub invariant_of-self : goal.invariant_of-self

@@ -1,4 +1,4 @@
-use Rattle.std.proofs.Common.{◌≤◌, ℕ, arith, ap, ◌∙◌, sym}
+use Rattle.std.proofs.Common.{arith, ◌∙◌, sym}
 use Rattle.page_store.proofs.Desks.{differing_work}
 use Rattle.page_store.proofs.desk.Desk.written.Goals as goal
 

@@ -1,6 +1,5 @@
 -- The host is handed back as it is.
-use Rattle.std.proofs.Common.{ap, sym, ◌∙◌}
-use Rattle.page_store.specs.FileStore.{Held}
+use Rattle.std.proofs.Common.{sym}
 use Rattle.page_store.proofs.Deciding.{each_left}
 use Rattle.page_store.proofs.Wholes.{still_going, holds_base}
 use Rattle.page_store.proofs.file_store.FileStore.close.Goals as goal

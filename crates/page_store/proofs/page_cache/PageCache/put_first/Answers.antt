@@ -1,5 +1,5 @@
 -- A page that is put in comes first, and what was clean is so.
-use Rattle.std.proofs.Common.{◌≡◌, sym, subst}
+use Rattle.std.proofs.Common.{sym, subst}
 use Rattle.page_store.specs.Cached.{AreHome}
 use Rattle.page_store.proofs.Recent.{put_leads, put_home}
 use Rattle.page_store.proofs.page_cache.PageCache.put_first.Goals as goal

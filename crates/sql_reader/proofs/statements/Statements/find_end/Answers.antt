@@ -1,30 +1,14 @@
-use Rattle.std.proofs.Common.{◌≤◌, ◌<◌, ◌+◌, subst, length, arith}
-use Rattle.sql_reader.specs.Scan.{EndsPiece, IsLast}
-use Rattle.sql_reader.proofs.Scanning.{ends_piece, is_last, scan_stopped, scan_went}
+use Rattle.std.proofs.Common.{take, drop}
+use Rattle.sql_reader.proofs.Scanning.{ahead_splits, came_on, scanned_grows}
 use Rattle.sql_reader.proofs.statements.Statements.find_end.Goals as goal
 
-pub invariant_of-self : goal.invariant_of-self
-invariant_of-self c =
-    scan_went c.self.inside.held.items c.deref.result.now c.self.inside.start c.self.inside.scanned c.scan-reach.result.count c.self.inside.place c.scan-reach.result.place
-    c.self.invariant c.deref.ensures.value c.scan-reach.ensures.within c.scan-reach.ensures.came
-
-pub returns-then-self-len-clause-none : goal.returns-then-self-len-clause-none
-returns-then-self-len-clause-none c =
-    let went = scan_went c.self.inside.held.items c.deref.result.now c.self.inside.start c.self.inside.scanned c.scan-reach.result.count c.self.inside.place c.scan-reach.result.place
-    c.self.invariant c.deref.ensures.value c.scan-reach.ensures.within c.scan-reach.ensures.came in
-    let all : length c.self.inside.held.items ≤ c.self.inside.scanned + c.scan-reach.result.count = omega arith in
-    subst (λ v. IsLast v.taken v.past) c.self.view_is (is_last c.self.inside.held.items c.self.inside.start _ c.scan-reach.result.place went all)
-
-pub invariant_of-self-2 : goal.invariant_of-self-2
-invariant_of-self-2 c =
-    scan_went c.self.inside.held.items c.deref.result.now c.self.inside.start c.self.inside.scanned c.scan-reach.result.count c.self.inside.place c.scan-reach.result.place
-    c.self.invariant c.deref.ensures.value c.scan-reach.ensures.within c.scan-reach.ensures.came
-
-pub returns-clause-found : goal.returns-clause-found
-returns-clause-found c =
-    let went = scan_went c.self.inside.held.items c.deref.result.now c.self.inside.start c.self.inside.scanned c.scan-reach.result.count c.self.inside.place c.scan-reach.result.place
-    c.self.invariant c.deref.ensures.value c.scan-reach.ensures.within c.scan-reach.ensures.came in
-    let more : c.self.inside.scanned + c.scan-reach.result.count < length c.self.inside.held.items = omega (arith, went.within) in
-    let stops = scan_stopped c.self.inside.held.items c.deref.result.now c.self.inside.scanned c.scan-reach.result.count c.scan-reach.result.place c.deref.ensures.value more c.scan-reach.ensures.stopped in
-    subst (λ v. EndsPiece v.taken v.past (c.self.inside.scanned + c.scan-reach.result.count)) c.self.view_is
-    (ends_piece c.self.inside.held.items c.self.inside.start _ c.scan-reach.result.place went more stops)
+pub returns-clause-over : goal.returns-clause-over
+returns-clause-over c =
+    let held = c.self.inside.held.items in
+    let count = c.scan-reach.result.count in
+    rw (← c.self.view_is) (
+      take count (drop c.self.inside.scanned held),
+      ahead_splits held c.self.inside.scanned count,
+      scanned_grows held c.self.inside.start c.self.inside.scanned count c.self.invariant.order,
+      came_on held c.deref.result.now c.self.inside.scanned count c.self.inside.place c.scan-reach.result.place c.deref.ensures.value c.scan-reach.ensures.came,
+    )

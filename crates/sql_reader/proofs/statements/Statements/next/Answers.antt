@@ -1,131 +1,105 @@
-use Rattle.std.proofs.Common.{Ok, sym, subst, ap, ◌∙◌, inl, inr, arith}
-use Rattle.mdc_ast.specs.Reading.{Closes}
-use Rattle.sql_reader.specs.Items.{Keeps}
-use Rattle.sql_reader.specs.Progress.{Given, Took}
+use Rattle.std.proofs.Common.{◌≡◌, ◌≤◌, Ok, Err, true, false, refl, subst, ap, ◌∙◌, inl, arith, length}
+use Rattle.std.proofs.lemmas.Result.{err_from_is_err_and}
+use Rattle.sql_reader.specs.Items.{IsItemIn}
 use Rattle.sql_reader.specs.declared.statements.ReadStop.TheVariants as stop
-use Rattle.sql_reader.proofs.Giving.{none_waits, on_err, passed_on, passed_over, ends_all, read_last_of, read_more, rose_since, through, took_more, uncounted, waits}
+use Rattle.sql_reader.proofs.Giving.{all_over, ends, gives_item, is_read, passes, read_fits, reads_on, scanned_on, stops_reading, stops_short, uncounted, work_passed, work_read, work_scanned, work_shrunk}
+use Rattle.sql_reader.proofs.Standings.{and_taken}
 use Rattle.sql_reader.proofs.statements.Statements.next.Goals as goal
 
-pub returns-in_err-read-clause-waiting : goal.returns-in_err-read-clause-waiting
-returns-in_err-read-clause-waiting g c = waits c.loop-read.invariant.0
+pub returns-in_err-read-clause-goes : goal.returns-in_err-read-clause-goes
+returns-in_err-read-clause-goes g c =
+    let p = err_from_is_err_and c.from_residual.result c.from_residual.ensures.1 in
+    let few : c.find_end.new.self.count ≤ 67108864 = omega (arith, ap (λ r. r.count) c.find_end.ensures.same, c.loop-self.invariant.few) in
+    rw (p.1, p.2) (λ old at.
+    let under = c.loop-self.invariant.goes old at in
+    stops_short g.I.Source.left c.args.source.now c.loop-self.source c.find_end.new.self c.next_closed.new.self old under.0
+    (scanned_on g.I.Source.left c.args.source.now c.loop-self.source c.loop-self.self c.find_end.new.self old under.0 under.1 c.find_end.ensures.same c.find_end.ensures.over) few c.in_err-read.ensures.err)
 
-pub returns-in-Some-clause-waiting : goal.returns-in-Some-clause-waiting
-returns-in-Some-clause-waiting g c = waits c.loop-read.invariant.0
+pub returns-in-Some-clause-goes : goal.returns-in-Some-clause-goes
+returns-in-Some-clause-goes g c old at =
+    let under = c.loop-self.invariant.goes old at in
+    let on = scanned_on g.I.Source.left c.args.source.now c.loop-self.source c.loop-self.self c.find_end.new.self old under.0 under.1 c.find_end.ensures.same c.find_end.ensures.over in
+    let found = c.find_end.ensures.found c.if-find_end.true in
+    let few : c.find_end.new.self.count ≤ 67108864 = omega (arith, ap (λ r. r.count) c.find_end.ensures.same, c.loop-self.invariant.few) in
+    let item = subst (IsItemIn on.rest.piece) c.in-Some.is (c.in_ok-read.ensures.item on.rest.piece on.rest.covers) in
+    gives_item g.I.Source.left c.args.source.now c.loop-self.source c.find_end.new.self c.next_closed.new.self old under.0 found.0 c.in-Some.read on few c.find_end.ensures.few found.1 found.2 item c.in_ok-read.ensures.passed
 
-pub returns-in_err-fill-clause-taken : goal.returns-in_err-fill-clause-taken
-returns-in_err-fill-clause-taken g c =
-    let all = through c.next_closed.new.self c.in_ok-read.field-0 c.loop-read.invariant.0 c.next_closed.ensures.same.0 c.next_closed.ensures.same.1 c.in_default.is c.in_ok-read.ensures.none in
-    took_more (g.I.Source.left c.args.source.now) (g.I.Source.left c.loop-read.source) (g.I.Source.left c.fill.new.source) c.args.self.now.taken c.next_closed.new.self.taken c.fill.new.self.taken all.took c.fill.ensures.taken
+pub loop-self-preserved-then-find_end : goal.loop-self-preserved-then-find_end
+loop-self-preserved-then-find_end g c =
+    let same = c.find_end.ensures.same in
+    let passed = c.in_ok-read.ensures.passed in
+    let found = c.find_end.ensures.found c.if-find_end.true in
+    let inv = c.loop-self.invariant in
+    record {
+      goes = λ old at.
+          let under = inv.goes old at in
+          let on = scanned_on g.I.Source.left c.args.source.now c.loop-self.source c.loop-self.self c.find_end.new.self old under.0 under.1 same c.find_end.ensures.over in
+          let item = subst (IsItemIn on.rest.piece) c.in_default.is (c.in_ok-read.ensures.item on.rest.piece on.rest.covers) in
+          (_, passes g.I.Source.left c.args.source.now c.loop-self.source c.find_end.new.self c.next_closed.new.self old under.0 found.0 on found.1 found.2 item passed);
+      unfinished = ap (λ r. r.finished) passed ∙ (ap (λ r. r.finished) same ∙ inv.unfinished);
+      few = omega (arith, ap (λ r. r.count) passed, ap (λ r. r.count) same, inv.few);
+      kept = omega (arith, ap (λ r. r.kept) passed, ap (λ r. r.kept) same, inv.kept);
+      faults = inv.faults;
+      work = omega (arith, work_passed c.find_end.new.self c.next_closed.new.self passed, work_scanned c.loop-self.self c.find_end.new.self same c.find_end.ensures.over, inv.work);
+    }
 
-pub returns-in_err-fill-clause-waiting : goal.returns-in_err-fill-clause-waiting
-returns-in_err-fill-clause-waiting g c =
-    let all = through c.next_closed.new.self c.in_ok-read.field-0 c.loop-read.invariant.0 c.next_closed.ensures.same.0 c.next_closed.ensures.same.1 c.in_default.is c.in_ok-read.ensures.none in
-    λ given closed h more less. absurd (none_waits all given closed h more less)
+pub returns-in_err-fill-clause-goes : goal.returns-in_err-fill-clause-goes
+returns-in_err-fill-clause-goes g c =
+    let p = err_from_is_err_and c.from_residual-in_err-fill.result c.from_residual-in_err-fill.ensures.1 in
+    let cause = c.in_err-fill.field-0.0 in
+    let was : c.fill.result ≡ Err cause = c.in_err-fill.was in
+    let few : c.shrink.new.self.count ≤ 67108864 = omega (arith, ap (λ r. r.count) c.shrink.ensures.same, ap (λ r. r.count) c.find_end.ensures.same, c.loop-self.invariant.few) in
+    let read = is_read g.I.Source.left c.loop-self.source c.fill.new.source c.find_end.new.self c.shrink.new.self c.fill.new.self (c.find_end.ensures.none c.if-find_end.false) c.shrink.ensures.same c.fill.ensures.same c.fill.ensures.taken c.fill.ensures.one_read in
+    rw (p.1, p.2) (λ old at.
+    let under = c.loop-self.invariant.goes old at in
+    let less = all_over g.I.Source.left c.args.source.now c.loop-self.source c.loop-self.self c.find_end.new.self c.shrink.new.self old under.0 under.1 c.find_end.ensures.same c.find_end.ensures.over c.shrink.ensures.same c.shrink.ensures.covers in
+    stops_reading g.I.Source.left c.args.source.now c.loop-self.source c.fill.new.source c.shrink.new.self c.fill.new.self c.fill.new.self old under.0 cause less read
+    (λ e. (c.fill.ensures.source (was ∙ ap Err e)).0) (λ e. c.fill.ensures.too_long (was ∙ ap Err e))
+    (read_fits cause c.shrink.new.self.count c.fill.new.self.count c.fill.new.self.ahead (ap (λ r. r.count) c.fill.ensures.same) few (λ e. (c.fill.ensures.source (was ∙ ap Err e)).0) (λ e. c.fill.ensures.memory (was ∙ ap Err e))) refl)
 
-pub returns-in_err-fill-clause-source : goal.returns-in_err-fill-clause-source
-returns-in_err-fill-clause-source g c is =
-    let all = through c.next_closed.new.self c.in_ok-read.field-0 c.loop-read.invariant.0 c.next_closed.ensures.same.0 c.next_closed.ensures.same.1 c.in_default.is c.in_ok-read.ensures.none in
-    let failed = c.fill.ensures.source (passed_on c.from_residual-in_err-fill.result c.fill.result c.in_err-fill.field-0.0 stop.Source c.from_residual-in_err-fill.ensures.1 c.in_err-fill.was is) in (
-      rose_since (g.I.Source.read_faults c.args.source.now) (g.I.Source.read_faults c.loop-read.source) (g.I.Source.read_faults c.fill.new.source) all.count failed.1,
-      λ given h. subst (λ p. Closes p.taken given) (sym failed.0) (all.all_now given h),
-    )
+pub returns-in_err-last-clause-goes : goal.returns-in_err-last-clause-goes
+returns-in_err-last-clause-goes g c =
+    let p = err_from_is_err_and c.from_residual-in_err-last.result c.from_residual-in_err-last.ensures.1 in
+    let was : c.fill.result ≡ Ok false = c.in_ok-fill.was ∙ ap Ok c.if-not-branch.true in
+    let ended = c.fill.ensures.end was in
+    let few : c.fill.new.self.count ≤ 67108864 = omega (arith, ap length ended.0, ap (λ r. r.count) c.fill.ensures.same, ap (λ r. r.count) c.shrink.ensures.same, ap (λ r. r.count) c.find_end.ensures.same, c.loop-self.invariant.few) in
+    let read = is_read g.I.Source.left c.loop-self.source c.fill.new.source c.find_end.new.self c.shrink.new.self c.fill.new.self (c.find_end.ensures.none c.if-find_end.false) c.shrink.ensures.same c.fill.ensures.same c.fill.ensures.taken c.fill.ensures.one_read in
+    rw (p.1, p.2) (λ old at.
+    let under = c.loop-self.invariant.goes old at in
+    let less = all_over g.I.Source.left c.args.source.now c.loop-self.source c.loop-self.self c.find_end.new.self c.shrink.new.self old under.0 under.1 c.find_end.ensures.same c.find_end.ensures.over c.shrink.ensures.same c.shrink.ensures.covers in
+    stops_reading g.I.Source.left c.args.source.now c.loop-self.source c.fill.new.source c.shrink.new.self c.fill.new.self c.next_last.new.self old under.0 stop.Memory less read
+    (λ e. ended.0) (λ e. absurd (cc)) (inl few) c.in_err-last.ensures.err)
 
-pub returns-in_err-fill-clause-too_long : goal.returns-in_err-fill-clause-too_long
-returns-in_err-fill-clause-too_long g c is =
-    let all = through c.next_closed.new.self c.in_ok-read.field-0 c.loop-read.invariant.0 c.next_closed.ensures.same.0 c.next_closed.ensures.same.1 c.in_default.is c.in_ok-read.ensures.none in
-    let long = c.fill.ensures.too_long (passed_on c.from_residual-in_err-fill.result c.fill.result c.in_err-fill.field-0.0 stop.TooLong c.from_residual-in_err-fill.ensures.1 c.in_err-fill.was is) in
-    (long.0, λ given h. subst (λ l. Closes l given) (sym long.1) (all.all_now given h))
+pub returns-then-not-branch-clause-goes : goal.returns-then-not-branch-clause-goes
+returns-then-not-branch-clause-goes g c old at =
+    let was : c.fill.result ≡ Ok false = c.in_ok-fill.was ∙ ap Ok c.if-not-branch.true in
+    let ended = c.fill.ensures.end was in
+    let few : c.fill.new.self.count ≤ 67108864 = omega (arith, ap length ended.0, ap (λ r. r.count) c.fill.ensures.same, ap (λ r. r.count) c.shrink.ensures.same, ap (λ r. r.count) c.find_end.ensures.same, c.loop-self.invariant.few) in
+    let read = is_read g.I.Source.left c.loop-self.source c.fill.new.source c.find_end.new.self c.shrink.new.self c.fill.new.self (c.find_end.ensures.none c.if-find_end.false) c.shrink.ensures.same c.fill.ensures.same c.fill.ensures.taken c.fill.ensures.one_read in
+    let under = c.loop-self.invariant.goes old at in
+    let less = all_over g.I.Source.left c.args.source.now c.loop-self.source c.loop-self.self c.find_end.new.self c.shrink.new.self old under.0 under.1 c.find_end.ensures.same c.find_end.ensures.over c.shrink.ensures.same c.shrink.ensures.covers in
+    ends g.I.Source.left c.args.source.now c.loop-self.source c.fill.new.source c.shrink.new.self c.fill.new.self c.next_last.new.self old under.0 c.in_ok-last.last less read ended.0 ended.1 few c.in_ok-last.ensures.item c.in_ok-last.ensures.ended
 
-pub returns-in_err-last-clause-taken : goal.returns-in_err-last-clause-taken
-returns-in_err-last-clause-taken g c =
-    let all = through c.next_closed.new.self c.in_ok-read.field-0 c.loop-read.invariant.0 c.next_closed.ensures.same.0 c.next_closed.ensures.same.1 c.in_default.is c.in_ok-read.ensures.none in
-    subst (Took (g.I.Source.left c.args.source.now) c.args.self.now.taken (g.I.Source.left c.fill.new.source)) (sym c.next_last.ensures.same.0)
-    (took_more (g.I.Source.left c.args.source.now) (g.I.Source.left c.loop-read.source) (g.I.Source.left c.fill.new.source) c.args.self.now.taken c.next_closed.new.self.taken c.fill.new.self.taken all.took c.fill.ensures.taken)
-
-pub returns-in_err-last-clause-waiting : goal.returns-in_err-last-clause-waiting
-returns-in_err-last-clause-waiting g c =
-    let all = through c.next_closed.new.self c.in_ok-read.field-0 c.loop-read.invariant.0 c.next_closed.ensures.same.0 c.next_closed.ensures.same.1 c.in_default.is c.in_ok-read.ensures.none in
-    λ given closed h more less. absurd (none_waits all given closed h more less)
-
-pub returns-then-not-branch-clause-taken : goal.returns-then-not-branch-clause-taken
-returns-then-not-branch-clause-taken g c =
-    let all = through c.next_closed.new.self c.in_ok-read.field-0 c.loop-read.invariant.0 c.next_closed.ensures.same.0 c.next_closed.ensures.same.1 c.in_default.is c.in_ok-read.ensures.none in
-    subst (Took (g.I.Source.left c.args.source.now) c.args.self.now.taken (g.I.Source.left c.fill.new.source)) (sym c.next_last.ensures.same.0)
-    (took_more (g.I.Source.left c.args.source.now) (g.I.Source.left c.loop-read.source) (g.I.Source.left c.fill.new.source) c.args.self.now.taken c.next_closed.new.self.taken c.fill.new.self.taken all.took c.fill.ensures.taken)
-
-pub returns-then-not-branch-clause-waiting : goal.returns-then-not-branch-clause-waiting
-returns-then-not-branch-clause-waiting g c =
-    let all = through c.next_closed.new.self c.in_ok-read.field-0 c.loop-read.invariant.0 c.next_closed.ensures.same.0 c.next_closed.ensures.same.1 c.in_default.is c.in_ok-read.ensures.none in
-    λ given closed h more less. absurd (none_waits all given closed h more less)
-
-pub returns-then-not-branch-clause-end : goal.returns-then-not-branch-clause-end
-returns-then-not-branch-clause-end g c =
-    let all = through c.next_closed.new.self c.in_ok-read.field-0 c.loop-read.invariant.0 c.next_closed.ensures.same.0 c.next_closed.ensures.same.1 c.in_default.is c.in_ok-read.ensures.none in
-    ends_all c.args.self.now c.fill.new.self c.next_last.new.self c.in_ok-last.last (λ given h. c.fill.ensures.kept given (all.keeps given h)) c.in_ok-last.ensures.none
-
-pub loop-read-preserved : goal.loop-read-preserved
-loop-read-preserved g c =
-    let all = through c.next_closed.new.self c.in_ok-read.field-0 c.loop-read.invariant.0 c.next_closed.ensures.same.0 c.next_closed.ensures.same.1 c.in_default.is c.in_ok-read.ensures.none in
-    let more = c.fill.ensures.more (c.in_ok-fill.was ∙ ap Ok c.if-not-branch.false) in (
-      record {
-        unfinished = c.fill.ensures.open.0;
-        within = more.1;
-        took = took_more (g.I.Source.left c.args.source.now) (g.I.Source.left c.loop-read.source) (g.I.Source.left c.fill.new.source) c.args.self.now.taken c.next_closed.new.self.taken c.fill.new.self.taken all.took c.fill.ensures.taken;
-        keeps = λ given h. c.fill.ensures.kept given (all.keeps given h);
-        unread = inr all.all_old;
-        last = read_more c.args.source.now c.fill.new.source c.args.self.now c.next_closed.new.self.taken c.fill.new.self.taken all.grown all.all_now c.fill.ensures.one_read;
-        count = uncounted c.fill.result stop.Source _ _ (g.I.Source.read_faults c.loop-read.source) (g.I.Source.read_faults c.fill.new.source) c.in_ok-fill.was all.count c.fill.ensures.no_fault;
-      },
-      omega (arith, c.loop-read.invariant.1, c.next_closed.ensures.past, c.fill.ensures.open.1),
-    )
-
-pub returns-in_err-fill-clause-kept : goal.returns-in_err-fill-clause-kept
-returns-in_err-fill-clause-kept g c =
-    let all = through c.next_closed.new.self c.in_ok-read.field-0 c.loop-read.invariant.0 c.next_closed.ensures.same.0 c.next_closed.ensures.same.1 c.in_default.is c.in_ok-read.ensures.none in
-    on_err c.from_residual-in_err-fill.result (Keeps c.args.self.now c.fill.new.self) (λ given h. c.fill.ensures.kept given (all.keeps given h))
-
-pub returns-in_err-last-clause-kept : goal.returns-in_err-last-clause-kept
-returns-in_err-last-clause-kept g c =
-    let all = through c.next_closed.new.self c.in_ok-read.field-0 c.loop-read.invariant.0 c.next_closed.ensures.same.0 c.next_closed.ensures.same.1 c.in_default.is c.in_ok-read.ensures.none in
-    on_err c.from_residual-in_err-last.result (Keeps c.args.self.now c.next_last.new.self)
-    (λ given h. subst (λ p. Given p given) (sym c.in_err-last.ensures.err) (c.fill.ensures.kept given (all.keeps given h)))
-
-pub returns-in_err-read-clause-last_read : goal.returns-in_err-read-clause-last_read
-returns-in_err-read-clause-last_read g c =
-    read_last_of c.loop-read.self.taken c.next_closed.new.self.taken c.next_closed.ensures.same.0 c.loop-read.invariant.0.last
-
-pub returns-in-Some-clause-last_read : goal.returns-in-Some-clause-last_read
-returns-in-Some-clause-last_read g c =
-    read_last_of c.loop-read.self.taken c.next_closed.new.self.taken c.next_closed.ensures.same.0 c.loop-read.invariant.0.last
-
-pub returns-in_err-fill-clause-last_read : goal.returns-in_err-fill-clause-last_read
-returns-in_err-fill-clause-last_read g c =
-    let all = through c.next_closed.new.self c.in_ok-read.field-0 c.loop-read.invariant.0 c.next_closed.ensures.same.0 c.next_closed.ensures.same.1 c.in_default.is c.in_ok-read.ensures.none in
-    read_more c.args.source.now c.fill.new.source c.args.self.now c.next_closed.new.self.taken c.fill.new.self.taken all.grown all.all_now c.fill.ensures.one_read
-
-pub returns-in_err-last-clause-last_read : goal.returns-in_err-last-clause-last_read
-returns-in_err-last-clause-last_read g c =
-    let all = through c.next_closed.new.self c.in_ok-read.field-0 c.loop-read.invariant.0 c.next_closed.ensures.same.0 c.next_closed.ensures.same.1 c.in_default.is c.in_ok-read.ensures.none in
-    read_last_of c.fill.new.self.taken c.next_last.new.self.taken c.next_last.ensures.same.0
-    (read_more c.args.source.now c.fill.new.source c.args.self.now c.next_closed.new.self.taken c.fill.new.self.taken all.grown all.all_now c.fill.ensures.one_read)
-
-pub returns-then-not-branch-clause-last_read : goal.returns-then-not-branch-clause-last_read
-returns-then-not-branch-clause-last_read g c =
-    let all = through c.next_closed.new.self c.in_ok-read.field-0 c.loop-read.invariant.0 c.next_closed.ensures.same.0 c.next_closed.ensures.same.1 c.in_default.is c.in_ok-read.ensures.none in
-    read_last_of c.fill.new.self.taken c.next_last.new.self.taken c.next_last.ensures.same.0
-    (read_more c.args.source.now c.fill.new.source c.args.self.now c.next_closed.new.self.taken c.fill.new.self.taken all.grown all.all_now c.fill.ensures.one_read)
-
-pub returns-in_err-fill-clause-no_fault : goal.returns-in_err-fill-clause-no_fault
-returns-in_err-fill-clause-no_fault g c =
-    elim c.fill.ensures.no_fault [
-      | inl failed ↦ inl (passed_over c.from_residual-in_err-fill.result c.fill.result c.in_err-fill.field-0.0 stop.Source c.from_residual-in_err-fill.ensures.1 c.in_err-fill.was failed)
-      | inr same ↦ inr (same ∙ c.loop-read.invariant.0.count)
-    ]
-
-pub returns-in_err-last-clause-no_fault : goal.returns-in_err-last-clause-no_fault
-returns-in_err-last-clause-no_fault g c =
-    inr (uncounted c.fill.result stop.Source _ _ (g.I.Source.read_faults c.loop-read.source) (g.I.Source.read_faults c.fill.new.source) c.in_ok-fill.was c.loop-read.invariant.0.count c.fill.ensures.no_fault)
-
-pub returns-then-not-branch-clause-no_fault : goal.returns-then-not-branch-clause-no_fault
-returns-then-not-branch-clause-no_fault g c =
-    inr (uncounted c.fill.result stop.Source _ _ (g.I.Source.read_faults c.loop-read.source) (g.I.Source.read_faults c.fill.new.source) c.in_ok-fill.was c.loop-read.invariant.0.count c.fill.ensures.no_fault)
+pub loop-self-preserved : goal.loop-self-preserved
+loop-self-preserved g c =
+    let inv = c.loop-self.invariant in
+    let was : c.fill.result ≡ Ok true = c.in_ok-fill.was ∙ ap Ok c.if-not-branch.false in
+    let more = c.fill.ensures.more was in
+    let read = is_read g.I.Source.left c.loop-self.source c.fill.new.source c.find_end.new.self c.shrink.new.self c.fill.new.self (c.find_end.ensures.none c.if-find_end.false) c.shrink.ensures.same c.fill.ensures.same c.fill.ensures.taken c.fill.ensures.one_read in
+    record {
+      goes = λ old at.
+          let under = inv.goes old at in
+          let less = all_over g.I.Source.left c.args.source.now c.loop-self.source c.loop-self.self c.find_end.new.self c.shrink.new.self old under.0 under.1 c.find_end.ensures.same c.find_end.ensures.over c.shrink.ensures.same c.shrink.ensures.covers in
+          (and_taken under.0 c.fill.new.self.ahead, reads_on g.I.Source.left c.args.source.now c.loop-self.source c.fill.new.source c.shrink.new.self c.fill.new.self old under.0 less read);
+      unfinished = ap (λ r. r.finished) c.fill.ensures.same ∙ (ap (λ r. r.finished) c.shrink.ensures.same ∙ (ap (λ r. r.finished) c.find_end.ensures.same ∙ inv.unfinished));
+      few = more.1;
+      kept = omega (arith, ap (λ r. r.kept) c.fill.ensures.same, ap (λ r. r.kept) c.shrink.ensures.same, c.shrink.ensures.few, c.fill.ensures.one_read);
+      faults = uncounted c.fill.result stop.Source true _ _ _ was inv.faults c.fill.ensures.no_fault;
+      work = omega (
+        arith,
+        work_read c.shrink.new.self c.fill.new.self c.fill.ensures.same more.1,
+        work_shrunk c.find_end.new.self c.shrink.new.self c.shrink.ensures.same,
+        work_scanned c.loop-self.self c.find_end.new.self c.find_end.ensures.same c.find_end.ensures.over,
+        inv.work,
+      );
+    }

@@ -1,13 +1,8 @@
-use Rattle.std.proofs.Common.{◌<◌, length, sym, subst, arith}
-use Rattle.sql_reader.specs.Scan.{EndsPiece}
-use Rattle.sql_reader.proofs.Scanning.{pass_scanned}
+use Rattle.std.proofs.Common.{◌+◌, refl}
+use Rattle.std.proofs.lemmas.List.{drop-drop}
+use Rattle.sql_reader.proofs.Scanning.{no_bytes}
 use Rattle.sql_reader.proofs.statements.Statements.pass.Goals as goal
 
-pub overflow_add-self : goal.overflow_add-self
-overflow_add-self c =
-    let ends : EndsPiece c.self.inside.held.items c.self.inside.start c.args.end = subst (λ v. EndsPiece v.taken v.past c.args.end) (sym c.self.view_is) c.requires in
-    let h = c.self.inside.held.small in let k = c.self.inside.held.ok in let m : c.args.end < length c.self.inside.held.items = ends.within in grind arith
-
-pub invariant_of-self : goal.invariant_of-self
-invariant_of-self c =
-    pass_scanned c.self.inside.held.items c.self.inside.start c.self.inside.scanned c.args.end c.self.inside.place c.self.invariant (subst (λ v. EndsPiece v.taken v.past c.args.end) (sym c.self.view_is) c.requires)
+pub returns : goal.returns
+returns c =
+    rw (← c.self.view_is, no_bytes c.self.inside.held.items (c.self.inside.scanned + 1), ← drop-drop 1 c.self.inside.scanned c.self.inside.held.items) refl

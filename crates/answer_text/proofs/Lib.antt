@@ -1,0 +1,3 @@
+pub mod LineTexts
+pub mod RefusalTexts
+pub mod ShownLines

@@ -1,0 +1,24 @@
+//! The whole texts of answers: of replies, of refusals, and the lines of a query.
+//!
+//! It promises that they are the texts that the definitions of `mdc_ast` give them, byte for byte, and that nothing is
+//! written where memory is wanting. Each text is written once, where it is to stand. It stands on `mdc_ast`,
+//! `mdc_values` and the numbers of `itoa`.
+#![tactic(auto)]
+
+mod appending;
+mod entries;
+mod fault;
+mod lines;
+mod refusals;
+mod replies;
+mod select;
+mod wordings;
+
+pub use fault::AnswerFault;
+pub use lines::Lines;
+pub use refusals::refusal_bytes;
+pub use replies::{outcome_bytes, reply_bytes};
+pub use select::select_lines;
+
+#[cfg(test)]
+mod tests;

@@ -1,0 +1,9 @@
+pub mod ColumnLemmas
+pub mod CreateLemmas
+pub mod DefLemmas
+pub mod FirstLemmas
+pub mod OrderLemmas
+pub mod PredLemmas
+pub mod SetLemmas
+pub mod TupleLemmas
+pub mod WidthLemmas

@@ -1,0 +1,8 @@
+use Rattle.std.proofs.Common.{◌≡◌, drop}
+use Rattle.std.specs.Prelude.{flat_map}
+use Rattle.mdc_ast.specs.meaning.Judged.{out_columns}
+use Rattle.binder.specs.Saying.{first_of}
+use Rattle.binder.proofs.querying.judge_outs.Given as goal
+
+abbrev pub invariant-loop-out : goal.invariant-loop-out
+invariant-loop-out l = first_of (flat_map (out_columns l.columns) l.outs) ≡ first_of (flat_map (out_columns l.columns) (drop l.out-index l.outs))

@@ -1,0 +1,6 @@
+use Rattle.std.proofs.Common.{◌≡◌, map, take}
+use Rattle.mdc_ast.specs.meaning.Binding.{text_place}
+use Rattle.binder.proofs.table_binding.bound_dim.Given as goal
+
+abbrev pub invariant-loop-name : goal.invariant-loop-name
+invariant-loop-name l = l.places ≡ map (text_place l.columns) (take l.name-index l.dim)

@@ -1,0 +1,5 @@
+pub mod Bounded
+pub mod Classes
+pub mod Knowing
+pub mod Refusing
+pub mod Saying

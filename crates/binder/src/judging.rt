@@ -1,0 +1,172 @@
+// What is said first against a statement, class by class in the order of refusals.
+ghost use Rattle.std.specs.Prelude.{◌≡◌, IfOk, MatchResult, Some, None};
+ghost use Rattle.mdc_ast.specs.meaning.Cause.{NoTable};
+ghost use Rattle.mdc_ast.specs.meaning.Definitions.{def_named};
+ghost use Rattle.mdc_ast.specs.meaning.Judged.{insert_judged, judged_of, query_judged, sets_judged};
+ghost use Rattle.mdc_ast.specs.meaning.Judging.{in_order, no_fault, on_table, then_judged, where_judged};
+ghost use Rattle.binder.specs.Saying.{objected, first_of, said_by};
+
+use crate::creation::judge_creation;
+use crate::filtering::judge_where;
+use crate::insertion::judge_insertion;
+use crate::literals::Class;
+use crate::objection::Objection;
+use crate::querying::judge_shown;
+use crate::updating::{judge_set_columns, judge_sets};
+use catalog::Catalog;
+use mdc_ast::{ColumnDef, InsertItem, Name, PredText, Select, SetText, Stmt, TableDef};
+use mdc_values::{List, Memory};
+use std::alloc::Global;
+
+/// Judges a statement whose form is built.
+pub fn judge<'a>(
+    alloc: Global,
+    stmt: &'a Stmt,
+    catalog: &'a Catalog,
+) -> Result<Result<(), Objection<'a>>, Memory>
+    ensures { IfOk result (λ judged. first_of (in_order (judged_of catalog.now stmt.now)) ≡ said_by judged) }
+{
+    match stmt {
+        Stmt::CreateTable {
+            name,
+            columns,
+            dims,
+        } => judge_creation(alloc, name, columns.as_slice(), dims.as_slice(), catalog),
+        Stmt::DropTable(table) => Ok(judge_drop(table, catalog)),
+        Stmt::Insert {
+            table,
+            columns,
+            rows,
+        } => Ok(judge_insert(alloc, table, columns, rows.as_slice(), catalog)),
+        Stmt::Update { table, sets, pred } => {
+            Ok(judge_update(alloc, table, sets.as_slice(), pred, catalog))
+        }
+        Stmt::Delete { table, pred } => Ok(judge_delete(alloc, table, pred, catalog)),
+        Stmt::Query(select) => Ok(judge_query(alloc, select, catalog)),
+        Stmt::CreateIndex { .. }
+        | Stmt::DropIndex(_)
+        | Stmt::Explain(_)
+        | Stmt::SetRollout(_)
+        | Stmt::SetPlan(_)
+        | Stmt::SetPace(_)
+        | Stmt::Clean(_)
+        | Stmt::CleanTable(_)
+        | Stmt::ListBlocks(_)
+        | Stmt::Reclaim(_)
+        | Stmt::Begin
+        | Stmt::Commit
+        | Stmt::Rollback => Ok(Ok(())),
+    }
+}
+
+fn table_named<'a>(table: &'a Name, catalog: &'a Catalog) -> Result<&'a TableDef, Objection<'a>>
+    ensures { MatchResult result
+        (λ def. def_named catalog.now table.now ≡ Some def.now)
+        (λ objection. (def_named catalog.now table.now ≡ None) × (objected objection ≡ NoTable table.now)) }
+{
+    match catalog.table(table) {
+        Some(def) => Ok(def),
+        None => Err(Objection::NoTable(table)),
+    }
+}
+
+fn judge_drop<'a>(table: &'a Name, catalog: &'a Catalog) -> Result<(), Objection<'a>>
+    ensures { first_of (in_order (on_table table.now (def_named catalog.now table.now) (λ columns. no_fault))) ≡ said_by result }
+{
+    table_named(table, catalog)?;
+    Ok(())
+}
+
+fn judge_insert<'a>(
+    alloc: Global,
+    table: &'a Name,
+    listed: &'a Option<List<Name>>,
+    tuples: &[List<InsertItem>],
+    catalog: &'a Catalog,
+) -> Result<(), Objection<'a>>
+    ensures { first_of (in_order (on_table table.now (def_named catalog.now table.now) (insert_judged listed.now tuples.now))) ≡ said_by result }
+{
+    let def = table_named(table, catalog)?;
+    judge_insertion(alloc, def.columns.as_slice(), listed, tuples)
+}
+
+fn judge_update<'a>(
+    alloc: Global,
+    table: &'a Name,
+    sets: &'a [SetText],
+    pred: &'a Option<PredText>,
+    catalog: &'a Catalog,
+) -> Result<(), Objection<'a>>
+    ensures { first_of (in_order (on_table table.now (def_named catalog.now table.now)
+        (λ columns. then_judged (sets_judged sets.now columns) (where_judged columns pred.now)))) ≡ said_by result }
+{
+    let def = table_named(table, catalog)?;
+    judge_setting(alloc, def.columns.as_slice(), sets, pred)
+}
+
+#[tactic(auto, using(crate::proofs::FirstLemmas::first_steps))]
+fn judge_setting<'a>(
+    alloc: Global,
+    columns: &'a [ColumnDef],
+    sets: &'a [SetText],
+    pred: &'a Option<PredText>,
+) -> Result<(), Objection<'a>>
+    ensures { first_of (in_order (then_judged (sets_judged sets.now columns.now) (where_judged columns.now pred.now))) ≡ said_by result }
+{
+    judge_set_columns(columns, sets)?;
+    judge_where(alloc, Class::Columns, columns, pred)?;
+    judge_sets(alloc, Class::Types, columns, sets)?;
+    judge_where(alloc, Class::Types, columns, pred)?;
+    judge_sets(alloc, Class::Values, columns, sets)?;
+    judge_where(alloc, Class::Values, columns, pred)
+}
+
+fn judge_delete<'a>(
+    alloc: Global,
+    table: &'a Name,
+    pred: &'a Option<PredText>,
+    catalog: &'a Catalog,
+) -> Result<(), Objection<'a>>
+    ensures { first_of (in_order (on_table table.now (def_named catalog.now table.now) (λ columns. where_judged columns pred.now))) ≡ said_by result }
+{
+    let def = table_named(table, catalog)?;
+    judge_filter(alloc, def.columns.as_slice(), pred)
+}
+
+#[tactic(auto, using(crate::proofs::FirstLemmas::first_steps))]
+fn judge_filter<'a>(
+    alloc: Global,
+    columns: &[ColumnDef],
+    pred: &'a Option<PredText>,
+) -> Result<(), Objection<'a>>
+    ensures { first_of (in_order (where_judged columns.now pred.now)) ≡ said_by result }
+{
+    judge_where(alloc, Class::Columns, columns, pred)?;
+    judge_where(alloc, Class::Types, columns, pred)?;
+    judge_where(alloc, Class::Values, columns, pred)
+}
+
+fn judge_query<'a>(
+    alloc: Global,
+    select: &'a Select,
+    catalog: &'a Catalog,
+) -> Result<(), Objection<'a>>
+    ensures { first_of (in_order (on_table select.now.table (def_named catalog.now select.now.table) (query_judged select.now))) ≡ said_by result }
+{
+    let def = table_named(&select.table, catalog)?;
+    judge_selection(alloc, def.columns.as_slice(), select)
+}
+
+#[tactic(auto, using(crate::proofs::FirstLemmas::first_steps))]
+fn judge_selection<'a>(
+    alloc: Global,
+    columns: &[ColumnDef],
+    select: &'a Select,
+) -> Result<(), Objection<'a>>
+    ensures { first_of (in_order (query_judged select.now columns.now)) ≡ said_by result }
+{
+    judge_shown(columns, &select.list)?;
+    judge_where(alloc, Class::Columns, columns, &select.pred)?;
+    judge_where(alloc, Class::Types, columns, &select.pred)?;
+    judge_where(alloc, Class::Values, columns, &select.pred)
+}

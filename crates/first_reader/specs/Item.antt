@@ -1,8 +1,0 @@
--- What a reader gives, as an item of the script.
-use Rattle.first_ast.specs.Reading.{Item, Statement, Refused}
-use Rattle.first_reader.specs.declared.statements.Read.{Read}
-use Rattle.first_reader.specs.declared.statements.Read.TheVariants as read
-
-abbrev pub item_of : Read → Item
-item_of (read.Stmt stmt) = Statement stmt
-item_of (read.Refused refusal) = Refused refusal

@@ -1,9 +1,0 @@
-pub mod Gives
-pub mod Held
-pub mod Item
-pub mod Lexeme
-pub mod Parsing
-pub mod Progress
-pub mod Scan
-pub mod Token
-pub mod Trim

@@ -1,0 +1,164 @@
+-- The definitions of a database's tables: 16 places, each empty or with a definition (docs/SQL.md, "Meaning").
+use Rattle.std.specs.Prelude.{◌≡◌, ◌≤◌, ◌<◌, ℕ, ◌+◌, List, [], ◌∷◌, length, flat_map, ◌==◌, Bool, true, false, Option, Some, None, is_none, option_and_then, slice_get, slice_set, replicate, IsTrue, nat_lt, nat_le, ◌&&◌}
+use Rattle.std.specs.List.{position_from, list_all, list_any, AllByRecursion}
+use Rattle.std.specs.Str.{bytes_eq}
+use Rattle.mdc_values.specs.declared.value.ColType.{ColType}
+use Rattle.mdc_values.specs.declared.value.ColType.TheVariants as column
+use Rattle.mdc_ast.specs.declared.definition.ColumnDef.{ColumnDef}
+use Rattle.mdc_ast.specs.declared.definition.TableDef.{TableDef}
+use Rattle.mdc_ast.specs.declared.name.Name.{Name}
+
+abbrev pub Definitions : Type 0
+Definitions = List (Option TableDef)
+
+-- 16 empty places
+abbrev pub no_tables : Definitions
+no_tables = replicate 16 None
+
+-- ---- looking up
+
+abbrev pub is_same : Name → Name → Bool
+is_same a b = bytes_eq a.0 b.0
+
+abbrev pub is_defined : Name → Option TableDef → Bool
+is_defined name None = false
+is_defined name (Some def) = is_same def.name name
+
+-- the place of the table of that name
+abbrev pub place_of : Definitions → Name → Option ℕ
+place_of defs name = position_from (is_defined name) 0 defs
+
+-- the definition at a place
+abbrev pub def_at : Definitions → ℕ → Option TableDef
+def_at defs place = option_and_then (λ def. def) (slice_get defs place)
+
+-- the definition of that name
+abbrev pub def_named : Definitions → Name → Option TableDef
+def_named defs name = option_and_then (def_at defs) (place_of defs name)
+
+-- the lowest empty place
+abbrev pub empty_place : Definitions → Option ℕ
+empty_place defs = position_from is_none 0 defs
+
+-- the place of the column of that name
+abbrev pub column_place : List ColumnDef → Name → Option ℕ
+column_place columns name = position_from (λ column. is_same column.name name) 0 columns
+
+abbrev pub column_named : List ColumnDef → Name → Option ColumnDef
+column_named columns name = option_and_then (slice_get columns) (column_place columns name)
+
+-- ---- changing
+
+-- a definition in a place, under the number of that place
+abbrev pub with_def : Definitions → ℕ → TableDef → Definitions
+with_def defs place def = slice_set defs place (Some (record def { number = place }))
+
+-- a place emptied
+abbrev pub without_def : Definitions → ℕ → Definitions
+without_def defs place = slice_set defs place None
+
+-- ---- sizes
+
+-- the bytes that a value of a column takes in a row
+abbrev pub width : ColType → ℕ
+width column.Integer = 4
+width column.Bigint = 8
+width (column.Char n) = n
+width column.Date = 4
+
+-- a row has its number and two bytes of null bits besides
+abbrev pub row_width : List ColType → ℕ
+row_width [] = 10
+row_width (ty ∷ types) = width ty + row_width types
+
+-- a key has a byte for null before each part
+abbrev pub key_width : List ColType → ℕ
+key_width [] = 0
+key_width (ty ∷ types) = 1 + width ty + key_width types
+
+-- ---- what holds of every definition that statements make
+
+-- a name has at most 18 characters
+abbrev pub IsShort : Name → Type 0
+IsShort name = length name.0 ≤ 18
+
+abbrev pub is_among : Name → List Name → Bool
+is_among name names = list_any (is_same name) names
+
+-- no name stands twice
+abbrev pub AllNamesDiffer : List Name → Type 0
+AllNamesDiffer [] = Unit {0}
+AllNamesDiffer (name ∷ names) = (is_among name names ≡ false) × AllNamesDiffer names
+
+abbrev pub column_names : List ColumnDef → List Name
+column_names [] = []
+column_names (column ∷ columns) = column.name ∷ column_names columns
+
+abbrev pub column_types : List ColumnDef → List ColType
+column_types [] = []
+column_types (column ∷ columns) = column.ty ∷ column_types columns
+
+-- CHAR(n) has n from 1 to 254
+abbrev pub is_good_type : ColType → Bool
+is_good_type (column.Char n) = nat_le 1 n && nat_le n 254
+is_good_type ty = true
+
+-- each column that a dimension names is there
+abbrev pub are_there : List ColumnDef → List ℕ → Bool
+are_there columns places = list_all (λ place. nat_lt place (length columns)) places
+
+-- no number stands twice
+abbrev pub AllPlacesDiffer : List ℕ → Type 0
+AllPlacesDiffer [] = Unit {0}
+AllPlacesDiffer (place ∷ places) = (list_any (λ other. other == place) places ≡ false) × AllPlacesDiffer places
+
+-- the types of the columns in these places, of those that are there
+abbrev pub types_at : List ColumnDef → List ℕ → List ColType
+types_at columns places = flat_map (λ place. type_in (slice_get columns place)) places
+  where
+    type_in : Option ColumnDef → List ColType
+    type_in None = []
+    type_in (Some column) = column.ty ∷ []
+
+-- a key of the columns in these places is within its limit
+abbrev pub is_short_key : List ColumnDef → List ℕ → Bool
+is_short_key columns places = nat_le (key_width (types_at columns places)) 128
+
+-- a definition at a place, within the limits
+pub record IsValidDef (place : ℕ) (def : TableDef) : Type 0 where
+  pub stands : def.number ≡ place
+  pub short : IsShort def.name
+  pub few : length def.columns ≤ 16
+  pub short_names : AllByRecursion (λ column. IsShort column.name) def.columns
+  pub good_types : IsTrue (list_all (λ column. is_good_type column.ty) def.columns)
+  pub names_differ : AllNamesDiffer (column_names def.columns)
+  pub narrow : row_width (column_types def.columns) ≤ 1000
+  pub few_dims : length def.dims ≤ 4
+  pub dims_there : IsTrue (list_all (are_there def.columns) def.dims)
+  pub dims_apart : AllPlacesDiffer (flat_map (λ dim. dim) def.dims)
+  pub short_keys : IsTrue (list_all (is_short_key def.columns) def.dims)
+  pub short_composite : IsTrue (is_short_key def.columns (flat_map (λ dim. dim) def.dims))
+  -- no form that is built makes a generated column or an index
+  pub none_made : IsTrue (list_all (λ column. is_none column.made) def.columns)
+  pub no_indexes : def.indexes ≡ []
+  pub few_rows : def.next < 18446744073709551616
+
+abbrev pub IsValidPlace : ℕ → Option TableDef → Type 0
+IsValidPlace place None = Unit {0}
+IsValidPlace place (Some def) = IsValidDef place def
+
+-- the definitions from a place on are valid
+abbrev pub AreValidFrom : ℕ → Definitions → Type 0
+AreValidFrom place [] = Unit {0}
+AreValidFrom place (def ∷ defs) = IsValidPlace place def × AreValidFrom (place + 1) defs
+
+-- no two places have tables of one name
+abbrev pub AllDefsDiffer : Definitions → Type 0
+AllDefsDiffer [] = Unit {0}
+AllDefsDiffer (None ∷ defs) = AllDefsDiffer defs
+AllDefsDiffer (Some def ∷ defs) = (list_any (is_defined def.name) defs ≡ false) × AllDefsDiffer defs
+
+pub record AreValidDefs (defs : Definitions) : Type 0 where
+  pub places : length defs ≡ 16
+  pub differ : AllDefsDiffer defs
+  pub each : AreValidFrom 0 defs

@@ -1,0 +1,38 @@
+use Rattle.std.proofs.Common.{◌≡◌, ◌∙◌, ◌+◌, [], refl, sym, ap, length, arith}
+use Rattle.std.specs.Prelude.{flat_map}
+use Rattle.mdc_ast.specs.meaning.Database.{PlainTable}
+use Rattle.mdc_ast.specs.meaning.Doing.{null_causes}
+use Rattle.binder.specs.Saying.{first_of}
+use Rattle.binder.proofs.FirstLemmas.{first_of-nothing}
+use Rattle.plain_engine.proofs.ChangedTables.{emptied_keeps, is_there-some, on_err, still_numbered, still_there, valid_number}
+use Rattle.plain_engine.proofs.Effects.{insert_is, not_used_up}
+use Rattle.plain_engine.proofs.inserting.insert.Goals as goal
+
+pub returns-in_err-append_rows-clause-valid : goal.returns-in_err-append_rows-clause-valid
+returns-in_err-append_rows-clause-valid c =
+    on_err _ _ (emptied_keeps c.args.tables.now c.take_rows-rows.new.self c.args.table c.requires.valid c.take_rows-rows.ensures.left (is_there-some _ _ c.requires.ready))
+
+pub put_rows-requires : goal.put_rows-requires
+put_rows-requires c = still_there c.args.tables.now c.take_rows-rows.new.self c.args.table _ c.take_rows-rows.ensures.left (is_there-some _ _ c.requires.ready)
+
+pub number_from-requires-clause-there : goal.number_from-requires-clause-there
+number_from-requires-clause-there c =
+    still_there c.take_rows-rows.new.self c.put_rows.new.self c.args.table _ c.put_rows.ensures
+    (still_there c.args.tables.now c.take_rows-rows.new.self c.args.table _ c.take_rows-rows.ensures.left (is_there-some _ _ c.requires.ready))
+
+pub number_from-requires-clause-numbered : goal.number_from-requires-clause-numbered
+number_from-requires-clause-numbered c =
+    still_numbered c.take_rows-rows.new.self c.put_rows.new.self c.args.table _ c.put_rows.ensures (λ table. refl)
+    (still_numbered c.args.tables.now c.take_rows-rows.new.self c.args.table _ c.take_rows-rows.ensures.left (λ table. refl) (valid_number c.args.tables.now c.args.table c.requires.valid))
+
+pub returns-clause-done : goal.returns-clause-done
+returns-clause-done c =
+    let table : PlainTable = record { def = c.table.result.def.now; rows = c.table.result.rows.now } in
+    let nulls : flat_map (null_causes table.def.columns) c.args.tuples ≡ [] =
+    first_of-nothing _ (ap (λ columns. first_of (flat_map (null_causes columns) c.args.tuples)) (sym c.as_slice.ensures) ∙ ap (λ tuples. first_of (flat_map (null_causes c.as_slice.result.now) tuples)) (sym c.as_slice-2.ensures) ∙ c.in_default.ensures) in
+    let count : c.len-count.result ≡ length c.args.tuples = c.len-count.ensures in
+    let sum = c.in-Some-checked_add.ensures in
+    let after : c.in-Some-checked_add.after ≡ table.def.next + length c.args.tuples = omega (arith, sum.1) in
+    insert_is c.args.tables.now c.take_rows-rows.new.self c.put_rows.new.self c.number_from.new.self c.args.table c.args.tuples table c.take_rows-rows.result.items c.append_rows.new.rows.items c.in-Some-checked_add.after c.len-count.result
+    c.table.ensures nulls (not_used_up table.def.next (length c.args.tuples) (omega (arith, sum.0))) c.take_rows-rows.ensures.taken c.take_rows-rows.ensures.left c.put_rows.ensures c.number_from.ensures
+    c.in_ok-append_rows.ensures after count

@@ -1,0 +1,9 @@
+use Rattle.mdc_ast.specs.meaning.Database.{PlainTable}
+use Rattle.mdc_ast.proofs.DatabaseLemmas.{is_valid_at}
+use Rattle.plain_engine.proofs.Changeable.{rows_are_wide}
+use Rattle.plain_engine.proofs.querying.query.Goals as goal
+
+pub lines_found-requires-clause-wide : goal.lines_found-requires-clause-wide
+lines_found-requires-clause-wide c =
+    let table : PlainTable = record { def = c.table-table.result.def.now; rows = c.table-table.result.rows.now } in
+    rows_are_wide table.def.columns table.rows (is_valid_at c.args.tables.now c.args.select.now.table table c.requires.valid c.table-table.ensures).rows.fitting

@@ -1,0 +1,64 @@
+// What a statement does to the tables, and how it is answered.
+ghost use Rattle.std.specs.Prelude.{◌≡◌, IfOk, OnErr};
+ghost use Rattle.mdc_ast.specs.meaning.Database.{IsValid};
+ghost use Rattle.mdc_ast.specs.meaning.Step.{step};
+ghost use Rattle.plain_engine.specs.Executing.{MayBeDone, answer_of, done};
+
+use crate::defining::{create, drop_table};
+use crate::deleting::delete;
+use crate::inserting::insert;
+use crate::querying::query;
+use crate::refusals::not_built;
+use crate::tables::Tables;
+use crate::updating::update;
+use binder::{BindFault, bind, built};
+use mdc_ast::{Bound, Outcome, Reply, Stmt};
+use mdc_values::Memory;
+use std::alloc::Global;
+
+/// Executes a statement on the tables of a valid database. Where it is refused they stay as they are. After `Memory` the
+/// table of the statement may have lost its rows.
+pub fn execute(alloc: Global, stmt: &Stmt, tables: &mut Tables) -> Result<Outcome, Memory>
+    requires { IsValid tables.old }
+    ensures done { IfOk result (λ outcome. step tables.old stmt.now ≡ (tables.new, answer_of outcome)) }
+    ensures valid { IsValid tables.new }
+{
+    if !built(stmt) {
+        return Ok(Outcome::Refused(not_built(alloc)));
+    }
+    match bind(alloc, stmt, tables.catalog()) {
+        Ok(bound) => carry_out(alloc, bound, tables),
+        Err(BindFault::Refused(refusal)) => Ok(Outcome::Refused(refusal)),
+        Err(BindFault::Memory) => Err(Memory),
+    }
+}
+
+// Does a bound statement, unless its rows are against it.
+fn carry_out(alloc: Global, bound: Bound, tables: &mut Tables) -> Result<Outcome, Memory>
+    requires valid { IsValid tables.old }
+    requires ready { MayBeDone tables.old bound }
+    ensures done { IfOk result (λ outcome. done tables.old bound ≡ (tables.new, answer_of outcome)) }
+    ensures valid { OnErr result (IsValid tables.new) }
+{
+    match bound {
+        Bound::CreateTable(def) => Ok(create(def, tables)),
+        Bound::DropTable(table) => Ok(drop_table(table, tables)),
+        Bound::Insert { table, rows } => insert(alloc, table, rows, tables),
+        Bound::Update { table, sets, pred } => update(alloc, table, sets.as_slice(), &pred, tables),
+        Bound::Delete { table, pred } => Ok(delete(table, &pred, tables)),
+        Bound::Query(select) => query(alloc, &select, tables),
+        Bound::CreateIndex { .. }
+        | Bound::DropIndex { .. }
+        | Bound::Explain(_)
+        | Bound::SetRollout(_)
+        | Bound::SetPlan(_)
+        | Bound::SetPace(_)
+        | Bound::Clean(_)
+        | Bound::CleanTable(_)
+        | Bound::ListBlocks(_)
+        | Bound::Reclaim(_)
+        | Bound::Begin
+        | Bound::Commit
+        | Bound::Rollback => Ok(Outcome::Done(Reply::Done)),
+    }
+}

@@ -1,0 +1,48 @@
+// The lines of a query.
+ghost use Rattle.std.specs.Prelude.{◌≡◌, length, filter, IfOk, IsTrue};
+ghost use Rattle.mdc_ast.specs.declared.bound.Bound.TheVariants as bound;
+ghost use Rattle.mdc_ast.specs.meaning.Database.{IsValid, table_at};
+ghost use Rattle.mdc_ast.specs.meaning.Doing as spec;
+ghost use Rattle.mdc_ast.specs.meaning.Doing.{lines_of};
+ghost use Rattle.plain_engine.specs.Executing.{IsThere, MayShow, answer_of, done};
+ghost use Rattle.plain_engine.specs.Filtering.{are_filterable};
+ghost use Rattle.answer_text.specs.Lines.{are_outs_within, are_rows_wide};
+
+use crate::filtering::qualifies;
+use crate::tables::Tables;
+use answer_text::Lines;
+use mdc_ast::{BoundSelect, ColumnDef, Outcome, Reply, Row};
+use mdc_values::{Chars, List, Memory};
+use std::alloc::Global;
+
+/// A query.
+pub fn query(alloc: Global, select: &BoundSelect, tables: &Tables) -> Result<Outcome, Memory>
+    requires valid { IsValid tables.now }
+    requires ready { IsThere (table_at tables.now select.now.table) (MayShow select.now.outs select.now.pred) }
+    ensures { IfOk result (λ outcome. done tables.now (bound.Query select.now) ≡ (tables.now, answer_of outcome)) }
+{
+    let table = tables.table(select.table);
+    let lines = lines_found(alloc, select, &table.def.columns, table.rows)?;
+    Ok(Outcome::Done(Reply::Lines(lines)))
+}
+
+// The lines of a query, written as the rows are found. No row is copied.
+fn lines_found(
+    alloc: Global,
+    select: &BoundSelect,
+    columns: &List<ColumnDef>,
+    rows: &[Row],
+) -> Result<Chars, Memory>
+    requires shown { IsTrue (are_outs_within (length columns.now) select.now.outs) }
+    requires wide { IsTrue (are_rows_wide (length columns.now) rows.now) }
+    requires filterable { IsTrue (are_filterable select.now.pred rows.now) }
+    ensures { IfOk result (λ lines. lines ≡ lines_of columns.now select.now.outs (filter (λ row. spec.qualifies select.now.pred row.values) rows.now)) }
+{
+    let mut lines = Lines::new(alloc, &select.outs, columns)?;
+    for row in rows {
+        if qualifies(&select.pred, row) {
+            lines.add(&row.values)?;
+        }
+    }
+    lines.close()
+}

@@ -1,0 +1,182 @@
+use crate::Engine;
+use answer_text::outcome_bytes;
+use mdc_ast::{
+    ColumnText, InsertItem, Name, Operand, OutList, Select, SetItem, SetText, Sign, Stmt, TypeText,
+};
+use mdc_values::{Chars, List, Literal, Memory};
+use std::alloc::Global;
+use std::test::Fail;
+
+/// An engine, and what it has answered.
+#[derive(Drop)]
+struct Told {
+    engine: Engine,
+    text: Vec<u8>,
+}
+
+impl Told {
+    fn new(alloc: Global) -> Result<Told, Memory> {
+        let engine = Engine::new(alloc)?;
+        let text = Vec::new(alloc);
+        Ok(Told { engine, text })
+    }
+
+    fn run(&mut self, stmt: &Stmt) -> Result<(), Memory> {
+        let outcome = self.engine.execute(stmt)?;
+        outcome_bytes(&outcome, &mut self.text)
+    }
+}
+
+fn named(alloc: Global, name: &[u8]) -> Result<Name, Memory> {
+    Ok(Name(Chars::of(alloc, name)?))
+}
+
+fn integer(alloc: Global, name: &[u8]) -> Result<ColumnText, Memory> {
+    Ok(ColumnText {
+        name: named(alloc, name)?,
+        ty: TypeText::Integer,
+        not_null: false,
+        made: None,
+    })
+}
+
+/// `CREATE TABLE T (A INTEGER, B INTEGER)` organized by A.
+fn create(alloc: Global) -> Result<Stmt, Memory> {
+    let mut columns = List::new(alloc);
+    columns.push(integer(alloc, b"A")?)?;
+    columns.push(integer(alloc, b"B")?)?;
+    let mut dim = List::new(alloc);
+    dim.push(named(alloc, b"A")?)?;
+    let mut dims = List::new(alloc);
+    dims.push(dim)?;
+    Ok(Stmt::CreateTable {
+        name: named(alloc, b"T")?,
+        columns,
+        dims,
+    })
+}
+
+fn number(size: u64) -> Literal {
+    Literal::Number {
+        negative: false,
+        size,
+    }
+}
+
+/// `INSERT INTO T VALUES (a, b)`.
+fn insert(alloc: Global, a: u64, b: u64) -> Result<Stmt, Memory> {
+    let mut items = List::new(alloc);
+    items.push(InsertItem::Literal(number(a)))?;
+    items.push(InsertItem::Literal(number(b)))?;
+    let mut rows = List::new(alloc);
+    rows.push(items)?;
+    Ok(Stmt::Insert {
+        table: named(alloc, b"T")?,
+        columns: None,
+        rows,
+    })
+}
+
+fn set(alloc: Global, column: &[u8], item: SetItem) -> Result<SetText, Memory> {
+    Ok(SetText {
+        column: named(alloc, column)?,
+        item,
+    })
+}
+
+/// `UPDATE T SET A = B, B = A`.
+fn exchange(alloc: Global) -> Result<Stmt, Memory> {
+    let mut sets = List::new(alloc);
+    let b = SetItem::One(Operand::Column(named(alloc, b"B")?));
+    sets.push(set(alloc, b"A", b)?)?;
+    let a = SetItem::One(Operand::Column(named(alloc, b"A")?));
+    sets.push(set(alloc, b"B", a)?)?;
+    Ok(Stmt::Update {
+        table: named(alloc, b"T")?,
+        sets,
+        pred: None,
+    })
+}
+
+/// `UPDATE T SET A = A + 1`.
+fn count_up(alloc: Global) -> Result<Stmt, Memory> {
+    let mut sets = List::new(alloc);
+    let a = Operand::Column(named(alloc, b"A")?);
+    let sum = SetItem::Two(a, Sign::Plus, Operand::Literal(number(1)));
+    sets.push(set(alloc, b"A", sum)?)?;
+    Ok(Stmt::Update {
+        table: named(alloc, b"T")?,
+        sets,
+        pred: None,
+    })
+}
+
+/// `SELECT * FROM T`.
+fn query(alloc: Global) -> Result<Stmt, Memory> {
+    Ok(Stmt::Query(Select {
+        list: OutList::Star,
+        table: named(alloc, b"T")?,
+        pred: None,
+        group: List::new(alloc),
+        order: List::new(alloc),
+        first: None,
+    }))
+}
+
+/// An engine with table T and a row (a, b).
+fn with_row(alloc: Global, a: u64, b: u64) -> Result<Told, Memory> {
+    let mut told = Told::new(alloc)?;
+    told.run(&create(alloc)?)?;
+    told.run(&insert(alloc, a, b)?)?;
+    Ok(told)
+}
+
+#[test]
+fn an_update_sees_the_row_as_it_was(rt: HostRuntime) -> Result<(), Fail> {
+    let alloc = rt.alloc();
+    let mut told = with_row(alloc, 1, 2)?;
+    told.run(&exchange(alloc)?)?;
+    told.run(&query(alloc)?)?;
+    let text = b"OK\n1 ROWS INSERTED\n1 ROWS UPDATED\nA|B\n2|1\n1 ROWS\n";
+    assert_eq!(rt; told.text.as_slice(), text.as_slice());
+    Ok(())
+}
+
+#[test]
+fn a_refused_update_changes_no_row(rt: HostRuntime) -> Result<(), Fail> {
+    let alloc = rt.alloc();
+    let mut told = with_row(alloc, 5, 2)?;
+    told.run(&insert(alloc, 2147483647, 1)?)?;
+    told.run(&count_up(alloc)?)?;
+    told.run(&query(alloc)?)?;
+    let text =
+        b"OK\n1 ROWS INSERTED\n1 ROWS INSERTED\nERROR 37 overflow in A\nA|B\n5|2\n2147483647|1\n2 ROWS\n";
+    assert_eq!(rt; told.text.as_slice(), text.as_slice());
+    Ok(())
+}
+
+#[test]
+fn rows_come_behind_deleted_ones(rt: HostRuntime) -> Result<(), Fail> {
+    let alloc = rt.alloc();
+    let mut told = with_row(alloc, 1, 2)?;
+    let table = named(alloc, b"T")?;
+    told.run(&Stmt::Delete { table, pred: None })?;
+    told.run(&insert(alloc, 3, 4)?)?;
+    told.run(&query(alloc)?)?;
+    let text = b"OK\n1 ROWS INSERTED\n1 ROWS DELETED\n1 ROWS INSERTED\nA|B\n3|4\n1 ROWS\n";
+    assert_eq!(rt; told.text.as_slice(), text.as_slice());
+    Ok(())
+}
+
+#[test]
+fn a_place_is_used_again_without_its_rows(rt: HostRuntime) -> Result<(), Fail> {
+    let alloc = rt.alloc();
+    let mut told = with_row(alloc, 1, 2)?;
+    told.run(&Stmt::DropTable(named(alloc, b"T")?))?;
+    told.run(&query(alloc)?)?;
+    told.run(&create(alloc)?)?;
+    told.run(&query(alloc)?)?;
+    let text = b"OK\n1 ROWS INSERTED\nOK\nERROR 21 no table T\nOK\nA|B\n0 ROWS\n";
+    assert_eq!(rt; told.text.as_slice(), text.as_slice());
+    Ok(())
+}

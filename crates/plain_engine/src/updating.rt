@@ -1,0 +1,124 @@
+// The rows of an UPDATE: all are judged before one is changed.
+ghost use Rattle.std.specs.Prelude.{◌≡◌, length, map, filter, flat_map, option_map, IfOk, OnOk, OnErr, IsTrue};
+ghost use Rattle.mdc_ast.specs.declared.bound.Bound.TheVariants as bound;
+ghost use Rattle.mdc_ast.specs.meaning.Database.{IsValid, table_at};
+ghost use Rattle.mdc_ast.specs.meaning.Doing as spec;
+ghost use Rattle.mdc_ast.specs.meaning.Doing.{changed_causes, changed_row};
+ghost use Rattle.answer_text.specs.Lines.{are_rows_wide};
+ghost use Rattle.plain_engine.specs.Executing.{IsThere, MayUpdate, answer_of, done};
+ghost use Rattle.plain_engine.specs.Filtering.{are_changeable, are_filterable, may_change, may_filter};
+ghost use Rattle.binder.specs.Saying.{first_of};
+ghost use Rattle.plain_engine.specs.RowChange.{are_within, misfit_cause};
+
+use crate::filtering::qualifies;
+use crate::refusals::unfit;
+use crate::row_change::{Misfit, first_misfit, new_values, put_values};
+use crate::tables::Tables;
+use mdc_ast::{BoundSet, ColumnDef, Outcome, Pred, Reply, Row};
+use mdc_values::Memory;
+use std::alloc::Global;
+
+/// An UPDATE: all rows are judged before one is changed. After `Memory` the table may have lost its rows.
+pub fn update(
+    alloc: Global,
+    table: u8,
+    sets: &[BoundSet],
+    pred: &Option<Pred>,
+    tables: &mut Tables,
+) -> Result<Outcome, Memory>
+    requires valid { IsValid tables.old }
+    requires ready { IsThere (table_at tables.old table) (MayUpdate sets.now pred.now) }
+    ensures done { IfOk result (λ outcome. done tables.old (bound.Update table sets.now pred.now) ≡ (tables.new, answer_of outcome)) }
+    ensures valid { OnErr result (IsValid tables.new) }
+{
+    let lent = tables.table(table);
+    let columns = lent.def.columns.as_slice();
+    if let Some(misfit) = first_misfit_among(columns, sets, pred, lent.rows) {
+        return Ok(Outcome::Refused(unfit(alloc, misfit)?));
+    }
+    let mut rows = tables.take_rows(table);
+    let count = change_rows(alloc, sets, pred, &mut rows)?;
+    tables.put_rows(table, rows);
+    Ok(Outcome::Done(Reply::Updated(count)))
+}
+
+// The first thing that is said against the rows as they would be, row by row. It takes no memory.
+fn first_misfit_among<'c>(
+    columns: &'c [ColumnDef],
+    sets: &[BoundSet],
+    pred: &Option<Pred>,
+    rows: &[Row],
+) -> Option<Misfit<'c>>
+    requires within { IsTrue (are_within (length columns.now) sets.now) }
+    requires wide { IsTrue (are_rows_wide (length columns.now) rows.now) }
+    requires filterable { IsTrue (are_filterable pred.now rows.now) }
+    ensures { first_of (flat_map (changed_causes columns.now sets.now pred.now) rows.now) ≡ option_map misfit_cause result }
+{
+    for row in rows {
+        let found = misfit_of(columns, sets, pred, row);
+        if found.is_some() {
+            return found;
+        }
+    }
+    None
+}
+
+fn misfit_of<'c>(
+    columns: &'c [ColumnDef],
+    sets: &[BoundSet],
+    pred: &Option<Pred>,
+    row: &Row,
+) -> Option<Misfit<'c>>
+    requires within { IsTrue (are_within (length columns.now) sets.now) }
+    requires wide { length row.now.values ≡ length columns.now }
+    requires filterable { IsTrue (may_filter pred.now row.now.values) }
+    ensures { first_of (changed_causes columns.now sets.now pred.now row.now) ≡ option_map misfit_cause result }
+{
+    if qualifies(pred, row) {
+        first_misfit(columns, sets, row.values.as_slice())
+    } else {
+        None
+    }
+}
+
+// Changes the rows that qualify, each from what it was, and tells their number. It needs that nothing is said against
+// the rows as they will be. After `Memory` some of them are changed.
+fn change_rows(
+    alloc: Global,
+    sets: &[BoundSet],
+    pred: &Option<Pred>,
+    rows: &mut Vec<Row>,
+) -> Result<u64, Memory>
+    requires filterable { IsTrue (are_filterable pred.now rows.old.items) }
+    requires changeable { IsTrue (are_changeable sets.now pred.now rows.old.items) }
+    ensures changed { OnOk result (rows.new.items ≡ map (changed_row sets.now pred.now) rows.old.items) }
+    ensures count { IfOk result (λ count. count ≡ length (filter (λ row. spec.qualifies pred.now row.values) rows.old.items)) }
+{
+    let mut count = 0;
+    for row in rows.iter_mut() {
+        if change(alloc, sets, pred, row)? {
+            count += 1;
+        }
+    }
+    Ok(count)
+}
+
+// Changes a row if it qualifies, and tells whether it does.
+fn change(
+    alloc: Global,
+    sets: &[BoundSet],
+    pred: &Option<Pred>,
+    row: &mut Row,
+) -> Result<bool, Memory>
+    requires filterable { IsTrue (may_filter pred.now row.old.values) }
+    requires changeable { IsTrue (may_change sets.now pred.now row.old) }
+    ensures changed { OnOk result (row.new ≡ changed_row sets.now pred.now row.old) }
+    ensures told { IfOk result (λ told. told ≡ spec.qualifies pred.now row.old.values) }
+{
+    if !qualifies(pred, row) {
+        return Ok(false);
+    }
+    let news = new_values(alloc, sets, row.values.as_slice())?;
+    put_values(news, &mut row.values);
+    Ok(true)
+}
