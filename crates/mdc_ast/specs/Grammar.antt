@@ -417,13 +417,13 @@ only = behind (W (codes "ONLY")) (nothing tt)
 unfoldable pub rows_rule : Rule (Unit {0})
 rows_rule = choice (behind (W (codes "ROW")) only) (behind (W (codes "ROWS")) only)
 
-abbrev pub first_count : ℕ × Unit {0} → Option ℕ
-first_count p = Some p.0
+abbrev pub fetch_count : ℕ × Unit {0} → Option ℕ
+fetch_count p = Some p.0
 
 -- [ FETCH FIRST [ number ] ( ROW | ROWS ) ONLY ]
 unfoldable pub first_rule : Rule (Option ℕ)
 first_rule =
-    choice (behind (W (codes "FETCH")) (behind (W (codes "FIRST")) (seen first_count (pair (choice number_rule (nothing 1)) rows_rule))))
+    choice (behind (W (codes "FETCH")) (behind (W (codes "FIRST")) (seen fetch_count (pair (choice number_rule (nothing 1)) rows_rule))))
     (nothing None)
 
 abbrev pub selected : (((((OutList × Name) × Option PredText) × List Name) × List KeyText) × Option ℕ) → Select

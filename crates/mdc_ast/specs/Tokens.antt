@@ -1,6 +1,7 @@
 -- How the bytes of a statement are tokens (docs/SQL.md, "Tokens").
 use Rattle.std.specs.Prelude.{◌≡◌, ◌≢◌, ℕ, ◌+◌, ◌-◌, ◌*◌, min, map, List, [], ◌∷◌, ◌++◌, length, Bool, true, false, not, ◌==◌, ◌||◌, ◌&&◌, nat_le, if◌then◌else◌, IsTrue, Option, Some, None}
 use Rattle.mdc_ast.specs.Cutting.{Lacks, Passes, BeginsNoComment, is_blank}
+use Rattle.mdc_values.specs.Calendar.{is_digit}
 
 -- What a token is: a word folded to upper case, a number, which stands as 2^64 - 1 where it is greater, a text without
 -- its quotes, in which two quotes stand as one, or the bytes of a symbol. A byte that begins none of them is astray, and
@@ -22,9 +23,6 @@ is_lower b = nat_le 97 b && nat_le b 122
 
 abbrev pub is_letter : ℕ → Bool
 is_letter b = is_lower b || (nat_le 65 b && nat_le b 90)
-
-abbrev pub is_digit : ℕ → Bool
-is_digit b = nat_le 48 b && nat_le b 57
 
 -- a letter, a digit or `_`
 abbrev pub is_word_byte : ℕ → Bool

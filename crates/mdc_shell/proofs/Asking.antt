@@ -11,10 +11,10 @@ use Rattle.clap.specs.declared.error.ErrorKind.TheVariants.{OutOfMemory}
 use Rattle.mdc_shell.specs.declared.command.Command.{Command}
 use Rattle.mdc_shell.specs.declared.command.Command.TheVariants as command
 use Rattle.mdc_shell.specs.Asked.{Asks, AsksCreate, AsksRun}
-use Rattle.mdc_shell.specs.Found.{Finds, FindsCreate, FindsRun, IsSplit, name_in, value_in}
+use Rattle.mdc_shell.specs.Found.{Finds, FindsCreate, FindsRun, IsSplit, subcommand_in, value_in}
 use Rattle.mdc_shell.specs.Grammar.{mdc_app}
 use Rattle.mdc_shell.proofs.ClapWords.{mdc_is_free, mdc_is_simple, split_is_taken, taken_finds}
-use Rattle.mdc_shell.specs.Words.{CreateFile, IsCreateLine, IsNoLine, IsNumeral, IsPath, IsPlain, IsRequest, IsRunLine, Line, RunScript, Spells}
+use Rattle.mdc_shell.specs.Words.{CreateFile, IsCreateLine, IsNoLine, IsNumeral, IsPath, IsPlain, IsRequest, IsRunLine, Line, RunScript, SpellsLine}
 
 -- a text without a sign in front is read as its number
 pub number_read : {E : Type 0} (text : List ℕ) (r : Result ℕ E) → 0 < length text → length text ≤ 9 → get_or text 0 0 ≢ 48 → get_or text 0 0 ≢ 43 → ParsesUnsigned 32 10 text r
@@ -41,7 +41,7 @@ value_found first id rows (Some p) text reads is value =
     reads ∙ (ap (first_of id) same ∙ value)
 
 -- two names that clap could find aren't both found
-pub one_name : (found : Option (Text × List Row)) (a b : Text) → name_in found ≡ Some a → name_in found ≡ Some b → a ≡ b
+pub one_name : (found : Option (Text × List Row)) (a b : Text) → subcommand_in found ≡ Some a → subcommand_in found ≡ Some b → a ≡ b
 one_name found a b first second = let e : Some a ≡ Some b = sym first ∙ second in cc
 
 -- what is true of each mapped element
@@ -159,7 +159,7 @@ same_line words path other n m k l first second =
     }
 
 -- words spell one command line at most
-pub one_line : (words : List Text) (line other : Line) → Spells words line → Spells words other → line ≡ other
+pub one_line : (words : List Text) (line other : Line) → SpellsLine words line → SpellsLine words other → line ≡ other
 one_line words RunScript RunScript first second = refl
 one_line words RunScript (CreateFile path n m) first second =
     let same : codes "run" ∷ codes "-" ∷ [] ≡ codes "create" ∷ path ∷ second.extents_text ∷ second.pages_text ∷ [] = sym first ∙ second.are in

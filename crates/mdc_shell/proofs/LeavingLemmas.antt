@@ -18,7 +18,7 @@ use Rattle.page_store.specs.Fresh.{HoldsFresh, IsOfMaking, fresh_file}
 use Rattle.page_store.proofs.Crashes.{only_itself}
 use Rattle.mdc_shell.specs.Create.{made_line, exists_line}
 use Rattle.mdc_shell.specs.Leaving.{AreReplies, LeavesReplies, LeftByCreate, LeftByLine, LeftByRun, LeftByScript}
-use Rattle.mdc_shell.specs.Words.{IsNoLine, Line, Spells, usage}
+use Rattle.mdc_shell.specs.Words.{IsNoLine, Line, SpellsLine, usage}
 use Rattle.mdc_shell.proofs.Asking.{one_line}
 use Rattle.mdc_shell.proofs.Scripts.{ScriptLaws, first_items}
 use Rattle.mdc_shell.proofs.Sessions.{HasRun, run_on, texts_more}
@@ -143,7 +143,7 @@ left_by_create-exists extents extent_pages file tape before said is told some im
     record { left = inl moment.left; told = λ none. absurd (omega (arith, some, none)); full = λ _. (moment.left, moment.said) }
 
 -- the words of a command line spell no other
-pub left_by_line : (words : List (List ℕ)) (line : Line) (script : Option (List ℕ)) (before : File) (said : List ℕ) → Spells words line
+pub left_by_line : (words : List (List ℕ)) (line : Line) (script : Option (List ℕ)) (before : File) (said : List ℕ) → SpellsLine words line
     → (image taken : List ℕ) → LeftByLine line script before said image taken → LeftByRun words script before said image taken
 left_by_line words line script before said spelled image taken moment = record {
   line = λ other spells. subst (λ (l : Line). LeftByLine l script before said image taken) (one_line words line other spelled spells) moment;

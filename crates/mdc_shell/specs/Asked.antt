@@ -2,7 +2,7 @@
 use Rattle.std.specs.Prelude.{◌≡◌, ℕ, List, Option, Some, None, codes}
 use Rattle.mdc_shell.specs.declared.command.Command.{Command}
 use Rattle.mdc_shell.specs.declared.command.Command.TheVariants as command
-use Rattle.mdc_shell.specs.Words.{CreateFile, IsNoLine, IsRequest, Line, RunScript, Spells}
+use Rattle.mdc_shell.specs.Words.{CreateFile, IsNoLine, IsRequest, Line, RunScript, SpellsLine}
 
 -- the command line that asks for a command
 abbrev pub line_of : Command → Line
@@ -12,7 +12,7 @@ line_of (command.Create path shape) = CreateFile path.now shape.extents shape.ex
 -- the words of a command line ask for this
 abbrev pub Asks : List (List ℕ) → Option Command → Type 0
 Asks words None = IsNoLine words
-Asks words (Some command) = Spells words (line_of command)
+Asks words (Some command) = SpellsLine words (line_of command)
 
 -- a path and two numerals ask for a create, or for nothing
 abbrev pub AsksCreate : List ℕ → List ℕ → List ℕ → Option Command → Type 0

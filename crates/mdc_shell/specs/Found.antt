@@ -3,8 +3,8 @@ use Rattle.std.specs.Prelude.{◌≡◌, ◌⊎◌, List, [], ◌∷◌, Option,
 use Rattle.clap.specs.Words.{Row, Text, first_of}
 
 -- the subcommand's name
-abbrev pub name_in : Option (Text × List Row) → Option Text
-name_in = option_map (λ p. p.0)
+abbrev pub subcommand_in : Option (Text × List Row) → Option Text
+subcommand_in = option_map (λ p. p.0)
 
 -- the value of an argument of the subcommand
 abbrev pub value_in : Text → Option (Text × List Row) → Option Text
@@ -16,7 +16,7 @@ pub record FindsCreate (words : List Text) (found : Option (Text × List Row)) :
   pub extents : Text
   pub pages : Text
   pub are : words ≡ codes "create" ∷ file ∷ extents ∷ pages ∷ []
-  pub name : name_in found ≡ Some (codes "create")
+  pub name : subcommand_in found ≡ Some (codes "create")
   pub file_is : value_in (codes "FILE") found ≡ Some file
   pub extents_is : value_in (codes "EXTENTS") found ≡ Some extents
   pub pages_is : value_in (codes "PAGES") found ≡ Some pages
@@ -25,7 +25,7 @@ pub record FindsCreate (words : List Text) (found : Option (Text × List Row)) :
 pub record FindsRun (words : List Text) (found : Option (Text × List Row)) : Type 0 where
   pub file : Text
   pub are : words ≡ codes "run" ∷ file ∷ []
-  pub name : name_in found ≡ Some (codes "run")
+  pub name : subcommand_in found ≡ Some (codes "run")
   pub file_is : value_in (codes "FILE") found ≡ Some file
 
 -- clap found what the words say

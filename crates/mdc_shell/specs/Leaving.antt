@@ -10,7 +10,7 @@ use Rattle.mdc_words.specs.Time.{OverTime}
 use Rattle.page_store.specs.Fresh.{IsOfMaking, fresh_file}
 use Rattle.mdc_shell.specs.Create.{made_line, exists_line}
 use Rattle.mdc_shell.specs.Run.{held_first}
-use Rattle.mdc_shell.specs.Words.{CreateFile, IsNoLine, Line, RunScript, Spells, usage}
+use Rattle.mdc_shell.specs.Words.{CreateFile, IsNoLine, Line, RunScript, SpellsLine, usage}
 
 -- what was told is told still
 abbrev pub StaysTold : {A : Type 0} → Option A → Option A → Type 0
@@ -50,5 +50,5 @@ LeftByLine (CreateFile path extents extent_pages) script before said image tape 
 
 -- what a crash within a run of these words leaves
 pub record LeftByRun (words : List (List ℕ)) (script : Option (List ℕ)) (before : File) (said image tape : List ℕ) : Type 0 where
-  pub line : (line : Line) → Spells words line → LeftByLine line script before said image tape
+  pub line : (line : Line) → SpellsLine words line → LeftByLine line script before said image tape
   pub usage_moment : IsNoLine words → IsMoment before.since said usage image tape

@@ -1,7 +1,7 @@
 -- The words of the command line (README.md, "Limits and statuses").
 use Rattle.std.specs.Prelude.{◌≡◌, ◌≢◌, ◌⊎◌, ◌<◌, ◌≤◌, ℕ, List, [], ◌∷◌, Option, codes, length, slice_index, IsTrue}
 use Rattle.std.specs.Str.Parse.{AllDigits, digits_value}
-use Rattle.page_store.specs.Shape.{is_shape}
+use Rattle.store_api.specs.Extents.{is_shape}
 use Rattle.mdc_outside.specs.Outside.{Takes, TakesPart}
 
 -- the words are `run -`
@@ -41,13 +41,13 @@ pub data Line : Type 0 where
   CreateFile : (path : List ℕ) (extents extent_pages : ℕ) → Line
 
 -- the words spell a command line
-abbrev pub Spells : List (List ℕ) → Line → Type 0
-Spells words RunScript = IsRunLine words
-Spells words (CreateFile path extents extent_pages) = IsCreateLine words path extents extent_pages
+abbrev pub SpellsLine : List (List ℕ) → Line → Type 0
+SpellsLine words RunScript = IsRunLine words
+SpellsLine words (CreateFile path extents extent_pages) = IsCreateLine words path extents extent_pages
 
 -- the words spell no command line
 abbrev pub IsNoLine : List (List ℕ) → Type 0
-IsNoLine words = (line : Line) → Spells words line → ⊥
+IsNoLine words = (line : Line) → SpellsLine words line → ⊥
 
 -- the word may be one of a command line: it isn't empty, and a hyphen is in front only where it is all of the word
 abbrev pub IsPlain : List ℕ → Type 0

@@ -9,7 +9,7 @@ ghost use Rattle.mdc_shell.specs.Leaving.{LeavesReplies, LeftByCreate, LeftByRun
 ghost use Rattle.mdc_shell.specs.Run.{RunsFrom, IsWithinLimit};
 ghost use Rattle.mdc_shell.specs.Status.{IsScriptStatus, IsStatus};
 ghost use Rattle.mdc_shell.specs.Untouched.{IsUntouched};
-ghost use Rattle.mdc_shell.specs.Words.{CreateFile, IsNoLine, RunScript, SaysUsage, Spells, usage};
+ghost use Rattle.mdc_shell.specs.Words.{CreateFile, IsNoLine, RunScript, SaysUsage, SpellsLine, usage};
 
 use crate::command::Command;
 use crate::create::create;
@@ -43,13 +43,13 @@ pub fn run<I: Source, H: Host>(
     ensures statuses { IsStatus result.status.0 }
 
     // The words of a script: what it says, and what it takes, for each status.
-    ensures script { Spells (map string_bytes words.now.items) RunScript
+    ensures script { SpellsLine (map string_bytes words.now.items) RunScript
         → RunsFrom (I.left input.old) (H.tape host) (I.left input.new) (H.tape result.host) result.status.0
         (LeavesReplies H.clock H.moment H.file H.tape host result.host)
         × IsScriptStatus result.status.0 }
 
     // The words of a create: what it does to the file and says, for each status.
-    ensures created { (path : List ℕ) (extents extent_pages : ℕ) → Spells (map string_bytes words.now.items) (CreateFile path extents extent_pages)
+    ensures created { (path : List ℕ) (extents extent_pages : ℕ) → SpellsLine (map string_bytes words.now.items) (CreateFile path extents extent_pages)
         → Creates extents extent_pages (H.file host) (H.file result.host) (H.tape host) (H.tape result.host) result.status.0
         × MayAttach (H.attaches host) path (H.attaches result.host) × (input.new ≡ input.old) }
 
@@ -58,7 +58,7 @@ pub fn run<I: Source, H: Host>(
         → SaysUsage (H.tape host) (H.tape result.host) result.status.0 × (input.new ≡ input.old) }
 
     // Only a create calls the disk.
-    ensures no_disk { ((path : List ℕ) (extents extent_pages : ℕ) → Spells (map string_bytes words.now.items) (CreateFile path extents extent_pages) → ⊥)
+    ensures no_disk { ((path : List ℕ) (extents extent_pages : ℕ) → SpellsLine (map string_bytes words.now.items) (CreateFile path extents extent_pages) → ⊥)
         → IsUntouched H.file H.attaches H.disk_faults host result.host }
 
     // The outside stops a run exactly where a call to it failed: each count of faults rose, or is as it was.
@@ -74,14 +74,14 @@ pub fn run<I: Source, H: Host>(
         → OverTime H.clock H.moment (LeftByRun (map string_bytes words.now.items) (I.left input.old) before said) host result.host }
 
     // Where nothing failed, a script within the limit is run to its end, unless memory is wanted.
-    ensures complete { Spells (map string_bytes words.now.items) RunScript
+    ensures complete { SpellsLine (map string_bytes words.now.items) RunScript
         → (Rose (I.read_faults input.old) (I.read_faults input.new) → ⊥)
         → (Rose (H.say_faults host) (H.say_faults result.host) → ⊥)
         → IsWithinLimit (I.left input.old)
         → (result.status.0 ≡ 0) ⊎ (result.status.0 ≡ 1) ⊎ (result.status.0 ≡ 8) }
 
     // Where nothing failed, a create makes a database of a file without a byte, unless memory is wanted.
-    ensures completes { (path : List ℕ) (extents extent_pages : ℕ) → Spells (map string_bytes words.now.items) (CreateFile path extents extent_pages)
+    ensures completes { (path : List ℕ) (extents extent_pages : ℕ) → SpellsLine (map string_bytes words.now.items) (CreateFile path extents extent_pages)
         → (Rose (H.disk_faults host) (H.disk_faults result.host) → ⊥)
         → (Rose (H.say_faults host) (H.say_faults result.host) → ⊥)
         → Completes (H.file host) result.status.0 }

@@ -1,3 +1,5 @@
+pub mod ByteOrder
 pub mod Faults
 pub mod Fronts
+pub mod Listed
 pub mod Time

@@ -5,24 +5,12 @@ use Rattle.std.specs.Option.{option_or}
 use Rattle.std.proofs.lemmas.Bool.{cases_eq, cases_lt}
 use Rattle.std.proofs.lemmas.Bool.Decides.{nat_tests}
 use Rattle.std.proofs.lemmas.List.{same_lists, length-set, length-replicate, get_or_append_left, get_or-append_right, get_or-replicate}
-use Rattle.std.proofs.lemmas.List.FromFn.{fill_by_all, length-map-range_with_len, get_or-map-range_with_len}
+use Rattle.std.proofs.lemmas.List.FromFn.{fill_by_all}
 use Rattle.store_api.specs.StoreState.{zero_page}
 use Rattle.page_changes.specs.Changes.{Overlay, changed_in, unchanged}
-use Rattle.page_changes.specs.ChangesView.{listed, or_grown}
-
--- how many there are
-pub length-listed : {X : Type 0} (n : ℕ) (f : ℕ → X) → length (listed n f) ≡ n
-length-listed n f = length-map-range_with_len f 0 n
-
--- the one at a place
-pub get_or-listed : {X : Type 0} (n : ℕ) (f : ℕ → X) (i : ℕ) (d : X) → i < n → get_or (listed n f) i d ≡ f i
-get_or-listed n f i d lt = get_or-map-range_with_len f 0 n i i d lt (omega arith)
-
--- functions that agree below n give the same list
-pub listed_same : {X : Type 0} (n : ℕ) (f g : ℕ → X) → ((i : ℕ) → i < n → f i ≡ g i) → listed n f ≡ listed n g
-listed_same n f g same = same_lists (listed n f) (listed n g) (length-listed n f ∙ sym (length-listed n g)) (λ k d lt.
-    let below : k < n = omega (arith, length-listed n f) in
-    get_or-listed n f k d below ∙ (same k below ∙ sym (get_or-listed n g k d below)))
+use Rattle.mdc_words.specs.Listed.{listed}
+use Rattle.page_changes.specs.ChangesView.{or_grown}
+use Rattle.mdc_words.proofs.ListedLemmas.{length-listed, get_or-listed, listed_same}
 
 -- each of them
 listed_put_at : (n : ℕ) (f g : ℕ → Option (List ℕ)) (p : ℕ) (w : Option (List ℕ)) → g p ≡ w → ((q : ℕ) → q ≢ p → g q ≡ f q) → (q : ℕ) → q < n → get_or (set (listed n f) p w) q None ≡ g q

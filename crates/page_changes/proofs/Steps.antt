@@ -11,23 +11,25 @@ use Rattle.store_api.specs.StoreState.{zero_page}
 use Rattle.page_changes.specs.declared.changes.Mark.{Mark}
 use Rattle.page_changes.specs.Changes.{Changed, changed_in}
 use Rattle.page_changes.specs.Table.{Numbered, IsPlace, LiesAt, with_page}
-use Rattle.page_changes.specs.ChangesView.{listed, or_grown, written, written_before, FitsCounts, FitsMark, Saves, is_free_in}
-use Rattle.page_changes.proofs.Overlays.{length-listed, get_or-listed, changed_in-none, set_listed, listed_same, listed_more, grown_zeros, grown_written, grown_below, changed_alike, grown_some}
+use Rattle.mdc_words.specs.Listed.{listed}
+use Rattle.page_changes.specs.ChangesView.{or_grown, written_over, written_before, FitsCounts, FitsMark, Saves, is_free_in}
+use Rattle.mdc_words.proofs.ListedLemmas.{length-listed, get_or-listed, listed_same}
+use Rattle.page_changes.proofs.Overlays.{changed_in-none, set_listed, listed_more, grown_zeros, grown_written, grown_below, changed_alike, grown_some}
 use Rattle.page_changes.proofs.Written.{push_here, push_apart, put_here, put_apart, fits_new, fits_over, fits_below, mark_push, marked_push, KeepsMark, keeps_free, keeps_saved, found_page, swapped_last}
 
 -- a page that was written for the first time, in the counts
-pub add_counts : (base count below more : ℕ) (table new : Numbered) (p : ℕ) (w : List ℕ) → FitsCounts base count below (written table) → new ≡ table ++ (p, w) ∷ [] → written table p ≡ None
-    → p < count → more ≡ cond (ltb p base) 1 0 → FitsCounts base count (below + more) (written new)
+pub add_counts : (base count below more : ℕ) (table new : Numbered) (p : ℕ) (w : List ℕ) → FitsCounts base count below (written_over table) → new ≡ table ++ (p, w) ∷ [] → written_over table p ≡ None
+    → p < count → more ≡ cond (ltb p base) 1 0 → FitsCounts base count (below + more) (written_over new)
 add_counts base count below more table new p w fits is none lt is_more =
-    subst (λ (pages : Numbered). FitsCounts base count (below + more) (written pages)) (sym is)
-    (fits_new base count below more p (written table) (written (table ++ (p, w) ∷ [])) w fits none (push_here table p w none) (push_apart table p w) lt is_more)
+    subst (λ (pages : Numbered). FitsCounts base count (below + more) (written_over pages)) (sym is)
+    (fits_new base count below more p (written_over table) (written_over (table ++ (p, w) ∷ [])) w fits none (push_here table p w none) (push_apart table p w) lt is_more)
 
 -- in the changes
-pub add_now : (base count : ℕ) (table new : Numbered) (p : ℕ) (w : List ℕ) (now : List (Option (List ℕ))) → listed count (or_grown base (written table)) ≡ now → new ≡ table ++ (p, w) ∷ [] → written table p ≡ None
-    → listed count (or_grown base (written new)) ≡ set now p (Some w)
+pub add_now : (base count : ℕ) (table new : Numbered) (p : ℕ) (w : List ℕ) (now : List (Option (List ℕ))) → listed count (or_grown base (written_over table)) ≡ now → new ≡ table ++ (p, w) ∷ [] → written_over table p ≡ None
+    → listed count (or_grown base (written_over new)) ≡ set now p (Some w)
 add_now base count table new p w now was is none =
-    ap (λ (pages : Numbered). listed count (or_grown base (written pages))) is
-    ∙ (set_listed count base (written table) (written (table ++ (p, w) ∷ [])) p w (push_here table p w none) (push_apart table p w) ∙ ap (λ xs. set xs p (Some w)) was)
+    ap (λ (pages : Numbered). listed count (or_grown base (written_over pages))) is
+    ∙ (set_listed count base (written_over table) (written_over (table ++ (p, w) ∷ [])) p w (push_here table p w none) (push_apart table p w) ∙ ap (λ xs. set xs p (Some w)) was)
 
 -- and at the mark
 pub add_mark : (base count below more : ℕ) (table new saved : Numbered) (p : ℕ) (w : List ℕ) (o : Option Mark) → ForSome o (FitsMark base count below table saved) → new ≡ table ++ (p, w) ∷ []
@@ -50,18 +52,18 @@ add_marked base count below table new saved p w o fits is =
     ∙ marked_push base count below table saved mark p w (fits mark some))
 
 -- a page that was written over, in the counts
-pub over_counts : (base count below : ℕ) (table new : Numbered) (p place : ℕ) (w : List ℕ) → FitsCounts base count below (written table) → LiesAt table p place → new ≡ with_page table place w
-    → FitsCounts base count below (written new)
+pub over_counts : (base count below : ℕ) (table new : Numbered) (p place : ℕ) (w : List ℕ) → FitsCounts base count below (written_over table) → LiesAt table p place → new ≡ with_page table place w
+    → FitsCounts base count below (written_over new)
 over_counts base count below table new p place w fits lies is =
-    subst (λ (pages : Numbered). FitsCounts base count below (written pages)) (sym is)
-    (fits_over base count below p (written table) (written (with_page table place w)) lies.page w fits lies.found (put_here table p place w lies) (put_apart table p place w lies))
+    subst (λ (pages : Numbered). FitsCounts base count below (written_over pages)) (sym is)
+    (fits_over base count below p (written_over table) (written_over (with_page table place w)) lies.page w fits lies.found (put_here table p place w lies) (put_apart table p place w lies))
 
 -- in the changes
-pub over_now : (base count : ℕ) (table new : Numbered) (p place : ℕ) (w : List ℕ) (now : List (Option (List ℕ))) → listed count (or_grown base (written table)) ≡ now → LiesAt table p place → new ≡ with_page table place w
-    → listed count (or_grown base (written new)) ≡ set now p (Some w)
+pub over_now : (base count : ℕ) (table new : Numbered) (p place : ℕ) (w : List ℕ) (now : List (Option (List ℕ))) → listed count (or_grown base (written_over table)) ≡ now → LiesAt table p place → new ≡ with_page table place w
+    → listed count (or_grown base (written_over new)) ≡ set now p (Some w)
 over_now base count table new p place w now was lies is =
-    ap (λ (pages : Numbered). listed count (or_grown base (written pages))) is
-    ∙ (set_listed count base (written table) (written (with_page table place w)) p w (put_here table p place w lies) (put_apart table p place w lies) ∙ ap (λ xs. set xs p (Some w)) was)
+    ap (λ (pages : Numbered). listed count (or_grown base (written_over pages))) is
+    ∙ (set_listed count base (written_over table) (written_over (with_page table place w)) p w (put_here table p place w lies) (put_apart table p place w lies) ∙ ap (λ xs. set xs p (Some w)) was)
 
 -- and at the mark, in its place
 pub free_keeps : (base count below : ℕ) (table saved : Numbered) (o : Option Mark) (p place : ℕ) (w : List ℕ) → ForSome o (FitsMark base count below table saved) → LiesAt table p place
@@ -123,8 +125,8 @@ lies_in table changes p place is lies = subst (λ (pages : Numbered). LiesAt pag
 
 -- what the mark is seen as
 pub mark_view : (base count n kept : ℕ) (table saved : Numbered) (marked : Option (List (Option (List ℕ)))) (old : Changed) → saved ≡ [] → n ≡ length table
-    → record { base = base; now = listed count (or_grown base (written table)); marked = marked; kept = kept; pages = table } ≡ old
-    → record { base = base; now = listed count (or_grown base (written table)); marked = Some (listed count (or_grown base (written_before saved (take n table)))); kept = kept; pages = table } ≡ record old { marked = Some old.now }
+    → record { base = base; now = listed count (or_grown base (written_over table)); marked = marked; kept = kept; pages = table } ≡ old
+    → record { base = base; now = listed count (or_grown base (written_over table)); marked = Some (listed count (or_grown base (written_before saved (take n table)))); kept = kept; pages = table } ≡ record old { marked = Some old.now }
 mark_view base count n kept table saved marked old none all is =
     let whole : take n table ≡ table = take_all n table (omega (arith, all)) in
     rw (none, whole) (ap (λ (v : Changed). record v { marked = Some v.now }) is)
@@ -163,79 +165,79 @@ pub found_grown : (base count : ℕ) (f : ℕ → Option (List ℕ)) (changes : 
 found_grown base count f changes p o is lt none zeros = zeros ∙ sym (found_page count base f changes p is lt ∙ ap (λ x. option_or x (cond (leb base p) (Some zero_page) None)) none)
 
 -- one page less is saved, and it is back
-pub back_over : (table saved saved_new new : Numbered) (p place : ℕ) (w : List ℕ) → LiesAt table p place → saved ≡ saved_new ++ (p, w) ∷ [] → written saved_new p ≡ None → new ≡ with_page table place w
-    → ((q : ℕ) → IsSome (written saved q) → IsSome (written table q)) → (q : ℕ) → IsSome (written saved_new q) → IsSome (written new q)
+pub back_over : (table saved saved_new new : Numbered) (p place : ℕ) (w : List ℕ) → LiesAt table p place → saved ≡ saved_new ++ (p, w) ∷ [] → written_over saved_new p ≡ None → new ≡ with_page table place w
+    → ((q : ℕ) → IsSome (written_over saved q) → IsSome (written_over table q)) → (q : ℕ) → IsSome (written_over saved_new q) → IsSome (written_over new q)
 back_over table saved saved_new new p place w lies is none put over q had = elim (cases_eq q p) [
-  | inl same ↦ (let wrong : IsSome (written saved_new p) = subst (λ k. IsSome (written saved_new k)) same had in let no = subst IsSome none wrong in absurd (cc))
-  | inr ne ↦ (let before : written saved q ≡ written saved_new q = ap (λ (pages : Numbered). written pages q) is ∙ push_apart saved_new p w q ne in
-      let there : written new q ≡ written table q = ap (λ (pages : Numbered). written pages q) put ∙ put_apart table p place w lies q ne in
+  | inl same ↦ (let wrong : IsSome (written_over saved_new p) = subst (λ k. IsSome (written_over saved_new k)) same had in let no = subst IsSome none wrong in absurd (cc))
+  | inr ne ↦ (let before : written_over saved q ≡ written_over saved_new q = ap (λ (pages : Numbered). written_over pages q) is ∙ push_apart saved_new p w q ne in
+      let there : written_over new q ≡ written_over table q = ap (λ (pages : Numbered). written_over pages q) put ∙ put_apart table p place w lies q ne in
       subst IsSome (sym there) (over q (subst IsSome (sym before) had)))
 ]
 
-pub back_same : (table saved saved_new new : Numbered) (p place : ℕ) (w : List ℕ) → LiesAt table p place → saved ≡ saved_new ++ (p, w) ∷ [] → written saved_new p ≡ None → new ≡ with_page table place w
+pub back_same : (table saved saved_new new : Numbered) (p place : ℕ) (w : List ℕ) → LiesAt table p place → saved ≡ saved_new ++ (p, w) ∷ [] → written_over saved_new p ≡ None → new ≡ with_page table place w
     → (q : ℕ) → written_before saved_new new q ≡ written_before saved table q
 back_same table saved saved_new new p place w lies is none put q = elim (cases_eq q p) [
   | inl same ↦ subst (λ k. written_before saved_new new k ≡ written_before saved table k) (sym same)
-      (let was : written saved p ≡ Some w = ap (λ (pages : Numbered). written pages p) is ∙ push_here saved_new p w none in
-      let now : written new p ≡ Some w = ap (λ (pages : Numbered). written pages p) put ∙ put_here table p place w lies in
+      (let was : written_over saved p ≡ Some w = ap (λ (pages : Numbered). written_over pages p) is ∙ push_here saved_new p w none in
+      let now : written_over new p ≡ Some w = ap (λ (pages : Numbered). written_over pages p) put ∙ put_here table p place w lies in
       rw (none, now, was) refl)
-  | inr ne ↦ (let before : written saved q ≡ written saved_new q = ap (λ (pages : Numbered). written pages q) is ∙ push_apart saved_new p w q ne in
-      let there : written new q ≡ written table q = ap (λ (pages : Numbered). written pages q) put ∙ put_apart table p place w lies q ne in
+  | inr ne ↦ (let before : written_over saved q ≡ written_over saved_new q = ap (λ (pages : Numbered). written_over pages q) is ∙ push_apart saved_new p w q ne in
+      let there : written_over new q ≡ written_over table q = ap (λ (pages : Numbered). written_over pages q) put ∙ put_apart table p place w lies q ne in
       rw (before, there) refl)
 ]
 
 -- what was saved last is saved
-pub saved_there : (saved saved_new : Numbered) (p : ℕ) (w : List ℕ) → saved ≡ saved_new ++ (p, w) ∷ [] → written saved_new p ≡ None → IsSome (written saved p)
+pub saved_there : (saved saved_new : Numbered) (p : ℕ) (w : List ℕ) → saved ≡ saved_new ++ (p, w) ∷ [] → written_over saved_new p ≡ None → IsSome (written_over saved p)
 saved_there saved saved_new p w is none =
-    let there : written saved p ≡ Some w = ap (λ (pages : Numbered). written pages p) is ∙ push_here saved_new p w none in
+    let there : written_over saved p ≡ Some w = ap (λ (pages : Numbered). written_over pages p) is ∙ push_here saved_new p w none in
     subst IsSome (sym there) refl
 
 -- the counts once the mark was gone back to
 pub back_counts : (base below : ℕ) (table saved back : Numbered) (mark : Mark) (count : ℕ) → FitsMark base count below table saved mark
-    → ((q : ℕ) → written back q ≡ written_before saved (take mark.written table) q) → FitsCounts base mark.count mark.below (written back)
+    → ((q : ℕ) → written_over back q ≡ written_before saved (take mark.written table) q) → FitsCounts base mark.count mark.below (written_over back)
 back_counts base below table saved back mark count fits same = record {
   grown = fits.before.grown;
   within = λ q le. same q ∙ none_before q (fits.before.within q le);
-  counted = fits.before.counted ∙ sym (changed_alike base (written back) (written (take mark.written table)) (λ q. alike q));
+  counted = fits.before.counted ∙ sym (changed_alike base (written_over back) (written_over (take mark.written table)) (λ q. alike q));
 } where
-  none_before : (q : ℕ) → written (take mark.written table) q ≡ None → written_before saved (take mark.written table) q ≡ None
-  none_before q none = go (written saved q) refl where
-    go : (o : Option (List ℕ)) → written saved q ≡ o → option_or o (written (take mark.written table) q) ≡ None
+  none_before : (q : ℕ) → written_over (take mark.written table) q ≡ None → written_before saved (take mark.written table) q ≡ None
+  none_before q none = go (written_over saved q) refl where
+    go : (o : Option (List ℕ)) → written_over saved q ≡ o → option_or o (written_over (take mark.written table) q) ≡ None
     go None is = none
     go (Some w) is = let had = fits.over q (subst IsSome (sym is) refl) in let wrong = subst IsSome none had in absurd (cc)
 
-  alike : (q : ℕ) → is_some (written back q) ≡ is_some (written (take mark.written table) q)
-  alike q = ap is_some (same q) ∙ go (written saved q) refl where
-    go : (o : Option (List ℕ)) → written saved q ≡ o → is_some (option_or o (written (take mark.written table) q)) ≡ is_some (written (take mark.written table) q)
+  alike : (q : ℕ) → is_some (written_over back q) ≡ is_some (written_over (take mark.written table) q)
+  alike q = ap is_some (same q) ∙ go (written_over saved q) refl where
+    go : (o : Option (List ℕ)) → written_over saved q ≡ o → is_some (option_or o (written_over (take mark.written table) q)) ≡ is_some (written_over (take mark.written table) q)
     go None is = refl
     go (Some w) is = sym (fits.over q (subst IsSome (sym is) refl))
 
 -- each page up to this one is there
-pub still_there : (table new : Numbered) (p q : ℕ) → ((k : ℕ) → k ≢ p → written new k ≡ written table k) → IsSome (written new p) → (q < p → IsSome (written table q)) → q < p + 1 → IsSome (written new q)
+pub still_there : (table new : Numbered) (p q : ℕ) → ((k : ℕ) → k ≢ p → written_over new k ≡ written_over table k) → IsSome (written_over new p) → (q < p → IsSome (written_over table q)) → q < p + 1 → IsSome (written_over new q)
 still_there table new p q apart here before lt = elim (cases_eq q p) [
-  | inl same ↦ subst (λ k. IsSome (written new k)) (sym same) here
+  | inl same ↦ subst (λ k. IsSome (written_over new k)) (sym same) here
   | inr ne ↦ subst IsSome (sym (apart q ne)) (before (omega arith))
 ]
 
 -- pages but the one of zeros are as before
-pub zeros_apart : (p : ℕ) (table new : Numbered) → new ≡ table ++ (p, zero_page) ∷ [] → (q : ℕ) → q ≢ p → written new q ≡ written table q
-zeros_apart p table new is q ne = ap (λ (pages : Numbered). written pages q) is ∙ push_apart table p zero_page q ne
+pub zeros_apart : (p : ℕ) (table new : Numbered) → new ≡ table ++ (p, zero_page) ∷ [] → (q : ℕ) → q ≢ p → written_over new q ≡ written_over table q
+zeros_apart p table new is q ne = ap (λ (pages : Numbered). written_over pages q) is ∙ push_apart table p zero_page q ne
 
 -- a page of zeros stands for what it stood for before
-pub zeros_added : (from p : ℕ) (table new : Numbered) → written table p ≡ None → new ≡ table ++ (p, zero_page) ∷ [] → from ≤ p → (q : ℕ) → or_grown from (written new) q ≡ or_grown from (written table) q
+pub zeros_added : (from p : ℕ) (table new : Numbered) → written_over table p ≡ None → new ≡ table ++ (p, zero_page) ∷ [] → from ≤ p → (q : ℕ) → or_grown from (written_over new) q ≡ or_grown from (written_over table) q
 zeros_added from p table new none is le q = elim (cases_eq q p) [
-  | inl same ↦ subst (λ k. or_grown from (written new) k ≡ or_grown from (written table) k) (sym same)
-      (grown_written from (written new) p zero_page (ap (λ (pages : Numbered). written pages p) is ∙ push_here table p zero_page none) ∙ sym (grown_zeros from (written table) p le none))
-  | inr ne ↦ (let one : written new q ≡ written table q = zeros_apart p table new is q ne in rw one refl)
+  | inl same ↦ subst (λ k. or_grown from (written_over new) k ≡ or_grown from (written_over table) k) (sym same)
+      (grown_written from (written_over new) p zero_page (ap (λ (pages : Numbered). written_over pages p) is ∙ push_here table p zero_page none) ∙ sym (grown_zeros from (written_over table) p le none))
+  | inr ne ↦ (let one : written_over new q ≡ written_over table q = zeros_apart p table new is q ne in rw one refl)
 ]
 
-pub zeros_there : (p : ℕ) (table new : Numbered) → written table p ≡ None → new ≡ table ++ (p, zero_page) ∷ [] → IsSome (written new p)
+pub zeros_there : (p : ℕ) (table new : Numbered) → written_over table p ≡ None → new ≡ table ++ (p, zero_page) ∷ [] → IsSome (written_over new p)
 zeros_there p table new none is =
-    let there : written new p ≡ Some zero_page = ap (λ (pages : Numbered). written pages p) is ∙ push_here table p zero_page none in
+    let there : written_over new p ≡ Some zero_page = ap (λ (pages : Numbered). written_over pages p) is ∙ push_here table p zero_page none in
     subst IsSome (sym there) refl
 
 -- a page that has no place isn't there
-pub place_none : (pages : Numbered) (p : ℕ) (o : Option ℕ) → IsPlace pages p o → is_some o ≡ false → written pages p ≡ None
+pub place_none : (pages : Numbered) (p : ℕ) (o : Option ℕ) → IsPlace pages p o → is_some o ≡ false → written_over pages p ≡ None
 place_none pages p None place none = place
 place_none pages p (Some at) place none = absurd (cc)
 
@@ -255,15 +257,15 @@ found_base base count f changes p is lt none some = elim (cases_lt p base) [
 ]
 
 -- a page of zeros more, in the counts
-pub zeros_counts : (base count below p : ℕ) (table new : Numbered) → FitsCounts base count below (written table) → new ≡ table ++ (p, zero_page) ∷ [] → base ≤ p → p < count → FitsCounts base count below (written new)
+pub zeros_counts : (base count below p : ℕ) (table new : Numbered) → FitsCounts base count below (written_over table) → new ≡ table ++ (p, zero_page) ∷ [] → base ≤ p → p < count → FitsCounts base count below (written_over new)
 zeros_counts base count below p table new fits is le lt =
-    fits_below base count below (written table) (written new) fits (λ q low. zeros_apart p table new is q (λ same. omega arith)) (λ q high. zeros_apart p table new is q (λ same. omega arith))
+    fits_below base count below (written_over table) (written_over new) fits (λ q low. zeros_apart p table new is q (λ same. omega arith)) (λ q high. zeros_apart p table new is q (λ same. omega arith))
 
 -- in the changes
-pub zeros_now : (base count p : ℕ) (table new : Numbered) (now : List (Option (List ℕ))) → listed count (or_grown base (written table)) ≡ now → written table p ≡ None → new ≡ table ++ (p, zero_page) ∷ [] → base ≤ p
-    → listed count (or_grown base (written new)) ≡ now
+pub zeros_now : (base count p : ℕ) (table new : Numbered) (now : List (Option (List ℕ))) → listed count (or_grown base (written_over table)) ≡ now → written_over table p ≡ None → new ≡ table ++ (p, zero_page) ∷ [] → base ≤ p
+    → listed count (or_grown base (written_over new)) ≡ now
 zeros_now base count p table new now was none is le =
-    listed_same count (or_grown base (written new)) (or_grown base (written table)) (λ q lt. zeros_added base p table new none is le q) ∙ was
+    listed_same count (or_grown base (written_over new)) (or_grown base (written_over table)) (λ q lt. zeros_added base p table new none is le q) ∙ was
 
 -- and at the mark
 pub zeros_mark : (base count below : ℕ) (table new saved : Numbered) (p : ℕ) (w : List ℕ) (o : Option Mark) → ForSome o (FitsMark base count below table saved) → new ≡ table ++ (p, w) ∷ []
@@ -293,8 +295,8 @@ saves_keep base count below table saved saved_new o p fits (inr put) mark some =
 pub saved_free : (o : Option Mark) (saved saved_new : Numbered) (p place : ℕ) (w : List ℕ) → is_free_in o saved p place ≡ false → saved_new ≡ saved ++ (p, w) ∷ [] → is_free_in o saved_new p place ≡ true
 saved_free None saved saved_new p place w taken is = refl
 saved_free (Some mark) saved saved_new p place w taken is =
-    let unsaved : written saved p ≡ None = unsaved_if (leb mark.written place) (written saved p) taken in
-    let there : written saved_new p ≡ Some w = ap (λ (pages : Numbered). written pages p) is ∙ push_here saved p w unsaved in
+    let unsaved : written_over saved p ≡ None = unsaved_if (leb mark.written place) (written_over saved p) taken in
+    let there : written_over saved_new p ≡ Some w = ap (λ (pages : Numbered). written_over pages p) is ∙ push_here saved p w unsaved in
     rw there (or_true (leb mark.written place)) where
       unsaved_if : (b : Bool) (o : Option (List ℕ)) → (b || is_some o) ≡ false → o ≡ None
       unsaved_if b None none = refl
@@ -310,29 +312,29 @@ pub bytes_lie : (table : Numbered) (p place : ℕ) (d : ℕ × List ℕ) (lies :
 bytes_lie table p place d lies = ap (λ (e : ℕ × List ℕ). e.1) (get_or_from_slice_get table place (p, lies.page) d lies.there)
 
 -- a page that is there is found
-key_found : (pages : Numbered) (k : ℕ) (d : ℕ × List ℕ) → k < length pages → IsSome (written pages (get_or pages k d).0)
+key_found : (pages : Numbered) (k : ℕ) (d : ℕ × List ℕ) → k < length pages → IsSome (written_over pages (get_or pages k d).0)
 key_found [] k d lt = absurd (omega arith)
 key_found (page ∷ pages) zero d lt = let here : nat_eq page.0 page.0 ≡ true = grind (arith, nat_tests) in rw here refl
-key_found (page ∷ pages) (suc k) d lt = found_behind (nat_eq (get_or pages k d).0 page.0) page.1 (written pages (get_or pages k d).0) (key_found pages k d (omega arith)) where
+key_found (page ∷ pages) (suc k) d lt = found_behind (nat_eq (get_or pages k d).0 page.0) page.1 (written_over pages (get_or pages k d).0) (key_found pages k d (omega arith)) where
   found_behind : (b : Bool) (w : List ℕ) (o : Option (List ℕ)) → IsSome o → IsSome (cond b (Some w) o)
   found_behind true w o some = refl
   found_behind false w o some = some
 
 -- where no page has a change, none was written
-pub none_written : (base count below : ℕ) (pages : Numbered) → FitsCounts base count below (written pages) → below + (count - base) ≡ 0 → pages ≡ []
+pub none_written : (base count below : ℕ) (pages : Numbered) → FitsCounts base count below (written_over pages) → below + (count - base) ≡ 0 → pages ≡ []
 none_written base count below [] fits none = refl
 none_written base count below (page ∷ pages) fits none =
-    let some : IsSome (written (page ∷ pages) page.0) = key_found (page ∷ pages) 0 page (omega arith) in
-    let absent : written (page ∷ pages) page.0 ≡ None = elim (cases_lt page.0 base) [
+    let some : IsSome (written_over (page ∷ pages) page.0) = key_found (page ∷ pages) 0 page (omega arith) in
+    let absent : written_over (page ∷ pages) page.0 ≡ None = elim (cases_lt page.0 base) [
       | inl low ↦
-          (let unchanged : changed_in (listed base (written (page ∷ pages))) ≡ 0 = omega (arith, fits.counted, none) in
-          sym (get_or-listed base (written (page ∷ pages)) page.0 None low) ∙ changed_in-none (listed base (written (page ∷ pages))) page.0 unchanged)
+          (let unchanged : changed_in (listed base (written_over (page ∷ pages))) ≡ 0 = omega (arith, fits.counted, none) in
+          sym (get_or-listed base (written_over (page ∷ pages)) page.0 None low) ∙ changed_in-none (listed base (written_over (page ∷ pages))) page.0 unchanged)
       | inr high ↦ fits.within page.0 (omega (arith, high, none, fits.grown))
     ] in
     let wrong = subst IsSome absent some in absurd (cc)
 
 -- all pages that were written are below the count
-pub all_below : (base count below : ℕ) (pages : Numbered) (size : ℕ) → FitsCounts base count below (written pages) → size ≡ count → All (λ page. page.0 < size) pages
+pub all_below : (base count below : ℕ) (pages : Numbered) (size : ℕ) → FitsCounts base count below (written_over pages) → size ≡ count → All (λ page. page.0 < size) pages
 all_below base count below pages size fits is k d lt = elim (cases_lt (get_or pages k d).0 count) [
   | inl low ↦ omega (arith, low)
   | inr high ↦ (let some = subst IsSome (fits.within (get_or pages k d).0 high) (key_found pages k d lt) in absurd (cc))

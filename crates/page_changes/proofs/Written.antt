@@ -11,8 +11,10 @@ use Rattle.std.proofs.lemmas.Map.{lookup-set_value}
 use Rattle.page_changes.specs.declared.changes.Mark.{Mark}
 use Rattle.page_changes.specs.Changes.{Changed, changed_in, nothing, unchanged}
 use Rattle.page_changes.specs.Table.{Numbered, LiesAt, with_page}
-use Rattle.page_changes.specs.ChangesView.{listed, or_grown, written, written_before, FitsCounts, FitsMark}
-use Rattle.page_changes.proofs.Overlays.{length-listed, get_or-listed, listed_put, listed_same, same_listed, listed_none, grown_below, changed_in-set_new, changed_in-set_over, set-past}
+use Rattle.mdc_words.specs.Listed.{listed}
+use Rattle.page_changes.specs.ChangesView.{or_grown, written_over, written_before, FitsCounts, FitsMark}
+use Rattle.mdc_words.proofs.ListedLemmas.{length-listed, get_or-listed, listed_same}
+use Rattle.page_changes.proofs.Overlays.{listed_put, same_listed, listed_none, grown_below, changed_in-set_new, changed_in-set_over, set-past}
 
 -- a number is itself, and no other
 self : (p : ℕ) → nat_eq p p ≡ true
@@ -25,17 +27,17 @@ other_back : (p q : ℕ) → q ≢ p → nat_eq p q ≡ false
 other_back p q ne = grind (arith, nat_tests)
 
 -- a page that comes last is found, where none has its number
-pub push_here : (pages : Numbered) (p : ℕ) (w : List ℕ) → written pages p ≡ None → written (pages ++ (p, w) ∷ []) p ≡ Some w
+pub push_here : (pages : Numbered) (p : ℕ) (w : List ℕ) → written_over pages p ≡ None → written_over (pages ++ (p, w) ∷ []) p ≡ Some w
 push_here [] p w none = let same = self p in rw same refl
-push_here (page ∷ pages) p w none = (elim (nat_eq p page.0) as (λ y. nat_eq p page.0 ≡ y → written ((page ∷ pages) ++ (p, w) ∷ []) p ≡ Some w) [
+push_here (page ∷ pages) p w none = (elim (nat_eq p page.0) as (λ y. nat_eq p page.0 ≡ y → written_over ((page ∷ pages) ++ (p, w) ∷ []) p ≡ Some w) [
   | true ↦ λ here. let there = rw here at none in absurd (cc)
   | false ↦ λ apart. rw apart (push_here pages p w (rw apart at none))
 ]) refl
 
 -- and each other is found as before
-pub push_apart : (pages : Numbered) (p : ℕ) (w : List ℕ) (q : ℕ) → q ≢ p → written (pages ++ (p, w) ∷ []) q ≡ written pages q
+pub push_apart : (pages : Numbered) (p : ℕ) (w : List ℕ) (q : ℕ) → q ≢ p → written_over (pages ++ (p, w) ∷ []) q ≡ written_over pages q
 push_apart [] p w q ne = let apart = other p q ne in rw apart refl
-push_apart (page ∷ pages) p w q ne = (elim (nat_eq q page.0) as (λ y. nat_eq q page.0 ≡ y → written ((page ∷ pages) ++ (p, w) ∷ []) q ≡ written (page ∷ pages) q) [
+push_apart (page ∷ pages) p w q ne = (elim (nat_eq q page.0) as (λ y. nat_eq q page.0 ≡ y → written_over ((page ∷ pages) ++ (p, w) ∷ []) q ≡ written_over (page ∷ pages) q) [
   | true ↦ λ here. rw here refl
   | false ↦ λ apart. rw apart (push_apart pages p w q ne)
 ]) refl
@@ -46,7 +48,7 @@ last_there [] p w = refl
 last_there (page ∷ pages) p w = last_there pages p w
 
 -- bytes that are put there are put under its number, where none has it
-put_last : (pages : Numbered) (p : ℕ) (w bytes : List ℕ) → written pages p ≡ None
+put_last : (pages : Numbered) (p : ℕ) (w bytes : List ℕ) → written_over pages p ≡ None
     → with_page (pages ++ (p, w) ∷ []) (length pages) bytes ≡ set_value (nat_eq p) (pages ++ (p, w) ∷ []) bytes
 put_last [] p w bytes none = let same = self p in rw same refl
 put_last (page ∷ pages) p w bytes none = (elim (nat_eq p page.0) as (λ y. nat_eq p page.0 ≡ y → with_page ((page ∷ pages) ++ (p, w) ∷ []) (length (page ∷ pages)) bytes ≡ set_value (nat_eq p) ((page ∷ pages) ++ (p, w) ∷ []) bytes) [
@@ -55,7 +57,7 @@ put_last (page ∷ pages) p w bytes none = (elim (nat_eq p page.0) as (λ y. nat
 ]) refl
 
 -- so a page that came last lies there
-pub lies_last : (table new : Numbered) (p last : ℕ) (w : List ℕ) → written table p ≡ None → new ≡ table ++ (p, w) ∷ [] → last ≡ length new - 1 → LiesAt new p last
+pub lies_last : (table new : Numbered) (p last : ℕ) (w : List ℕ) → written_over table p ≡ None → new ≡ table ++ (p, w) ∷ [] → last ≡ length new - 1 → LiesAt new p last
 lies_last table new p last w none is place =
     let here : LiesAt (table ++ (p, w) ∷ []) p (length table) = record { page = w; there = last_there table p w; found = push_here table p w none; put = λ bytes. put_last table p w bytes none } in
     let same : last ≡ length table = omega (arith, ap length is, length-append table ((p, w) ∷ [])) in
@@ -66,7 +68,7 @@ one_number : (p : ℕ) (x y : ℕ) → nat_eq p x ≡ true → nat_eq p y ≡ na
 one_number p x y is = let same : p ≡ x = (Decides-eqb p x).0 is in ap (λ n. nat_eq n y) same
 
 -- bytes that are put at a place are found
-pub put_here : (pages : Numbered) (p place : ℕ) (w : List ℕ) → LiesAt pages p place → written (with_page pages place w) p ≡ Some w
+pub put_here : (pages : Numbered) (p place : ℕ) (w : List ℕ) → LiesAt pages p place → written_over (with_page pages place w) p ≡ Some w
 put_here pages p place w lies =
     let there : IsSome (lookup (nat_eq p) pages) = subst IsSome (sym lies.found) refl in
     let same = self p in
@@ -74,7 +76,7 @@ put_here pages p place w lies =
     ap (lookup (nat_eq p)) (lies.put w) ∙ (found ∙ (rw same refl))
 
 -- and each other is found as before
-pub put_apart : (pages : Numbered) (p place : ℕ) (w : List ℕ) → LiesAt pages p place → (q : ℕ) → q ≢ p → written (with_page pages place w) q ≡ written pages q
+pub put_apart : (pages : Numbered) (p place : ℕ) (w : List ℕ) → LiesAt pages p place → (q : ℕ) → q ≢ p → written_over (with_page pages place w) q ≡ written_over pages q
 put_apart pages p place w lies q ne =
     let there : IsSome (lookup (nat_eq p) pages) = subst IsSome (sym lies.found) refl in
     let apart = other_back p q ne in
@@ -193,20 +195,20 @@ pub fits_grown : (base count below n : ℕ) (f : ℕ → Option (List ℕ)) → 
 fits_grown base count below n f fits = record { grown = omega (arith, fits.grown); within = λ q le. fits.within q (omega arith); counted = fits.counted }
 
 -- nothing was written
-changed_none : (n : ℕ) → changed_in (listed n (written [])) ≡ 0
-changed_none n = ap changed_in (listed_none n (written []) (λ p lt. refl)) ∙ changed_unchanged n where
+changed_none : (n : ℕ) → changed_in (listed n (written_over [])) ≡ 0
+changed_none n = ap changed_in (listed_none n (written_over []) (λ p lt. refl)) ∙ changed_unchanged n where
   changed_unchanged : (k : ℕ) → changed_in (unchanged k) ≡ 0
   changed_unchanged zero = refl
   changed_unchanged (suc k) = changed_unchanged k
 
-pub fits_none : (n : ℕ) (pages : Numbered) → pages ≡ [] → FitsCounts n n 0 (written pages)
-fits_none n pages none = subst (λ (all : Numbered). FitsCounts n n 0 (written all)) (sym none) (record { grown = omega arith; within = λ q le. refl; counted = sym (changed_none n) })
+pub fits_none : (n : ℕ) (pages : Numbered) → pages ≡ [] → FitsCounts n n 0 (written_over pages)
+fits_none n pages none = subst (λ (all : Numbered). FitsCounts n n 0 (written_over all)) (sym none) (record { grown = omega arith; within = λ q le. refl; counted = sym (changed_none n) })
 
 -- what nothing is seen as
 pub new_view : (n : ℕ) (pages : Numbered) → pages ≡ []
-    → record { base = n; now = listed n (or_grown n (written pages)); marked = None; kept = 0 + (n - n); pages = pages } ≡ nothing n
+    → record { base = n; now = listed n (or_grown n (written_over pages)); marked = None; kept = 0 + (n - n); pages = pages } ≡ nothing n
 new_view n pages none =
-    let all : listed n (or_grown n (written [])) ≡ unchanged n = listed_none n (or_grown n (written [])) (λ p lt. grown_below n (written []) p lt) in
+    let all : listed n (or_grown n (written_over [])) ≡ unchanged n = listed_none n (or_grown n (written_over [])) (λ p lt. grown_below n (written_over []) p lt) in
     let zeros : 0 + (n - n) ≡ 0 = omega arith in
     rw (none, all, zeros) refl
 
@@ -225,8 +227,8 @@ mark_push base count below more table saved mark p w fits =
       fewer = omega (arith, fits.fewer, length-append table ((p, w) ∷ []));
       no_more = fits.no_more;
       no_more_below = omega (arith, fits.no_more_below);
-      before = subst (λ (pages : Numbered). FitsCounts base mark.count mark.below (written pages)) (sym same) fits.before;
-      over = λ q had. subst (λ (pages : Numbered). IsSome (written pages q)) (sym same) (fits.over q had);
+      before = subst (λ (pages : Numbered). FitsCounts base mark.count mark.below (written_over pages)) (sym same) fits.before;
+      over = λ q had. subst (λ (pages : Numbered). IsSome (written_over pages q)) (sym same) (fits.over q had);
     }
 
 -- and so do the changes at it
@@ -249,22 +251,22 @@ keeps_past base count below table saved mark place w fits le =
         fewer = omega (arith, fits.fewer, length-with_page table place w);
         no_more = fits.no_more;
         no_more_below = fits.no_more_below;
-        before = subst (λ (pages : Numbered). FitsCounts base mark.count mark.below (written pages)) (sym same) fits.before;
-        over = λ q had. subst (λ (pages : Numbered). IsSome (written pages q)) (sym same) (fits.over q had);
+        before = subst (λ (pages : Numbered). FitsCounts base mark.count mark.below (written_over pages)) (sym same) fits.before;
+        over = λ q had. subst (λ (pages : Numbered). IsSome (written_over pages q)) (sym same) (fits.over q had);
       };
       same = ap (λ (pages : Numbered). listed mark.count (or_grown base (written_before saved pages))) same;
     }
 
 -- a page is there after one was put
-some_put : (pages : Numbered) (p place : ℕ) (w : List ℕ) → LiesAt pages p place → (q : ℕ) → IsSome (written pages q) → IsSome (written (with_page pages place w) q)
+some_put : (pages : Numbered) (p place : ℕ) (w : List ℕ) → LiesAt pages p place → (q : ℕ) → IsSome (written_over pages q) → IsSome (written_over (with_page pages place w) q)
 some_put pages p place w lies q had = elim (cases_eq q p) [
-  | inl same ↦ (let here : written (with_page pages place w) q ≡ Some w = subst (λ k. written (with_page pages place w) k ≡ Some w) (sym same) (put_here pages p place w lies) in subst IsSome (sym here) refl)
+  | inl same ↦ (let here : written_over (with_page pages place w) q ≡ Some w = subst (λ k. written_over (with_page pages place w) k ≡ Some w) (sym same) (put_here pages p place w lies) in subst IsSome (sym here) refl)
   | inr ne ↦ subst IsSome (sym (put_apart pages p place w lies q ne)) had
 ]
 
 -- a page was written over whose bytes at the mark are saved, or are saved with it
 keeps_front : (base count below : ℕ) (table saved saved_new : Numbered) (mark : Mark) (p place : ℕ) (w : List ℕ) → FitsMark base count below table saved mark → LiesAt table p place → place < mark.written
-    → ((q : ℕ) → q ≢ p → written saved_new q ≡ written saved q)
+    → ((q : ℕ) → q ≢ p → written_over saved_new q ≡ written_over saved q)
     → written_before saved_new (with_page (take mark.written table) place w) p ≡ written_before saved (take mark.written table) p
     → KeepsMark base count below table saved (with_page table place w) saved_new mark
 keeps_front base count below table saved saved_new mark p place w fits lies lt apart here =
@@ -274,11 +276,11 @@ keeps_front base count below table saved saved_new mark p place w fits lies lt a
         fewer = omega (arith, fits.fewer, length-with_page table place w);
         no_more = fits.no_more;
         no_more_below = fits.no_more_below;
-        before = subst (λ (pages : Numbered). FitsCounts base mark.count mark.below (written pages)) (sym same)
-            (fits_over base mark.count mark.below p (written (take mark.written table)) (written (with_page (take mark.written table) place w)) front.page w fits.before front.found
+        before = subst (λ (pages : Numbered). FitsCounts base mark.count mark.below (written_over pages)) (sym same)
+            (fits_over base mark.count mark.below p (written_over (take mark.written table)) (written_over (with_page (take mark.written table) place w)) front.page w fits.before front.found
             (put_here (take mark.written table) p place w front) (put_apart (take mark.written table) p place w front));
-        over = λ q had. subst (λ (pages : Numbered). IsSome (written pages q)) (sym same) (elim (cases_eq q p) [
-          | inl is ↦ (let there : written (with_page (take mark.written table) place w) q ≡ Some w = subst (λ k. written (with_page (take mark.written table) place w) k ≡ Some w) (sym is) (put_here (take mark.written table) p place w front) in subst IsSome (sym there) refl)
+        over = λ q had. subst (λ (pages : Numbered). IsSome (written_over pages q)) (sym same) (elim (cases_eq q p) [
+          | inl is ↦ (let there : written_over (with_page (take mark.written table) place w) q ≡ Some w = subst (λ k. written_over (with_page (take mark.written table) place w) k ≡ Some w) (sym is) (put_here (take mark.written table) p place w front) in subst IsSome (sym there) refl)
           | inr ne ↦ some_put (take mark.written table) p place w front q (fits.over q (subst IsSome (apart q ne) had))
         ]);
       };
@@ -296,28 +298,28 @@ before_saved (Some x) a b had = refl
 
 -- a page that may be written over in its place
 pub keeps_free : (base count below : ℕ) (table saved : Numbered) (mark : Mark) (p place : ℕ) (w : List ℕ) → FitsMark base count below table saved mark → LiesAt table p place
-    → (leb mark.written place || is_some (written saved p)) ≡ true → KeepsMark base count below table saved (with_page table place w) saved mark
+    → (leb mark.written place || is_some (written_over saved p)) ≡ true → KeepsMark base count below table saved (with_page table place w) saved mark
 keeps_free base count below table saved mark p place w fits lies free = elim (cases_lt place mark.written) [
   | inr past ↦ keeps_past base count below table saved mark place w fits past
   | inl lt ↦ (let test : leb mark.written place ≡ false = grind (arith, nat_tests) in
-      let had : is_some (written saved p) ≡ true = rw test at free in
-      keeps_front base count below table saved saved mark p place w fits lies lt (λ q ne. refl) (before_saved (written saved p) (written (with_page (take mark.written table) place w) p) (written (take mark.written table) p) had))
+      let had : is_some (written_over saved p) ≡ true = rw test at free in
+      keeps_front base count below table saved saved mark p place w fits lies lt (λ q ne. refl) (before_saved (written_over saved p) (written_over (with_page (take mark.written table) place w) p) (written_over (take mark.written table) p) had))
 ]
 
 -- a page whose bytes at the mark are saved first
 pub keeps_saved : (base count below : ℕ) (table saved saved_new : Numbered) (mark : Mark) (p place : ℕ) (w : List ℕ) (lies : LiesAt table p place) → FitsMark base count below table saved mark
-    → (leb mark.written place || is_some (written saved p)) ≡ false → saved_new ≡ saved ++ (p, lies.page) ∷ []
+    → (leb mark.written place || is_some (written_over saved p)) ≡ false → saved_new ≡ saved ++ (p, lies.page) ∷ []
     → KeepsMark base count below table saved (with_page table place w) saved_new mark
 keeps_saved base count below table saved saved_new mark p place w lies fits free is = elim (cases_lt place mark.written) [
   | inr past ↦ (let test : leb mark.written place ≡ true = grind (arith, nat_tests) in let wrong = rw test at free in absurd (cc))
   | inl lt ↦ (let test : leb mark.written place ≡ false = grind (arith, nat_tests) in
-      let unsaved : is_some (written saved p) ≡ false = rw test at free in
-      let none : written saved p ≡ None = no_some (written saved p) unsaved in
+      let unsaved : is_some (written_over saved p) ≡ false = rw test at free in
+      let none : written_over saved p ≡ None = no_some (written_over saved p) unsaved in
       let front : LiesAt (take mark.written table) p place = lies_front mark.written table p place lies lt in
-      let now : written saved_new p ≡ Some lies.page = ap (λ (pages : Numbered). written pages p) is ∙ push_here saved p lies.page none in
-      let was : written (take mark.written table) p ≡ Some lies.page = lookup-front mark.written table place p lies.page lies.there lt ∙ lies.found in
+      let now : written_over saved_new p ≡ Some lies.page = ap (λ (pages : Numbered). written_over pages p) is ∙ push_here saved p lies.page none in
+      let was : written_over (take mark.written table) p ≡ Some lies.page = lookup-front mark.written table place p lies.page lies.there lt ∙ lies.found in
       keeps_front base count below table saved saved_new mark p place w fits lies lt
-      (λ q ne. ap (λ (pages : Numbered). written pages q) is ∙ push_apart saved p lies.page q ne)
+      (λ q ne. ap (λ (pages : Numbered). written_over pages q) is ∙ push_apart saved p lies.page q ne)
       (rw (now, none, was) refl))
 ] where
   no_some : (o : Option (List ℕ)) → is_some o ≡ false → o ≡ None

@@ -11,12 +11,14 @@ use Rattle.page_file.specs.Layout.{home_page}
 use Rattle.redo_journal.specs.Layout.{is_open}
 use Rattle.redo_journal.proofs.RisingLemmas.{All-rest}
 use Rattle.page_file.proofs.FrontLemmas.{front_stays_itself}
-use Rattle.page_store.specs.Standing.{listed, image_of, page_of, count_of, pages_of, IsFormed, Stands}
+use Rattle.mdc_words.specs.Listed.{listed}
+use Rattle.page_store.specs.Standing.{image_of, page_of, count_of, pages_of, IsFormed, Stands}
 use Rattle.page_store.specs.Changes.{Overlay, laid_over, image_in, HoldsBelow}
 use Rattle.page_store.specs.Opening.{IsAtRest}
 use Rattle.page_store.specs.Shape.{extents_in, extent_pages_in}
 use Rattle.page_store.specs.Commit.{BothFiles, IsReadyFor, IsCommitted, StandsEither, count_with, pages_with}
-use Rattle.page_store.proofs.Listed.{length-listed, page_at-listed, listed_same}
+use Rattle.mdc_words.proofs.ListedLemmas.{length-listed, listed_same}
+use Rattle.page_store.proofs.Listed.{page_at-listed}
 use Rattle.page_store.proofs.LaidOver.{listed-laid_over}
 use Rattle.page_store.proofs.Pages.{page_of-closed, pages_again}
 use Rattle.page_store.proofs.Committing.{unwrap_or-some}

@@ -8,9 +8,10 @@ use Rattle.redo_journal.specs.Images.{Numbered, AreRising}
 use Rattle.page_file.specs.Layout.{file_page, home_page, FrontStays}
 use Rattle.redo_journal.specs.Layout.{is_open, start_of, journal_of, torn_journal, HoldsJournal}
 use Rattle.page_file.proofs.FrontLemmas.{front_stays_then}
-use Rattle.page_store.specs.Standing.{listed, image_of, count_of, pages_of, Stands}
+use Rattle.mdc_words.specs.Listed.{listed}
+use Rattle.page_store.specs.Standing.{image_of, count_of, pages_of, Stands}
 use Rattle.page_store.specs.Commit.{AreFitting, IsReadyFor, IsJournaled, HomeStays, count_with, pages_with}
-use Rattle.page_store.proofs.Listed.{listed_same}
+use Rattle.mdc_words.proofs.ListedLemmas.{listed_same}
 use Rattle.page_file.proofs.BytesLemmas.{same_part}
 use Rattle.page_store.proofs.Kept.{journal_left, same_but_gate}
 use Rattle.page_store.proofs.Crashes.{while_written, while_opened}

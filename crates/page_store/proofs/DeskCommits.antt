@@ -12,7 +12,8 @@ use Rattle.page_store.specs.declared.desk.Desk.{Desk}
 use Rattle.page_store.specs.declared.write_through.Halt.{Halt}
 use Rattle.page_store.specs.declared.write_through.Halt.TheVariants.{BeforeHome, BehindGate}
 use Rattle.page_file.specs.Leaving.{Leaves}
-use Rattle.page_store.specs.Standing.{listed, pages_of, IsFormedAs, Stands}
+use Rattle.mdc_words.specs.Listed.{listed}
+use Rattle.page_store.specs.Standing.{pages_of, IsFormedAs, Stands}
 use Rattle.page_store.specs.Shape.{extents_in, extent_pages_in}
 use Rattle.page_store.specs.Changes.{nothing, Changed, HoldsBelow, image_in, laid_over, unchanged}
 use Rattle.page_store.specs.Cached.{renewed}
@@ -23,7 +24,7 @@ use Rattle.page_file.proofs.LeavesLemmas.{told_before}
 use Rattle.page_store.proofs.Cached.{renewed_home}
 use Rattle.page_store.proofs.Commits.{MakesWork, made_by, ready_for, pages_at_rest, rest_after, work_after, home_after}
 use Rattle.page_store.proofs.LaidOver.{laid_over-again, laid_over-unchanged, length-laid_over}
-use Rattle.page_store.proofs.Listed.{listed_same}
+use Rattle.mdc_words.proofs.ListedLemmas.{listed_same}
 
 -- the desk once its work is the base
 abbrev pub settled : Numbered → Desk → Desk

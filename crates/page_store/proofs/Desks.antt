@@ -15,7 +15,8 @@ use Rattle.page_store.specs.declared.write_through.Halt.{Halt}
 use Rattle.page_store.specs.Changes.{Overlay, Changed, unchanged, changed_in, nothing, laid_over, image_in}
 use Rattle.page_store.specs.Cached.{AreHome, Leads}
 use Rattle.page_store.specs.Desk.{IsKept, Does, DoesOnOk, base_in, base_of, work_of, page_at_hand, written_in}
-use Rattle.page_store.proofs.Listed.{length-listed, page_at-listed}
+use Rattle.mdc_words.proofs.ListedLemmas.{length-listed}
+use Rattle.page_store.proofs.Listed.{page_at-listed}
 use Rattle.page_store.proofs.LaidOver.{laid_over-set, laid_over-grown, laid_over-unchanged, laid_over-at, differing-laid_over, changed_in-grown}
 
 -- how many pages the base has

@@ -2,7 +2,8 @@
 use Rattle.std.proofs.Common.{◌≡◌, ◌+◌, ◌-◌, ◌*◌, ℕ, zero, suc, List, ◌++◌, length, drop, replicate, get_or, arith, refl, ap, ◌∙◌, length-append, length-drop}
 use Rattle.std.proofs.lemmas.List.{length-replicate, drop-replicate}
 use Rattle.store_api.specs.StoreState.{zero_page}
-use Rattle.page_store.specs.Shape.{map_pages, birth_page}
+use Rattle.store_api.specs.Extents.{map_pages}
+use Rattle.page_store.specs.Shape.{birth_page}
 use Rattle.page_store.specs.Fresh.{zero_pages, gates, root_page, front_with, file_with, fresh_len}
 
 -- a page of zeros has the length of a page

@@ -11,7 +11,8 @@ use Rattle.byteorder.specs.Numbers.{big_number-reads_back}
 use Rattle.store_api.specs.StoreState.{zero_page, stated_in}
 use Rattle.page_file.specs.Layout.{file_page, home_page}
 use Rattle.redo_journal.specs.Layout.{is_open, journal_of}
-use Rattle.page_store.specs.Shape.{IsBirth, is_shape, map_pages, first_count, birth_page, extents_in, extent_pages_in}
+use Rattle.store_api.specs.Extents.{is_shape, map_pages, first_count}
+use Rattle.page_store.specs.Shape.{IsBirth, birth_page, extents_in, extent_pages_in}
 use Rattle.page_store.specs.Fresh.{zero_pages, gates, root_page, front_with, fresh_file, fresh_len}
 use Rattle.page_store.specs.Standing.{image_of, page_of, count_of, pages_of}
 use Rattle.page_store.specs.Opening.{version_of}

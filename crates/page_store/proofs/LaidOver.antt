@@ -8,7 +8,8 @@ use Rattle.store_api.specs.StoreState.{zero_page, differing, page_at}
 use Rattle.std.proofs.lemmas.Bool.{cases_lt}
 use Rattle.std.proofs.lemmas.Bool.Decides.{nat_tests}
 use Rattle.redo_journal.specs.Images.{Numbered}
-use Rattle.page_store.specs.Standing.{listed, image_of}
+use Rattle.mdc_words.specs.Listed.{listed}
+use Rattle.page_store.specs.Standing.{image_of}
 use Rattle.std.specs.Prelude.{IsSome}
 use Rattle.page_store.specs.Changes.{Overlay, laid_over, unchanged, changed_in, image_in}
 

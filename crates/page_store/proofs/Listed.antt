@@ -1,24 +1,9 @@
--- Lists that are made from what a function gives for each number.
-use Rattle.std.proofs.Common.{◌≡◌, ◌<◌, ℕ, List, length, get_or, sym, ◌∙◌, arith}
-use Rattle.std.proofs.lemmas.List.{same_lists}
-use Rattle.std.proofs.lemmas.List.FromFn.{length-map-range_with_len, get_or-map-range_with_len}
+-- Pages that are made from what a function gives for each number.
+use Rattle.std.proofs.Common.{◌≡◌, ◌<◌, ℕ, List}
+use Rattle.mdc_words.specs.Listed.{listed}
+use Rattle.mdc_words.proofs.ListedLemmas.{get_or-listed}
 use Rattle.store_api.specs.StoreState.{page_at}
-use Rattle.page_store.specs.Standing.{listed}
 
--- how many there are
-pub length-listed : {X : Type 0} (n : ℕ) (f : ℕ → X) → length (listed n f) ≡ n
-length-listed n f = length-map-range_with_len f 0 n
-
--- the one at a place
-pub get_or-listed : {X : Type 0} (n : ℕ) (f : ℕ → X) (i : ℕ) (d : X) → i < n → get_or (listed n f) i d ≡ f i
-get_or-listed n f i d lt = get_or-map-range_with_len f 0 n i i d lt (omega arith)
-
--- the same of pages
+-- the page at a place
 pub page_at-listed : (n : ℕ) (f : ℕ → List ℕ) (p : ℕ) → p < n → page_at (listed n f) p ≡ f p
 page_at-listed n f p lt = get_or-listed n f p _ lt
-
--- functions that agree below n give the same list
-pub listed_same : {X : Type 0} (n : ℕ) (f g : ℕ → X) → ((i : ℕ) → i < n → f i ≡ g i) → listed n f ≡ listed n g
-listed_same n f g same = same_lists (listed n f) (listed n g) (length-listed n f ∙ sym (length-listed n g)) (λ k d lt.
-    let below : k < n = omega (arith, length-listed n f) in
-    get_or-listed n f k d below ∙ (same k below ∙ sym (get_or-listed n g k d below)))

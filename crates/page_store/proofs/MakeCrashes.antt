@@ -13,7 +13,7 @@ use Rattle.page_file.proofs.RunsLemmas.{moment_within, runs_within}
 use Rattle.page_file.proofs.BetweenLemmas.{now_holds, between_then}
 use Rattle.page_file.proofs.RunsLemmas.{was_told}
 use Rattle.page_file.proofs.BetweenLemmas.{mapped}
-use Rattle.page_store.specs.Shape.{map_pages}
+use Rattle.store_api.specs.Extents.{map_pages}
 use Rattle.page_store.specs.Fresh.{zero_pages, root_page, front_with, file_with, fresh_file, fresh_len, IsUnmade, IsUnmadeOrFresh, IsOfMaking}
 use Rattle.page_file.specs.Leaving.{Leaves}
 use Rattle.page_file.proofs.LeavesLemmas.{sound_image}

@@ -13,10 +13,11 @@ use Rattle.page_store.specs.declared.shape.Shape.{Shape}
 use Rattle.page_file.specs.Leaving.{Leaves}
 use Rattle.page_store.specs.FileStore.{left_of}
 use Rattle.page_store.specs.Shape.{extents_in, extent_pages_in}
-use Rattle.page_store.specs.Standing.{pages_of, listed, Stands, IsFormedAs, Reopens}
+use Rattle.mdc_words.specs.Listed.{listed}
+use Rattle.page_store.specs.Standing.{pages_of, Stands, IsFormedAs, Reopens}
 use Rattle.page_store.specs.Desk.{IsKept, base_of, base_in, work_of, state_of}
 use Rattle.page_store.specs.Opening.{IsServed, IsAtRest, StandsAs}
-use Rattle.page_store.specs.Opened.{Opens, LeavesBaseSince, IsEmptyDesk, IsJustOpened, bytes_of}
+use Rattle.page_store.specs.Opened.{Opens, LeavesBaseSince, IsEmptyDesk, IsJustOpened, file_bytes}
 use Rattle.page_store.proofs.Commits.{pages_at_rest}
 use Rattle.page_store.proofs.Desks.{unchanged_work}
 use Rattle.page_store.proofs.FrontAgreesLemmas.{front_agrees_stays, front_agrees_then, front_agrees_back}
@@ -41,9 +42,9 @@ if_err_as (Ok x) fault P is holds = tt
 if_err_as (Err e) fault P is holds = subst P (sym is) holds
 
 -- a sync changes no byte
-pub settled_bytes : (old new : Option File) → new ≡ option_map settled old → bytes_of new ≡ bytes_of old
-settled_bytes None new is = ap bytes_of is
-settled_bytes (Some file) new is = ap bytes_of is
+pub settled_bytes : (old new : Option File) → new ≡ option_map settled old → file_bytes new ≡ file_bytes old
+settled_bytes None new is = ap file_bytes is
+settled_bytes (Some file) new is = ap file_bytes is
 
 -- a file that was told is told after a sync
 pub settled_told : {old new : Option File} (before : File) → new ≡ option_map settled old → old ≡ Some before → new ≡ Some (settled before)

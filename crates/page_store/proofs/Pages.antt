@@ -7,8 +7,9 @@ use Rattle.store_api.specs.StoreState.{stated_in}
 use Rattle.redo_journal.specs.Images.{Numbered, AreRising}
 use Rattle.page_file.specs.Layout.{file_page, home_page}
 use Rattle.redo_journal.specs.Layout.{is_open, start_of, number_of, journal_of, index_pages}
-use Rattle.page_store.specs.Standing.{listed, image_of, page_of, count_of, pages_of, is_made, IsFitting, IsFormed}
-use Rattle.page_store.proofs.Listed.{listed_same}
+use Rattle.mdc_words.specs.Listed.{listed}
+use Rattle.page_store.specs.Standing.{image_of, page_of, count_of, pages_of, is_made, IsFitting, IsFormed}
+use Rattle.mdc_words.proofs.ListedLemmas.{listed_same}
 
 -- where the gate isn't open, a page is its home page
 pub page_of-closed : (file : List ℕ) (p : ℕ) → IsFalse (is_open file) → page_of file p ≡ home_page file p

@@ -8,7 +8,8 @@ use Rattle.store_api.specs.Moments.{Outcomes, OnlyBase, BaseOrWork, AtRest}
 use Rattle.mdc_outside.specs.Disk.{File, IsImage}
 use Rattle.mdc_outside.specs.Moments.{Beside, IsMoment, WhereTold}
 use Rattle.page_store.specs.declared.desk.Desk.{Desk}
-use Rattle.page_store.specs.Standing.{pages_of, page_of, FrontAgrees, IsStoreImage, Reopens, listed}
+use Rattle.mdc_words.specs.Listed.{listed}
+use Rattle.page_store.specs.Standing.{pages_of, page_of, FrontAgrees, IsStoreImage, Reopens}
 use Rattle.page_file.specs.Layout.{home_page}
 use Rattle.page_file.specs.Leaving.{Leaves}
 use Rattle.page_store.specs.Desk.{IsKept, StandsForEither, CommitLeaves, RestsEither, state_of, base_of, base_in, work_of}
@@ -16,7 +17,7 @@ use Rattle.page_store.specs.FileStore.{HeldStore, left_of}
 use Rattle.page_file.proofs.LeavesLemmas.{nothing_said}
 use Rattle.mdc_outside.proofs.MomentLemmas.{where_told}
 use Rattle.page_store.proofs.FrontAgreesLemmas.{front_agrees_itself, front_agrees_back, front_agrees_stays, reopens_as, agrees_same}
-use Rattle.page_store.proofs.Listed.{listed_same}
+use Rattle.mdc_words.proofs.ListedLemmas.{listed_same}
 use Rattle.page_store.proofs.Pages.{page_of-closed}
 use Rattle.page_store.proofs.Crashes.{only_itself}
 use Rattle.page_file.proofs.LeavesLemmas.{told_before}

@@ -12,7 +12,8 @@ use Rattle.redo_journal.specs.Images.{Numbered}
 use Rattle.page_file.specs.Layout.{home_page}
 use Rattle.page_changes.specs.Table.{AreRising}
 use Rattle.page_store.specs.declared.desk.Desk.{Desk}
-use Rattle.page_store.specs.Standing.{listed, image_of}
+use Rattle.mdc_words.specs.Listed.{listed}
+use Rattle.page_store.specs.Standing.{image_of}
 use Rattle.page_store.specs.Changes.{Overlay, Changed, HoldsBelow, image_in, laid_over}
 use Rattle.page_store.specs.Desk.{IsKept, base_in, work_of}
 

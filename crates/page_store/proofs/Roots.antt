@@ -5,7 +5,7 @@ use Rattle.std.proofs.Math.Nat.{mul-le-mul_right, mul-div_cancel, mul-mod_left}
 use Rattle.std.proofs.lemmas.Bool.Decides.{Decides-eqb, nat_tests}
 use Rattle.std.proofs.lemmas.List.{take_at, take-append-drop}
 use Rattle.std.proofs.lemmas.Slice.Eq.{starts_is}
-use Rattle.page_store.specs.Shape.{is_shape, first_count}
+use Rattle.store_api.specs.Extents.{is_shape, first_count}
 
 -- what the limits say
 pub record IsWithinLimits (extents pages : ℕ) : Type 0 where

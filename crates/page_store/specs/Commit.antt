@@ -6,7 +6,8 @@ use Rattle.mdc_outside.specs.Disk.{File, IsImage, all_synced}
 use Rattle.redo_journal.specs.Images.{Numbered, AreRising}
 use Rattle.page_file.specs.Layout.{home_page, page_start}
 use Rattle.redo_journal.specs.Layout.{is_open, journal_of, index_pages}
-use Rattle.page_store.specs.Standing.{listed, image_of, count_of, pages_of, IsFormed, Stands}
+use Rattle.mdc_words.specs.Listed.{listed}
+use Rattle.page_store.specs.Standing.{image_of, count_of, pages_of, IsFormed, Stands}
 use Rattle.page_file.specs.declared.layout.TheConstants.{FIRST_PAGE}
 
 -- how many pages there are with these images, as page 0 then states it

@@ -10,7 +10,8 @@ use Rattle.page_store.specs.declared.desk.Hand.{Hand}
 use Rattle.page_store.specs.declared.desk.Hand.TheVariants.{Changed, Clean}
 use Rattle.page_store.specs.declared.write_through.Halt.{Halt}
 use Rattle.page_store.specs.declared.write_through.Halt.TheVariants.{BeforeHome, BehindGate}
-use Rattle.page_store.specs.Standing.{listed, pages_of, IsFormedAs}
+use Rattle.mdc_words.specs.Listed.{listed}
+use Rattle.page_store.specs.Standing.{pages_of, IsFormedAs}
 use Rattle.page_store.specs.Changes.{Overlay, laid_over, image_in, HoldsBelow}
 use Rattle.page_store.specs.Cached.{AreHome}
 use Rattle.page_store.specs.Opening.{IsAtRest}

@@ -1,7 +1,7 @@
 -- An empty database: what a file that was made stands for.
 use Rattle.std.specs.Prelude.{◌≡◌, ℕ, ◌+◌, List, ◌∷◌, replicate}
 use Rattle.store_api.specs.StoreState.{zero_page}
-use Rattle.page_store.specs.Shape.{map_pages}
+use Rattle.store_api.specs.Extents.{map_pages}
 use Rattle.page_store.specs.Fresh.{root_page}
 use Rattle.page_store.specs.Standing.{IsFormed, pages_of}
 use Rattle.page_store.specs.Opening.{IsServed}

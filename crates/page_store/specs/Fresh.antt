@@ -3,7 +3,8 @@ use Rattle.std.specs.Prelude.{◌≡◌, ◌⊎◌, ◌<◌, ℕ, ◌+◌, List,
 use Rattle.byteorder.specs.Endian.{big_bytes}
 use Rattle.mdc_outside.specs.Disk.{File, IsImage, all_synced}
 use Rattle.store_api.specs.StoreState.{zero_page}
-use Rattle.page_store.specs.Shape.{map_pages, first_count, birth_page}
+use Rattle.store_api.specs.Extents.{map_pages, first_count}
+use Rattle.page_store.specs.Shape.{birth_page}
 use Rattle.page_store.specs.Standing.{is_made}
 use Rattle.page_file.specs.Layout.{home_start, page_start}
 

@@ -13,8 +13,8 @@ use Rattle.page_store.specs.Opening.{StandsAs}
 use Rattle.page_store.specs.Standing.{pages_of}
 
 -- the bytes that a read gives, where the file is told
-abbrev pub bytes_of : Option File → Option (List ℕ)
-bytes_of told = option_map (λ file. file.bytes) told
+abbrev pub file_bytes : Option File → Option (List ℕ)
+file_bytes told = option_map (λ file. file.bytes) told
 
 -- an image that a crash could leave of the file
 abbrev pub CouldBeLeft : File → List ℕ → Type 0

@@ -8,7 +8,8 @@ use Rattle.store_api.specs.StoreState.{stated_in}
 use Rattle.store_api.specs.declared.fault.Damage.{Damage}
 use Rattle.page_store.specs.declared.fault.OpenFault.{OpenFault}
 use Rattle.page_store.specs.declared.fault.OpenFault.TheVariants.{Exists, Unmade, NotMdc, Version, Device, Damaged, Memory}
-use Rattle.page_store.specs.Shape.{IsBirth, extents_in, extent_pages_in, first_count}
+use Rattle.store_api.specs.Extents.{first_count}
+use Rattle.page_store.specs.Shape.{IsBirth, extents_in, extent_pages_in}
 use Rattle.page_store.specs.Standing.{IsFitting, IsFormed, Stands, page_of, count_of, pages_of, is_made}
 use Rattle.page_store.specs.Fresh.{IsUnmade}
 use Rattle.page_file.specs.declared.layout.TheConstants.{FIRST_PAGE, PAGE_BYTES}

@@ -1,24 +1,8 @@
--- How large a database may grow: how many extents it has, and how many pages each extent (docs/FORMAT.md, "Birth page").
-use Rattle.std.specs.Prelude.{◌≡◌, ℕ, ◌+◌, ◌*◌, ◌/◌, Bool, IsTrue, ◌&&◌, ◌||◌, ◌==◌, nat_le, List, [], ◌∷◌, ◌++◌, drop}
+-- The page that states how large a database may grow (docs/FORMAT.md, "Birth page").
+use Rattle.std.specs.Prelude.{◌≡◌, ℕ, IsTrue, List, [], ◌∷◌, ◌++◌, drop}
 use Rattle.byteorder.specs.Endian.{big_bytes, big_number}
 use Rattle.store_api.specs.StoreState.{zero_page}
-
--- an extent has 2, 4, 8, 16 or 32 pages
-abbrev pub is_extent_size : ℕ → Bool
-is_extent_size pages = pages == 2 || pages == 4 || pages == 8 || pages == 16 || pages == 32
-
--- a database has 4 to 65,536 extents, which have 262,144 pages at most
-abbrev pub is_shape : ℕ → ℕ → Bool
-is_shape extents extent_pages =
-    nat_le 4 extents && nat_le extents 65536 && is_extent_size extent_pages && nat_le (extents * extent_pages) 262144
-
--- how many pages hold the extent map, 512 extents each
-abbrev pub map_pages : ℕ → ℕ
-map_pages extents = (extents + 511) / 512
-
--- how many pages a new database has: the root page, 16 table pages and the extent map
-abbrev pub first_count : ℕ → ℕ
-first_count extents = 17 + map_pages extents
+use Rattle.store_api.specs.Extents.{is_shape}
 
 -- a birth page: the bytes `MDCTABLE`, the two numbers, and zeros
 abbrev pub birth_page : ℕ → ℕ → List ℕ

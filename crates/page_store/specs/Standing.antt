@@ -1,6 +1,7 @@
 -- What the bytes of a database file stand for (docs/FORMAT.md).
-use Rattle.std.specs.Prelude.{◌≡◌, ◌≤◌, ◌<◌, ◌==◌, ℕ, ◌+◌, Bool, IsTrue, if◌then◌else◌, Option, Some, None, unwrap_or, List, [], ◌∷◌, length, map, slice_index}
-use Rattle.std.specs.List.{All, range_with_len}
+use Rattle.std.specs.Prelude.{◌≡◌, ◌≤◌, ◌<◌, ◌==◌, ℕ, ◌+◌, Bool, IsTrue, if◌then◌else◌, Option, Some, None, unwrap_or, List, [], ◌∷◌, length, slice_index}
+use Rattle.std.specs.List.{All}
+use Rattle.mdc_words.specs.Listed.{listed}
 use Rattle.store_api.specs.StoreState.{stated_in}
 use Rattle.redo_journal.specs.Images.{Numbered}
 use Rattle.page_file.specs.Layout.{file_page, home_page, FrontStays, IsNoPlaceOfJournal, home_start}
@@ -8,10 +9,6 @@ use Rattle.redo_journal.specs.Layout.{is_open, start_of, journal_of, IsJournal}
 use Rattle.page_store.specs.declared.shape.Shape.{Shape}
 use Rattle.page_store.specs.Shape.{IsBirth, extents_in, extent_pages_in}
 use Rattle.page_file.specs.declared.layout.TheConstants.{FIRST_PAGE}
-
--- what f gives for each number below n, in order
-abbrev pub listed : {X : Type 0} → ℕ → (ℕ → X) → List X
-listed n f = map f (range_with_len 0 n)
 
 -- the image of page p, where there is one
 abbrev pub image_of : Numbered → ℕ → Option (List ℕ)

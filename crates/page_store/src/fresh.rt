@@ -1,7 +1,8 @@
 // The pages of an empty database.
 ghost use Rattle.std.specs.Prelude.{◌≡◌, ◌≤◌, ◌++◌, length, drop};
 ghost use Rattle.store_api.specs.StoreState.{zero_page};
-ghost use Rattle.page_store.specs.Shape.{first_count, birth_page};
+ghost use Rattle.store_api.specs.Extents.{first_count};
+ghost use Rattle.page_store.specs.Shape.{birth_page};
 ghost use Rattle.page_store.specs.Fresh.{root_page};
 
 use byteorder::{BigEndian, ByteOrder};

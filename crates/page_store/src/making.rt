@@ -8,7 +8,7 @@ ghost use Rattle.page_file.specs.Runs.{IsWithin, IsCovered, Between};
 ghost use Rattle.page_file.specs.Bound.{LeavesOf};
 ghost use Rattle.page_store.specs.Empty.{IsEmptyDatabase};
 ghost use Rattle.page_store.specs.Fresh.{HoldsFresh, IsOfMaking, file_with, fresh_len, front_with, root_page, zero_pages};
-ghost use Rattle.page_store.specs.Shape.{is_shape, first_count, map_pages};
+ghost use Rattle.store_api.specs.Extents.{is_shape, first_count, map_pages};
 ghost use Rattle.page_file.specs.Layout.{home_start, page_start};
 
 use crate::OpenFault;

@@ -11,9 +11,10 @@ ghost use Rattle.page_store.specs.Bound.{OpensOf};
 ghost use Rattle.page_store.specs.Desk.{IsKept, base_of, state_of, written_in};
 ghost use Rattle.page_store.specs.Faults.{MayComeFirst};
 ghost use Rattle.page_store.specs.FileStore.{IsLeft};
-ghost use Rattle.page_store.specs.Opened.{Opens, CouldBeLeft, LeavesBaseSince, IsEmptyDesk, IsJustOpened, bytes_of};
+ghost use Rattle.page_store.specs.Opened.{Opens, CouldBeLeft, LeavesBaseSince, IsEmptyDesk, IsJustOpened, file_bytes};
 ghost use Rattle.page_store.specs.Opening.{IsAtRest, IsServed, Refuses};
-ghost use Rattle.page_store.specs.Shape.{is_shape, extents_in, extent_pages_in};
+ghost use Rattle.store_api.specs.Extents.{is_shape};
+ghost use Rattle.page_store.specs.Shape.{extents_in, extent_pages_in};
 ghost use Rattle.page_store.specs.Standing.{IsFormed, pages_of};
 ghost use Rattle.store_api.specs.declared.pages.TheConstants.{MAX_PAGES};
 
@@ -57,7 +58,7 @@ impl<H: Host> FileStore<H> {
         ensures never { IfErr result (λ unopened. unopened.fault ≢ OpenFault.Exists) }
         // Nothing is written to a file that is refused: at each moment a crash leaves what it could leave before.
         ensures left_alone { IfErr result (λ unopened. unopened.fault ≢ OpenFault.Device → LeavesOf H.Disk CouldBeLeft host unopened.host) }
-        ensures untouched { IfErr result (λ unopened. unopened.fault ≢ OpenFault.Device → bytes_of (H.file unopened.host) ≡ bytes_of (H.file host)) }
+        ensures untouched { IfErr result (λ unopened. unopened.fault ≢ OpenFault.Device → file_bytes (H.file unopened.host) ≡ file_bytes (H.file host)) }
         ensures count { IfOk result (λ store. H.disk_faults store.host ≡ H.disk_faults host) }
         ensures cause { IfErr result (λ unopened. CountsFault (unopened.fault ≡ OpenFault.Device) (H.disk_faults host) (H.disk_faults unopened.host)) }
         ensures opens { IfOk result (λ store. OpensOf H.Disk host store.host) }
@@ -119,7 +120,7 @@ fn lay_out<D: Disk>(alloc: Global, disk: &mut D, cache: usize) -> Result<Desk, O
     ensures empty { IfOk result IsEmptyDesk }
     ensures kept { IfOk result (λ desk. IsKept desk (D.file disk.new)) }
     ensures refused { IfErr result (λ fault. ForSome (D.file disk.old) (λ file. Refuses fault file.bytes)) }
-    ensures untouched { IfErr result (λ fault. fault ≢ OpenFault.Device → bytes_of (D.file disk.new) ≡ bytes_of (D.file disk.old)) }
+    ensures untouched { IfErr result (λ fault. fault ≢ OpenFault.Device → file_bytes (D.file disk.new) ≡ file_bytes (D.file disk.old)) }
     ensures left_alone { IfErr result (λ fault. fault ≢ OpenFault.Device → LeavesOf D.Disk CouldBeLeft disk.old disk.new) }
     ensures never { IsErrOf result OpenFault.Exists → ⊥ }
     ensures cause { CountsFault (IsErrOf result OpenFault.Device) (D.disk_faults disk.old) (D.disk_faults disk.new) }
@@ -158,7 +159,7 @@ fn come_to_rest<D: Disk>(alloc: Global, disk: &mut D) -> Result<Opened, OpenFaul
     ensures at_rest { IfOk result (λ opened. ForSome (D.file disk.new) (IsAtRest opened.shape.extents opened.shape.extent_pages opened.count)) }
     ensures limits { IfOk result (λ opened. (18 ≤ opened.count) × (opened.count ≤ MAX_PAGES)) }
     ensures refused { IfErr result (λ fault. ForSome (D.file disk.old) (λ file. Refuses fault file.bytes)) }
-    ensures untouched { IfErr result (λ fault. fault ≢ OpenFault.Device → bytes_of (D.file disk.new) ≡ bytes_of (D.file disk.old)) }
+    ensures untouched { IfErr result (λ fault. fault ≢ OpenFault.Device → file_bytes (D.file disk.new) ≡ file_bytes (D.file disk.old)) }
     ensures left_alone { IfErr result (λ fault. fault ≢ OpenFault.Device → LeavesOf D.Disk CouldBeLeft disk.old disk.new) }
     ensures never { IsErrOf result OpenFault.Exists → ⊥ }
     ensures cause { CountsFault (IsErrOf result OpenFault.Device) (D.disk_faults disk.old) (D.disk_faults disk.new) }

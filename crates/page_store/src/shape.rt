@@ -1,6 +1,7 @@
 // How large a database may grow, and the page that states it.
 ghost use Rattle.std.specs.Prelude.{◌≡◌, IsFalse, IsTrue, MatchOption};
-ghost use Rattle.page_store.specs.Shape.{IsBirth, extents_in, extent_pages_in, is_extent_size, is_shape};
+ghost use Rattle.store_api.specs.Extents.{is_extent_size, is_shape};
+ghost use Rattle.page_store.specs.Shape.{IsBirth, extents_in, extent_pages_in};
 
 use crate::fresh::birth_page;
 use crate::number::number_at;

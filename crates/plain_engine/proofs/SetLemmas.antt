@@ -7,7 +7,7 @@ use Rattle.mdc_ast.specs.declared.bound.BoundSet.{BoundSet}
 use Rattle.mdc_ast.specs.meaning.Database.{is_null}
 use Rattle.mdc_ast.specs.meaning.Doing.{item_on, set_on}
 use Rattle.mdc_ast.proofs.TestsLemmas.{and_true, both}
-use Rattle.plain_engine.specs.RowChange.{is_null_at, are_there, are_within, is_within, item_is_within, new_values_on, with_values}
+use Rattle.plain_engine.specs.RowChange.{is_null_at, fall_within, are_within, is_within, item_is_within, new_values_on, with_values}
 
 -- a row keeps its width
 pub length-set_on : (was : List Value) (sets : List BoundSet) (values : List Value) → length (set_on was sets values) ≡ length values
@@ -49,8 +49,8 @@ with_values-items was [] values = refl
 with_values-items was (first ∷ sets) values = with_values-items was sets (slice_set values first.column (item_on was first.item))
 
 -- and their columns are there
-pub are_there-items : (n : ℕ) (was : List Value) (sets : List BoundSet) → IsTrue (are_within n sets) → IsTrue (are_there n (new_values_on was sets))
+pub are_there-items : (n : ℕ) (was : List Value) (sets : List BoundSet) → IsTrue (are_within n sets) → IsTrue (fall_within n (new_values_on was sets))
 are_there-items n was [] h = refl
 are_there-items n was (first ∷ sets) h =
     let parts : IsTrue (is_within n first) × IsTrue (are_within n sets) = both (is_within n first) (are_within n sets) h in
-    and_true (nat_lt first.column n) (are_there n (new_values_on was sets)) (both (nat_lt first.column n) (item_is_within n first.item) parts.0).0 (are_there-items n was sets parts.1)
+    and_true (nat_lt first.column n) (fall_within n (new_values_on was sets)) (both (nat_lt first.column n) (item_is_within n first.item) parts.0).0 (are_there-items n was sets parts.1)

@@ -46,8 +46,8 @@ with_values [] values = values
 with_values (new ∷ news) values = with_values news (slice_set values new.column new.value)
 
 -- each new value has a column among the first n
-abbrev pub are_there : ℕ → List NewValue → Bool
-are_there n news = list_all (λ new. nat_lt new.column n) news
+abbrev pub fall_within : ℕ → List NewValue → Bool
+fall_within n news = list_all (λ new. nat_lt new.column n) news
 
 -- a column that an operand names is one of the first n
 abbrev pub operand_is_within : ℕ → BoundOperand → Bool

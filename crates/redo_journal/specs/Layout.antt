@@ -65,6 +65,6 @@ pub record IsJournal (image : List ℕ) : Type 0 where
   pub rising : AreRising (journal_of image)
 
 -- what a replay finds in a file: nothing where the gate isn't open, and else the images of the journal
-abbrev pub Finds : Option Numbered → List ℕ → Type 0
-Finds None image = IsFalse (is_open image)
-Finds (Some images) image = IsTrue (is_open image) × IsJournal image × (images ≡ journal_of image)
+abbrev pub FindsJournal : Option Numbered → List ℕ → Type 0
+FindsJournal None image = IsFalse (is_open image)
+FindsJournal (Some images) image = IsTrue (is_open image) × IsJournal image × (images ≡ journal_of image)

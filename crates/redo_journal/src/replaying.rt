@@ -6,7 +6,7 @@ ghost use Rattle.mdc_words.specs.Faults.{CountsFault};
 ghost use Rattle.page_file.specs.Bound.{RunsOf};
 ghost use Rattle.redo_journal.specs.Faults.{IsDamaged};
 ghost use Rattle.redo_journal.specs.Images.{AreRising};
-ghost use Rattle.redo_journal.specs.Layout.{Finds, IsJournal, entries, index_pages, is_open};
+ghost use Rattle.redo_journal.specs.Layout.{FindsJournal, IsJournal, entries, index_pages, is_open};
 ghost use Rattle.page_file.specs.Runs.{IsCovered};
 
 use crate::Images;
@@ -114,7 +114,7 @@ fn is_gate_open<D: Disk>(disk: &mut D, end: u64) -> Result<bool, Failed>
 /// The images of the journal, or nothing where the gate isn't open. It changes nothing in the file.
 pub fn replay<D: Disk>(alloc: Global, disk: &mut D) -> Result<Option<Images>, ReplayFault>
     requires { IsTrue (D.is_attached disk.old) }
-    ensures found { IfOk result (λ found. ForSome (D.file disk.old) (λ file. Finds found file.bytes)) }
+    ensures found { IfOk result (λ found. ForSome (D.file disk.old) (λ file. FindsJournal found file.bytes)) }
     ensures damaged { IfErr result (λ fault. IsDamaged fault → (fault ≡ ReplayFault.Damaged (record { page = 0; rule = 1 })) × ForSome (D.file disk.old) (λ file. IsTrue (is_open file.bytes) × ¬ IsJournal file.bytes)) }
     ensures cause { CountsFault (IsErrOf result ReplayFault.Device) (D.disk_faults disk.old) (D.disk_faults disk.new) }
     ensures same { D.file disk.new ≡ D.file disk.old }

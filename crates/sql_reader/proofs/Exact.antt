@@ -7,7 +7,7 @@ use Rattle.std.proofs.lemmas.Slice.Eq.{bytes_eq-Decides}
 use Rattle.mdc_ast.specs.Classes.{Class, W, S, AnyName, AnyNumber, AnyText, fits}
 use Rattle.sql_reader.specs.LookAhead.{among, apart, covered, joined}
 use Rattle.mdc_ast.specs.Phrases.{Phrase, Nothing, One, Then, Both, Map, Either, Many}
-use Rattle.sql_reader.specs.Readers.{Reader, ◌>>=◌, done, one, then_read, both, map_read, begins, either, many_at, many}
+use Rattle.sql_reader.specs.Readers.{Reader, ◌>>=◌, read_as, one, then_read, both, map_read, begins, either, many_at, many}
 use Rattle.sql_reader.proofs.Looking.{or_left, or_right, not_is_false, apart_not, among_append, among_covered}
 
 -- the first token is of one of these classes
@@ -101,14 +101,14 @@ chosen false x y z P e first second = second refl e
 
 -- NOTHING
 
-pub done-exact : {X : Type 0} (x : X) → Exact (Nothing x) (done x) [] [] true
+pub done-exact : {X : Type 0} (x : X) → Exact (Nothing x) (read_as x) [] [] true
 done-exact {X} x = record {
   sound = λ tokens out e. let h = same_Ok (x, tokens) out e in (ap (λ (o : X × List Token). o.0) h, ap (λ (o : X × List Token). o.1) h);
   complete = λ tokens y k h _. let a = h.0 in let b = h.1 in cc;
   enters = λ tokens y k h. inr (refl, h.1);
   shorter = λ tokens y k h. omega (arith, ap length h.1);
   took = λ tokens out e. let h = same_Ok (x, tokens) out e in
-      subst (Took (done x) [] tokens) h (record { front = []; is = refl; again = λ k _. refl });
+      subst (Took (read_as x) [] tokens) h (record { front = []; is = refl; again = λ k _. refl });
   stopped = λ tokens rest e. absurd cc;
 }
 

@@ -4,9 +4,10 @@ use Rattle.std.specs.Prelude.{IsTrue, ◌==◌, ◌||◌, ◌&&◌}
 use Rattle.std.proofs.lemmas.Bool.{cases_Bool, cases_eq, eqb-true, ne_eqb}
 use Rattle.std.proofs.lemmas.Bool.Decides.{nat_tests}
 use Rattle.mdc_ast.specs.Cutting.{Passes, is_blank}
-use Rattle.mdc_ast.specs.Tokens.{Kind, Word, Number, Text, Symbol, Stray, Token, Tokens, Quoted, Unquoted, Stops, StandsAlone, is_letter, is_digit, is_symbol, is_pair, is_word_byte, begins_token, upper, kept_number}
+use Rattle.mdc_ast.specs.Tokens.{Kind, Word, Number, Text, Symbol, Stray, Token, Tokens, Quoted, Unquoted, Stops, StandsAlone, is_letter, is_symbol, is_pair, is_word_byte, begins_token, upper, kept_number}
+use Rattle.mdc_values.specs.Calendar.{is_digit}
 use Rattle.mdc_ast.specs.Tokens as tokens
-use Rattle.sql_reader.specs.Front.{Found, after_line, class_at, closes_before, closing_at, next_quote, front_at, front_by, front_len, symbol_front, text_before, told}
+use Rattle.sql_reader.specs.Front.{Found, after_line, class_at, closes_before, closing_at, next_quote, front_at, front_by, front_len, symbol_front, text_before, token_told}
 use Rattle.sql_reader.specs.declared.lexer.Class.TheVariants as class
 use Rattle.sql_reader.specs.Digits.{EndsNumber, IsLongestFront}
 use Rattle.std.specs.Prelude.{IfSome}
@@ -294,20 +295,20 @@ one_lexing bytes first second t u = one_within (length bytes) bytes first second
 -- THE CODE
 
 -- what is found stands there, and then what is behind it
-pub lexed_more : (bytes : List ℕ) (found : Found) → 1 ≤ length bytes → found ≡ front_at bytes → (more : List Token) → Tokens found.1 more → Tokens bytes (told found.0 (length bytes) ++ more)
+pub lexed_more : (bytes : List ℕ) (found : Found) → 1 ≤ length bytes → found ≡ front_at bytes → (more : List Token) → Tokens found.1 more → Tokens bytes (token_told found.0 (length bytes) ++ more)
 lexed_more [] found some e more t = absurd (omega arith)
 lexed_more (b ∷ behind) found some e more t = by_kind found.0 (subst (λ (f : Found). tokens.Front (b ∷ behind) f.0 f.1) (sym e) (front_is b behind))
   where
-    by_kind : (kind : Option Kind) → tokens.Front (b ∷ behind) kind found.1 → Tokens (b ∷ behind) (told kind (length (b ∷ behind)) ++ more)
+    by_kind : (kind : Option Kind) → tokens.Front (b ∷ behind) kind found.1 → Tokens (b ∷ behind) (token_told kind (length (b ∷ behind)) ++ more)
     by_kind None front = tokens.Tokens.gap front t
     by_kind (Some kind) front = tokens.Tokens.token front refl t
 
 -- the loop goes on
-pub lexed_step : (statement bytes : List ℕ) (found : Found) (before after : List Token) → 1 ≤ length bytes → found ≡ front_at bytes → after ≡ before ++ told found.0 (length bytes)
+pub lexed_step : (statement bytes : List ℕ) (found : Found) (before after : List Token) → 1 ≤ length bytes → found ≡ front_at bytes → after ≡ before ++ token_told found.0 (length bytes)
     → ((more : List Token) → Tokens bytes more → Tokens statement (before ++ more)) → (more : List Token) → Tokens found.1 more → Tokens statement (after ++ more)
 lexed_step statement bytes found before after some e kept goes more t =
-    let next = goes (told found.0 (length bytes) ++ more) (lexed_more bytes found some e more t) in
-    subst (Tokens statement) (sym (ap (λ l. l ++ more) kept ∙ append_assoc before (told found.0 (length bytes)) more)) next
+    let next = goes (token_told found.0 (length bytes) ++ more) (lexed_more bytes found some e more t) in
+    subst (Tokens statement) (sym (ap (λ l. l ++ more) kept ∙ append_assoc before (token_told found.0 (length bytes)) more)) next
 
 -- the loop ends
 pub lexed_all : (statement bytes : List ℕ) (before : List Token) → length bytes < 1 → ((more : List Token) → Tokens bytes more → Tokens statement (before ++ more)) → Tokens statement before

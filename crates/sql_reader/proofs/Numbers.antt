@@ -3,7 +3,8 @@ use Rattle.std.proofs.Common.{◌≡◌, ℕ, ◌+◌, ◌-◌, ◌*◌, ◌≤�
 use Rattle.std.specs.Prelude.{IsTrue}
 use Rattle.std.specs.Char.{IsAsciiDigit}
 use Rattle.std.proofs.lemmas.Bool.Decides.{nat_tests}
-use Rattle.mdc_ast.specs.Tokens.{is_digit, number_behind}
+use Rattle.mdc_ast.specs.Tokens.{number_behind}
+use Rattle.mdc_values.specs.Calendar.{is_digit}
 use Rattle.sql_reader.specs.Digits.{EndsNumber}
 use Rattle.sql_reader.proofs.Fronts.{longest_more, tail, first_and_tail}
 

@@ -5,7 +5,7 @@ use Rattle.std.proofs.lemmas.Bool.{cases_Bool, cases_eq, ne_eqb}
 use Rattle.std.proofs.lemmas.Bool.Decides.{nat_tests}
 use Rattle.mdc_ast.specs.Cutting.{Lacks, BeginsNoComment}
 use Rattle.mdc_ast.specs.Tokens.{FirstStrange, is_plain}
-use Rattle.sql_reader.specs.Strange.{begins_dash, is_strange, within_after, strange_at, IsFoundIn}
+use Rattle.sql_reader.specs.Strange.{begins_dash, is_strange, within_after, strange_from, IsFoundIn}
 use Rattle.sql_reader.specs.declared.strange.Strange.{Strange}
 use Rattle.sql_reader.specs.declared.strange.Within.{Within}
 use Rattle.sql_reader.specs.declared.strange.Within.TheVariants as within
@@ -17,11 +17,11 @@ place_of false = within.Nothing
 place_of true = within.Text
 
 -- a comment goes to its line feed
-comment_goes : (inside rest : List ℕ) → Lacks 10 inside → strange_at (inside ++ 10 ∷ rest) within.Comment ≡ strange_at rest within.Nothing
+comment_goes : (inside rest : List ℕ) → Lacks 10 inside → strange_from (inside ++ 10 ∷ rest) within.Comment ≡ strange_from rest within.Nothing
 comment_goes [] rest lacks = refl
 comment_goes (b ∷ inside) rest lacks = rw (ne_eqb b 10 lacks.0) (comment_goes inside rest lacks.1)
 
-comment_open : (inside : List ℕ) → Lacks 10 inside → strange_at inside within.Comment ≡ None
+comment_open : (inside : List ℕ) → Lacks 10 inside → strange_from inside within.Comment ≡ None
 comment_open [] lacks = refl
 comment_open (b ∷ inside) lacks = rw (ne_eqb b 10 lacks.0) (comment_open inside lacks.1)
 
@@ -41,10 +41,10 @@ strange_place true b = refl
 strange_place false b = refl
 
 -- the first strange byte is found
-pub strange_only : (t : Bool) (bytes : List ℕ) (found : Option (List ℕ)) → FirstStrange t bytes found → strange_at bytes (place_of t) ≡ found
+pub strange_only : (t : Bool) (bytes : List ℕ) (found : Option (List ℕ)) → FirstStrange t bytes found → strange_from bytes (place_of t) ≡ found
 strange_only t bytes found FirstStrange.nothing = refl
 strange_only t bytes found (FirstStrange.strange {b = b} {rest = rest} h) =
-    ap (λ s. cond s (Some (b ∷ rest)) (strange_at rest (within_after (place_of t) b rest))) (strange_place t b ∙ ap not h)
+    ap (λ s. cond s (Some (b ∷ rest)) (strange_from rest (within_after (place_of t) b rest))) (strange_place t b ∙ ap not h)
 strange_only true bytes found (FirstStrange.quote {b = b} {rest = rest} {found = f} e h) = rw e (strange_only false rest f h)
 strange_only false bytes found (FirstStrange.quote {b = b} {rest = rest} {found = f} e h) = rw e (strange_only true rest f h)
 strange_only t bytes found (FirstStrange.inside {b = b} {rest = rest} {found = f} plain other h) = rw (plain, ne_eqb b 39 other) (strange_only true rest f h)
@@ -92,7 +92,7 @@ strange_within (suc n) t (b ∷ bytes) le = elim (cases_Bool (is_plain b)) [
     by_text again false plain other = by_next again bytes (omega arith) plain other
 
 -- what is found is the first strange byte
-pub strange_is : (bytes : List ℕ) → FirstStrange false bytes (strange_at bytes within.Nothing)
+pub strange_is : (bytes : List ℕ) → FirstStrange false bytes (strange_from bytes within.Nothing)
 strange_is bytes =
     let found = strange_within (length bytes) false bytes (omega arith) in
     subst (FirstStrange false bytes) (sym (strange_only false bytes found.0 found.1)) found.1
@@ -102,21 +102,21 @@ pub one_strange : (bytes : List ℕ) (a b : Option (List ℕ)) → FirstStrange 
 one_strange bytes a b f g = sym (strange_only false bytes a f) ∙ strange_only false bytes b g
 
 -- the loop goes on
-pub strange_step : (rest : List ℕ) (place : Within) (whole : Option (List ℕ)) → 1 ≤ length rest → is_strange place (get_or rest 0 0) ≡ false → strange_at rest place ≡ whole → strange_at (tail rest) (within_after place (get_or rest 0 0) (tail rest)) ≡ whole
+pub strange_step : (rest : List ℕ) (place : Within) (whole : Option (List ℕ)) → 1 ≤ length rest → is_strange place (get_or rest 0 0) ≡ false → strange_from rest place ≡ whole → strange_from (tail rest) (within_after place (get_or rest 0 0) (tail rest)) ≡ whole
 strange_step [] place whole some goes h = absurd (omega arith)
 strange_step (b ∷ behind) place whole some goes h =
-    ap (λ l. strange_at l (within_after place b l)) (tail-cons b behind)
-    ∙ sym (ap (λ s. cond s (Some (b ∷ behind)) (strange_at behind (within_after place b behind))) goes) ∙ h
+    ap (λ l. strange_from l (within_after place b l)) (tail-cons b behind)
+    ∙ sym (ap (λ s. cond s (Some (b ∷ behind)) (strange_from behind (within_after place b behind))) goes) ∙ h
 
 -- the loop stops
-pub strange_there : (statement rest : List ℕ) (place : Within) (found : Strange) → 1 ≤ length rest → is_strange place (get_or rest 0 0) ≡ true → found.byte ≡ get_or rest 0 0 → found.left ≡ length rest → strange_at rest place ≡ strange_at statement within.Nothing → IsFoundIn statement (Some found)
+pub strange_there : (statement rest : List ℕ) (place : Within) (found : Strange) → 1 ≤ length rest → is_strange place (get_or rest 0 0) ≡ true → found.byte ≡ get_or rest 0 0 → found.left ≡ length rest → strange_from rest place ≡ strange_from statement within.Nothing → IsFoundIn statement (Some found)
 strange_there statement [] place found some stops byte left h = absurd (omega arith)
 strange_there statement (b ∷ behind) place found some stops byte left h =
-    let is : strange_at statement within.Nothing ≡ Some (found.byte ∷ behind) =
-    sym h ∙ ap (λ s. cond s (Some (b ∷ behind)) (strange_at behind (within_after place b behind))) stops ∙ ap (λ c. Some (c ∷ behind)) (sym byte) in
+    let is : strange_from statement within.Nothing ≡ Some (found.byte ∷ behind) =
+    sym h ∙ ap (λ s. cond s (Some (b ∷ behind)) (strange_from behind (within_after place b behind))) stops ∙ ap (λ c. Some (c ∷ behind)) (sym byte) in
     (behind, subst (FirstStrange false statement) is (strange_is statement), left)
 
-pub strange_nowhere : (statement rest : List ℕ) (place : Within) → length rest < 1 → strange_at rest place ≡ strange_at statement within.Nothing → IsFoundIn statement None
+pub strange_nowhere : (statement rest : List ℕ) (place : Within) → length rest < 1 → strange_from rest place ≡ strange_from statement within.Nothing → IsFoundIn statement None
 strange_nowhere statement [] place none h = subst (FirstStrange false statement) (sym h) (strange_is statement)
 strange_nowhere statement (b ∷ rest) place none h = absurd (omega arith)
 

@@ -11,7 +11,7 @@ use Rattle.mdc_ast.specs.declared.statement.Stmt.{Stmt}
 use Rattle.mdc_ast.specs.declared.statement.Stmt.TheVariants as stmt
 use Rattle.mdc_values.specs.declared.literal.Literal.TheVariants as literal
 use Rattle.sql_reader.specs.declared.place.Place.TheVariants.{Outside, Comment}
-use Rattle.sql_reader.specs.Front.{front_at, told}
+use Rattle.sql_reader.specs.Front.{front_at, token_told}
 use Rattle.sql_reader.specs.Readers.{read, separated_at, listed_at}
 use Rattle.sql_reader.specs.Worked.{script, items}
 use Rattle.sql_reader.proofs.Answers.{stops_for_all}
@@ -24,7 +24,7 @@ use Rattle.sql_reader.proofs.Stranging.{strange_is}
 abbrev tokens_at : ℕ → List ℕ → List Token
 tokens_at zero bytes = []
 tokens_at (suc n) [] = []
-tokens_at (suc n) (b ∷ bytes) = told (front_at (b ∷ bytes)).0 (length (b ∷ bytes)) ++ tokens_at n (front_at (b ∷ bytes)).1
+tokens_at (suc n) (b ∷ bytes) = token_told (front_at (b ∷ bytes)).0 (length (b ∷ bytes)) ++ tokens_at n (front_at (b ∷ bytes)).1
 
 are_tokens : (n : ℕ) (bytes : List ℕ) → length bytes ≤ n → Tokens bytes (tokens_at n bytes)
 are_tokens zero [] le = tokens.Tokens.nothing

@@ -1,7 +1,8 @@
 -- The number that digits write.
 use Rattle.std.specs.Prelude.{◌≡◌, ℕ, List, ◌++◌, min, Bool}
 use Rattle.mdc_ast.specs.Cutting.{Passes}
-use Rattle.mdc_ast.specs.Tokens.{Stops, is_digit, number_behind}
+use Rattle.mdc_ast.specs.Tokens.{Stops, number_behind}
+use Rattle.mdc_values.specs.Calendar.{is_digit}
 
 -- the front is all that passes the test from the first byte on
 pub record IsLongestFront (test : ℕ → Bool) (bytes front rest : List ℕ) : Type 0 where

@@ -1,8 +1,9 @@
 -- What bytes begin with, as it is found from left to right.
 use Rattle.std.specs.Prelude.{ℕ, ◌+◌, List, [], ◌∷◌, length, map, take, drop, Bool, false, not, ◌==◌, ◌&&◌, if◌then◌else◌, Option, Some, None, position, unwrap_or}
 use Rattle.mdc_ast.specs.Cutting.{is_blank}
-use Rattle.mdc_ast.specs.Tokens.{Kind, Word, Number, Text, Symbol, Stray, Token, is_letter, is_digit, is_symbol, is_pair, is_word_byte, upper, kept_number}
-use Rattle.sql_reader.specs.Token.{bytes_of, undoubled, kind_of}
+use Rattle.mdc_ast.specs.Tokens.{Kind, Word, Number, Text, Symbol, Stray, Token, is_letter, is_symbol, is_pair, is_word_byte, upper, kept_number}
+use Rattle.mdc_values.specs.Calendar.{is_digit}
+use Rattle.sql_reader.specs.Token.{bytes_of, undoubled, grammar_kind}
 use Rattle.sql_reader.specs.declared.token.Kind.{Kind as Lent}
 use Rattle.sql_reader.specs.declared.token.Symbol.{Symbol as Mark}
 use Rattle.sql_reader.specs.declared.lexer.Class.{Class}
@@ -15,16 +16,16 @@ Found = Option Kind × List ℕ
 
 abbrev pub shown_kind : Option Lent → Option Kind
 shown_kind None = None
-shown_kind (Some kind) = Some (kind_of kind)
+shown_kind (Some kind) = Some (grammar_kind kind)
 
 -- the token of this kind from the byte on that has so many from it on, if there is one
-abbrev pub told : Option Kind → ℕ → List Token
-told None left = []
-told (Some kind) left = record { kind = kind; left = left } ∷ []
+abbrev pub token_told : Option Kind → ℕ → List Token
+token_told None left = []
+token_told (Some kind) left = record { kind = kind; left = left } ∷ []
 
 -- what the code found
-abbrev pub shown : Front → Found
-shown front = (shown_kind front.kind, front.rest.now)
+abbrev pub found_in : Front → Found
+found_in front = (shown_kind front.kind, front.rest.now)
 
 abbrev pub shown_symbol : Option Mark → Option (List ℕ)
 shown_symbol None = None

@@ -14,8 +14,8 @@ abbrev pub ◌>>=◌ : {A B E : Type 0} → Result A E → (A → Result B E) �
 (Ok x) >>= f = f x
 (Err e) >>= f = Err e
 
-abbrev pub done : {X : Type 0} → X → Reader X
-done x tokens = Ok (x, tokens)
+abbrev pub read_as : {X : Type 0} → X → Reader X
+read_as x tokens = Ok (x, tokens)
 
 abbrev pub one : {X : Type 0} → Class → (Token → X) → Reader X
 one c f [] = Err []
@@ -68,7 +68,7 @@ abbrev pub fork : {X : Type 0} → Class → List Class → Reader X → Reader 
 fork w cs a b tokens = if forks w cs tokens then a (behind_first tokens) else b tokens
 
 abbrev pub closed_at : {X : Type 0} → Reader X → Class → Reader X
-closed_at {X} a c = map_read (λ (p : X × Unit {0}). p.0) (both a (then_read c (done tt)))
+closed_at {X} a c = map_read (λ (p : X × Unit {0}). p.0) (both a (then_read c (read_as tt)))
 
 unfoldable pub separated_at : {X : Type 0} → Class → Reader X → Reader (List X)
 separated_at c a = map_read front_of (both a (many (c ∷ []) (then_read c a)))
@@ -78,14 +78,14 @@ listed_at a = then_read opening (closed_at (separated_at comma a) closing)
 
 -- how a rule is read
 abbrev pub read : {X : Type 0} → Rule X → Reader X
-read (nothing x) = done x
+read (nothing x) = read_as x
 read (token c f) = one c f
 read (behind c g) = then_read c (read g)
 read (pair g h) = both (read g) (read h)
 read (seen f g) = map_read f (read g)
 read (choice g h) = either (starts g) (read g) (read h)
 read (forked w g h) = fork w (starts g) (read g) (read h)
-read (perhaps g) = either (starts g) (map_read Some (read g)) (done None)
+read (perhaps g) = either (starts g) (map_read Some (read g)) (read_as None)
 read (closed g c) = closed_at (read g) c
 read (separated c g) = separated_at c (read g)
 read (listed g) = listed_at (read g)

@@ -23,9 +23,9 @@ within_after within.Text b behind = if b == 39 then within.Nothing else within.T
 within_after within.Comment b behind = if b == 10 then within.Nothing else within.Comment
 
 -- the bytes from the first strange one on
-abbrev pub strange_at : List ℕ → Within → Option (List ℕ)
-strange_at [] place = None
-strange_at (b ∷ behind) place = if is_strange place b then Some (b ∷ behind) else strange_at behind (within_after place b behind)
+abbrev pub strange_from : List ℕ → Within → Option (List ℕ)
+strange_from [] place = None
+strange_from (b ∷ behind) place = if is_strange place b then Some (b ∷ behind) else strange_from behind (within_after place b behind)
 
 -- what is found is the first strange byte of the statement
 abbrev pub IsFoundIn : List ℕ → Option Strange → Type 0

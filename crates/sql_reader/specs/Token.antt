@@ -30,15 +30,15 @@ undoubled behind_quote [] = []
 undoubled true (b ∷ bytes) = undoubled false bytes
 undoubled false (b ∷ bytes) = b ∷ undoubled (b == 39) bytes
 
-abbrev pub kind_of : Kind → ast.Kind
-kind_of (kind.Word word) = ast.Word (map upper word.now)
-kind_of (kind.Number number) = ast.Number number
-kind_of (kind.Text text) = ast.Text (undoubled false text.now)
-kind_of (kind.Symbol symbol) = ast.Symbol (bytes_of symbol)
-kind_of kind.Stray = ast.Stray
+abbrev pub grammar_kind : Kind → ast.Kind
+grammar_kind (kind.Word word) = ast.Word (map upper word.now)
+grammar_kind (kind.Number number) = ast.Number number
+grammar_kind (kind.Text text) = ast.Text (undoubled false text.now)
+grammar_kind (kind.Symbol symbol) = ast.Symbol (bytes_of symbol)
+grammar_kind kind.Stray = ast.Stray
 
 abbrev pub token_of : Token → ast.Token
-token_of token = record { kind = kind_of token.kind; left = token.left }
+token_of token = record { kind = grammar_kind token.kind; left = token.left }
 
 abbrev pub tokens_of : List Token → List ast.Token
 tokens_of tokens = map token_of tokens

@@ -2,8 +2,8 @@
 ghost use Rattle.std.specs.Prelude.{◌≡◌, ◌<◌, [], ◌∷◌, None, Some, IfOk, IfSome, OnOk, ◌++◌, if◌then◌else◌, length, ◌==◌, true};
 ghost use Rattle.mdc_ast.specs.Tokens.{Tokens, is_pair, is_symbol, is_word_byte};
 ghost use Rattle.sql_reader.specs.Digits.{EndsNumber};
-ghost use Rattle.sql_reader.specs.Front.{class_at, closes_before, closing_at, next_quote, front_at, front_len, shown, shown_kind, shown_symbol, told, symbol_front, text_before};
-ghost use Rattle.sql_reader.specs.Token.{bytes_of, tokens_of, kind_of};
+ghost use Rattle.sql_reader.specs.Front.{class_at, closes_before, closing_at, next_quote, front_at, front_len, found_in, shown_kind, shown_symbol, token_told, symbol_front, text_before};
+ghost use Rattle.sql_reader.specs.Token.{bytes_of, tokens_of, grammar_kind};
 
 use crate::comment::after_line;
 use crate::token::{Kind, Symbol, Token};
@@ -48,7 +48,7 @@ pub fn lex<'s>(alloc: Global, statement: &'s [u8]) -> Result<Vec<Token<'s>>, Mem
 
 /// Puts a token last, if there is one.
 fn keep<'s>(tokens: &mut Vec<Token<'s>>, kind: Option<Kind<'s>>, left: usize) -> Result<(), Memory>
-    ensures { OnOk result (tokens_of tokens.new.items ≡ tokens_of tokens.old.items ++ told (shown_kind kind.entry) left) }
+    ensures { OnOk result (tokens_of tokens.new.items ≡ tokens_of tokens.old.items ++ token_told (shown_kind kind.entry) left) }
 {
     if let Some(kind) = kind {
         tokens.push(Token { kind, left })?;
@@ -59,7 +59,7 @@ fn keep<'s>(tokens: &mut Vec<Token<'s>>, kind: Option<Kind<'s>>, left: usize) ->
 /// What the bytes begin with.
 fn front_of(bytes: &[u8]) -> Front<'_>
     requires { 0 < length bytes.now }
-    ensures { shown result ≡ front_at bytes.now }
+    ensures { found_in result ≡ front_at bytes.now }
 {
     let behind = &bytes[1..];
     match class_of(bytes[0]) {
@@ -80,14 +80,14 @@ fn front_of(bytes: &[u8]) -> Front<'_>
 
 /// Nothing that is told, and then the rest.
 fn gap(rest: &[u8]) -> Front<'_>
-    ensures { shown result ≡ (None, rest.now) }
+    ensures { found_in result ≡ (None, rest.now) }
 {
     Front { kind: None, rest }
 }
 
 /// A token, and then the rest.
 fn token<'s>(kind: Kind<'s>, rest: &'s [u8]) -> Front<'s>
-    ensures { shown result ≡ (Some (kind_of kind.entry), rest.now) }
+    ensures { found_in result ≡ (Some (grammar_kind kind.entry), rest.now) }
 {
     Front {
         kind: Some(kind),
@@ -144,7 +144,7 @@ fn number_of(bytes: &[u8]) -> (u64, &[u8])
 
 /// What a quote begins that stands before these bytes.
 fn text_front(behind: &[u8]) -> Front<'_>
-    ensures { shown result ≡ text_before behind.now (closing_at None 0 behind.now) }
+    ensures { found_in result ≡ text_before behind.now (closing_at None 0 behind.now) }
 {
     match closing_quote(behind) {
         Some(place) => token(Kind::Text(&behind[..place]), &behind[place + 1..]),
@@ -190,7 +190,7 @@ fn next_quote(quote: Option<usize>, place: usize, byte: u8) -> Option<usize>
 /// What the byte of a symbol begins, with these bytes behind it.
 fn symbol_front(byte: u8, behind: &[u8]) -> Front<'_>
     requires { is_symbol byte ≡ true }
-    ensures { shown result ≡ symbol_front byte behind.now }
+    ensures { found_in result ≡ symbol_front byte behind.now }
 {
     let [next, rest @ ..] = behind else {
         return token(Kind::Symbol(symbol_of(byte)), behind);

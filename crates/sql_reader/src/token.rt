@@ -53,11 +53,11 @@ impl Symbol {
 }
 
 impl Kind<'_> {
-    ghost use Rattle.sql_reader.specs.Token.{kind_of, bytes_of};
+    ghost use Rattle.sql_reader.specs.Token.{grammar_kind, bytes_of};
 
     /// Whether this is a word, given in upper case.
     pub fn is_word(&self, wanted: &[u8]) -> bool
-        ensures { result ≡ fits (W wanted.now) (kind_of self.now) }
+        ensures { result ≡ fits (W wanted.now) (grammar_kind self.now) }
     {
         match self {
             Kind::Word(word) => is_folded(word, wanted),
@@ -70,7 +70,7 @@ impl Kind<'_> {
 
     /// Whether this is a symbol.
     pub fn is_symbol(&self, wanted: Symbol) -> bool
-        ensures { result ≡ fits (S (bytes_of wanted)) (kind_of self.now) }
+        ensures { result ≡ fits (S (bytes_of wanted)) (grammar_kind self.now) }
     {
         match self {
             Kind::Word(_) => false,
@@ -83,14 +83,14 @@ impl Kind<'_> {
 
     /// Whether this is a number.
     pub fn is_number(&self) -> bool
-        ensures { result ≡ fits AnyNumber (kind_of self.now) }
+        ensures { result ≡ fits AnyNumber (grammar_kind self.now) }
     {
         matches!(self, Kind::Number(_))
     }
 
     /// Whether this is a text.
     pub fn is_text(&self) -> bool
-        ensures { result ≡ fits AnyText (kind_of self.now) }
+        ensures { result ≡ fits AnyText (grammar_kind self.now) }
     {
         matches!(self, Kind::Text(_))
     }

@@ -1,5 +1,6 @@
 pub mod Calls
 pub mod Causes
+pub mod Extents
 pub mod Faults
 pub mod Fetching
 pub mod Frame

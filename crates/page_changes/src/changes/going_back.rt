@@ -2,7 +2,7 @@
 ghost use Rattle.std.specs.Prelude.{◌≡◌, ◌⊎◌, ◌<◌, ℕ, [], nat_eq, IsSome, OnErr, OnOk, true, length, take};
 ghost use Rattle.std.specs.Map.{lookup};
 ghost use Rattle.page_changes.specs.Table.{LiesAt};
-ghost use Rattle.page_changes.specs.ChangesView.{written, written_before, is_free_in, Saves};
+ghost use Rattle.page_changes.specs.ChangesView.{written_over, written_before, is_free_in, Saves};
 
 use super::Mark;
 use crate::spares::Spares;
@@ -23,8 +23,8 @@ pub(super) fn cut(table: &mut PageTable, n: usize, spares: &mut Spares)
 
 /// Makes each page that was saved as it was.
 pub(super) fn put_back(table: &mut PageTable, saved: &mut PageTable, spares: &mut Spares)
-    requires { (p : ℕ) → IsSome (written saved.old p) → IsSome (written table.old p) }
-    ensures back { (p : ℕ) → written table.new p ≡ written_before saved.old table.old p }
+    requires { (p : ℕ) → IsSome (written_over saved.old p) → IsSome (written_over table.old p) }
+    ensures back { (p : ℕ) → written_over table.new p ≡ written_before saved.old table.old p }
     ensures none { saved.new ≡ [] }
 {
     while let Some((p, page)) = saved.pop() {

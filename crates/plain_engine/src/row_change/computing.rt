@@ -1,6 +1,6 @@
 // The new values of a row.
 ghost use Rattle.std.specs.Prelude.{◌≡◌, length, IfOk, IsTrue};
-ghost use Rattle.plain_engine.specs.RowChange.{are_storable, are_there, are_within, new_values_on, with_values};
+ghost use Rattle.plain_engine.specs.RowChange.{are_storable, fall_within, are_within, new_values_on, with_values};
 
 use crate::row_change::given::{item_on, to_value};
 use mdc_ast::BoundSet;
@@ -38,7 +38,7 @@ pub fn new_values(
 
 /// Puts each new value into its column. It takes no memory.
 pub fn put_values(news: Vec<NewValue>, values: &mut List<Value>)
-    requires { IsTrue (are_there (length values.old) news.items) }
+    requires { IsTrue (fall_within (length values.old) news.items) }
     ensures { values.new ≡ with_values news.items values.old }
 {
     for new in news {

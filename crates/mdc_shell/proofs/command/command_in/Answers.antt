@@ -1,7 +1,7 @@
 use Rattle.std.proofs.Common.{◌≡◌, ◌∙◌, codes, refl, sym, inl, inr}
 use Rattle.clap.specs.Words.{found_of, rows_of, subcommand_name_of, subcommand_rows_of}
 use Rattle.clap.proofs.WalkLemmas.{first_value-rows}
-use Rattle.mdc_shell.specs.Found.{name_in}
+use Rattle.mdc_shell.specs.Found.{subcommand_in}
 use Rattle.mdc_shell.proofs.Asking.{asks_create, asks_run, map_twice, no_both, one_name, value_found}
 use Rattle.mdc_shell.proofs.command.command_in.Goals as goal
 
@@ -10,7 +10,7 @@ returns-in-Some c = λ words finds.
     let rows = c.in-Some.ensures.rows in
     let found = found_of c.in-Some.create.now in
     let all = subcommand_rows_of c.args.matches.now in
-    let names : subcommand_name_of c.args.matches.now ≡ name_in (subcommand_rows_of c.args.matches.now) = sym (map_twice _ _ _) in
+    let names : subcommand_name_of c.args.matches.now ≡ subcommand_in (subcommand_rows_of c.args.matches.now) = sym (map_twice _ _ _) in
     let name = sym names ∙ c.in-Some.ensures.found.0 refl in
     elim finds [
       | inl f ↦ asks_create words all c.create_in.result f (c.create_in.ensures f.file f.extents f.pages
@@ -25,7 +25,7 @@ returns c = λ words finds.
     let rows = c.in_ok-subcommand_matches.ensures.rows in
     let found = found_of c.in_ok-subcommand_matches.field-0.now in
     let all = subcommand_rows_of c.args.matches.now in
-    let names : subcommand_name_of c.args.matches.now ≡ name_in (subcommand_rows_of c.args.matches.now) = sym (map_twice _ _ _) in
+    let names : subcommand_name_of c.args.matches.now ≡ subcommand_in (subcommand_rows_of c.args.matches.now) = sym (map_twice _ _ _) in
     let name = sym names ∙ c.in_ok-subcommand_matches.ensures.found.0 refl in
     elim finds [
       | inl f ↦ absurd (no_both (one_name all (codes "create") (codes "run") f.name name))

@@ -1,6 +1,6 @@
 -- Each piece is written at the end of the one before.
 use Rattle.std.proofs.Common.{◌≡◌, ◌-◌, ◌*◌, length, arith, ap, ◌∙◌, length-append}
-use Rattle.page_store.specs.Shape.{first_count}
+use Rattle.store_api.specs.Extents.{first_count}
 use Rattle.page_store.proofs.FreshBytes.{length-root_page}
 use Rattle.page_store.proofs.MakeCrashes.{runs_in, store_stands}
 use Rattle.page_file.proofs.BetweenLemmas.{now_holds}

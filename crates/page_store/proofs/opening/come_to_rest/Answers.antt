@@ -3,7 +3,7 @@ use Rattle.std.proofs.Common.{inl, inr, refl, ap, ◌∙◌}
 use Rattle.std.proofs.lemmas.Result.{IfOk-weaker, IfErr-weaker}
 use Rattle.mdc_outside.specs.Disk.{settled}
 use Rattle.page_store.specs.declared.fault.OpenFault.TheVariants.{Device}
-use Rattle.page_store.specs.Opened.{bytes_of}
+use Rattle.page_store.specs.Opened.{file_bytes}
 use Rattle.page_file.proofs.LeavesLemmas.{sound_image}
 use Rattle.page_file.proofs.LeavesLemmas.{runs_leave}
 use Rattle.page_file.proofs.RunsLemmas.{runs_then, runs_within}
@@ -22,7 +22,7 @@ pub returns-clause-refused : goal.returns-clause-refused
 returns-clause-refused g c = IfErr-weaker c.recover.result _ _ (λ fault refused file is. refused (settled file) (settled_told file c.in_ok-settle.ensures.settled is)) c.recover.ensures.refused
 
 pub returns-clause-untouched : goal.returns-clause-untouched
-returns-clause-untouched g c = IfErr-weaker c.recover.result _ _ (λ fault untouched other. ap bytes_of (untouched other) ∙ settled_bytes _ _ c.in_ok-settle.ensures.settled) c.recover.ensures.untouched
+returns-clause-untouched g c = IfErr-weaker c.recover.result _ _ (λ fault untouched other. ap file_bytes (untouched other) ∙ settled_bytes _ _ c.in_ok-settle.ensures.settled) c.recover.ensures.untouched
 
 pub returns-in_err-settle-clause-left_alone : goal.returns-in_err-settle-clause-left_alone
 returns-in_err-settle-clause-left_alone g c = if_err_as c.from_residual.result Device _ c.from_residual.ensures.1 (λ other. absurd (other refl))

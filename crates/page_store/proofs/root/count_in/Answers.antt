@@ -1,7 +1,7 @@
 -- What the page states is a count of whole extents.
 use Rattle.std.proofs.Common.{refl, ◌≡◌, ◌*◌, ◌∙◌, ◌+◌, arith, sym, [], ◌∷◌}
 use Rattle.store_api.specs.StoreState.{stated_in}
-use Rattle.page_store.specs.Shape.{first_count}
+use Rattle.store_api.specs.Extents.{first_count}
 use Rattle.page_store.proofs.Roots.{limits_of, whole_extents, not_whole, count_limits, begins}
 use Rattle.page_store.proofs.root.count_in.Goals.{then-not-starts_with-via-then-not-starts_with, then-not-starts_with-via-else-not-starts_with+then-count-first, then-added-shape-ne0-via-then-added-shape-ne0, then-added-shape-ne0-via-else-added-shape-ne0+then-added-shape}
 use Rattle.page_store.proofs.root.count_in.Goals as goal

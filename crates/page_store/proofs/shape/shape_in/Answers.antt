@@ -2,7 +2,8 @@
 use Rattle.std.proofs.Common.{◌≡◌, true, not, refl, ap, ◌∙◌, sym}
 use Rattle.std.proofs.lemmas.Bool.Decides.{Decides-eqb}
 use Rattle.std.proofs.lemmas.Slice.Eq.{slice_eq-Decides}
-use Rattle.page_store.specs.Shape.{is_shape, birth_page, extents_in, extent_pages_in}
+use Rattle.store_api.specs.Extents.{is_shape}
+use Rattle.page_store.specs.Shape.{birth_page, extents_in, extent_pages_in}
 use Rattle.page_store.proofs.shape.shape_in.Goals.{then-not-is_shape-via-then-not-is_shape, then-not-is_shape-via-else-not-is_shape+then-ne}
 use Rattle.page_store.proofs.shape.shape_in.Goals as goal
 

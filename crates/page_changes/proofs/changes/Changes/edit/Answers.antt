@@ -3,7 +3,7 @@ use Rattle.std.proofs.Common.{Some, length, refl, ap, sym, ◌∙◌}
 use Rattle.std.proofs.lemmas.List.{length-set}
 use Rattle.std.proofs.lemmas.Option.{slice_get_within}
 use Rattle.page_changes.specs.Table.{LiesAt, with_page}
-use Rattle.page_changes.specs.ChangesView.{written}
+use Rattle.page_changes.specs.ChangesView.{written_over}
 use Rattle.page_changes.proofs.Steps.{lies_in, saves_keep, keeps_fits, keeps_same, free_keeps, over_counts, over_now, found_there, bytes_lie}
 use Rattle.page_changes.proofs.changes.Changes.edit.Goals as goal
 
@@ -68,7 +68,7 @@ returns-in-Ok-save c =
       ),
       record {
         lends = tt;
-        page = sym (found_there c.self.inside.base c.self.inside.count (written c.self.inside.table) c.args.self.now c.args.p lies.page (ap (λ v. v.now) c.self.view_is ∙ c.hold.ensures.now) c.requires.within lies.found)
+        page = sym (found_there c.self.inside.base c.self.inside.count (written_over c.self.inside.table) c.args.self.now c.args.p lies.page (ap (λ v. v.now) c.self.view_is ∙ c.hold.ensures.now) c.requires.within lies.found)
             ∙ ap (λ w. Some w) (sym (bytes_lie c.self.inside.table c.args.p c.in-Ok.place (c.args.p, lies.page) lies) ∙ c.at_mut.ensures.page (c.args.p, lies.page));
         memory = λ device. absurd (cc);
       },

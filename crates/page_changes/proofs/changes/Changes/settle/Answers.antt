@@ -1,7 +1,7 @@
 use Rattle.std.proofs.Common.{length, ap, sym, ◌∙◌}
 use Rattle.page_changes.specs.Changes.{nothing}
-use Rattle.page_changes.specs.ChangesView.{or_grown, written}
-use Rattle.page_changes.proofs.Overlays.{length-listed}
+use Rattle.page_changes.specs.ChangesView.{or_grown, written_over}
+use Rattle.mdc_words.proofs.ListedLemmas.{length-listed}
 use Rattle.page_changes.proofs.Written.{fits_none, new_view}
 use Rattle.page_changes.proofs.changes.Changes.settle.Goals as goal
 
@@ -11,4 +11,4 @@ invariant_of-self c = record { counts = fits_none c.self.inside.count c.take-pag
 pub returns-clause-settled : goal.returns-clause-settled
 returns-clause-settled c =
     new_view c.self.inside.count c.take-pages.new.self c.take-pages.ensures.left
-    ∙ ap nothing (sym (length-listed c.self.inside.count (or_grown c.self.inside.base (written c.self.inside.table))) ∙ ap (λ v. length v.now) c.self.view_is)
+    ∙ ap nothing (sym (length-listed c.self.inside.count (or_grown c.self.inside.base (written_over c.self.inside.table))) ∙ ap (λ v. length v.now) c.self.view_is)

@@ -3,14 +3,14 @@ use Rattle.std.proofs.Common.{◌≡◌, None, subst, ◌∙◌}
 use Rattle.std.specs.Prelude.{IsSome}
 use Rattle.std.proofs.lemmas.Option.{slice_get_within}
 use Rattle.page_changes.specs.Table.{LiesAt}
-use Rattle.page_changes.specs.ChangesView.{written}
+use Rattle.page_changes.specs.ChangesView.{written_over}
 use Rattle.page_changes.proofs.Steps.{back_over, back_same, saved_there}
 use Rattle.page_changes.proofs.changes.going_back.put_back.Goals as goal
 
 pub unreachable-requires : goal.unreachable-requires
 unreachable-requires c =
-    let there : IsSome (written c.loop-p.table c.in-Some.p) = c.loop-p.invariant.over c.in-Some.p (saved_there c.loop-p.saved c.pop.new.self c.in-Some.p c.in-Some.page.value c.in-Some.ensures.0 c.in-Some.ensures.1) in
-    let none : written c.loop-p.table c.in-Some.p ≡ None = c.in_default-place_of.ensures in
+    let there : IsSome (written_over c.loop-p.table c.in-Some.p) = c.loop-p.invariant.over c.in-Some.p (saved_there c.loop-p.saved c.pop.new.self c.in-Some.p c.in-Some.page.value c.in-Some.ensures.0 c.in-Some.ensures.1) in
+    let none : written_over c.loop-p.table c.in-Some.p ≡ None = c.in_default-place_of.ensures in
     let wrong = subst IsSome none there in
     absurd (cc)
 
