@@ -1,3 +1,4 @@
 pub mod FaultsLemmas
 pub mod ListedLemmas
+pub mod PlacesLemmas
 pub mod TimeLemmas

@@ -13,7 +13,7 @@ use Rattle.std.proofs.lemmas.Map.Entries.{place_from_lookup, lookup_from_place}
 use Rattle.std.proofs.lemmas.Map.Keys.{IsDistinct-push, IsDistinct-cons, IsDistinct-head, IsDistinct-tail}
 use Rattle.store_api.proofs.BoxesLemmas.{length-unboxed, unboxed-push, page_there}
 use Rattle.page_changes.specs.Table.{Numbered, IsIndexed, LiesAt, Pops, unboxed, with_page}
-use Rattle.page_changes.proofs.Places.{slice_get-push, slice_get-take, slice_get-set_same, slice_get-set_other}
+use Rattle.mdc_words.proofs.PlacesLemmas.{slice_get-push, slice_get-take, slice_get-set_same, slice_get-set_other}
 
 -- no pages are indexed by anything
 none_distinct : IsDistinct nat_eq (keys_of {K = ℕ} {X = List ℕ} [])

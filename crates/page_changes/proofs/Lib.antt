@@ -1,6 +1,5 @@
 pub mod Indexed
 pub mod Order
 pub mod Overlays
-pub mod Places
 pub mod Steps
 pub mod Written

@@ -11,7 +11,7 @@ use Rattle.std.proofs.lemmas.Map.Views.{lookup-from_Contains, Contains-from_look
 use Rattle.std.proofs.lemmas.Map.Keys.{IsDistinct-IsPermutation, apart_from_distinct}
 use Rattle.std.proofs.lemmas.Option.{get_or_from_slice_get, slice_get_within, slice_get-get_or, slice_get-map}
 use Rattle.page_changes.specs.Table.{Numbered, IsIndexed, AreRising, unboxed}
-use Rattle.page_changes.proofs.Places.{slice_get-set_same, slice_get-set_other}
+use Rattle.mdc_words.proofs.PlacesLemmas.{slice_get-set_same, slice_get-set_other}
 use Rattle.store_api.proofs.BoxesLemmas.{Boxed, length-unboxed, page_there}
 use Rattle.page_changes.proofs.Indexed.{key_at}
 

@@ -5,7 +5,6 @@ pub mod Each
 pub mod Effects
 pub mod Filterable
 pub mod FoundRows
-pub mod Lists
 pub mod Mapped
 pub mod Ready
 pub mod SetLemmas

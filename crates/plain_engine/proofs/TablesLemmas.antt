@@ -10,7 +10,7 @@ use Rattle.mdc_ast.specs.meaning.Database.{Database, PlainTable, changed_at, def
 use Rattle.mdc_ast.specs.meaning.Definitions.{Definitions, def_at, empty_place, with_def}
 use Rattle.mdc_ast.specs.meaning.Doing.{entered}
 use Rattle.mdc_ast.proofs.DatabaseLemmas.{changed_at-with_place}
-use Rattle.plain_engine.proofs.Lists.{slice_get-set_same, slice_get-set_other}
+use Rattle.mdc_words.proofs.PlacesLemmas.{slice_get-set_same, slice_get-set_other}
 use Rattle.plain_engine.specs.Tables.{AreTables, rows_in, table_with, tables_of, with_next, with_rows}
 
 -- ---- what it is

@@ -1,4 +1,4 @@
--- The elements of a list that is added to, cut or written to.
+-- The elements of a list at their places, once it is added to, cut or written to.
 use Rattle.std.proofs.Common.{◌≡◌, ◌≢◌, ◌<◌, ◌⊎◌, ℕ, zero, suc, List, [], ◌∷◌, ◌++◌, length, take, set, Some, slice_get, refl, ap, inl, inr, arith}
 
 -- the elements of a list and one more
