@@ -30,7 +30,7 @@ told_item statement tokens TooDeep reached h = IsItemOf.deep tokens h.0 reached 
 pub some_item : (statement : List ℕ) → (item : Item) × IsItemOf statement item
 some_item statement = elim (cases_lt statement_limit (length statement)) [
   | inl long ↦ (Refused too_long, IsItemOf.long long)
-  | inr few ↦ by_strange few (code.strange_at statement within.Nothing) (strange_is statement)
+  | inr few ↦ by_strange few (code.strange_from statement within.Nothing) (strange_is statement)
 ]
   where
     by_strange : length statement ≤ statement_limit → (found : Option (List ℕ)) → FirstStrange false statement found → (item : Item) × IsItemOf statement item
