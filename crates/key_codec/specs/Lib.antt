@@ -1,0 +1,4 @@
+pub mod Edges
+pub mod KeyOrder
+pub mod Keys
+pub mod Spans
