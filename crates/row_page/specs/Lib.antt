@@ -1,0 +1,4 @@
+pub mod Layout
+pub mod Row
+pub mod RowPage
+pub mod Slots

@@ -1,0 +1,100 @@
+// A page of rows, seen slot by slot.
+ghost use Rattle.std.specs.Prelude.{◌≡◌, ◌<◌, ℕ, List, Option, false, is_some, not, true, IsSome, IfSome, IsTrue, ◌↔◌, MatchOption, Some};
+ghost use Rattle.mdc_ast.specs.declared.row.Row.{Row};
+ghost use Rattle.row_page.specs.Layout.{IsLayoutOf};
+ghost use Rattle.row_page.specs.Row.{AreRowColumns};
+ghost use Rattle.row_page.specs.RowPage.{count_rows, is_slot_filled, slot_bytes, slot_count, stated_rows, IsFirstSlot, IsRowPage, StartsAsRowPage};
+
+use crate::RowView;
+use crate::layout::{Layout, part};
+use crate::slots::{bits_from, is_filled, rows_stated, starts_with};
+use mdc_ast::ColumnDef;
+use mdc_values::List;
+use store_api::Page;
+
+/// A view of a page of rows. Each slot is below `capacity`.
+#[derive(Clone, Copy, Debug)]
+pub struct RowPageView<'p> {
+    pub(crate) page: &'p Page,
+    pub(crate) columns: &'p [ColumnDef],
+    pub(crate) layout: Layout,
+    ghost laid_out: { IsLayoutOf columns.now layout },
+}
+
+impl<'p> RowPageView<'p> {
+    /// A view of a page that begins as a row page of these columns. It costs the head alone. The bytes behind the head
+    /// may be any: then the rows are those that they happen to be.
+    pub fn look(page: &'p Page, columns: &'p List<ColumnDef>) -> Option<RowPageView<'p>>
+        requires { AreRowColumns columns.now }
+        ensures starts { IsSome result ↔ StartsAsRowPage columns.now page.now }
+        ensures there { (slots : List (Option Row)) → IsRowPage columns.now page.now slots → IsTrue (is_some result) }
+        ensures seen { IfSome result (λ view. (view.page.now ≡ page.now) × (view.columns.now ≡ columns.now)) }
+    {
+        let columns = columns.as_slice();
+        let layout = Layout::of(columns);
+        if !starts_with(page, layout.slots) {
+            return None;
+        }
+        Some(RowPageView {
+            page,
+            columns,
+            layout,
+        })
+    }
+
+    /// How many rows the page states. In a row page that is how many slots have a row.
+    pub fn rows(&self) -> u16
+        ensures stated { result ≡ stated_rows self.now.page.now }
+        ensures counted { (slots : List (Option Row)) → IsRowPage self.now.columns.now self.now.page.now slots → result ≡ count_rows slots }
+    {
+        rows_stated(self.page)
+    }
+
+    /// The row in a slot. It is None exactly where the slot is empty.
+    pub fn row(&self, slot: u16) -> Option<RowView<'p>>
+        requires { slot < slot_count self.now.columns.now }
+        ensures { MatchOption result (is_slot_filled self.now.page.now slot ≡ false) (λ row. (is_slot_filled self.now.page.now slot ≡ true) × (row.columns.now ≡ self.now.columns.now) × (row.bytes.now ≡ slot_bytes self.now.columns.now self.now.page.now slot)) }
+    {
+        if !is_filled(self.page, slot) {
+            return None;
+        }
+        let start = self.layout.start + slot as usize * self.layout.width;
+        let page = self.page;
+        let bytes = &page[..];
+        Some(RowView::of(&bytes[start..start + self.layout.width], self.columns))
+    }
+
+    /// The lowest slot with a row, of those from a place on.
+    pub fn next_filled(&self, from: u16) -> Option<u16>
+        ensures { IsFirstSlot (is_slot_filled self.now.page.now) from (slot_count self.now.columns.now) result }
+    {
+        let mut slot = from;
+        while slot < self.layout.slots {
+            if slot % 8 == 0 && bits_from(self.page, slot) == 0 {
+                slot += 8;
+            } else if is_filled(self.page, slot) {
+                return Some(slot);
+            } else {
+                slot += 1;
+            }
+        }
+        None
+    }
+
+    /// The lowest empty slot.
+    pub fn first_empty(&self) -> Option<u16>
+        ensures { IsFirstSlot (λ slot. not (is_slot_filled self.now.page.now slot)) 0 (slot_count self.now.columns.now) result }
+    {
+        let mut slot = 0;
+        while slot < self.layout.slots {
+            if slot % 8 == 0 && bits_from(self.page, slot) == 0xff {
+                slot += 8;
+            } else if is_filled(self.page, slot) {
+                slot += 1;
+            } else {
+                return Some(slot);
+            }
+        }
+        None
+    }
+}
