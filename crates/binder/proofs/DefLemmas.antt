@@ -1,25 +1,33 @@
--- Tables of a valid catalog have few columns.
+-- Tables of a valid catalog have few columns, and no two of one name.
 use Rattle.std.proofs.Common.{◌≡◌, ℕ, zero, suc, ◌+◌, ◌≤◌, [], ◌∷◌, Option, Some, None, IfSome, MatchOption, length, option_and_then, subst}
 use Rattle.std.proofs.lemmas.Option.{none-some, same_Some}
 use Rattle.mdc_ast.specs.declared.definition.TableDef.{TableDef}
 use Rattle.mdc_ast.specs.declared.name.Name.{Name}
-use Rattle.mdc_ast.specs.meaning.Definitions.{AreValidDefs, AreValidFrom, Definitions, IsValidPlace, def_at, def_named, place_of}
+use Rattle.mdc_ast.specs.meaning.Definitions.{AllNamesDiffer, AreValidDefs, AreValidFrom, Definitions, IsValidDef, IsValidPlace, column_names, def_at, def_named, place_of}
 
-few-place : (place : ℕ) (old : Option TableDef) (def : TableDef) → IsValidPlace place old → old ≡ Some def → length def.columns ≤ 16
-few-place place None def valid e = absurd (none-some def e)
-few-place place (Some old) def valid e = subst (λ (d : TableDef). length d.columns ≤ 16) (same_Some old def e) valid.few
+-- ---- what holds of each valid definition holds of those that are found
 
-few-at : (from : ℕ) (defs : Definitions) (i : ℕ) (def : TableDef) → AreValidFrom from defs → def_at defs i ≡ Some def → length def.columns ≤ 16
-few-at from [] i def valid e = absurd (none-some def e)
-few-at from (old ∷ defs) zero def valid e = few-place from old def valid.0 e
-few-at from (old ∷ defs) (suc i) def valid e = few-at (from + 1) defs i def valid.1 e
+found_at_place : (Holds : TableDef → Type 0) → ((place : ℕ) (def : TableDef) → IsValidDef place def → Holds def) → (place : ℕ) (old : Option TableDef) (def : TableDef) → IsValidPlace place old → old ≡ Some def → Holds def
+found_at_place Holds each place None def valid e = absurd (none-some def e)
+found_at_place Holds each place (Some old) def valid e = subst Holds (same_Some old def e) (each place old valid)
 
-few-found : (defs : Definitions) (place : Option ℕ) (def : TableDef) → AreValidFrom 0 defs → option_and_then (def_at defs) place ≡ Some def → length def.columns ≤ 16
-few-found defs None def valid e = absurd (none-some def e)
-few-found defs (Some place) def valid e = few-at 0 defs place def valid e
+found_at : (Holds : TableDef → Type 0) → ((place : ℕ) (def : TableDef) → IsValidDef place def → Holds def) → (from : ℕ) (defs : Definitions) (i : ℕ) (def : TableDef) → AreValidFrom from defs → def_at defs i ≡ Some def → Holds def
+found_at Holds each from [] i def valid e = absurd (none-some def e)
+found_at Holds each from (old ∷ defs) zero def valid e = found_at_place Holds each from old def valid.0 e
+found_at Holds each from (old ∷ defs) (suc i) def valid e = found_at Holds each (from + 1) defs i def valid.1 e
+
+found : (Holds : TableDef → Type 0) → ((place : ℕ) (def : TableDef) → IsValidDef place def → Holds def) → (defs : Definitions) (place : Option ℕ) (def : TableDef) → AreValidFrom 0 defs → option_and_then (def_at defs) place ≡ Some def → Holds def
+found Holds each defs None def valid e = absurd (none-some def e)
+found Holds each defs (Some place) def valid e = found_at Holds each 0 defs place def valid e
 
 -- the table of a name has at most 16 columns
 pub few_columns : {B : Type 0} (now : B → TableDef) (result : Option B) (defs : Definitions) (name : Name) → AreValidDefs defs
     → MatchOption result (def_named defs name ≡ None) (λ def. def_named defs name ≡ Some (now def)) → IfSome result (λ def. length (now def).columns ≤ 16)
-few_columns now None defs name valid found = tt
-few_columns now (Some def) defs name valid found = few-found defs (place_of defs name) (now def) valid.each found
+few_columns now None defs name valid found_here = tt
+few_columns now (Some def) defs name valid found_here = found (λ d. length d.columns ≤ 16) (λ place d ok. ok.few) defs (place_of defs name) (now def) valid.each found_here
+
+-- the columns of the table of a name have different names
+pub names_differ : {B : Type 0} (now : B → TableDef) (result : Option B) (defs : Definitions) (name : Name) → AreValidDefs defs
+    → MatchOption result (def_named defs name ≡ None) (λ def. def_named defs name ≡ Some (now def)) → IfSome result (λ def. AllNamesDiffer (column_names (now def).columns))
+names_differ now None defs name valid found_here = tt
+names_differ now (Some def) defs name valid found_here = found (λ d. AllNamesDiffer (column_names d.columns)) (λ place d ok. ok.names_differ) defs (place_of defs name) (now def) valid.each found_here

@@ -6,4 +6,5 @@ pub mod OrderLemmas
 pub mod PredLemmas
 pub mod SetLemmas
 pub mod TupleLemmas
+pub mod WholeRowsLemmas
 pub mod WidthLemmas

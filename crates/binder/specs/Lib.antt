@@ -3,3 +3,4 @@ pub mod Classes
 pub mod Knowing
 pub mod Refusing
 pub mod Saying
+pub mod WholeRows

@@ -25,6 +25,7 @@ mod table_binding;
 mod targets;
 mod updating;
 mod where_binding;
+mod whole_rows;
 
 pub use binding::{BindFault, bind};
 pub use forms::built;

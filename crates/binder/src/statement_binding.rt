@@ -1,7 +1,7 @@
 // A statement against which nothing is said, with its names as places and its literals as values.
 ghost use Rattle.std.specs.Prelude.{◌≡◌, ◌≤◌, [], length, map, IfOk, IfSome, MatchOption, None, Some};
 ghost use Rattle.mdc_ast.specs.meaning.Binding as binding;
-ghost use Rattle.mdc_ast.specs.meaning.Definitions.{AreValidDefs, def_named, place_of};
+ghost use Rattle.mdc_ast.specs.meaning.Definitions.{AllNamesDiffer, AreValidDefs, column_names, def_named, place_of};
 ghost use Rattle.mdc_ast.specs.meaning.Judged.{judged_of, targets};
 ghost use Rattle.mdc_ast.specs.meaning.Judging.{in_order};
 ghost use Rattle.binder.specs.Bounded.{plain_query};
@@ -58,12 +58,14 @@ pub fn bound(alloc: Global, stmt: &Stmt, catalog: &Catalog) -> Result<Bound, Mem
     }
 }
 
-fn table_there<'a>(table: &Name, catalog: &'a Catalog) -> Option<&'a TableDef>
+/// The table of that name, whose columns have different names.
+pub fn table_there<'a>(table: &Name, catalog: &'a Catalog) -> Option<&'a TableDef>
     requires { AreValidDefs catalog.now }
     ensures there { MatchOption result
         (place_of catalog.now table.now ≡ None)
         (λ def. (place_of catalog.now table.now ≡ Some def.now.number) × (def_named catalog.now table.now ≡ Some def.now)) }
     ensures few { IfSome result (λ def. length def.now.columns ≤ 16) }
+    ensures differ { IfSome result (λ def. AllNamesDiffer (column_names def.now.columns)) }
 {
     catalog.table(table)
 }

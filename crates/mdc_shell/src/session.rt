@@ -49,7 +49,7 @@ impl Session {
         ensures noted { IfOk result (λ outcome. self.new.refused ≡ (self.old.refused || is_refusal outcome)) }
     {
         match read {
-            Read::Stmt(stmt) => self.execute(&stmt),
+            Read::Stmt(stmt) => self.execute(stmt.get()),
             Read::Refused(refusal) => {
                 self.refused = true;
                 Ok(Outcome::Refused(refusal))

@@ -22,6 +22,10 @@ pub fn truth(pred: &Pred, values: &List<Value>) -> Truth
             let mut all = Truth::True;
             for pred in preds.as_slice() {
                 all = and(all, truth(pred, values));
+                // No other part makes it true, or unknown.
+                if let Truth::False = all {
+                    return Truth::False;
+                }
             }
             all
         }
@@ -29,6 +33,9 @@ pub fn truth(pred: &Pred, values: &List<Value>) -> Truth
             let mut any = Truth::False;
             for pred in preds.as_slice() {
                 any = or(any, truth(pred, values));
+                if let Truth::True = any {
+                    return Truth::True;
+                }
             }
             any
         }

@@ -13,7 +13,7 @@ use Rattle.sql_reader.specs.Digits.{EndsNumber, IsLongestFront}
 use Rattle.std.specs.Prelude.{IfSome}
 use Rattle.std.proofs.lemmas.List.{append-nil, at_drop_more, drop_all}
 use Rattle.sql_reader.specs.Token.{undoubled}
-use Rattle.sql_reader.proofs.Fronts.{one_front, longest_by_len, line_ends, after_line-feed, after_line-open}
+use Rattle.sql_reader.proofs.Fronts.{one_front, longest_by_len, line_ends, after_line-feed, after_line-open, tail, tail-cons}
 
 -- RANGES
 
@@ -309,6 +309,14 @@ pub lexed_step : (statement bytes : List ℕ) (found : Found) (before after : Li
 lexed_step statement bytes found before after some e kept goes more t =
     let next = goes (token_told found.0 (length bytes) ++ more) (lexed_more bytes found some e more t) in
     subst (Tokens statement) (sym (ap (λ l. l ++ more) kept ∙ append_assoc before (token_told found.0 (length bytes)) more)) next
+
+-- a blank is passed
+pub lexed_blank : (statement bytes : List ℕ) (before : List Token) → 1 ≤ length bytes → is_blank (get_or bytes 0 0) ≡ true
+    → ((more : List Token) → Tokens bytes more → Tokens statement (before ++ more)) → (more : List Token) → Tokens (tail bytes) more → Tokens statement (before ++ more)
+lexed_blank statement [] before some blank goes more t = absurd (omega arith)
+lexed_blank statement (b ∷ behind) before some blank goes more t =
+    lexed_step statement (b ∷ behind) (None, behind) before before some (sym (ap (λ c. front_by c b behind) (at_blank b blank))) (sym (append-nil before)) goes more
+    (subst (λ l. Tokens l more) (tail-cons b behind) t)
 
 -- the loop ends
 pub lexed_all : (statement bytes : List ℕ) (before : List Token) → length bytes < 1 → ((more : List Token) → Tokens bytes more → Tokens statement (before ++ more)) → Tokens statement before

@@ -9,8 +9,10 @@ mod Language
 mod Lexing
 mod Looking
 mod Loops
+mod NumberLemmas
 mod Numbers
 mod Pieces
+mod ReservedLemmas
 mod Rules
 mod Scanning
 mod Separated

@@ -5,16 +5,16 @@ ghost use Rattle.sql_reader.specs.Parses.{Parses};
 ghost use Rattle.sql_reader.specs.Readers.{read, listed_at};
 ghost use Rattle.sql_reader.specs.Token.{tokens_of};
 
-use crate::cursor::{Cursor, Part, Stop};
+use crate::cursor::{Cursor, Part, Stop, kept};
 use crate::literal::operand;
 use crate::predicate::filter;
 use crate::token::Symbol;
 use mdc_ast::{InsertItem, Name, Operand, SetItem, SetText, Sign, Stmt};
-use mdc_values::List;
+use mdc_values::{Boxed, List, Literal};
 
 /// What is behind INSERT.
 #[tactic(auto, unfolding(mdc_ast::specs::Grammar::insert_rule))]
-pub fn insert(cursor: &mut Cursor) -> Result<Stmt, Stop>
+pub fn insert(cursor: &mut Cursor) -> Result<Boxed<Stmt>, Stop>
     ensures { Parses result (tokens_of cursor.new.tokens.now) (read grammar.insert_rule (tokens_of cursor.old.tokens.now)) }
 {
     cursor.word(b"INTO")?;
@@ -22,11 +22,14 @@ pub fn insert(cursor: &mut Cursor) -> Result<Stmt, Stop>
     let columns = columns(cursor)?;
     cursor.word(b"VALUES")?;
     let rows = cursor.separated()?;
-    Ok(Stmt::Insert {
-        table,
-        columns,
-        rows,
-    })
+    kept(
+        cursor.alloc,
+        Stmt::Insert {
+            table,
+            columns,
+            rows,
+        },
+    )
 }
 
 #[tactic(auto, unfolding(mdc_ast::specs::Grammar::columns_rule))]
@@ -54,6 +57,13 @@ impl Part for InsertItem {
 
     #[tactic(auto, unfolding(mdc_ast::specs::Grammar::value_rule))]
     fn take(cursor: &mut Cursor) -> Result<InsertItem, Stop> {
+        // Most items are numbers.
+        if let Some(size) = cursor.takes_number() {
+            return Ok(InsertItem::Literal(Literal::Number {
+                negative: false,
+                size,
+            }));
+        }
         if cursor.at_word(b"DEFAULT") {
             cursor.word(b"DEFAULT")?;
             return Ok(InsertItem::Default);

@@ -1,5 +1,5 @@
 // A place among the tokens of a statement, which goes on as things are taken.
-ghost use Rattle.std.specs.Prelude.{◌≡◌, [], ◌∷◌, true, false, IfOk, map};
+ghost use Rattle.std.specs.Prelude.{◌≡◌, [], ◌∷◌, true, false, IfOk, IfSome, IfNone, MatchResult, map};
 ghost use Rattle.mdc_ast.specs.Classes.{W, S, AnyName, AnyNumber, AnyText, opening, comma, name_in, number_in, text_in};
 ghost use Rattle.mdc_ast.specs.Reading.{bytes_left};
 ghost use Rattle.mdc_ast.specs.Tokens.{upper};
@@ -9,8 +9,8 @@ ghost use Rattle.sql_reader.specs.Token.{bytes_of, tokens_of, undoubled};
 
 use crate::reserved::is_name;
 use crate::token::{Kind, Symbol, Token};
-use mdc_ast::Name;
-use mdc_values::{Chars, List, Memory};
+use mdc_ast::{Name, Stmt};
+use mdc_values::{Boxed, Chars, List, Memory};
 use std::alloc::Global;
 
 /// Why nothing is taken.
@@ -221,6 +221,20 @@ impl<'t> Cursor<'t> {
         Ok(number)
     }
 
+    /// Takes a number where one stands.
+    pub fn takes_number(&mut self) -> Option<u64>
+        ensures found { IfSome result (λ n. one AnyNumber number_in (tokens_of self.old.tokens.now) ≡ Ok (n, tokens_of self.new.tokens.now)) }
+        ensures none { IfNone result ((begins (AnyNumber ∷ []) (tokens_of self.old.tokens.now) ≡ false) × (self.new ≡ self.old)) }
+    {
+        if let [token, rest @ ..] = self.tokens
+            && let Kind::Number(number) = token.kind
+        {
+            self.tokens = rest;
+            return Some(number);
+        }
+        None
+    }
+
     /// Takes a text.
     pub fn text(&mut self) -> Result<Chars, Stop>
         ensures { Parses result (tokens_of self.new.tokens.now) (one AnyText text_in (tokens_of self.old.tokens.now)) }
@@ -263,6 +277,13 @@ impl<'t> Cursor<'t> {
         self.symbol(Symbol::Closing)?;
         Ok(parts)
     }
+}
+
+/// A statement on the heap, so that no step behind it moves all of it.
+pub fn kept(alloc: Global, stmt: Stmt) -> Result<Boxed<Stmt>, Stop>
+    ensures { MatchResult result (λ boxed. boxed ≡ stmt) (λ stop. stop ≡ Stop.Memory) }
+{
+    Ok(Boxed::new(alloc, stmt)?)
 }
 
 /// A word in upper case.

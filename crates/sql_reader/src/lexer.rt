@@ -7,6 +7,7 @@ ghost use Rattle.sql_reader.specs.Token.{bytes_of, tokens_of, grammar_kind};
 
 use crate::comment::after_line;
 use crate::token::{Kind, Symbol, Token};
+use crate::trim::is_blank;
 use mdc_values::Memory;
 use std::alloc::Global;
 
@@ -38,7 +39,11 @@ pub fn lex<'s>(alloc: Global, statement: &'s [u8]) -> Result<Vec<Token<'s>>, Mem
 {
     let mut tokens = Vec::with_capacity(alloc, USUAL_TOKENS)?;
     let mut rest = statement;
-    while let [_, ..] = rest {
+    while let [byte, behind @ ..] = rest {
+        if is_blank(*byte) {
+            rest = behind;
+            continue;
+        }
         let front = front_of(rest);
         keep(&mut tokens, front.kind, rest.len())?;
         rest = front.rest;

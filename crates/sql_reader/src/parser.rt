@@ -1,6 +1,8 @@
 // The statement that tokens spell, or where they go wrong.
 ghost use Rattle.std.specs.Prelude.{◌≡◌, ◌<◌, IfOk, Err};
 ghost use Rattle.mdc_ast.specs.Grammar as grammar;
+ghost use Rattle.mdc_ast.specs.Rules.{seen};
+ghost use Rattle.mdc_ast.specs.declared.statement.Stmt.TheVariants as stmt;
 ghost use Rattle.sql_reader.specs.Parses.{Parses};
 ghost use Rattle.sql_reader.specs.Readers.{read};
 ghost use Rattle.sql_reader.specs.Parsed.{IsParsed};
@@ -8,18 +10,18 @@ ghost use Rattle.sql_reader.specs.Token.{tokens_of};
 
 use crate::change::{delete, insert, update};
 use crate::creation::{create, drop_statement};
-use crate::cursor::{Cursor, Stop};
+use crate::cursor::{Cursor, Stop, kept};
 use crate::query::query;
 use crate::token::Token;
 use crate::upkeep::{clean, list_blocks, reclaim, setting, work};
 use mdc_ast::Stmt;
-use mdc_values::Memory;
+use mdc_values::{Boxed, Memory};
 use std::alloc::Global;
 
 /// What the tokens say.
 #[derive(Debug, Drop)]
 pub enum Parsed {
-    Spelled(Stmt),
+    Spelled(Boxed<Stmt>),
     /// They go wrong at the token that begins so many bytes before the end, or at the end (0).
     Fails(usize),
     /// A predicate nests too deep.
@@ -68,31 +70,60 @@ fn judge(alloc: Global, tokens: &[Token], limit: u8, stopped: Cursor) -> Result<
 
 /// A statement whose predicate nests at most `depth` deep.
 #[tactic(auto, unfolding(mdc_ast::specs::Grammar::statement_rule, mdc_ast::specs::Grammar::query_rule))]
-fn statement(cursor: &mut Cursor, depth: u8) -> Result<Stmt, Stop>
+fn statement(cursor: &mut Cursor, depth: u8) -> Result<Boxed<Stmt>, Stop>
     ensures { Parses result (tokens_of cursor.new.tokens.now) (read (grammar.statement_rule depth) (tokens_of cursor.old.tokens.now)) }
 {
-    if cursor.at_word(b"INSERT") {
-        cursor.word(b"INSERT")?;
+    if cursor.takes_word(b"INSERT") {
         return insert(cursor);
     }
     if cursor.at_word(b"SELECT") {
-        let select = query(cursor, depth)?;
-        return Ok(Stmt::Query(select));
+        return select_form(cursor, depth);
     }
-    if cursor.at_word(b"UPDATE") {
-        cursor.word(b"UPDATE")?;
-        return update(cursor, depth);
+    if cursor.takes_word(b"UPDATE") {
+        return update_form(cursor, depth);
     }
-    if cursor.at_word(b"DELETE") {
-        cursor.word(b"DELETE")?;
-        return delete(cursor, depth);
+    if cursor.takes_word(b"DELETE") {
+        return delete_form(cursor, depth);
     }
-    if cursor.at_word(b"EXPLAIN") {
-        cursor.word(b"EXPLAIN")?;
-        let select = query(cursor, depth)?;
-        return Ok(Stmt::Explain(select));
+    if cursor.takes_word(b"EXPLAIN") {
+        return explain_form(cursor, depth);
     }
-    other(cursor)
+    other_form(cursor)
+}
+
+fn select_form(cursor: &mut Cursor, depth: u8) -> Result<Boxed<Stmt>, Stop>
+    ensures { Parses result (tokens_of cursor.new.tokens.now) (read (seen stmt.Query (grammar.query_rule depth)) (tokens_of cursor.old.tokens.now)) }
+{
+    let select = query(cursor, depth)?;
+    kept(cursor.alloc, Stmt::Query(select))
+}
+
+fn explain_form(cursor: &mut Cursor, depth: u8) -> Result<Boxed<Stmt>, Stop>
+    ensures { Parses result (tokens_of cursor.new.tokens.now) (read (seen stmt.Explain (grammar.query_rule depth)) (tokens_of cursor.old.tokens.now)) }
+{
+    let select = query(cursor, depth)?;
+    kept(cursor.alloc, Stmt::Explain(select))
+}
+
+fn update_form(cursor: &mut Cursor, depth: u8) -> Result<Boxed<Stmt>, Stop>
+    ensures { Parses result (tokens_of cursor.new.tokens.now) (read (grammar.update_rule depth) (tokens_of cursor.old.tokens.now)) }
+{
+    let stmt = update(cursor, depth)?;
+    kept(cursor.alloc, stmt)
+}
+
+fn delete_form(cursor: &mut Cursor, depth: u8) -> Result<Boxed<Stmt>, Stop>
+    ensures { Parses result (tokens_of cursor.new.tokens.now) (read (grammar.delete_rule depth) (tokens_of cursor.old.tokens.now)) }
+{
+    let stmt = delete(cursor, depth)?;
+    kept(cursor.alloc, stmt)
+}
+
+fn other_form(cursor: &mut Cursor) -> Result<Boxed<Stmt>, Stop>
+    ensures { Parses result (tokens_of cursor.new.tokens.now) (read grammar.other_rule (tokens_of cursor.old.tokens.now)) }
+{
+    let stmt = other(cursor)?;
+    kept(cursor.alloc, stmt)
 }
 
 /// A statement without a predicate, other than INSERT.

@@ -1,6 +1,7 @@
 // Where in a script a byte stands, and the scan for a semicolon that cuts.
-ghost use Rattle.std.specs.Prelude.{◌≡◌, ◌≤◌, ◌<◌, length, take, slice_index};
+ghost use Rattle.std.specs.Prelude.{◌≡◌, ◌≤◌, ◌<◌, length, take, slice_index, true, Some};
 ghost use Rattle.sql_reader.specs.Scan.{behind_plain, place_after, place_behind};
+ghost use Rattle.sql_reader.specs.declared.place.Place.TheVariants.{Outside};
 
 /// Where in a script a byte stands.
 #[derive(Clone, Copy, Debug, PartialEq, Eq)]
@@ -39,6 +40,13 @@ fn behind_plain(byte: u8, dashed: Place) -> Option<Place>
     }
 }
 
+/// Whether a byte of no text and no comment leads nowhere else, as most bytes do.
+fn is_quiet(byte: u8) -> bool
+    ensures { result ≡ true → place_after Outside byte ≡ Some Outside }
+{
+    byte > b';' || !matches!(byte, b'\'' | b'-' | b';')
+}
+
 /// How many bytes a scan went over, and the place that it came to.
 #[derive(Clone, Copy, Debug, PartialEq, Eq)]
 pub(crate) struct Reach {
@@ -53,8 +61,8 @@ pub(crate) fn scan(bytes: &[u8], from: Place) -> Reach
     ensures stopped { result.count < length bytes.now → place_after result.place (slice_index bytes.now result.count) ≡ None }
 {
     let mut place = from;
-    for (count, byte) in bytes.iter().enumerate() {
-        match place.after(*byte) {
+    for count in quiet_front(from, bytes)..bytes.len() {
+        match place.after(bytes[count]) {
             Some(next) => place = next,
             None => return Reach { count, place },
         }
@@ -63,4 +71,28 @@ pub(crate) fn scan(bytes: &[u8], from: Place) -> Reach
         count: bytes.len(),
         place,
     }
+}
+
+/// How many bytes at the front a scan can pass at once, since they leave it where it is.
+fn quiet_front(from: Place, bytes: &[u8]) -> usize
+    ensures within { result ≤ length bytes.now }
+    ensures stays { place_behind from (take result bytes.now) ≡ Some from }
+{
+    match from {
+        Place::Outside => quiet_len(bytes),
+        Place::Dash | Place::Text | Place::Comment => 0,
+    }
+}
+
+/// How many bytes at the front are quiet.
+fn quiet_len(bytes: &[u8]) -> usize
+    ensures within { result ≤ length bytes.now }
+    ensures stays { place_behind Outside (take result bytes.now) ≡ Some Outside }
+{
+    for (count, byte) in bytes.iter().enumerate() {
+        if !is_quiet(*byte) {
+            return count;
+        }
+    }
+    bytes.len()
 }

@@ -15,7 +15,7 @@ use crate::place::{Place, scan};
 use crate::trim::needed;
 use mdc_ast::{Refusal, Stmt};
 use mdc_outside::{Failed, Source};
-use mdc_values::Memory;
+use mdc_values::{Boxed, Memory};
 use std::alloc::{AllocError, Global};
 use std::marker::Model;
 
@@ -28,7 +28,7 @@ const READ_SIZE: usize = 4_096;
 /// An item of a script.
 #[derive(Debug, Drop)]
 pub enum Read {
-    Stmt(Stmt),
+    Stmt(Boxed<Stmt>),
     Refused(Refusal),
 }
 

@@ -1,5 +1,6 @@
 // Bytes that no statement has.
 ghost use Rattle.std.specs.Prelude.{◌≡◌, ◌∷◌, List, ℕ, false, length, MatchOption, Some, None, Bool, slice_index};
+ghost use Rattle.std.specs.List.{list_all};
 ghost use Rattle.mdc_ast.specs.Tokens.{FirstStrange, is_plain};
 ghost use Rattle.sql_reader.specs.Strange.{begins_dash, is_strange, within_after, IsFoundIn};
 
@@ -20,6 +21,24 @@ pub(crate) struct Strange {
 
 /// The first byte that no statement has outside comments.
 pub(crate) fn first_strange(statement: &[u8]) -> Option<Strange>
+    ensures { IsFoundIn statement.now result }
+{
+    // Most statements have no such byte at all, be it in a comment or not.
+    if are_plain(statement) {
+        return None;
+    }
+    strange_outside(statement)
+}
+
+/// Whether all bytes may stand anywhere in a statement.
+fn are_plain(bytes: &[u8]) -> bool
+    ensures { result ≡ list_all is_plain bytes.now }
+{
+    bytes.iter().all(|byte| is_plain(*byte))
+}
+
+/// The first byte that no statement has, outside comments, byte by byte.
+fn strange_outside(statement: &[u8]) -> Option<Strange>
     ensures { IsFoundIn statement.now result }
 {
     let mut within = Within::Nothing;
@@ -52,7 +71,7 @@ fn is_strange(within: Within, byte: u8) -> bool
 fn is_plain(byte: u8) -> bool
     ensures { result ≡ is_plain byte }
 {
-    matches!(byte, b'\t' | b'\n' | b'\r' | b' '..=b'~')
+    (b' ' <= byte && byte <= b'~') || matches!(byte, b'\t' | b'\n' | b'\r')
 }
 
 /// Where the bytes behind a byte stand.

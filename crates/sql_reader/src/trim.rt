@@ -77,7 +77,7 @@ fn begins_comment(bytes: &[u8]) -> bool
 }
 
 /// Blanks stand between the words of a statement and say nothing.
-fn is_blank(byte: u8) -> bool
+pub(crate) fn is_blank(byte: u8) -> bool
     ensures { result ≡ cutting.is_blank byte }
 {
     matches!(byte, b'\t' | b'\n' | b'\r' | b' ')
