@@ -1,23 +1,22 @@
 -- A row page after one slot, or all, changed.
-use Rattle.std.proofs.Common.{◌≡◌, ◌≤◌, ◌<◌, ◌+◌, ◌-◌, ◌*◌, ◌/◌, ◌%◌, ◌^◌, ◌∙◌, ℕ, zero, suc, Bool, true, false, cond, IsTrue, List, [], ◌∷◌, ◌++◌, length, take, drop, replicate, get_or, set, Option, Some, None, refl, ap, sym, subst, inl, inr, arith, length-append}
-use Rattle.std.specs.Prelude.{is_some, ◌==◌, slice_index}
+use Rattle.std.proofs.Common.{◌≡◌, ◌≤◌, ◌<◌, ◌+◌, ◌-◌, ◌*◌, ◌/◌, ◌%◌, ◌^◌, ◌∙◌, ℕ, zero, suc, Bool, true, false, cond, IsTrue, List, ◌++◌, length, take, drop, replicate, get_or, set, Option, Some, None, refl, ap, sym, subst, inl, inr, arith}
+use Rattle.std.specs.Prelude.{is_some, ◌==◌}
 use Rattle.std.proofs.Math.Nat.{div-le_self, mul-le-mul_right}
 use Rattle.std.proofs.lemmas.Bool.{cases_eq, cases_lt}
-use Rattle.std.proofs.lemmas.List.{drop-drop, drop-take, get_or-append_right, get_or-drop, get_or-set_other, get_or-set_same, get_or-take, length-drop, length-replicate, length-set, length-take, same_lists, take-take, take_at, take_all, drop_at, take-append-drop}
+use Rattle.std.proofs.lemmas.List.{drop-drop, drop-take, get_or-append_right, get_or-drop, get_or-set_other, get_or-set_same, get_or-take, length-replicate, length-set, length-take, same_lists, take-take, take_at, drop_at}
 use Rattle.std.proofs.lemmas.List.Sums.{sum_by-set}
 use Rattle.std.proofs.lemmas.Slice.{drop-append-drop, drop-put_mid, take-put_mid_below}
 use borrow.Rule.Slice.PartMut.{put_mid}
 use Rattle.mdc_ast.specs.declared.definition.ColumnDef.{ColumnDef}
 use Rattle.mdc_ast.specs.declared.row.Row.{Row}
 use Rattle.mdc_ast.specs.meaning.Database.{fits_all}
-use Rattle.mdc_words.specs.Listed.{listed}
 use Rattle.mdc_words.proofs.ListedLemmas.{length-listed, get_or-listed}
 use Rattle.store_api.specs.StoreState.{patched, zero_page}
 use Rattle.row_page.specs.Row.{row_bytes, row_in, row_width_of}
-use Rattle.row_page.specs.RowPage.{AreRowsWritten, AreSpareBitsBlank, AreSpareBytesBlank, IsRowPage, IsWrittenRow, count_rows, empty_row_page, is_slot_filled, row_page_head, rows_of, slot_bit_bytes, slot_bytes, slot_count, slot_row, slot_start, slots_end, slots_start}
+use Rattle.row_page.specs.RowPage.{IsRowPage, IsWrittenRow, count_rows, empty_row_page, is_slot_filled, row_page_head, rows_of, slot_bit_bytes, slot_bytes, slot_count, slot_row, slot_start, slots_end, slots_start}
 use Rattle.row_page.specs.Slots.{TurnsSlot, one_if}
-use Rattle.row_page.proofs.RowLemmas.{length-row_bytes, row_in-row_bytes, row_width_of-ge}
-use Rattle.row_page.proofs.RowPageLemmas.{count_rows-le, drop-zero_page, slot_count-le, slots_end-le}
+use Rattle.row_page.proofs.RowLemmas.{length-row_bytes, row_in-row_bytes}
+use Rattle.row_page.proofs.RowPageLemmas.{count_rows-le, slots_end-le}
 
 -- ---- where a slot lies
 

@@ -1,12 +1,12 @@
 -- Rows as bytes, written and read.
-use Rattle.std.proofs.Common.{◌≡◌, ◌≤◌, ◌<◌, ◌+◌, ◌-◌, ◌*◌, ◌/◌, ◌%◌, ◌^◌, ℕ, zero, suc, Bool, true, false, cond, IsTrue, List, [], ◌∷◌, ◌++◌, length, take, drop, replicate, get_or, Option, Some, None, refl, ap, sym, subst, ◌∙◌, arith, length-append, append-nil, append_assoc}
-use Rattle.std.specs.Prelude.{◌&&◌, ◌==◌, slice_get, not, ◌↔◌}
+use Rattle.std.proofs.Common.{◌≡◌, ◌≤◌, ◌<◌, ◌+◌, ◌-◌, ◌*◌, ◌/◌, ◌%◌, ◌^◌, ℕ, zero, suc, Bool, true, false, cond, IsTrue, List, [], ◌∷◌, ◌++◌, length, take, drop, replicate, get_or, Some, refl, ap, sym, subst, ◌∙◌, arith, length-append, append-nil, append_assoc}
+use Rattle.std.specs.Prelude.{◌&&◌, ◌==◌, slice_get, ◌↔◌}
 use Rattle.std.proofs.Math.Nat.{div-div-eq-div-mul, div-one, pow-le-pow_right, pow-succ'}
 use Rattle.std.proofs.lemmas.Bool.Decides.{nat_tests}
-use Rattle.std.proofs.lemmas.List.{at_drop_all, at_drop_more, drop_all, drop_more, drop-drop, get_or-drop, get_or-take, length-drop, length-replicate, length-take, take-append-drop, take_all, take_at, drop_at}
+use Rattle.std.proofs.lemmas.List.{at_drop_all, at_drop_more, drop_all, drop_more, drop-drop, get_or-drop, length-drop, length-replicate, length-take, take-append-drop, take_all, take_at, drop_at}
 use Rattle.std.proofs.lemmas.Nat.{be_bytes_2, be_bytes_8}
 use Rattle.byteorder.specs.Endian.{big_bytes, big_number}
-use Rattle.byteorder.specs.Numbers.{big_from-lt, big_from-take, big_number-reads_back, length-bytes_high_first}
+use Rattle.byteorder.specs.Numbers.{big_from-take, big_number-reads_back}
 use Rattle.mdc_values.specs.declared.value.ColType.{ColType}
 use Rattle.mdc_values.specs.declared.value.Value.{Value}
 use Rattle.mdc_values.specs.declared.value.Value.TheVariants.{Null, Int, Text, Day}
@@ -14,7 +14,7 @@ use Rattle.mdc_ast.specs.declared.definition.ColumnDef.{ColumnDef}
 use Rattle.mdc_ast.specs.declared.row.Row.{Row}
 use Rattle.mdc_ast.specs.meaning.Database.{fits, fits_all, is_null, is_of_type}
 use Rattle.mdc_ast.specs.meaning.Definitions.{width}
-use Rattle.row_page.specs.Row.{AreNullsBlank, bytes_of_column, column_bytes, column_value, columns_bytes, columns_values, null_bits, nulls_in, row_bytes, row_in, row_width_of, stored_bytes, value_or_null}
+use Rattle.row_page.specs.Row.{AreNullsBlank, bytes_of_column, column_bytes, columns_bytes, columns_values, null_bits, nulls_in, row_bytes, row_in, row_width_of, stored_bytes, value_or_null}
 use Rattle.row_page.specs.RowPage.{IsWrittenRow}
 use Rattle.row_page.proofs.ColumnLemmas.{AreBytes, column_bytes-Null, column_bytes-column_value, column_value-column_bytes, is_null-column_value, length-column_bytes}
 

@@ -1,7 +1,6 @@
 -- Where the rows of a page lie, as the code keeps it.
-use Rattle.std.specs.Prelude.{◌≡◌}
+use Rattle.std.specs.Prelude.{◌≡◌, List}
 use Rattle.mdc_ast.specs.declared.definition.ColumnDef.{ColumnDef}
-use Rattle.std.specs.Prelude.{List}
 use Rattle.row_page.specs.declared.layout.Layout.{Layout}
 use Rattle.row_page.specs.Row.{AreRowColumns, row_width_of}
 use Rattle.row_page.specs.RowPage.{slot_count, slots_start}

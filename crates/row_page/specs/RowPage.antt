@@ -1,5 +1,5 @@
 -- A page of rows: slots, each empty or with a row (docs/FORMAT.md, "Row pages").
-use Rattle.std.specs.Prelude.{◌≡◌, ℕ, ◌+◌, ◌-◌, ◌*◌, ◌/◌, ◌%◌, ◌^◌, ◌==◌, ◌≤◌, ◌<◌, Bool, true, false, IsTrue, if◌then◌else◌, List, [], ◌∷◌, ◌++◌, length, take, drop, replicate, slice_index, Option, Some, None, is_some}
+use Rattle.std.specs.Prelude.{◌≡◌, ℕ, ◌+◌, ◌-◌, ◌*◌, ◌/◌, ◌%◌, ◌^◌, ◌==◌, ◌≤◌, ◌<◌, Bool, true, false, IsTrue, if◌then◌else◌, List, [], ◌∷◌, ◌++◌, take, drop, replicate, slice_index, Option, Some, None, is_some}
 use Rattle.std.specs.List.{count_by}
 use Rattle.byteorder.specs.Endian.{big_bytes, big_number}
 use Rattle.mdc_ast.specs.declared.definition.ColumnDef.{ColumnDef}

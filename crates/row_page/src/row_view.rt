@@ -74,7 +74,7 @@ impl<'p> RowView<'p> {
         ensures { IfOk result (λ row. row ≡ row_in self.now.columns.now self.now.bytes.now) }
     {
         let bytes = self.bytes;
-        let mut values = List::new(alloc);
+        let mut values = Vec::with_capacity(alloc, self.columns.len())?;
         let mut nulls = self.nulls();
         let mut at = ROW_HEAD;
         for column in self.columns {
@@ -87,7 +87,7 @@ impl<'p> RowView<'p> {
         }
         Ok(Row {
             number: self.number(),
-            values,
+            values: List::from_vec(values),
         })
     }
 

@@ -160,17 +160,18 @@ fn a_view_lends_what_a_page_has(rt: HostRuntime) -> Result<(), Fail> {
     assert!(rt; view.row(1).is_none());
     let row = view.row(23).expect(&rt, "a row");
     assert_eq!(rt; row.number(), 7);
-    shows_negative_and_null(&rt, alloc, row, &columns)
+    assert_eq!(rt; columns.len(), 2);
+    assert!(rt; row.bytes(0) == Some(b"\xff\xff\xff\xfe".as_slice()));
+    assert!(rt; row.bytes(1).is_none());
+    let mut shown = Vec::new(alloc);
+    print(&row.value(alloc, 0)?, &mut shown)?;
+    print(&row.value(alloc, 1)?, &mut shown)?;
+    assert_eq!(rt; shown.as_slice(), b"-2NULL".as_slice());
+    shows_negative_and_null(&rt, alloc, row)
 }
 
 /// A row 7 of -2 and a null.
-fn shows_negative_and_null(
-    rt: &impl Abort,
-    alloc: Global,
-    row: RowView,
-    columns: &List<ColumnDef>,
-) -> Result<(), Fail> {
-    let _ = columns;
+fn shows_negative_and_null(rt: &impl Abort, alloc: Global, row: RowView) -> Result<(), Fail> {
     let copy = row.to_row(alloc)?;
     assert_eq!(rt; copy.number, 7);
     assert_eq!(rt; copy.values.len(), 2);

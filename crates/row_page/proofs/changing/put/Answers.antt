@@ -1,7 +1,7 @@
 -- One slot gets the row's bytes.
-use Rattle.std.proofs.Common.{◌≡◌, ◌≤◌, ◌<◌, ◌+◌, ◌-◌, ◌*◌, ◌^◌, ◌∙◌, ap, sym, length, arith}
+use Rattle.std.proofs.Common.{◌≡◌, ◌+◌, ◌-◌, ◌*◌, ◌∙◌, ap, arith}
 use Rattle.row_page.specs.Row.{row_bytes, row_width_of}
-use Rattle.row_page.specs.RowPage.{slot_count, slot_start, slots_start}
+use Rattle.row_page.specs.RowPage.{slot_start, slots_start}
 use Rattle.row_page.proofs.ChangingLemmas.{IsRowPage-with}
 use Rattle.row_page.proofs.changing.put.Goals as goal
 

@@ -1,6 +1,6 @@
 -- No slot has a row.
-use Rattle.std.proofs.Common.{◌≡◌, ◌∙◌, ap, sym, subst, replicate, Option, None}
-use Rattle.row_page.specs.RowPage.{IsRowPage, empty_row_page, slot_count}
+use Rattle.std.proofs.Common.{◌∙◌, ap, sym, subst, replicate, None}
+use Rattle.row_page.specs.RowPage.{IsRowPage, slot_count}
 use Rattle.row_page.proofs.ChangingLemmas.{IsRowPage-empty, wiped}
 use Rattle.row_page.proofs.changing.wipe.Goals as goal
 

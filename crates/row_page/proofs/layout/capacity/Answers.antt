@@ -1,7 +1,5 @@
 -- There are at most as many slots as in the narrowest rows.
-use Rattle.std.proofs.Common.{◌≡◌, ◌≤◌, ◌*◌, ◌+◌, ap, ◌∙◌, arith}
-use Rattle.std.proofs.Math.Nat.{mul-le-mul_left}
-use Rattle.row_page.proofs.BitsLemmas.{mask-sub}
+use Rattle.std.proofs.Common.{arith}
 use Rattle.row_page.proofs.RowPageLemmas.{slot_count-le}
 use Rattle.row_page.proofs.layout.capacity.Goals as goal
 

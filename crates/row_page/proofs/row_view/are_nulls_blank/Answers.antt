@@ -1,8 +1,7 @@
 -- All nulls are blank where those of the columns that are left are.
-use Rattle.std.proofs.Common.{◌≡◌, ◌∙◌, ◌%◌, ◌+◌, ◌/◌, ℕ, Bool, IsTrue, true, false, List, ap, arith, sym, subst, drop, take, length, replicate}
+use Rattle.std.proofs.Common.{◌≡◌, ◌∙◌, ◌%◌, ℕ, Bool, IsTrue, false, List, ap, arith, sym, drop, length, replicate}
 use Rattle.std.specs.Prelude.{◌==◌, ◌↔◌}
 use Rattle.std.proofs.lemmas.Bool.Decides.{nat_tests}
-use Rattle.row_page.specs.Row.{AreNullsBlank}
 use Rattle.row_page.proofs.RowLemmas.{row_width_of-step, AreNullsBlank-more, AreNullsBlank-not, AreNullsBlank-end}
 use Rattle.row_page.proofs.row_view.are_nulls_blank.Goals as goal
 

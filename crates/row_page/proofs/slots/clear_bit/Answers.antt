@@ -1,5 +1,5 @@
 -- The bit of a filled slot is 1, so the byte has it to give.
-use Rattle.std.proofs.Common.{◌≡◌, ◌+◌, ◌-◌, ◌/◌, ◌%◌, ◌^◌, ◌≤◌, ap, arith, set, get_or}
+use Rattle.std.proofs.Common.{◌+◌, ◌-◌, ◌/◌, ◌%◌, ◌^◌, ◌≤◌, ap, arith, set, get_or}
 use Rattle.row_page.proofs.BitsLemmas.{mask-sub, bit-le, odd_bit}
 use Rattle.row_page.proofs.slots.clear_bit.Goals as goal
 

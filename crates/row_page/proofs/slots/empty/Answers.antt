@@ -1,5 +1,5 @@
 -- The bit of the slot, and the count beside it.
-use Rattle.std.proofs.Common.{◌≡◌, ◌∙◌, ◌-◌, ap, sym, arith}
+use Rattle.std.proofs.Common.{◌∙◌, ◌-◌, ap, sym, arith}
 use Rattle.row_page.proofs.SlotsLemmas.{TurnsSlot-off, TurnsSlot-itself}
 use Rattle.row_page.proofs.slots.empty.Goals as goal
 

@@ -1,5 +1,5 @@
 -- The bit of an empty slot is 0, so the byte has room for it.
-use Rattle.std.proofs.Common.{◌≡◌, ◌+◌, ◌-◌, ◌/◌, ◌%◌, ◌^◌, ◌<◌, ap, arith, set, get_or}
+use Rattle.std.proofs.Common.{◌+◌, ◌-◌, ◌/◌, ◌%◌, ◌^◌, ◌<◌, ap, arith, set, get_or}
 use Rattle.row_page.proofs.BitsLemmas.{mask-sub, bit_added-lt, even_bit}
 use Rattle.row_page.proofs.slots.set_bit.Goals as goal
 

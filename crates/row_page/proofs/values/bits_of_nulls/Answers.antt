@@ -1,5 +1,5 @@
 -- Each value before puts its bit below those behind it.
-use Rattle.std.proofs.Common.{◌≡◌, true, false, sym, ◌∙◌, length, arith}
+use Rattle.std.proofs.Common.{true, false, sym, ◌∙◌, arith}
 use Rattle.row_page.proofs.RowLemmas.{null_bits-step}
 use Rattle.row_page.proofs.values.bits_of_nulls.Goals as goal
 

@@ -1,5 +1,5 @@
 -- The three parts of a row, one behind the other.
-use Rattle.std.proofs.Common.{◌≡◌, ◌∙◌, ◌++◌, IsTrue, ap, subst, sym, length, take, drop, arith}
+use Rattle.std.proofs.Common.{◌∙◌, ◌++◌, IsTrue, ap, subst, sym, length, arith}
 use Rattle.mdc_ast.specs.meaning.Database.{fits_all}
 use Rattle.byteorder.specs.Endian.{big_bytes}
 use Rattle.row_page.specs.Row.{columns_bytes, null_bits, row_bytes}

@@ -1,5 +1,5 @@
 -- The first i values are written.
-use Rattle.std.proofs.Common.{◌≡◌, ◌+◌, ◌∙◌, refl, length, sym, arith}
+use Rattle.std.proofs.Common.{◌∙◌, refl, length, arith}
 use Rattle.row_page.proofs.RowLemmas.{row_width_of-step, fits_all-step, columns_bytes-more, columns_bytes-all}
 use Rattle.row_page.proofs.values.write_values.Goals as goal
 

@@ -1,5 +1,5 @@
 -- One slot more, with a row or without.
-use Rattle.std.proofs.Common.{◌≡◌, ◌≤◌, ◌∙◌, ◌+◌, true, false, sym, arith}
+use Rattle.std.proofs.Common.{◌∙◌, true, false, sym, arith}
 use Rattle.row_page.proofs.RowPageLemmas.{count_rows-more}
 use Rattle.row_page.proofs.page_view.RowPageView.count_filled.Goals as goal
 use Rattle.row_page.proofs.page_view.RowPageView.count_filled.Goals.{then-is_filled, else-is_filled}

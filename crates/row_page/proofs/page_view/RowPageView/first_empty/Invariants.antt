@@ -1,4 +1,4 @@
-use Rattle.std.proofs.Common.{◌≡◌, ◌≤◌, ◌<◌, ◌+◌, ◌-◌, ℕ, true}
+use Rattle.std.proofs.Common.{◌≡◌, ◌<◌, ◌+◌, ◌-◌, ℕ, true}
 use Rattle.row_page.specs.RowPage.{is_slot_filled}
 use Rattle.row_page.proofs.page_view.RowPageView.first_empty.Given as goal
 

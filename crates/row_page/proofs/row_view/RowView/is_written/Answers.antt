@@ -1,5 +1,5 @@
 -- A row whose nulls are blank is written as it was.
-use Rattle.std.proofs.Common.{◌≡◌, ℕ, ◌<◌, IsTrue, subst, sym, arith, drop, get_or}
+use Rattle.std.proofs.Common.{ℕ, subst, sym, drop}
 use Rattle.row_page.specs.Row.{AreNullsBlank}
 use Rattle.row_page.proofs.RowLemmas.{IsWrittenRow-blank, IsWrittenRow-back}
 use Rattle.row_page.proofs.row_view.RowView.is_written.Goals as goal

@@ -1,13 +1,12 @@
 -- The value is read from the bytes of its column.
-use Rattle.std.proofs.Common.{◌≡◌, ◌∙◌, ◌/◌, ◌^◌, ◌%◌, ℕ, Bool, true, false, List, length, get_or, Option, Some, Result, Ok, Err, ap, sym, subst, arith}
-use Rattle.std.specs.Prelude.{slice_get, IfOk, IsErr, ◌==◌}
+use Rattle.std.proofs.Common.{◌≡◌, ◌∙◌, ℕ, Bool, false, List, length, get_or, Option, Some, Result, Ok, Err, ap, sym, subst}
+use Rattle.std.specs.Prelude.{IfOk}
 use Rattle.std.proofs.lemmas.Option.{same_Some}
 use Rattle.mdc_values.specs.declared.memory.Memory.{Memory}
 use Rattle.mdc_values.specs.declared.value.ColType.{ColType}
 use Rattle.mdc_values.specs.declared.value.Value.{Value}
 use Rattle.mdc_values.specs.Value.{IsText}
-use Rattle.mdc_ast.specs.meaning.Definitions.{width}
-use Rattle.row_page.specs.Row.{column_value, is_stored_null, row_in, stored_bytes, value_or_null}
+use Rattle.row_page.specs.Row.{column_value, stored_bytes, value_or_null}
 use Rattle.row_page.proofs.RowLemmas.{get-row_in, length-stored_bytes}
 use Rattle.row_page.proofs.row_view.RowView.value.Goals as goal
 
