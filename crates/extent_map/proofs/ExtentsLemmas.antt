@@ -1,0 +1,90 @@
+-- Pages by their extent and their place in it.
+use Rattle.std.proofs.Common.{◌≡◌, ◌⊎◌, ◌<◌, ◌≤◌, ◌+◌, ◌-◌, ◌*◌, ◌/◌, ◌%◌, ◌&&◌, ℕ, Bool, true, false, nat_le, List, set, inl, inr, refl, ap, sym, ◌∙◌, arith}
+use Rattle.std.proofs.Math.Nat.{mul-le-mul_right}
+use Rattle.std.proofs.lemmas.Bool.{cases_lt, cases_eq}
+use Rattle.std.proofs.lemmas.Bool.Decides.{nat_tests}
+use Rattle.std.proofs.lemmas.Nat.{div-mul-add, mod-mul-add, div-add-mod', div_below}
+use Rattle.store_api.specs.Extents.{is_extent_size, first_count, first_page_of}
+use Rattle.extent_map.specs.Kinds.{is_used_place, with_used_place, without_place}
+use Rattle.extent_map.specs.Owners.{owner_of, extent_of, place_in_extent, IsExtentPage, IsUsedPage, with_used_page, without_page}
+use Rattle.extent_map.specs.declared.extents.Extents.{Extents}
+use Rattle.extent_map.specs.declared.kind.Kind.{Kind}
+
+-- an extent has a page, and at most 32
+pub size_limits : (n : ℕ) → is_extent_size n ≡ true → (2 ≤ n) × (n ≤ 32)
+size_limits n is = (grind (arith, nat_tests), grind (arith, nat_tests))
+
+last_true : (a b c d : Bool) → (a && b && c && d) ≡ true → c ≡ true
+last_true true true true d is = refl
+last_true true true false d is = absurd (cc)
+last_true true false c d is = absurd (cc)
+last_true false b c d is = absurd (cc)
+
+pub extent_limits : (ext : Extents) → (2 ≤ ext.extent_pages) × (ext.extent_pages ≤ 32)
+extent_limits ext = size_limits ext.extent_pages (last_true (nat_le 4 ext.cap) (nat_le ext.cap 65536) (is_extent_size ext.extent_pages) (nat_le (ext.cap * ext.extent_pages) 262144) ext.within)
+
+-- the page at a place of an extent
+pub extent_of-page : (ext : Extents) (e j : ℕ) → j < ext.extent_pages → extent_of ext (first_page_of ext.cap ext.extent_pages e + j) ≡ e
+extent_of-page ext e j less =
+    let n = ext.extent_pages in
+    let inside : first_page_of ext.cap n e + j - first_count ext.cap ≡ e * n + j = omega arith in
+    ap (λ k. k / n) inside ∙ div-mul-add e n j less
+
+pub place_of-page : (ext : Extents) (e j : ℕ) → j < ext.extent_pages → place_in_extent ext (first_page_of ext.cap ext.extent_pages e + j) ≡ j
+place_of-page ext e j less =
+    let n = ext.extent_pages in
+    let inside : first_page_of ext.cap n e + j - first_count ext.cap ≡ e * n + j = omega arith in
+    ap (λ k. k % n) inside ∙ mod-mul-add e n j less
+
+pub is_extent_page : (ext : Extents) (e j : ℕ) → e < ext.cap → j < ext.extent_pages → IsExtentPage ext (first_page_of ext.cap ext.extent_pages e + j)
+is_extent_page ext e j below less =
+    let all : (e + 1) * ext.extent_pages ≤ ext.cap * ext.extent_pages = let next : e + 1 ≤ ext.cap = omega arith in mul-le-mul_right ext.extent_pages next in
+    record { behind = omega arith; within = omega (arith, all) }
+
+-- each page of an extent is that at its place
+pub place_below : (ext : Extents) (p : ℕ) → place_in_extent ext p < ext.extent_pages
+place_below ext p = let some = (extent_limits ext).0 in omega (arith, some)
+
+pub page_of-parts : (ext : Extents) (p : ℕ) → IsExtentPage ext p → first_page_of ext.cap ext.extent_pages (extent_of ext p) + place_in_extent ext p ≡ p
+page_of-parts ext p is = omega (arith, is.behind, div-add-mod' (p - first_count ext.cap) ext.extent_pages)
+
+pub extent_below : (ext : Extents) (p : ℕ) → IsExtentPage ext p → extent_of ext p < ext.cap
+extent_below ext p is =
+    let some = (extent_limits ext).0 in
+    div_below (p - first_count ext.cap) ext.extent_pages ext.cap (omega (arith, some)) (omega (arith, is.within, is.behind))
+
+-- a lower page lies in a lower extent, or at a lower place of the same
+pub lower_page : (ext : Extents) (q e j : ℕ) → IsExtentPage ext q → j < ext.extent_pages → q < first_page_of ext.cap ext.extent_pages e + j
+    → (extent_of ext q < e) ⊎ ((extent_of ext q ≡ e) × (place_in_extent ext q < j))
+lower_page ext q e j is less lower = elim (cases_lt (extent_of ext q) e) [
+  | inl before ↦ inl before
+  | inr after ↦
+      let n = ext.extent_pages in
+      let parts = page_of-parts ext q is in
+      elim (cases_eq (extent_of ext q) e) [
+        | inl same ↦ (let product : extent_of ext q * n ≡ e * n = ap (λ x. x * n) same in inr (same, omega (arith, parts, product, lower)))
+        | inr other ↦
+            let next : e + 1 ≤ extent_of ext q = omega (arith, after, other) in
+            let product : (e + 1) * n ≤ extent_of ext q * n = mul-le-mul_right n next in
+            absurd (omega (arith, parts, product, lower, less))
+      ]
+]
+
+-- the list with a page more, or less, by its extent and place
+pub with_page-parts : (ext : Extents) (owners : List Kind) (p e j : ℕ) (kind : Kind) → e ≡ extent_of ext p → j ≡ place_in_extent ext p → kind ≡ owner_of owners e
+    → set owners e (with_used_place j kind) ≡ with_used_page ext owners p
+with_page-parts ext owners p e j kind is_extent is_place is_kind =
+    ap (λ k. set owners e (with_used_place j k)) is_kind ∙ (ap (λ i. set owners e (with_used_place i (owner_of owners e))) is_place
+    ∙ ap (λ x. set owners x (with_used_place (place_in_extent ext p) (owner_of owners x))) is_extent)
+
+pub without_page-parts : (ext : Extents) (owners : List Kind) (p e j : ℕ) (kind : Kind) → e ≡ extent_of ext p → j ≡ place_in_extent ext p → kind ≡ owner_of owners e
+    → set owners e (without_place j kind) ≡ without_page ext owners p
+without_page-parts ext owners p e j kind is_extent is_place is_kind =
+    ap (λ k. set owners e (without_place j k)) is_kind ∙ (ap (λ i. set owners e (without_place i (owner_of owners e))) is_place
+    ∙ ap (λ x. set owners x (without_place (place_in_extent ext p) (owner_of owners x))) is_extent)
+
+-- a used page, by its extent and place
+pub used_by_parts : (ext : Extents) (owners : List Kind) (p e j : ℕ) (kind : Kind) → e ≡ extent_of ext p → j ≡ place_in_extent ext p → owner_of owners e ≡ kind
+    → IsUsedPage ext owners p → is_used_place j kind ≡ true
+used_by_parts ext owners p e j kind is_extent is_place is_kind used =
+    ap (is_used_place j) (sym is_kind) ∙ (ap (λ i. is_used_place i (owner_of owners e)) is_place ∙ (ap (λ x. is_used_place (place_in_extent ext p) (owner_of owners x)) is_extent ∙ used.used))

@@ -1,0 +1,13 @@
+pub mod BitsLemmas
+pub mod ClaimsLemmas
+pub mod CountsLemmas
+pub mod DamagesLemmas
+pub mod ExtentsLemmas
+pub mod HoldsMapLemmas
+pub mod IndexPagesLemmas
+pub mod KindsLemmas
+pub mod LawsOfTheMap
+pub mod MapLemmas
+pub mod OwnersLemmas
+pub mod SearchesLemmas
+pub mod UsedPagesLemmas

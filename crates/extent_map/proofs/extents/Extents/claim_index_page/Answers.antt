@@ -1,0 +1,170 @@
+use Rattle.std.proofs.Common.{◌≡◌, ◌<◌, List, None, IfSome, IfNone, inl, inr, refl, subst, arith}
+use Rattle.store_api.specs.RunsOverPages.{RunsOverPages}
+use Rattle.store_api.proofs.RunsOverPagesLemmas.{runs_then, runs_wider, runs_exit_as}
+use Rattle.extent_map.specs.Claims.{ClaimsExtent, HasNoneFrom}
+use Rattle.extent_map.specs.Damages.{BreaksSpace, store_part_of}
+use Rattle.extent_map.specs.Map.{HoldsMap, IsSpacePage}
+use Rattle.extent_map.specs.Searches.{IsFound, FindsWanted}
+use Rattle.extent_map.specs.declared.finding.Wanted.TheVariants.{UnusedPage}
+use Rattle.extent_map.specs.declared.kind.Kind.{Kind}
+use Rattle.extent_map.specs.declared.kind.Kind.TheVariants.{Index}
+use Rattle.extent_map.proofs.BitsLemmas.{lowest_unused_below}
+use Rattle.extent_map.proofs.ClaimsLemmas.{on_err, changes_count_after, changes_count_still}
+use Rattle.extent_map.proofs.DamagesLemmas.{breaks_space_same}
+use Rattle.extent_map.proofs.HoldsMapLemmas.{is_map_page, holds_map_along, holds_map_same}
+use Rattle.extent_map.proofs.IndexPagesLemmas.{are_kinds, taken_unused, taken_lowest, taken_list, taken_notes, begun_claimable, begun_lowest, begun_list, begun_notes, has_no_free, has_no_unused, full_notes, none_behind}
+use Rattle.extent_map.proofs.extents.Extents.claim_index_page.Goals as goal
+
+pub returns-in_err-found-clause-kept : goal.returns-in_err-found-clause-kept
+returns-in_err-found-clause-kept g c = on_err c.from_residual.result (λ owners is. holds_map_same c.find.ensures.runs.works.steady.is_told c.find.ensures.same is)
+
+pub returns-in_err-p-clause-kept : goal.returns-in_err-p-clause-kept
+returns-in_err-p-clause-kept g c = on_err c.from_residual-in_err-p.result (λ owners is.
+    holds_map_same c.take_page.ensures.runs.works.steady.is_told c.in_err-p.ensures.kept (holds_map_same c.find.ensures.runs.works.steady.is_told c.find.ensures.same is))
+
+pub returns-in_err-p-clause-runs : goal.returns-in_err-p-clause-runs
+returns-in_err-p-clause-runs g c =
+    let ext = c.args.self.now in
+    let start : RunsOverPages g.P.Pages (IsSpacePage ext) (IsSpacePage ext) (BreaksSpace g.P.Pages ext c.args.pages.now) c.args.pages.now c.find.new.pages None =
+    runs_wider c.in_ok-found.ensures.runs (λ p there none. absurd none) (λ p on. inr on) (λ damage breaks. breaks) in
+    let found = subst (λ f. IfSome f (IsFound UnusedPage ext.extent_pages ext.unused_from c.whole_extents-to.result)) c.in-Some.is c.in_ok-found.ensures.fits in
+    let below : c.in-Some.e < ext.cap = omega (arith, found.within, c.whole_extents-to.ensures.within) in
+    runs_exit_as store_part_of c.from_residual-in_err-p.result c.from_residual-in_err-p.ensures.1
+    (runs_then start c.in_err-p.ensures.runs (λ p there is. inr (is_map_page ext c.in-Some.e p below is)) (λ p is. inr (is_map_page ext c.in-Some.e p below is)) (λ damage breaks. breaks_space_same damage c.find.ensures.runs.works.steady.is_told c.find.ensures.same breaks))
+
+pub returns-in-Some-clause-runs : goal.returns-in-Some-clause-runs
+returns-in-Some-clause-runs g c =
+    let ext = c.args.self.now in
+    let start : RunsOverPages g.P.Pages (IsSpacePage ext) (IsSpacePage ext) (BreaksSpace g.P.Pages ext c.args.pages.now) c.args.pages.now c.find.new.pages None =
+    runs_wider c.in_ok-found.ensures.runs (λ p there none. absurd none) (λ p on. inr on) (λ damage breaks. breaks) in
+    let found = subst (λ f. IfSome f (IsFound UnusedPage ext.extent_pages ext.unused_from c.whole_extents-to.result)) c.in-Some.is c.in_ok-found.ensures.fits in
+    let below : c.in-Some.e < ext.cap = omega (arith, found.within, c.whole_extents-to.ensures.within) in
+    runs_then start c.in_ok-p.ensures.runs (λ p there is. inr (is_map_page ext c.in-Some.e p below is)) (λ p is. inr (is_map_page ext c.in-Some.e p below is)) (λ damage breaks. breaks_space_same damage c.find.ensures.runs.works.steady.is_told c.find.ensures.same breaks)
+
+pub returns-in-Some-clause-root : goal.returns-in-Some-clause-root
+returns-in-Some-clause-root g c = changes_count_still c.find.ensures.runs.works.steady.is_told c.find.ensures.same c.take_page.ensures.runs.touches (omega arith)
+
+pub returns-in-Some-clause-unused : goal.returns-in-Some-clause-unused
+returns-in-Some-clause-unused g c = λ owners is.
+    let ext = c.args.self.now in
+    let found = subst (λ f. IfSome f (IsFound UnusedPage ext.extent_pages ext.unused_from c.whole_extents-to.result)) c.in-Some.is c.in_ok-found.ensures.fits in
+    let below : c.in-Some.e < ext.cap = omega (arith, found.within, c.whole_extents-to.ensures.within) in
+    let finds = subst (λ f. FindsWanted UnusedPage ext.extent_pages owners ext.unused_from c.whole_extents-to.result f) c.in-Some.is (c.in_ok-found.ensures.found owners is) in
+    let takes = c.in_ok-p.ensures.takes in
+    let unused = taken_unused ext owners c.in_ok-p.p c.in-Some.e takes.place c.in-Some.kind below found.kind takes.lowest takes.page finds.0 in
+    record { page = unused.page; claimable = inl unused }
+
+pub returns-in-Some-clause-lowest : goal.returns-in-Some-clause-lowest
+returns-in-Some-clause-lowest g c = λ owners is notes.
+    let ext = c.args.self.now in
+    let found = subst (λ f. IfSome f (IsFound UnusedPage ext.extent_pages ext.unused_from c.whole_extents-to.result)) c.in-Some.is c.in_ok-found.ensures.fits in
+    let below : c.in-Some.e < ext.cap = omega (arith, found.within, c.whole_extents-to.ensures.within) in
+    let finds = subst (λ f. FindsWanted UnusedPage ext.extent_pages owners ext.unused_from c.whole_extents-to.result f) c.in-Some.is (c.in_ok-found.ensures.found owners is) in
+    let takes = c.in_ok-p.ensures.takes in
+    inl (taken_lowest ext owners c.in_ok-p.p c.in-Some.e takes.place c.in-Some.kind below found.kind takes.lowest takes.page finds.0 (are_kinds owners is) notes finds.1)
+
+pub returns-in-Some-clause-claims : goal.returns-in-Some-clause-claims
+returns-in-Some-clause-claims g c = λ owners is.
+    let ext = c.args.self.now in
+    let finds = subst (λ f. FindsWanted UnusedPage ext.extent_pages owners ext.unused_from c.whole_extents-to.result f) c.in-Some.is (c.in_ok-found.ensures.found owners is) in
+    let takes = c.in_ok-p.ensures.takes in
+    let less = lowest_unused_below ext.extent_pages takes.place c.in-Some.kind takes.lowest in
+    holds_map_along (record { cap = refl; extent_pages = refl }) (subst (λ list. HoldsMap g.P.Pages ext c.take_page.new.pages list)
+    (taken_list ext owners c.in_ok-p.p c.in-Some.e takes.place c.in-Some.kind less takes.page finds.0)
+    (takes.holds owners (holds_map_same c.find.ensures.runs.works.steady.is_told c.find.ensures.same is)))
+
+pub returns-in-Some-clause-notes : goal.returns-in-Some-clause-notes
+returns-in-Some-clause-notes g c = λ owners is notes.
+    let ext = c.args.self.now in
+    let finds = subst (λ f. FindsWanted UnusedPage ext.extent_pages owners ext.unused_from c.whole_extents-to.result f) c.in-Some.is (c.in_ok-found.ensures.found owners is) in
+    let takes = c.in_ok-p.ensures.takes in
+    let less = lowest_unused_below ext.extent_pages takes.place c.in-Some.kind takes.lowest in
+    taken_notes ext owners _ c.in_ok-p.p c.in-Some.e takes.place c.in-Some.kind (taken_list ext owners c.in_ok-p.p c.in-Some.e takes.place c.in-Some.kind less takes.page finds.0)
+    refl refl refl (are_kinds owners is) notes finds.1
+
+pub returns-in_err-e-clause-kept : goal.returns-in_err-e-clause-kept
+returns-in_err-e-clause-kept g c = on_err c.from_residual-in_err-e.result (λ owners is. c.in_err-e.ensures.kept owners (holds_map_same c.find.ensures.runs.works.steady.is_told c.find.ensures.same is))
+
+pub returns-in_err-e-clause-root : goal.returns-in_err-e-clause-root
+returns-in_err-e-clause-root g c = changes_count_after c.find.ensures.runs.works.steady.is_told c.find.ensures.same c.in_err-e.ensures.root
+
+pub returns-in_err-e-clause-runs : goal.returns-in_err-e-clause-runs
+returns-in_err-e-clause-runs g c =
+    let ext = c.args.self.now in
+    let start : RunsOverPages g.P.Pages (IsSpacePage ext) (IsSpacePage ext) (BreaksSpace g.P.Pages ext c.args.pages.now) c.args.pages.now c.find.new.pages None =
+    runs_wider c.in_ok-found.ensures.runs (λ p there none. absurd none) (λ p on. inr on) (λ damage breaks. breaks) in
+    runs_exit_as store_part_of c.from_residual-in_err-e.result c.from_residual-in_err-e.ensures.1 (runs_then start c.in_err-e.ensures.runs (λ p there is. is) (λ p is. is) (λ damage breaks. breaks_space_same damage c.find.ensures.runs.works.steady.is_told c.find.ensures.same breaks))
+
+pub returns-in_default-2-clause-runs : goal.returns-in_default-2-clause-runs
+returns-in_default-2-clause-runs g c =
+    let ext = c.args.self.now in
+    let start : RunsOverPages g.P.Pages (IsSpacePage ext) (IsSpacePage ext) (BreaksSpace g.P.Pages ext c.args.pages.now) c.args.pages.now c.find.new.pages None =
+    runs_wider c.in_ok-found.ensures.runs (λ p there none. absurd none) (λ p on. inr on) (λ damage breaks. breaks) in
+    runs_then start c.in_ok-e.ensures.runs (λ p there is. is) (λ p is. is) (λ damage breaks. breaks_space_same damage c.find.ensures.runs.works.steady.is_told c.find.ensures.same breaks)
+
+pub returns-in_default-2-clause-kept : goal.returns-in_default-2-clause-kept
+returns-in_default-2-clause-kept g c = λ owners is.
+    let same = subst (λ f. IfNone f ((g.P.Pages.state c.claim_extent.new.pages).work ≡ (g.P.Pages.state c.find.new.pages).work)) c.in_default-2.is c.in_ok-e.ensures.none_same in
+    holds_map_along (record { cap = refl; extent_pages = refl }) (holds_map_same c.in_ok-e.ensures.runs.works.steady.is_told same (holds_map_same c.find.ensures.runs.works.steady.is_told c.find.ensures.same is))
+
+pub returns-in_default-2-clause-only_full : goal.returns-in_default-2-clause-only_full
+returns-in_default-2-clause-only_full g c = λ owners is notes.
+    let ext = c.args.self.now in
+    let at = holds_map_same c.find.ensures.runs.works.steady.is_told c.find.ensures.same is in
+    let nones = none_behind owners ext.unused_from c.whole_extents-to.result is (λ e after below. omega (arith, c.whole_extents-to.ensures.behind e after below, c.count.ensures))
+    (subst (λ f. FindsWanted UnusedPage ext.extent_pages owners ext.unused_from c.whole_extents-to.result f) c.in_default.is (c.in_ok-found.ensures.found owners is)) in
+    let frees = subst (λ f. IfNone f ((owners : List Kind) → HoldsMap g.P.Pages ext c.find.new.pages owners → HasNoneFrom ext owners ext.cap)) c.in_default-2.is c.in_ok-e.ensures.none owners at in
+    (has_no_free ext owners is.count notes frees, has_no_unused ext owners (are_kinds owners is) notes nones)
+
+pub returns-in_default-2-clause-kept_notes : goal.returns-in_default-2-clause-kept_notes
+returns-in_default-2-clause-kept_notes g c = λ owners is notes.
+    let ext = c.args.self.now in
+    let at = holds_map_same c.find.ensures.runs.works.steady.is_told c.find.ensures.same is in
+    let nones = none_behind owners ext.unused_from c.whole_extents-to.result is (λ e after below. omega (arith, c.whole_extents-to.ensures.behind e after below, c.count.ensures))
+    (subst (λ f. FindsWanted UnusedPage ext.extent_pages owners ext.unused_from c.whole_extents-to.result f) c.in_default.is (c.in_ok-found.ensures.found owners is)) in
+    let frees = subst (λ f. IfNone f ((owners : List Kind) → HoldsMap g.P.Pages ext c.find.new.pages owners → HasNoneFrom ext owners ext.cap)) c.in_default-2.is c.in_ok-e.ensures.none owners at in
+    full_notes ext owners _ refl refl refl is.count (are_kinds owners is) notes nones frees
+
+pub returns-clause-unused : goal.returns-clause-unused
+returns-clause-unused g c = λ owners is.
+    let ext = c.args.self.now in
+    let at = holds_map_same c.find.ensures.runs.works.steady.is_told c.find.ensures.same is in
+    let claim = subst (λ f. IfSome f (λ e. ClaimsExtent g.P.Pages ext (Index 1) c.find.new.pages c.claim_extent.new.pages e)) c.in-Some-2.is c.in_ok-e.ensures.claims in
+    begun_claimable ext owners c.first_page.result c.in-Some-2.e claim.within c.first_page.ensures (claim.free owners at)
+
+pub returns-clause-lowest : goal.returns-clause-lowest
+returns-clause-lowest g c = λ owners is notes.
+    let ext = c.args.self.now in
+    let at = holds_map_same c.find.ensures.runs.works.steady.is_told c.find.ensures.same is in
+    let nones = none_behind owners ext.unused_from c.whole_extents-to.result is (λ e after below. omega (arith, c.whole_extents-to.ensures.behind e after below, c.count.ensures))
+    (subst (λ f. FindsWanted UnusedPage ext.extent_pages owners ext.unused_from c.whole_extents-to.result f) c.in_default.is (c.in_ok-found.ensures.found owners is)) in
+    let claim = subst (λ f. IfSome f (λ e. ClaimsExtent g.P.Pages ext (Index 1) c.find.new.pages c.claim_extent.new.pages e)) c.in-Some-2.is c.in_ok-e.ensures.claims in
+    begun_lowest ext owners c.first_page.result c.in-Some-2.e claim.within is.count c.first_page.ensures (claim.free owners at) (are_kinds owners is) notes nones (claim.passed owners at)
+
+pub returns-clause-claims : goal.returns-clause-claims
+returns-clause-claims g c = λ owners is.
+    let ext = c.args.self.now in
+    let at = holds_map_same c.find.ensures.runs.works.steady.is_told c.find.ensures.same is in
+    let claim = subst (λ f. IfSome f (λ e. ClaimsExtent g.P.Pages ext (Index 1) c.find.new.pages c.claim_extent.new.pages e)) c.in-Some-2.is c.in_ok-e.ensures.claims in
+    holds_map_along (record { cap = refl; extent_pages = refl }) (subst (λ list. HoldsMap g.P.Pages ext c.claim_extent.new.pages list)
+    (begun_list ext owners c.first_page.result c.in-Some-2.e c.first_page.ensures (claim.free owners at)) (claim.holds owners at))
+
+pub returns-clause-notes : goal.returns-clause-notes
+returns-clause-notes g c = λ owners is notes.
+    let ext = c.args.self.now in
+    let at = holds_map_same c.find.ensures.runs.works.steady.is_told c.find.ensures.same is in
+    let nones = none_behind owners ext.unused_from c.whole_extents-to.result is (λ e after below. omega (arith, c.whole_extents-to.ensures.behind e after below, c.count.ensures))
+    (subst (λ f. FindsWanted UnusedPage ext.extent_pages owners ext.unused_from c.whole_extents-to.result f) c.in_default.is (c.in_ok-found.ensures.found owners is)) in
+    let claim = subst (λ f. IfSome f (λ e. ClaimsExtent g.P.Pages ext (Index 1) c.find.new.pages c.claim_extent.new.pages e)) c.in-Some-2.is c.in_ok-e.ensures.claims in
+    begun_notes ext owners _ c.first_page.result c.in-Some-2.e (begun_list ext owners c.first_page.result c.in-Some-2.e c.first_page.ensures (claim.free owners at))
+    refl refl refl claim.within (are_kinds owners is) notes nones (claim.passed owners at)
+
+pub returns-clause-root : goal.returns-clause-root
+returns-clause-root g c = changes_count_after c.find.ensures.runs.works.steady.is_told c.find.ensures.same c.in_ok-e.ensures.root
+
+pub returns-clause-runs : goal.returns-clause-runs
+returns-clause-runs g c =
+    let ext = c.args.self.now in
+    let start : RunsOverPages g.P.Pages (IsSpacePage ext) (IsSpacePage ext) (BreaksSpace g.P.Pages ext c.args.pages.now) c.args.pages.now c.find.new.pages None =
+    runs_wider c.in_ok-found.ensures.runs (λ p there none. absurd none) (λ p on. inr on) (λ damage breaks. breaks) in
+    runs_then start c.in_ok-e.ensures.runs (λ p there is. is) (λ p is. is) (λ damage breaks. breaks_space_same damage c.find.ensures.runs.works.steady.is_told c.find.ensures.same breaks)

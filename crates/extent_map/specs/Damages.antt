@@ -1,0 +1,50 @@
+-- Which damage a call on extents may name, and what its own faults are.
+use Rattle.std.specs.Prelude.{◌≡◌, ◌⊎◌, ◌<◌, ◌+◌, ◌/◌, ℕ, IsTrue, List, Option, Some, None}
+use Rattle.store_api.specs.Extents.{map_pages}
+use Rattle.store_api.specs.declared.fault.Damage.{Damage}
+use Rattle.store_api.specs.declared.fault.StoreFault.{StoreFault}
+use Rattle.store_api.specs.declared.pages.Pages.{Ghosts}
+use Rattle.extent_map.specs.Kinds.{is_block_kind}
+use Rattle.extent_map.specs.Map.{HoldsMapPage, IsWhole}
+use Rattle.extent_map.specs.Owners.{owner_of, extent_of, IsUsedPage}
+use Rattle.extent_map.specs.declared.extents.Extents.{Extents}
+use Rattle.extent_map.specs.declared.fault.SpaceFault.{SpaceFault}
+use Rattle.extent_map.specs.declared.fault.SpaceFault.TheVariants.{Full, Store}
+use Rattle.extent_map.specs.declared.kind.Kind.{Kind}
+
+-- the fault of the store in a fault of a claim, if any
+abbrev pub store_part_of : SpaceFault → Option StoreFault
+store_part_of (Full cap) = None
+store_part_of (Store fault) = Some fault
+
+-- a fact on the number that Full states
+abbrev pub IfFull : SpaceFault → (ℕ → Type 0) → Type 0
+IfFull (Full cap) P = P cap
+IfFull (Store fault) P = Unit {0}
+
+-- rule 1: there aren't as many pages as whole extents make
+pub record BreaksCount {S : Type 0} (g : Ghosts S) (ext : Extents) (s : S) (damage : Damage) : Type 0 where
+  pub page : damage.page ≡ 0
+  pub rule : damage.rule ≡ 1
+  pub not_whole : IsWhole g ext s → ⊥
+
+-- rule 2: no extents that meet a fact are told on a page of the map
+pub record BreaksMapPage {S : Type 0} (g : Ghosts S) (ext : Extents) (s : S) (Meets : List Kind → Type 0) (i : ℕ) (damage : Damage) : Type 0 where
+  pub page : damage.page ≡ 17 + i
+  pub on_map : i < map_pages ext.cap
+  pub rule : damage.rule ≡ 2
+  pub none_told : (owners : List Kind) → HoldsMapPage g ext s owners i → Meets owners → ⊥
+
+-- the number of pages or a page of the map breaks its rule
+abbrev pub BreaksSpace : {S : Type 0} → Ghosts S → Extents → S → Damage → Type 0
+BreaksSpace g ext s damage = BreaksCount g ext s damage ⊎ ((i : ℕ) × BreaksMapPage g ext s (λ owners. Unit {0}) i damage)
+
+-- the same, or the extent isn't a block
+abbrev pub BreaksBlock : {S : Type 0} → Ghosts S → Extents → S → ℕ → Damage → Type 0
+BreaksBlock g ext s e damage =
+    BreaksSpace g ext s damage ⊎ BreaksMapPage g ext s (λ owners. IsTrue (is_block_kind (owner_of owners e))) (e / 512) damage
+
+-- the same, or the page isn't a used page of an index extent
+abbrev pub BreaksUsedPage : {S : Type 0} → Ghosts S → Extents → S → ℕ → Damage → Type 0
+BreaksUsedPage g ext s p damage =
+    BreaksSpace g ext s damage ⊎ BreaksMapPage g ext s (λ owners. IsUsedPage ext owners p) (extent_of ext p / 512) damage

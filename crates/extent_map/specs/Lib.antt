@@ -1,0 +1,6 @@
+pub mod Claims
+pub mod Damages
+pub mod Kinds
+pub mod Map
+pub mod Owners
+pub mod Searches

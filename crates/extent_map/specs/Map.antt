@@ -1,0 +1,64 @@
+-- The pages of the extent map, and what they are told to hold (docs/FORMAT.md, "Extent map").
+use Rattle.std.specs.Prelude.{◌≡◌, ◌≢◌, ◌⊎◌, ◌<◌, ◌≤◌, ◌+◌, ◌*◌, ◌/◌, ◌%◌, ℕ, zero, suc, List, [], ◌++◌, length, take, drop}
+use Rattle.std.specs.Int.{to_be_bytes, w32}
+use Rattle.store_api.specs.Extents.{first_count, first_page_of, map_pages}
+use Rattle.store_api.specs.Frame.{HoldsPage}
+use Rattle.store_api.specs.StoreState.{patched}
+use Rattle.store_api.specs.declared.pages.Pages.{Ghosts}
+use Rattle.extent_map.specs.Kinds.{kind_bytes, IsKindOf}
+use Rattle.extent_map.specs.Owners.{owner_of}
+use Rattle.extent_map.specs.declared.extents.Extents.{Extents}
+use Rattle.extent_map.specs.declared.kind.Kind.{Kind}
+use Rattle.extent_map.specs.declared.kind.Kind.TheVariants.{Free}
+
+-- the bytes of so many extents from one on
+unfoldable pub map_entries : List Kind → ℕ → ℕ → List ℕ
+map_entries owners e zero = []
+map_entries owners e (suc n) = kind_bytes (owner_of owners e) ++ map_entries owners (suc e) n
+
+-- The i-th page of the map. It has 512 extents, and those behind the last are as free ones: zeros.
+unfoldable pub map_page : List Kind → ℕ → List ℕ
+map_page owners i = map_entries owners (512 * i) 512
+
+-- the page of the map that an extent stands on
+abbrev pub map_page_of : ℕ → ℕ
+map_page_of e = 17 + e / 512
+
+-- the place of its bytes there
+abbrev pub entry_place : ℕ → ℕ
+entry_place e = 8 * (e % 512)
+
+-- the bytes of an extent on its page of the map
+abbrev pub entry_of : List ℕ → ℕ → List ℕ
+entry_of page e = take 8 (drop (entry_place e) page)
+
+-- A page of the map, and what it says of its extents: each is of a kind that it may have, and one that isn't free lies within
+-- the pages that there are. Whether a table is there is not asked.
+pub record HoldsMapPage {S : Type 0} (g : Ghosts S) (ext : Extents) (s : S) (owners : List Kind) (i : ℕ) : Type 0 where
+  pub page : HoldsPage g s (17 + i) (map_page owners i)
+  pub kinds : (e : ℕ) → e / 512 ≡ i → IsKindOf ext.extent_pages (owner_of owners e)
+  pub there : (e : ℕ) → e / 512 ≡ i → owner_of owners e ≢ Free → first_page_of ext.cap ext.extent_pages (e + 1) ≤ length (g.state s).work
+
+-- the extent map is told to be this list, of which each extent has its place
+pub record HoldsMap {S : Type 0} (g : Ghosts S) (ext : Extents) (s : S) (owners : List Kind) : Type 0 where
+  pub count : length owners ≡ ext.cap
+  pub pages : (i : ℕ) → i < map_pages ext.cap → HoldsMapPage g ext s owners i
+
+-- there are as many pages as some number of whole extents make
+pub record IsWhole {S : Type 0} (g : Ghosts S) (ext : Extents) (s : S) : Type 0 where
+  pub extents : ℕ
+  pub within : extents ≤ ext.cap
+  pub count : length (g.state s).work ≡ first_page_of ext.cap ext.extent_pages extents
+
+-- a page of the map
+abbrev pub IsMapPage : Extents → ℕ → Type 0
+IsMapPage ext p = (17 ≤ p) × (p < first_count ext.cap)
+
+-- a page of the map, or page 0
+abbrev pub IsSpacePage : Extents → ℕ → Type 0
+IsSpacePage ext p = (p ≡ 0) ⊎ IsMapPage ext p
+
+-- page 0, where it is told, is as it was, or it states how many pages there are now
+pub record ChangesCount {S : Type 0} (g : Ghosts S) (old new : S) : Type 0 where
+  pub root : (bytes : List ℕ) → HoldsPage g old 0 bytes
+      → HoldsPage g new 0 bytes ⊎ HoldsPage g new 0 (patched 8 (to_be_bytes w32 (length (g.state new).work)) bytes)

@@ -1,0 +1,68 @@
+// The two things that a claim takes: a free extent, or a page of an index extent.
+ghost use Rattle.std.specs.Prelude.{◌≡◌, ◌+◌, ◌<◌, List, length, false, IfOk, IfSome, IfNone, OnErr};
+ghost use Rattle.store_api.specs.Frame.{OnlyPage};
+ghost use Rattle.store_api.specs.Causes.{fault_of};
+ghost use Rattle.store_api.specs.RunsOverPages.{RunsOverPages};
+ghost use Rattle.extent_map.specs.Claims.{ClaimsExtent, HasNoneFrom, TakesPage};
+ghost use Rattle.extent_map.specs.Damages.{BreaksSpace};
+ghost use Rattle.extent_map.specs.Kinds.{IsKindOf, with_used_place};
+ghost use Rattle.extent_map.specs.Map.{HoldsMap, IsSpacePage, ChangesCount, map_page_of};
+ghost use Rattle.extent_map.specs.Searches.{IsFound, ShowsOwner};
+ghost use Rattle.extent_map.specs.declared.kind.Kind.{Kind};
+ghost use Rattle.extent_map.specs.declared.finding.Wanted.TheVariants.{UnusedPage};
+
+use crate::changing::{grow_to, set_kind};
+use crate::finding::{Wanted, find};
+use crate::kind::{lowest_unused_place, with_place};
+use crate::layout::wrong_entry;
+use crate::{Extents, Kind};
+use store_api::{Pages, StoreFault};
+
+/// Makes the lowest free extent from the first note on of a kind, where there is one. After a fault the owners are as they
+/// were.
+pub(crate) fn claim_extent<P: Pages>(
+    ext: &Extents,
+    pages: &mut P,
+    kind: Kind,
+) -> Result<Option<u32>, StoreFault>
+    requires going { (P.state pages.old).ended ≡ false }
+    requires kind { IsKindOf ext.now.extent_pages kind }
+    ensures claims { IfOk result (λ found. IfSome found (λ e. ClaimsExtent P.Pages ext.now kind pages.old pages.new e)) }
+    ensures none { IfOk result (λ found. IfNone found ((owners : List Kind) → HoldsMap P.Pages ext.now pages.old owners → HasNoneFrom ext.now owners ext.now.cap)) }
+    ensures none_same { IfOk result (λ found. IfNone found ((P.state pages.new).work ≡ (P.state pages.old).work)) }
+    ensures kept { OnErr result ((owners : List Kind) → HoldsMap P.Pages ext.now pages.old owners → HoldsMap P.Pages ext.now pages.new owners) }
+    ensures root { ChangesCount P.Pages pages.old pages.new }
+    ensures runs { RunsOverPages P.Pages (IsSpacePage ext.now) (IsSpacePage ext.now) (BreaksSpace P.Pages ext.now pages.old) pages.old pages.new (fault_of result) }
+{
+    let found = find(ext, pages, Wanted::FreeExtent, ext.free_from, ext.cap)?;
+    let Some((e, _)) = found else {
+        return Ok(None);
+    };
+    grow_to(pages, ext.end_of(e))?;
+    set_kind(pages, e, kind)?;
+    Ok(Some(e))
+}
+
+/// Makes the lowest page of an index extent that isn't used a used one, and answers its number. Its page of the map was
+/// looked at.
+pub(crate) fn take_page<P: Pages>(
+    ext: &Extents,
+    pages: &mut P,
+    e: u32,
+    kind: Kind,
+) -> Result<u32, StoreFault>
+    requires going { (P.state pages.old).ended ≡ false }
+    requires found { IsFound UnusedPage ext.now.extent_pages 0 ext.now.cap (e, kind) }
+    requires there { map_page_of e < length (P.state pages.old).work }
+    requires shown { ShowsOwner P.Pages ext.now pages.old e kind }
+    ensures takes { IfOk result (λ p. TakesPage P.Pages ext.now kind pages.old pages.new e p) }
+    ensures kept { OnErr result ((P.state pages.new).work ≡ (P.state pages.old).work) }
+    ensures runs { RunsOverPages P.Pages (OnlyPage (map_page_of e)) (OnlyPage (map_page_of e)) (BreaksSpace P.Pages ext.now pages.old) pages.old pages.new (fault_of result) }
+{
+    if ext.end_of(e) > pages.count() {
+        return Err(StoreFault::Damaged(wrong_entry(e)));
+    }
+    let place = lowest_unused_place(kind, ext.extent_pages).unwrap();
+    set_kind(pages, e, with_place(kind, place))?;
+    Ok(ext.first_page(e) + place)
+}

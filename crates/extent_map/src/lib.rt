@@ -1,0 +1,21 @@
+//! The extent map: who owns each extent of a database, and which index pages are used.
+//!
+//! The extents lie behind the map, all of one size. Each is free, a block of a table, or has pages of trees, of which a bit
+//! each says whether it is used. `Extents` is seen by the list of these kinds, the owners. It promises that one call changes
+//! one extent or one page of that list, that a claim takes the lowest, that Full comes only where nothing is left, and that
+//! no page but page 0 and the map is touched. It stands on the contract of pages alone, told or not.
+#![tactic(auto)]
+
+mod changing;
+mod claiming;
+mod extents;
+mod fault;
+mod finding;
+mod kind;
+mod laws;
+mod layout;
+
+pub use extents::Extents;
+pub use fault::SpaceFault;
+pub use kind::Kind;
+pub use laws::{fresh_map, one_map, worked_entries};
