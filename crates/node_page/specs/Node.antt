@@ -13,18 +13,18 @@ pub data Node : Type 0 where
   NoNode : Node
 
 -- these bytes and then zeros, a page in all
-abbrev pub page_of : List ℕ → List ℕ
-page_of bytes = bytes ++ drop (length bytes) zero_page
+abbrev pub filled_page : List ℕ → List ℕ
+filled_page bytes = bytes ++ drop (length bytes) zero_page
 
 -- the head of 16 bytes: the mark, the width, the number of entries and the first child
 abbrev pub node_head : ℕ → ℕ → ℕ → ℕ → List ℕ
 node_head mark width n child = (mark ∷ 0 ∷ []) ++ big_bytes 2 width ++ big_bytes 2 n ++ (0 ∷ 0 ∷ []) ++ big_bytes 4 child ++ big_bytes 4 0
 
 -- separators, each with the child behind it
-abbrev pub forks : List Entry → List ℕ → List ℕ
-forks [] children = []
-forks (s ∷ separators) [] = []
-forks (s ∷ separators) (c ∷ children) = s ++ big_bytes 4 c ++ forks separators children
+abbrev pub fork_items : List Entry → List ℕ → List ℕ
+fork_items [] children = []
+fork_items (s ∷ separators) [] = []
+fork_items (s ∷ separators) (c ∷ children) = s ++ big_bytes 4 c ++ fork_items separators children
 
 -- the first child, where there is one
 abbrev pub first_child : List ℕ → ℕ
@@ -33,9 +33,9 @@ first_child (c ∷ children) = c
 
 -- the page that a node is written as
 abbrev pub node_bytes : ℕ → Node → List ℕ
-node_bytes width (LeafNode entries) = page_of (node_head 76 width (length entries) 0 ++ flat_map (λ entry. entry) entries)
+node_bytes width (LeafNode entries) = filled_page (node_head 76 width (length entries) 0 ++ flat_map (λ entry. entry) entries)
 node_bytes width (InnerNode separators children) =
-    page_of (node_head 73 width (length separators) (first_child children) ++ forks separators (drop 1 children))
+    filled_page (node_head 73 width (length separators) (first_child children) ++ fork_items separators (drop 1 children))
 node_bytes width NoNode = []
 
 -- how many entries fit into a leaf, and how many separators into an inner node
@@ -46,15 +46,15 @@ abbrev pub inner_room : ℕ → ℕ
 inner_room width = 4080 / (width + 4)
 
 -- the number in n bytes from a place on, and the bytes there
-abbrev pub number_in : ℕ → ℕ → List ℕ → ℕ
-number_in at n page = big_number n (drop at page)
+abbrev pub number_within : ℕ → ℕ → List ℕ → ℕ
+number_within at n page = big_number n (drop at page)
 
 abbrev pub bytes_in : ℕ → ℕ → List ℕ → List ℕ
 bytes_in at n page = take n (drop at page)
 
 -- how many entries a page states
 abbrev pub stated_entries : List ℕ → ℕ
-stated_entries page = number_in 4 2 page
+stated_entries page = number_within 4 2 page
 
 -- what the fields of a page say that it is
 abbrev pub stated_leaf : ℕ → ℕ → List ℕ → Node
@@ -63,13 +63,13 @@ stated_leaf width n page = LeafNode (listed n (λ i. bytes_in (16 + i * width) w
 abbrev pub stated_inner : ℕ → ℕ → List ℕ → Node
 stated_inner width n page =
     InnerNode (listed n (λ i. bytes_in (16 + i * (width + 4)) width page))
-              (number_in 8 4 page ∷ listed n (λ i. number_in (16 + i * (width + 4) + width) 4 page))
+    (number_within 8 4 page ∷ listed n (λ i. number_within (16 + i * (width + 4) + width) 4 page))
 
 abbrev pub stated_node : ℕ → List ℕ → Node
 stated_node width page =
-    if (number_in 0 1 page == 76) && nat_le (stated_entries page * width) 4080 then stated_leaf width (stated_entries page) page
-    else (if (number_in 0 1 page == 73) && nat_lt 0 (stated_entries page) && nat_le (stated_entries page * (width + 4)) 4080
-          then stated_inner width (stated_entries page) page else NoNode)
+    if (number_within 0 1 page == 76) && nat_le (stated_entries page * width) 4080 then stated_leaf width (stated_entries page) page
+    else (if (number_within 0 1 page == 73) && nat_lt 0 (stated_entries page) && nat_le (stated_entries page * (width + 4)) 4080
+    then stated_inner width (stated_entries page) page else NoNode)
 
 -- The node that a page is: the one that its fields say, where that is written as this very page. So no byte that isn't named
 -- is anything but zero. The order of the entries isn't judged here.

@@ -1,0 +1,12 @@
+pub mod BytesLemmas
+pub mod CutLemmas
+pub mod FindLemmas
+pub mod InnerLemmas
+pub mod JoinedLemmas
+pub mod JudgeLemmas
+pub mod LaidLemmas
+pub mod LeafLemmas
+pub mod NodeLemmas
+pub mod SeenLemmas
+pub mod SweepLemmas
+pub mod WordsLemmas
