@@ -1,7 +1,7 @@
 -- Which damage is there, where the bytes of an extent have a wrong form, and where it lies behind the pages that there are.
-use Rattle.std.proofs.Common.{◌≡◌, ◌≢◌, ◌<◌, ◌+◌, ◌/◌, ℕ, IsTrue, max, List, length, inl, inr, refl, ap, ◌∙◌, arith}
+use Rattle.std.proofs.Common.{◌≡◌, ◌≢◌, ◌<◌, ◌≤◌, ◌+◌, ◌-◌, ◌/◌, ℕ, IsTrue, max, List, length, inl, inr, refl, ap, ◌∙◌, arith}
 use Rattle.std.proofs.lemmas.Bool.{cases_lt}
-use Rattle.store_api.specs.Extents.{first_page_of}
+use Rattle.store_api.specs.Extents.{first_count, first_page_of, map_pages}
 use Rattle.store_api.specs.declared.fault.Damage.{Damage}
 use Rattle.store_api.specs.declared.pages.Pages.{Ghosts}
 use Rattle.extent_map.specs.Damages.{BreaksSpace, BreaksBlock, BreaksUsedPage}
@@ -11,6 +11,7 @@ use Rattle.extent_map.specs.Owners.{owner_of, extent_of, IsUsedPage}
 use Rattle.extent_map.specs.declared.extents.Extents.{Extents}
 use Rattle.extent_map.specs.declared.kind.Kind.{Kind}
 use Rattle.extent_map.specs.declared.kind.Kind.TheVariants.{Free}
+use Rattle.extent_map.proofs.ExtentsLemmas.{some_extents}
 use Rattle.extent_map.proofs.HoldsMapLemmas.{map_page_same, on_map}
 
 module _ {S : Type 0} {g : Ghosts S} where
@@ -29,30 +30,37 @@ module _ {S : Type 0} {g : Ghosts S} where
   pub breaks_space_same : {ext : Extents} {old new : S} (damage : Damage) → (g.state new).is_told ≡ (g.state old).is_told → (g.state new).work ≡ (g.state old).work
       → BreaksSpace g ext new damage → BreaksSpace g ext old damage
   breaks_space_same damage told same breaks = elim breaks [
-    | inl count ↦ inl (record { page = count.page; rule = count.rule; not_whole = λ is. count.not_whole (record { extents = is.extents; within = is.within; count = ap length same ∙ is.count }) })
+    | inl count ↦ inl (record { page = count.page; rule = count.rule; short = omega (arith, count.short, ap length same) })
     | inr map ↦ inr (map.0, record { page = map.1.page; on_map = map.1.on_map; rule = map.1.rule; none_told = λ owners is meets. map.1.none_told owners (map_page_same told same is) meets })
   ]
 
-  -- no damage is named where the owners are told, and there are as many pages as whole extents make
-  pub breaks_space_never : {ext : Extents} {s : S} {owners : List Kind} (damage : Damage) → HoldsMap g ext s owners → IsWhole g ext s → BreaksSpace g ext s damage → ⊥
-  breaks_space_never {owners = owners} damage is whole breaks = elim breaks [
-    | inl count ↦ count.not_whole whole
+  -- where the owners are told, the pages of the map are there
+  pub holds_first_count : (ext : Extents) {s : S} {owners : List Kind} → HoldsMap g ext s owners → first_count ext.cap ≤ length (g.state s).work
+  holds_first_count ext is =
+      let some : 4 ≤ ext.cap = some_extents ext in
+      let last : map_pages ext.cap - 1 < map_pages ext.cap = omega arith in
+      omega (arith, last, (is.pages (map_pages ext.cap - 1) last).page.within)
+
+  -- no damage is named where the owners are told
+  pub breaks_space_never : {ext : Extents} {s : S} {owners : List Kind} (damage : Damage) → HoldsMap g ext s owners → BreaksSpace g ext s damage → ⊥
+  breaks_space_never {ext = ext} {owners = owners} damage is breaks = elim breaks [
+    | inl count ↦ omega (arith, count.short, holds_first_count ext is)
     | inr map ↦ map.1.none_told owners (is.pages map.0 map.1.on_map) tt
   ]
 
   -- nor where a block is given back
-  pub breaks_block_never : {ext : Extents} {s : S} {owners : List Kind} (e : ℕ) (damage : Damage) → HoldsMap g ext s owners → IsWhole g ext s → IsTrue (is_block_kind (owner_of owners e))
+  pub breaks_block_never : {ext : Extents} {s : S} {owners : List Kind} (e : ℕ) (damage : Damage) → HoldsMap g ext s owners → IsTrue (is_block_kind (owner_of owners e))
       → BreaksBlock g ext s e damage → ⊥
-  breaks_block_never {owners = owners} e damage is whole block breaks = elim breaks [
-    | inl space ↦ breaks_space_never damage is whole space
+  breaks_block_never {owners = owners} e damage is block breaks = elim breaks [
+    | inl space ↦ breaks_space_never damage is space
     | inr map ↦ map.none_told owners (is.pages (e / 512) map.on_map) block
   ]
 
   -- nor where a used page is given back
-  pub breaks_used_page_never : {ext : Extents} {s : S} {owners : List Kind} (p : ℕ) (damage : Damage) → HoldsMap g ext s owners → IsWhole g ext s → IsUsedPage ext owners p
+  pub breaks_used_page_never : {ext : Extents} {s : S} {owners : List Kind} (p : ℕ) (damage : Damage) → HoldsMap g ext s owners → IsUsedPage ext owners p
       → BreaksUsedPage g ext s p damage → ⊥
-  breaks_used_page_never {ext = ext} {owners = owners} p damage is whole used breaks = elim breaks [
-    | inl space ↦ breaks_space_never damage is whole space
+  breaks_used_page_never {ext = ext} {owners = owners} p damage is used breaks = elim breaks [
+    | inl space ↦ breaks_space_never damage is space
     | inr map ↦ map.none_told owners (is.pages (extent_of ext p / 512) map.on_map) used
   ]
 

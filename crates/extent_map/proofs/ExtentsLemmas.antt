@@ -23,6 +23,17 @@ last_true false b c d is = absurd (cc)
 pub extent_limits : (ext : Extents) → (2 ≤ ext.extent_pages) × (ext.extent_pages ≤ 32)
 extent_limits ext = size_limits ext.extent_pages (last_true (nat_le 4 ext.cap) (nat_le ext.cap 65536) (is_extent_size ext.extent_pages) (nat_le (ext.cap * ext.extent_pages) 262144) ext.within)
 
+first_true : (a b c d : Bool) → (a && b && c && d) ≡ true → a ≡ true
+first_true true b c d is = refl
+first_true false true c d is = absurd (cc)
+first_true false false c d is = absurd (cc)
+
+-- there are some extents
+pub some_extents : (ext : Extents) → 4 ≤ ext.cap
+some_extents ext =
+    let is : nat_le 4 ext.cap ≡ true = first_true (nat_le 4 ext.cap) (nat_le ext.cap 65536) (is_extent_size ext.extent_pages) (nat_le (ext.cap * ext.extent_pages) 262144) ext.within in
+    grind (arith, nat_tests)
+
 -- the page at a place of an extent
 pub extent_of-page : (ext : Extents) (e j : ℕ) → j < ext.extent_pages → extent_of ext (first_page_of ext.cap ext.extent_pages e + j) ≡ e
 extent_of-page ext e j less =

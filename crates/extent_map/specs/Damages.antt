@@ -1,11 +1,11 @@
 -- Which damage a call on extents may name, and what its own faults are.
-use Rattle.std.specs.Prelude.{◌≡◌, ◌⊎◌, ◌<◌, ◌+◌, ◌/◌, ℕ, IsTrue, List, Option, Some, None}
-use Rattle.store_api.specs.Extents.{map_pages}
+use Rattle.std.specs.Prelude.{◌≡◌, ◌⊎◌, ◌<◌, ◌+◌, ◌/◌, ℕ, IsTrue, List, length, Option, Some, None}
+use Rattle.store_api.specs.Extents.{first_count, map_pages}
 use Rattle.store_api.specs.declared.fault.Damage.{Damage}
 use Rattle.store_api.specs.declared.fault.StoreFault.{StoreFault}
 use Rattle.store_api.specs.declared.pages.Pages.{Ghosts}
 use Rattle.extent_map.specs.Kinds.{is_block_kind}
-use Rattle.extent_map.specs.Map.{HoldsMapPage, IsWhole}
+use Rattle.extent_map.specs.Map.{HoldsMapPage}
 use Rattle.extent_map.specs.Owners.{owner_of, extent_of, IsUsedPage}
 use Rattle.extent_map.specs.declared.extents.Extents.{Extents}
 use Rattle.extent_map.specs.declared.fault.SpaceFault.{SpaceFault}
@@ -22,11 +22,11 @@ abbrev pub IfFull : SpaceFault → (ℕ → Type 0) → Type 0
 IfFull (Full cap) P = P cap
 IfFull (Store fault) P = Unit {0}
 
--- rule 1: there aren't as many pages as whole extents make
+-- rule 1: there are fewer pages than stand before the extents
 pub record BreaksCount {S : Type 0} (g : Ghosts S) (ext : Extents) (s : S) (damage : Damage) : Type 0 where
   pub page : damage.page ≡ 0
   pub rule : damage.rule ≡ 1
-  pub not_whole : IsWhole g ext s → ⊥
+  pub short : length (g.state s).work < first_count ext.cap
 
 -- rule 2: no extents that meet a fact are told on a page of the map
 pub record BreaksMapPage {S : Type 0} (g : Ghosts S) (ext : Extents) (s : S) (Meets : List Kind → Type 0) (i : ℕ) (damage : Damage) : Type 0 where

@@ -18,7 +18,7 @@ use store_api::{MAX_PAGES, Pages, StoreFault};
 ///
 /// Where the work goes back, by `undo` or `rollback`, its notes have to be forgotten. A note that is too high makes a claim
 /// take one that isn't the lowest, or answer Full too early; it breaks nothing else.
-#[derive(Clone, Copy, Debug)]
+#[derive(Debug, Drop)]
 pub struct Extents {
     pub cap: u32,
     pub extent_pages: u32,

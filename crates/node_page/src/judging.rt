@@ -1,5 +1,5 @@
 // A page judged whole.
-ghost use Rattle.std.specs.Prelude.{◌≡◌, ◌*◌, ◌<◌, ◌≤◌, IsTrue, ◌↔◌, Some};
+ghost use Rattle.std.specs.Prelude.{◌≡◌, ◌*◌, ◌<◌, ◌≤◌, IsTrue, IfSome, ◌↔◌, Some};
 ghost use Rattle.node_page.specs.Node.{Node};
 ghost use Rattle.node_page.specs.Entries.{EntriesRise};
 ghost use Rattle.node_page.specs.Looked.{IsNode, entries_in, seen_node};
@@ -13,7 +13,7 @@ use store_api::{Page, blank_page};
 impl<'p> NodeView<'p> {
     /// Reads a page whole: None exactly where its bytes aren't a node of this width, with entries that rise.
     pub fn read(page: &'p Page, width: u16) -> Option<NodeView<'p>>
-        ensures only { (node : Node) → result ≡ Some (seen_node width node) → IsNode width page.now node }
+        ensures only { IfSome result (λ view. (view.width ≡ width) × IsNode width page.now view.node) }
         ensures all { (node : Node) → IsNode width page.now node → result ≡ Some (seen_node width node) }
     {
         let view = NodeView::look(page, width)?;

@@ -33,20 +33,19 @@ returns-then-not-rises-clause-all c = λ node isn.
     absurd (both_ways c.rises.result c.if-not-rises.true (c.rises.ensures.1 (subst (λ x. EntriesRise (entries_in x)) same isn.rising)))
 
 pub returns-clause-only : goal.returns-clause-only
-returns-clause-only c = λ node is.
+returns-clause-only c =
     let w = c.args.width in
     let page = c.args.page.now in
     let v = c.in_ok-view.view in
     let seen : looked w page ≡ Some (seen_node w v.node) = sym c.look.ensures.seen ∙ c.in_ok-view.was ∙ ap (λ k. Some (seen_node k v.node)) c.in_ok-view.ensures.width in
-    let same = same_seen w v.node node (ap (λ k. Some (seen_node k v.node)) (sym c.in_ok-view.ensures.width) ∙ is) in
     let yes : IsWritten w c.is_leaf.result c.len.result page = c.is_written.ensures.0 c.if-not-is_written.false in
     let written : IsWritten w (is_leaf_node v.node) (length (entries_in v.node)) page =
     subst (λ k. IsWritten w (is_leaf_node v.node) k page) c.len.ensures (subst (λ b. IsWritten w b c.len.result page) c.is_leaf.ensures.leaf yes) in
-    record {
-      form = written_is w page v.node seen c.told-page c.fits-page written ∙ same;
-      written = subst (λ x. x ≡ NoNode → ⊥) same (looked_got w page v.node seen).1;
-      rising = subst (λ x. EntriesRise (entries_in x)) same (c.rises.ensures.0 c.if-not-rises.false);
-    }
+    (c.in_ok-view.ensures.width, record {
+      form = written_is w page v.node seen c.told-page c.fits-page written;
+      written = (looked_got w page v.node seen).1;
+      rising = c.rises.ensures.0 c.if-not-rises.false;
+    })
 
 pub returns-clause-all : goal.returns-clause-all
 returns-clause-all c = λ node isn.
