@@ -40,12 +40,14 @@ returns-clause-only c =
     let seen : looked w page ≡ Some (seen_node w v.node) = sym c.look.ensures.seen ∙ c.in_ok-view.was ∙ ap (λ k. Some (seen_node k v.node)) c.in_ok-view.ensures.width in
     let yes : IsWritten w c.is_leaf.result c.len.result page = c.is_written.ensures.0 c.if-not-is_written.false in
     let written : IsWritten w (is_leaf_node v.node) (length (entries_in v.node)) page =
-    subst (λ k. IsWritten w (is_leaf_node v.node) k page) c.len.ensures (subst (λ b. IsWritten w b c.len.result page) c.is_leaf.ensures.leaf yes) in
-    (c.in_ok-view.ensures.width, record {
-      form = written_is w page v.node seen c.told-page c.fits-page written;
-      written = (looked_got w page v.node seen).1;
-      rising = c.rises.ensures.0 c.if-not-rises.false;
-    })
+    subst (λ k. IsWritten w (is_leaf_node v.node) k page) c.len.ensures (subst (λ b. IsWritten w b c.len.result page) c.is_leaf.ensures.leaf yes) in (
+      c.in_ok-view.ensures.width,
+      record {
+        form = written_is w page v.node seen c.told-page c.fits-page written;
+        written = (looked_got w page v.node seen).1;
+        rising = c.rises.ensures.0 c.if-not-rises.false;
+      },
+    )
 
 pub returns-clause-all : goal.returns-clause-all
 returns-clause-all c = λ node isn.
