@@ -1,0 +1,244 @@
+-- What `add` needs, over plain variables.
+use Rattle.std.proofs.Common.{◌≡◌, ◌≢◌, ◌<◌, ◌≤◌, ◌+◌, ◌⊎◌, ℕ, List, [], ◌∷◌, ◌++◌, length, take, drop, refl, ap, arith, sym, ◌∙◌, subst, inl, inr, reverse, Bool, true, false}
+use Rattle.std.specs.Prelude.{if◌then◌else◌, Option, Some, None}
+use Rattle.mdc_words.specs.ByteOrder.{Entry}
+use Rattle.node_page.specs.Node.{Node, is_full}
+use Rattle.node_page.specs.Node.Node.{LeafNode}
+use Rattle.store_api.specs.Frame.{Touches, NoPage, OnlyPage}
+use Rattle.store_api.specs.Works.{Steady}
+use Rattle.store_api.specs.RunsOverPages.{RunsOverPages}
+use Rattle.store_api.specs.declared.fault.Damage.{Damage}
+use Rattle.store_api.specs.declared.fault.StoreFault.{StoreFault}
+use Rattle.store_api.specs.declared.pages.Pages.{Ghosts}
+use Rattle.store_api.proofs.FrameLemmas.{touches_then, touches_wider}
+use Rattle.store_api.proofs.RunsOverPagesLemmas.{runs_wider}
+use Rattle.extent_map.specs.Damages.{IfFull}
+use Rattle.extent_map.specs.Map.{HoldsMap, IsSpacePage}
+use Rattle.extent_map.specs.Owners.{IsSameShape, AreRightNotes}
+use Rattle.extent_map.specs.declared.extents.Extents.{Extents}
+use Rattle.extent_map.specs.declared.fault.SpaceFault.{SpaceFault}
+use Rattle.extent_map.specs.declared.fault.SpaceFault.TheVariants.{Full, Store}
+use Rattle.extent_map.specs.declared.kind.Kind.{Kind}
+use Rattle.entry_tree.specs.EntryBounds.{IsEntryOf}
+use Rattle.entry_tree.specs.Forest.{Forest, leaf_entries, times}
+use Rattle.entry_tree.specs.TreePlaces.{pages_asked, run_up}
+use Rattle.entry_tree.specs.TreeChanges.{IsAdded, IsLeafFound, IsPut}
+use Rattle.entry_tree.specs.HeldTrees.{nodes_in, HoldsTree, IsTreePage, BreaksTree}
+use Rattle.entry_tree.specs.Standing.{StandsTree, with_pages, AreClaims, IsClaimed, ClaimsPages, IsIdlePage, MeetsFull, AsksPages, AddsEntry, FindsFull, IsTreeSpace, IsWholeCount, BreaksAtClaim, BreaksStanding, BreaksTreeOrMap}
+use Rattle.entry_tree.specs.Writing.{IsPathPage, IsWrittenPage, IsCutPage, BreaksWhere, IsLeafWith, IsReadyToCut}
+use Rattle.entry_tree.specs.declared.tree.Tree.{Tree}
+use Rattle.entry_tree.proofs.HeldTreesLemmas.{nodes_same}
+use Rattle.entry_tree.proofs.LeavesLemmas.{keeps_beside}
+use Rattle.entry_tree.proofs.GoingDownLemmas.{adds_here, not_there}
+use Rattle.entry_tree.proofs.WayLemmas.{head_times, at_place_times}
+use Rattle.entry_tree.proofs.ClaimsLemmas.{claims_none, shape_none, space_same}
+use Rattle.entry_tree.proofs.UsedPagesLemmas.{claims_idle, claims_pages, shape_back}
+use Rattle.entry_tree.proofs.StandingLemmas.{tree_stays, nodes_stay, map_stays, used_not_space, extent_not_space, path_times, asked_same, found_same, claims_fresh, added}
+
+none_asked : (b : Bool) (run : ℕ) → 0 ≡ (if b then 1 + run else 0) → b ≡ false
+none_asked true run e = absurd (omega arith)
+none_asked false run e = refl
+
+-- what an entry asks for
+pub asks : {S : Type 0} (g : Ghosts S) (old : S) (tree : Tree) (x : Entry) (t : Forest) (stack : List (ℕ × ℕ)) (page at n : ℕ) (there : Bool) → IsLeafFound (nodes_in tree.width (g.state old)) t x stack page at there
+    → n ≡ pages_asked (is_full tree.width) (nodes_in tree.width (g.state old)) stack page → AsksPages tree.width (nodes_in tree.width (g.state old)) t x n
+asks g old tree x t stack page at n there f e = record { stack = stack; page = page; items = f.items; place = f.place; leaf = f.leaf; asked = e }
+
+-- a leaf that asks for none has room
+pub has_room : {S : Type 0} (g : Ghosts S) (old mid : S) (tree : Tree) (x : Entry) (t : Forest) (stack : List (ℕ × ℕ)) (page at n : ℕ) → IsLeafFound (nodes_in tree.width (g.state old)) t x stack page at false
+    → n ≡ pages_asked (is_full tree.width) (nodes_in tree.width (g.state old)) stack page → n ≡ 0
+    → nodes_in tree.width (g.state mid) page ≡ nodes_in tree.width (g.state old) page → IsLeafWith tree.width (nodes_in tree.width (g.state mid) page) at false
+has_room g old mid tree x t stack page at n f e z same = record {
+  items = f.items;
+  leaf = same ∙ f.leaf;
+  within = f.spot.within;
+  room = ap (is_full tree.width) same ∙ none_asked (is_full tree.width (nodes_in tree.width (g.state old) page)) (run_up (is_full tree.width) (nodes_in tree.width (g.state old)) stack) (sym z ∙ e);
+}
+
+-- what the way down found, in each tree that was told
+abbrev pub FindsWay : {S : Type 0} → Ghosts S → S → Tree → Entry → List (ℕ × ℕ) → ℕ → ℕ → Bool → ℕ → Type 0
+FindsWay g old tree x stack page at there n =
+    (t : Forest) → HoldsTree g old tree t
+    → IsLeafFound (nodes_in tree.width (g.state old)) t x stack page at there × (n ≡ pages_asked (is_full tree.width) (nodes_in tree.width (g.state old)) stack page)
+
+module _ {S : Type 0} {g : Ghosts S} where
+  -- the way down, as a part of the whole
+  pub way_runs : (ext : Extents) (old mid : S) (tree : Tree) (fault : Option StoreFault) → RunsOverPages g NoPage (IsTreePage g old tree) (BreaksTree g old tree) old mid fault
+      → RunsOverPages g (IsTreeSpace g ext old tree) (IsTreeSpace g ext old tree) (BreaksTreeOrMap g ext old tree) old mid fault
+  way_runs ext old mid tree fault run =
+      runs_wider run (λ p there none. absurd none) (λ p is owners t s. inl (is t s.held))
+      (λ damage breaks. inl (record { page = breaks.page; rule = breaks.rule; broken = λ owners t s. breaks.broken t s.held }))
+
+  -- nothing was touched on the way down
+  pub map_after_way : (ext : Extents) (old mid : S) (tree : Tree) (owners : List Kind) → RunsOverPages g NoPage (IsTreePage g old tree) (BreaksTree g old tree) old mid None → HoldsMap g ext old owners → HoldsMap g ext mid owners
+  map_after_way ext old mid tree owners run h = map_stays NoPage ext old mid owners h run.touches run.works.no_shorter (λ p on none. none)
+
+  -- ---- a leaf with room
+
+  -- and took the entry
+  pub added_here : (ext : Extents) (old mid new : S) (tree : Tree) (x : Entry) (owners : List Kind) (t : Forest) (stack : List (ℕ × ℕ)) (page at n : ℕ)
+      → StandsTree g ext old tree owners t → IsLeafFound (nodes_in tree.width (g.state old)) t x stack page at false
+      → n ≡ pages_asked (is_full tree.width) (nodes_in tree.width (g.state old)) stack page → n ≡ 0
+      → Touches g NoPage old mid → Steady g old mid → (g.state mid).work ≡ (g.state old).work
+      → Touches g (OnlyPage page) mid new → Steady g mid new → length (g.state mid).work ≤ length (g.state new).work
+      → ((items : List Entry) → nodes_in tree.width (g.state mid) page ≡ LeafNode items → IsPut (nodes_in tree.width (g.state mid)) (nodes_in tree.width (g.state new)) page (LeafNode (take at items ++ x ∷ drop at items)))
+      → AddsEntry g ext ext old new tree x owners t
+  added_here ext old mid new tree x owners t stack page at n s f e z touched steady work written later longer put =
+      let map = map_stays NoPage ext old mid owners s.map touched (omega (arith, ap length work)) (λ p on none. none) in
+      let held = tree_stays NoPage old mid tree t s.held touched steady.is_told (λ p l none. none) in
+      let same : (p : ℕ) → 0 < times p t → nodes_in tree.width (g.state mid) p ≡ nodes_in tree.width (g.state old) p =
+      nodes_stay NoPage old mid tree t s.held touched steady.is_told (λ p l none. none) in
+      let found = found_same (nodes_in tree.width (g.state old)) (nodes_in tree.width (g.state mid)) t x stack page at false same f in
+      added NoPage (OnlyPage page) ext ext old mid new tree x owners t [] (shape_none ext) s (claims_none ext mid owners map)
+      touched steady.is_told (λ p l none. none) written later.is_told longer
+      (λ p is on. used_not_space ext owners page (s.used page (at_place_times f.place)) (subst (IsSpacePage ext) is on))
+      (asks g old tree x t stack page at 0 false f (sym z ∙ e)) (not_there _ tree.root t x stack page at s.held.is_tree f)
+      (adds_here tree.width _ _ tree.root t x stack page at held.is_tree found put (keeps_beside tree.width _ tree.root t held.is_tree held.trim))
+
+  -- ---- a full one
+
+  -- all is ready once the pages are claimed
+  pub ready : (ext : Extents) (old mid : S) (tree : Tree) (x : Entry) (owners : List Kind) (t : Forest) (stack : List (ℕ × ℕ)) (page at : ℕ) (claimed : List ℕ)
+      → StandsTree g ext old tree owners t → IsLeafFound (nodes_in tree.width (g.state old)) t x stack page at false
+      → length claimed ≡ pages_asked (is_full tree.width) (nodes_in tree.width (g.state old)) stack page
+      → Touches g (IsSpacePage ext) old mid → (g.state mid).is_told ≡ (g.state old).is_told → AreClaims ext owners claimed
+      → IsReadyToCut tree.width (nodes_in tree.width (g.state mid)) tree.root t x stack page at claimed
+  ready ext old mid tree x owners t stack page at claimed s f e touched told claims =
+      let apart : (p : ℕ) → 0 < times p t → IsSpacePage ext p → ⊥ = λ p l. used_not_space ext owners p (s.used p l) in
+      let held = tree_stays (IsSpacePage ext) old mid tree t s.held touched told apart in
+      let same : (p : ℕ) → 0 < times p t → nodes_in tree.width (g.state mid) p ≡ nodes_in tree.width (g.state old) p = nodes_stay (IsSpacePage ext) old mid tree t s.held touched told apart in
+      record {
+        is_tree = held.is_tree;
+        trim = held.trim;
+        fresh = claims_fresh ext owners claimed t s.map.count claims s.used;
+        found = found_same (nodes_in tree.width (g.state old)) (nodes_in tree.width (g.state mid)) t x stack page at false same f;
+        enough = e ∙ asked_same (is_full tree.width) (nodes_in tree.width (g.state old)) (nodes_in tree.width (g.state mid)) t x stack page f.place (λ p l. sym (same p l));
+      }
+
+  -- the pages that it writes are the tree's, or were claimed
+  cut_page : (ext : Extents) (old : S) (tree : Tree) (x : Entry) (owners : List Kind) (t : Forest) (path : List (ℕ × ℕ)) (page at : ℕ) (claimed : List ℕ) (p : ℕ)
+      → StandsTree g ext old tree owners t → IsLeafFound (nodes_in tree.width (g.state old)) t x (reverse path) page at false → IsCutPage page tree.root path claimed p → 0 < times p t ⊎ IsClaimed p claimed
+  cut_page ext old tree x owners t path page at claimed p s f (inl is) = inl (subst (λ (q : ℕ). 0 < times q t) (sym is) (at_place_times f.place))
+  cut_page ext old tree x owners t path page at claimed p s f (inr (inl is)) = inl (subst (λ (q : ℕ). 0 < times q t) (sym is) (head_times t tree.root s.held.is_tree.head))
+  cut_page ext old tree x owners t path page at claimed p s f (inr (inr (inl on))) = inl (path_times t x path page p f.place on)
+  cut_page ext old tree x owners t path page at claimed p s f (inr (inr (inr i))) = inr i
+
+  pub cut_in_space : (ext : Extents) (old : S) (tree : Tree) (x : Entry) (owners : List Kind) (t : Forest) (path : List (ℕ × ℕ)) (page at : ℕ) (claimed : List ℕ) (p : ℕ)
+      → StandsTree g ext old tree owners t → IsLeafFound (nodes_in tree.width (g.state old)) t x (reverse path) page at false → AreClaims ext owners claimed → IsCutPage page tree.root path claimed p
+      → 0 < times p t ⊎ (IsSpacePage ext p ⊎ IsIdlePage ext owners p)
+  cut_in_space ext old tree x owners t path page at claimed p s f claims is = go (cut_page ext old tree x owners t path page at claimed p s f is)
+    where
+      go : 0 < times p t ⊎ IsClaimed p claimed → 0 < times p t ⊎ (IsSpacePage ext p ⊎ IsIdlePage ext owners p)
+      go (inl l) = inl l
+      go (inr i) = inr (inr (claims_idle ext owners claimed p claims i))
+
+  cut_not_space : (ext : Extents) (old : S) (tree : Tree) (x : Entry) (owners : List Kind) (t : Forest) (path : List (ℕ × ℕ)) (page at : ℕ) (claimed : List ℕ) (p : ℕ)
+      → StandsTree g ext old tree owners t → IsLeafFound (nodes_in tree.width (g.state old)) t x (reverse path) page at false → AreClaims ext owners claimed → IsCutPage page tree.root path claimed p → IsSpacePage ext p → ⊥
+  cut_not_space ext old tree x owners t path page at claimed p s f claims is on = go (cut_page ext old tree x owners t path page at claimed p s f is)
+    where
+      go : 0 < times p t ⊎ IsClaimed p claimed → ⊥
+      go (inl l) = used_not_space ext owners p (s.used p l) on
+      go (inr i) = extent_not_space ext p (claims_pages ext owners claimed p claims i) on
+
+  -- and is added
+  pub added_with_cuts : (before ext : Extents) (old mid new : S) (tree : Tree) (x : Entry) (owners : List Kind) (t : Forest) (path : List (ℕ × ℕ)) (page at : ℕ) (claimed : List ℕ)
+      → IsSameShape before ext → StandsTree g before old tree owners t → IsLeafFound (nodes_in tree.width (g.state old)) t x (reverse path) page at false
+      → length claimed ≡ pages_asked (is_full tree.width) (nodes_in tree.width (g.state old)) (reverse path) page → ClaimsPages g before ext mid owners claimed
+      → Touches g (IsSpacePage before) old mid → (g.state mid).is_told ≡ (g.state old).is_told
+      → Touches g (IsCutPage page tree.root path claimed) mid new → (g.state new).is_told ≡ (g.state mid).is_told → length (g.state mid).work ≤ length (g.state new).work
+      → IsAdded tree.width (nodes_in tree.width (g.state mid)) (nodes_in tree.width (g.state new)) tree.root t x claimed
+      → AddsEntry g before ext old new tree x owners t
+  added_with_cuts before ext old mid new tree x owners t path page at claimed shape s f e c touched told written told_new longer a =
+      added (IsSpacePage before) (IsCutPage page tree.root path claimed) before ext old mid new tree x owners t claimed shape s c touched told (λ p l. used_not_space before owners p (s.used p l)) written told_new longer
+      (λ p is on. cut_not_space before old tree x owners t path page at claimed p s f c.claims is (space_same before ext p shape on))
+      (asks g old tree x t (reverse path) page at (length claimed) false f e) (not_there _ tree.root t x (reverse path) page at s.held.is_tree f) a
+
+-- ---- by what the way down found
+
+module _ {S : Type 0} {g : Ghosts S} where
+  not_found : (old : S) (tree : Tree) (x : Entry) (stack : List (ℕ × ℕ)) (page at n : ℕ) (there : Bool) → FindsWay g old tree x stack page at there n → there ≡ false → (t : Forest) → HoldsTree g old tree t
+      → IsLeafFound (nodes_in tree.width (g.state old)) t x stack page at false
+  not_found old tree x stack page at n there finds absent t h = subst (λ (b : Bool). IsLeafFound (nodes_in tree.width (g.state old)) t x stack page at b) absent (finds t h).0
+
+  pub here_in_space : (ext : Extents) (old : S) (tree : Tree) (x : Entry) (stack : List (ℕ × ℕ)) (page at n : ℕ) (there : Bool) (p : ℕ) → FindsWay g old tree x stack page at there n → OnlyPage page p → IsTreeSpace g ext old tree p
+  here_in_space ext old tree x stack page at n there p finds is owners t s = inl (subst (λ (q : ℕ). 0 < times q t) (sym is) (at_place_times (finds t s.held).0.place))
+
+  pub room_breaks : (ext : Extents) (old mid : S) (tree : Tree) (x : Entry) (stack : List (ℕ × ℕ)) (page at n : ℕ) (there : Bool) (damage : Damage) → FindsWay g old tree x stack page at there n → there ≡ false → n ≡ 0
+      → Steady g old mid → (g.state mid).work ≡ (g.state old).work → BreaksWhere tree (IsLeafWith tree.width (nodes_in tree.width (g.state mid) page) at false) damage → BreaksTreeOrMap g ext old tree damage
+  room_breaks ext old mid tree x stack page at n there damage finds absent z steady work breaks = inl (record {
+    page = breaks.page;
+    rule = breaks.rule;
+    broken = λ owners t s. breaks.not_so (has_room g old mid tree x t stack page at n (not_found old tree x stack page at n there finds absent t s.held) (finds t s.held).1 z
+        (nodes_same tree.width (g.state old) (g.state mid) page steady.is_told work));
+  })
+
+  pub adds_here_found : (ext : Extents) (old mid new : S) (tree : Tree) (x : Entry) (owners : List Kind) (t : Forest) (stack : List (ℕ × ℕ)) (page at n : ℕ) (there : Bool)
+      → FindsWay g old tree x stack page at there n → there ≡ false → n ≡ 0 → StandsTree g ext old tree owners t
+      → Touches g NoPage old mid → Steady g old mid → (g.state mid).work ≡ (g.state old).work
+      → Touches g (OnlyPage page) mid new → Steady g mid new → length (g.state mid).work ≤ length (g.state new).work
+      → ((items : List Entry) → nodes_in tree.width (g.state mid) page ≡ LeafNode items → IsPut (nodes_in tree.width (g.state mid)) (nodes_in tree.width (g.state new)) page (LeafNode (take at items ++ x ∷ drop at items)))
+      → AddsEntry g ext ext old new tree x owners t
+  adds_here_found ext old mid new tree x owners t stack page at n there finds absent z s touched steady work written later longer put =
+      added_here ext old mid new tree x owners t stack page at n s (not_found old tree x stack page at n there finds absent t s.held) (finds t s.held).1 z touched steady work written later longer put
+
+  -- the claims met a full map
+  pub full_found : (ext : Extents) (old mid : S) (tree : Tree) (x : Entry) (stack : List (ℕ × ℕ)) (page at n : ℕ) (there : Bool) (fault : SpaceFault) → FindsWay g old tree x stack page at there n
+      → RunsOverPages g NoPage (IsTreePage g old tree) (BreaksTree g old tree) old mid None
+      → IfFull fault (λ cap. (cap ≡ ext.cap) × ((owners : List Kind) → HoldsMap g ext mid owners → AreRightNotes ext owners → MeetsFull ext owners n))
+      → IfFull fault (λ cap. (cap ≡ ext.cap) × ((owners : List Kind) (t : Forest) → StandsTree g ext old tree owners t → AreRightNotes ext owners → FindsFull g ext old tree x owners t))
+  full_found ext old mid tree x stack page at n there (Full cap) finds run h =
+      (h.0, λ owners t s right. record { wanted = n; asked = asks g old tree x t stack page at n there (finds t s.held).0 (finds t s.held).1; full = h.1 owners (map_after_way ext old mid tree owners run s.map) right })
+  full_found ext old mid tree x stack page at n there (Store fault) finds run h = tt
+
+  pub claim_breaks : (ext : Extents) (old mid : S) (tree : Tree) (damage : Damage) → RunsOverPages g NoPage (IsTreePage g old tree) (BreaksTree g old tree) old mid None → (g.state mid).work ≡ (g.state old).work
+      → BreaksAtClaim g ext mid damage → BreaksTreeOrMap g ext old tree damage
+  claim_breaks ext old mid tree damage run work breaks = inr (record {
+    mid = breaks.mid;
+    now = breaks.now;
+    shape = breaks.shape;
+    claimed = breaks.claimed;
+    map = λ owners h. breaks.map owners (map_after_way ext old mid tree owners run h);
+    whole = λ w. breaks.whole (record { extents = w.extents; few = w.few; count = ap length work ∙ w.count });
+    breaks = breaks.breaks;
+  })
+
+  -- the way down and the claims touch the extent map alone
+  pub claims_touch : (ext : Extents) (old way mid : S) (tree : Tree) → RunsOverPages g NoPage (IsTreePage g old tree) (BreaksTree g old tree) old way None → Touches g (IsSpacePage ext) way mid → Touches g (IsSpacePage ext) old mid
+  claims_touch ext old way mid tree run touched = touches_then (touches_wider run.touches (λ p none. absurd none)) touched
+
+  pub cuts_in_space : (ext now : Extents) (old way mid : S) (tree : Tree) (x : Entry) (path : List (ℕ × ℕ)) (page at n : ℕ) (there : Bool) (claimed : List ℕ) (p : ℕ) → FindsWay g old tree x (reverse path) page at there n → there ≡ false
+      → RunsOverPages g NoPage (IsTreePage g old tree) (BreaksTree g old tree) old way None → ((owners : List Kind) → HoldsMap g ext way owners → ClaimsPages g ext now mid owners claimed)
+      → IsCutPage page tree.root path claimed p → IsTreeSpace g ext old tree p
+  cuts_in_space ext now old way mid tree x path page at n there claimed p finds absent run claims is owners t s =
+      let c = claims owners (map_after_way ext old way tree owners run s.map) in
+      cut_in_space ext old tree x owners t path page at claimed p s (not_found old tree x (reverse path) page at n there finds absent t s.held) c.claims is
+
+  ready_found : (ext now : Extents) (old way mid : S) (tree : Tree) (x : Entry) (owners : List Kind) (t : Forest) (stack : List (ℕ × ℕ)) (page at n : ℕ) (there : Bool) (claimed : List ℕ) → FindsWay g old tree x stack page at there n → there ≡ false
+      → length claimed ≡ n → RunsOverPages g NoPage (IsTreePage g old tree) (BreaksTree g old tree) old way None → Touches g (IsSpacePage ext) way mid → Steady g way mid → ClaimsPages g ext now mid owners claimed → StandsTree g ext old tree owners t
+      → IsReadyToCut tree.width (nodes_in tree.width (g.state mid)) tree.root t x stack page at claimed
+  ready_found ext now old way mid tree x owners t stack page at n there claimed finds absent many run touched steady c s =
+      ready ext old mid tree x owners t stack page at claimed s (not_found old tree x stack page at n there finds absent t s.held) (many ∙ (finds t s.held).1) (claims_touch ext old way mid tree run touched)
+      (steady.is_told ∙ run.works.steady.is_told) c.claims
+
+  pub cuts_break : (ext now : Extents) (old way mid : S) (tree : Tree) (x : Entry) (stack : List (ℕ × ℕ)) (page at n : ℕ) (there : Bool) (claimed : List ℕ) (damage : Damage) → FindsWay g old tree x stack page at there n → there ≡ false
+      → length claimed ≡ n → RunsOverPages g NoPage (IsTreePage g old tree) (BreaksTree g old tree) old way None → Touches g (IsSpacePage ext) way mid → Steady g way mid
+      → ((owners : List Kind) → HoldsMap g ext way owners → ClaimsPages g ext now mid owners claimed)
+      → BreaksWhere tree ((t : Forest) × IsReadyToCut tree.width (nodes_in tree.width (g.state mid)) tree.root t x stack page at claimed) damage → BreaksTreeOrMap g ext old tree damage
+  cuts_break ext now old way mid tree x stack page at n there claimed damage finds absent many run touched steady claims breaks = inl (record {
+    page = breaks.page;
+    rule = breaks.rule;
+    broken = λ owners t s. breaks.not_so (t, ready_found ext now old way mid tree x owners t stack page at n there claimed finds absent many run touched steady (claims owners (map_after_way ext old way tree owners run s.map)) s);
+  })
+
+  pub adds_with_cuts : (ext now : Extents) (old way mid new : S) (tree : Tree) (x : Entry) (owners : List Kind) (t : Forest) (path : List (ℕ × ℕ)) (page at n : ℕ) (there : Bool) (claimed : List ℕ)
+      → FindsWay g old tree x (reverse path) page at there n → there ≡ false → length claimed ≡ n → IsSameShape ext now
+      → RunsOverPages g NoPage (IsTreePage g old tree) (BreaksTree g old tree) old way None → Touches g (IsSpacePage ext) way mid → Steady g way mid
+      → ((owners : List Kind) → HoldsMap g ext way owners → ClaimsPages g ext now mid owners claimed)
+      → Touches g (IsCutPage page tree.root path claimed) mid new → Steady g mid new → length (g.state mid).work ≤ length (g.state new).work
+      → ((t : Forest) → IsReadyToCut tree.width (nodes_in tree.width (g.state mid)) tree.root t x (reverse path) page at claimed → IsAdded tree.width (nodes_in tree.width (g.state mid)) (nodes_in tree.width (g.state new)) tree.root t x claimed)
+      → StandsTree g ext old tree owners t → AddsEntry g ext now old new tree x owners t
+  adds_with_cuts ext now old way mid new tree x owners t path page at n there claimed finds absent many shape run touched steady claims written later longer adds s =
+      let c = claims owners (map_after_way ext old way tree owners run s.map) in
+      added_with_cuts ext now old mid new tree x owners t path page at claimed shape s (not_found old tree x (reverse path) page at n there finds absent t s.held) (many ∙ (finds t s.held).1) c
+      (claims_touch ext old way mid tree run touched) (steady.is_told ∙ run.works.steady.is_told) written later.is_told longer
+      (adds t (ready_found ext now old way mid tree x owners t (reverse path) page at n there claimed finds absent many run touched steady c s))

@@ -1,0 +1,10 @@
+use Rattle.std.proofs.Common.{inl, inr}
+use Rattle.store_api.proofs.RunsOverPagesLemmas.{runs_wider}
+use Rattle.entry_tree.proofs.ReturnedPagesLemmas.{map_page_there}
+use Rattle.entry_tree.proofs.dropping.give_page.Goals as goal
+
+pub returns-clause-runs : goal.returns-clause-runs
+returns-clause-runs g c =
+    let is_page = c.has_page.ensures.0 c.if-not-has_page.false in
+    runs_wider c.give_index_page.ensures.runs (λ p there is. map_page_there c.args.ext.now c.args.page p is_page is) (λ p is. map_page_there c.args.ext.now c.args.page p is_page is)
+    (λ damage breaks. inr breaks)

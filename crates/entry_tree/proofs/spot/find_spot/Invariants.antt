@@ -1,0 +1,18 @@
+use Rattle.std.proofs.Common.{◌≡◌, None}
+use Rattle.store_api.specs.Frame.{NoPage}
+use Rattle.store_api.specs.RunsOverPages.{RunsOverPages}
+use Rattle.entry_tree.specs.Forest.{Forest}
+use Rattle.entry_tree.specs.HeldTrees.{HoldsTree, IsTreePage, BreaksTree}
+use Rattle.entry_tree.specs.Spots.{FenceFits}
+use Rattle.entry_tree.proofs.SpotLemmas.{IsPassed}
+use Rattle.entry_tree.proofs.spot.find_spot.Given as goal
+
+-- in each tree that the pages hold, the page is on the way of the entry, so many steps down, and these are the separators
+abbrev pub invariant-loop-step : goal.invariant-loop-step
+invariant-loop-step g l = record {
+  way : (t : Forest) → HoldsTree g.P.Pages l.fn.pages l.tree t → IsPassed t l.entry l.page l.step l.low l.high;
+  low : FenceFits l.tree.width l.low;
+  high : FenceFits l.tree.width l.high;
+  same : (g.P.Pages.state l.pages).work ≡ (g.P.Pages.state l.fn.pages).work;
+  runs : RunsOverPages g.P.Pages NoPage (IsTreePage g.P.Pages l.fn.pages l.tree) (BreaksTree g.P.Pages l.fn.pages l.tree) l.fn.pages l.pages None;
+}

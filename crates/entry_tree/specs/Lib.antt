@@ -1,0 +1,17 @@
+pub mod Amending
+pub mod Entries
+pub mod EntryBounds
+pub mod Forest
+pub mod Freeing
+pub mod HeldTrees
+pub mod LeafSpots
+pub mod Pruning
+pub mod Reading
+pub mod Sight
+pub mod Slots
+pub mod Spots
+pub mod Standing
+pub mod TreeChanges
+pub mod TreePlaces
+pub mod WorkedTree
+pub mod Writing

@@ -1,0 +1,142 @@
+-- A leaf of a tree that keeps some of its entries, and what becomes of the tree where it keeps none.
+use Rattle.std.specs.Prelude.{◌≡◌, ◌≢◌, ◌⊎◌, ◌<◌, ◌≤◌, ◌+◌, ◌-◌, ℕ, ⊤, Bool, true, false, List, [], ◌∷◌, ◌++◌, length, Option, Some, None, slice_index_or as get_or}
+use Rattle.mdc_words.specs.ByteOrder.{Entry}
+use Rattle.node_page.specs.Node.{Node}
+use Rattle.node_page.specs.Node.Node.{LeafNode, InnerNode, NoNode}
+use Rattle.store_api.specs.declared.fault.Damage.{Damage}
+use Rattle.store_api.specs.declared.pages.Pages.{Ghosts}
+use Rattle.extent_map.specs.Damages.{BreaksUsedPage}
+use Rattle.extent_map.specs.Map.{HoldsMap, IsMapPage}
+use Rattle.extent_map.specs.Owners.{AreRightNotes, IsExtentPage, IsUsedPage, without_page}
+use Rattle.extent_map.specs.declared.extents.Extents.{Extents}
+use Rattle.extent_map.specs.declared.kind.Kind.{Kind}
+use Rattle.entry_tree.specs.EntryBounds.{IsEntryOf, with_entry}
+use Rattle.entry_tree.specs.Forest.{Forest, leaf_entries, times, IsTree, IsTrimTree}
+use Rattle.entry_tree.specs.Forest.Forest.{Leaf, Nil}
+use Rattle.entry_tree.specs.HeldTrees.{nodes_in}
+use Rattle.entry_tree.specs.Standing.{StandsTree, BreaksStanding}
+use Rattle.entry_tree.specs.TreePlaces.{AreMatched, Frame, entries_before, entries_behind, plug}
+use Rattle.entry_tree.specs.TreeChanges.{times_among}
+use Rattle.entry_tree.specs.Writing.{BreaksWhere}
+use Rattle.entry_tree.specs.declared.tree.Tree.{Tree}
+
+-- The leaf at a place of t, below these nodes, has these entries now. Each page of t is in the tree afterwards or is gone from
+-- it, and none is in it that wasn't.
+pub record IsPruned (new : ℕ → Node) (root : ℕ) (t : Forest) (above : List Frame) (kept : List Entry) (gone : List ℕ) : Type 0 where
+  pub after : Forest
+  pub tree : IsTree new root after
+  pub trim : IsTrimTree after
+  pub entries : leaf_entries after ≡ entries_before above ++ (kept ++ entries_behind above)
+  pub counts : (n : ℕ) → times n after + times_among n gone ≡ times n t
+
+-- a leaf with an entry at a place
+pub record IsLeafFrom (node : Node) (at : ℕ) : Type 0 where
+  pub items : List Entry
+  pub leaf : node ≡ LeafNode items
+  pub within : at < length items
+
+-- an inner node with more than so many separators, and a child at a place
+pub record IsInnerFrom (node : Node) (at least : ℕ) : Type 0 where
+  pub seps : List Entry
+  pub children : List ℕ
+  pub inner : node ≡ InnerNode seps children
+  pub within : at ≤ length seps
+  pub some : least < length seps
+
+-- what a node has besides the child at a place: more separators than one, or one other child
+abbrev pub HasBeside : Node → ℕ → Option ℕ → Type 0
+HasBeside (LeafNode items) at other = ⊤
+HasBeside (InnerNode seps children) at None = 1 < length seps
+HasBeside (InnerNode seps children) at (Some other) = (length seps ≡ 1) × (other ≡ get_or children (1 - at) 0)
+HasBeside NoNode at other = ⊤
+
+-- a node at all
+abbrev pub IsSomeNode : Node → Type 0
+IsSomeNode node = node ≢ NoNode
+
+-- the one other child of a node, which has one separator
+abbrev pub IsOtherChild : Node → ℕ → ℕ → Type 0
+IsOtherChild node at p = (seps : List Entry) (children : List ℕ) → node ≡ InnerNode seps children → (length seps ≡ 1) × (p ≡ get_or children (1 - at) 0)
+
+-- the owners, with these pages given back one after the other
+abbrev pub without_pages : Extents → List Kind → List ℕ → List Kind
+without_pages ext owners [] = owners
+without_pages ext owners (p ∷ gone) = without_pages ext (without_page ext owners p) gone
+
+-- A leaf of t, a child of the node just above it, which holds no entry that is to stay. What its page is now isn't said.
+pub record IsEmptied (was now : ℕ → Node) (root : ℕ) (t : Forest) (frame : Frame) (above : List Frame) (leaf page at : ℕ) : Type 0 where
+  pub items : List Entry
+  pub whole : t ≡ plug (frame ∷ above) (Leaf leaf items Nil)
+  pub matched : AreMatched (frame ∷ above)
+  pub is_tree : IsTree was root t
+  pub trim : IsTrimTree t
+  pub page_is : frame.page ≡ page
+  pub at_is : length frame.lows ≡ at
+  pub same : (n : ℕ) → n ≢ leaf → now n ≡ was n
+
+-- the tree without that leaf, and without the one other page that a node over it alone had; the map without their pages
+pub record DropsLeaf {S : Type 0} (g : Ghosts S) (before ext : Extents) (new : S) (tree : Tree) (owners : List Kind) (t : Forest) (above : List Frame) : Type 0 where
+  pub gone : List ℕ
+  pub pruned : IsPruned (nodes_in tree.width (g.state new)) tree.root t above [] gone
+  pub map : HoldsMap g ext new (without_pages before owners gone)
+  pub notes : AreRightNotes before owners → AreRightNotes ext (without_pages before owners gone)
+
+-- the pages that a leaf's going writes: the node above it, and those of the map
+abbrev pub IsDropPage : Extents → ℕ → ℕ → Type 0
+IsDropPage ext page p = (p ≡ page) ⊎ IsMapPage ext p
+
+-- and those that it looks at
+abbrev pub IsDropLook : Extents → Node → ℕ → ℕ → ℕ → Type 0
+IsDropLook ext node page at p = IsDropPage ext page p ⊎ IsOtherChild node at p
+
+-- The extent map broke a rule at a return. Whatever owners were told before to meet a fact, the map is told there with that
+-- page in use; so where they were told none is named.
+pub record BreaksAtReturn {S : Type 0} (g : Ghosts S) (Told : List Kind → Type 0) (damage : Damage) : Type 0 where
+  pub mid : S
+  pub ext : Extents
+  pub page : ℕ
+  pub map : (owners : List Kind) → Told owners → (more : List Kind) × HoldsMap g ext mid more × IsUsedPage ext more page
+  pub breaks : BreaksUsedPage g ext mid page damage
+
+-- the same of a return that begins at s
+abbrev pub BreaksGiving : {S : Type 0} → Ghosts S → Extents → S → Tree → ℕ → Damage → Type 0
+BreaksGiving g ext s tree page damage = BreaksWhere tree (IsExtentPage ext page) damage ⊎ BreaksUsedPage g ext s page damage
+
+-- the leaf may leave its tree: map and tree are told, and each page of the tree is in use
+pub record IsDropping {S : Type 0} (g : Ghosts S) (ext : Extents) (s : S) (tree : Tree) (owners : List Kind) (was : ℕ → Node) (t : Forest) (frame : Frame) (above : List Frame) (leaf page at : ℕ) : Type 0 where
+  pub emptied : IsEmptied was (nodes_in tree.width (g.state s)) tree.root t frame above leaf page at
+  pub map : HoldsMap g ext s owners
+  pub used : (p : ℕ) → 0 < times p t → IsUsedPage ext owners p
+
+-- what is named where a leaf can't leave
+abbrev pub IsDroppable : {S : Type 0} → Ghosts S → Extents → S → Tree → ℕ → ℕ → ℕ → List Kind → Type 0
+IsDroppable g ext s tree leaf page at owners = (was : ℕ → Node) × (t : Forest) × (frame : Frame) × (above : List Frame) × IsDropping g ext s tree owners was t frame above leaf page at
+
+abbrev pub BreaksDrop : {S : Type 0} → Ghosts S → Extents → S → Tree → ℕ → ℕ → ℕ → Damage → Type 0
+BreaksDrop g ext s tree leaf page at damage =
+    BreaksWhere tree ((owners : List Kind) × IsDroppable g ext s tree leaf page at owners) damage
+    ⊎ BreaksAtReturn g (IsDroppable g ext s tree leaf page at) damage
+
+-- what a removal did: the entry is gone, and the pages that the tree no longer has are given back
+pub record RemovesEntry {S : Type 0} (g : Ghosts S) (before ext : Extents) (new : S) (tree : Tree) (x : Entry) (owners : List Kind) (t : Forest) : Type 0 where
+  pub gone : List ℕ
+  pub after : Forest
+  pub stands : StandsTree g ext new tree (without_pages before owners gone) after
+  pub takes : leaf_entries t ≡ with_entry x (leaf_entries after)
+  pub absent : IsEntryOf x (leaf_entries after) → ⊥
+  pub pages : (n : ℕ) → times n after + times_among n gone ≡ times n t
+  pub notes : AreRightNotes before owners → AreRightNotes ext (without_pages before owners gone)
+
+-- the same of the entry that stood at a place of a leaf
+abbrev pub RemovesItem : {S : Type 0} → Ghosts S → Extents → Extents → S → S → Tree → List Kind → Forest → ℕ → ℕ → Type 0
+RemovesItem g before ext old new tree owners t page at =
+    (items : List Entry) → nodes_in tree.width (g.state old) page ≡ LeafNode items → RemovesEntry g before ext new tree (get_or items at []) owners t
+
+-- the pages that a removal may change: those of the tree and of the extent map, where both were told to have their form
+abbrev pub IsTreeOrMapPage : {S : Type 0} → Ghosts S → Extents → S → Tree → ℕ → Type 0
+IsTreeOrMapPage g ext s tree p = (owners : List Kind) (t : Forest) → StandsTree g ext s tree owners t → 0 < times p t ⊎ IsMapPage ext p
+
+-- what a removal may name
+abbrev pub BreaksTreeOrReturn : {S : Type 0} → Ghosts S → Extents → S → Tree → Damage → Type 0
+BreaksTreeOrReturn g ext s tree damage =
+    BreaksStanding g ext s tree damage ⊎ BreaksAtReturn g (λ owners. (t : Forest) × StandsTree g ext s tree owners t) damage

@@ -1,0 +1,37 @@
+// Whether an entry is in a tree.
+ghost use Rattle.std.specs.Prelude.{◌≡◌, ◌<◌, ◌↔◌, length, false, IsTrue, IfOk};
+ghost use Rattle.store_api.specs.Frame.{NoPage};
+ghost use Rattle.store_api.specs.Causes.{fault_of};
+ghost use Rattle.store_api.specs.RunsOverPages.{RunsOverPages};
+ghost use Rattle.entry_tree.specs.EntryBounds.{IsEntryOf};
+ghost use Rattle.entry_tree.specs.Forest.{Forest, leaf_entries};
+ghost use Rattle.entry_tree.specs.HeldTrees.{HoldsTree, IsTreePage, BreaksTree};
+
+use crate::Tree;
+use crate::sight::{Sight, see};
+use store_api::{Pages, StoreFault};
+
+impl Tree {
+    /// Whether an entry is in the tree. Damaged names the root.
+    pub fn has<P: Pages>(&self, pages: &mut P, entry: &[u8]) -> Result<bool, StoreFault>
+        requires width { length entry.now ≡ self.now.width }
+        requires going { (P.state pages.old).ended ≡ false }
+        ensures has { IfOk result (λ there. (t : Forest) → HoldsTree P.Pages pages.old self.now t → IsTrue there ↔ IsEntryOf entry.now (leaf_entries t)) }
+        ensures same { (P.state pages.new).work ≡ (P.state pages.old).work }
+        ensures runs { RunsOverPages P.Pages NoPage (IsTreePage P.Pages pages.old self.now) (BreaksTree P.Pages pages.old self.now) pages.old pages.new (fault_of result) }
+    {
+        let count = pages.count();
+        let mut page = self.root;
+        for step in 0..count {
+            if page >= count {
+                return Err(self.damaged());
+            }
+            match see(pages, self, page, entry)? {
+                Sight::Nothing => return Err(self.damaged()),
+                Sight::AtLeaf(_, there, _) => return Ok(there),
+                Sight::AtInner(_, child, _) => page = child,
+            }
+        }
+        Err(self.damaged())
+    }
+}

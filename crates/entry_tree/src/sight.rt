@@ -1,0 +1,58 @@
+// What a search sees on one page.
+ghost use Rattle.std.specs.Prelude.{◌≡◌, ◌<◌, length, false, IfOk};
+ghost use Rattle.store_api.specs.Frame.{OnlyPage, NoPage};
+ghost use Rattle.store_api.specs.Causes.{fault_of, NoDamage};
+ghost use Rattle.store_api.specs.RunsOverPages.{RunsOverPages};
+ghost use Rattle.entry_tree.specs.HeldTrees.{nodes_in};
+ghost use Rattle.entry_tree.specs.Sight.{Sees};
+
+use crate::Tree;
+use node_page::NodeView;
+use store_api::{Pages, StoreFault, bring};
+
+/// What a search for an entry sees on a page: no node, where the entry belongs in a leaf, or below which child of a node.
+#[derive(Drop)]
+pub(crate) enum Sight {
+    /// The page isn't a node of the tree's width.
+    Nothing,
+    /// The place of the entry in a leaf, whether it is there, and whether the leaf is full.
+    AtLeaf(usize, bool, bool),
+    /// The place of the child below which the entry belongs, that child, and whether the node is full.
+    AtInner(usize, u32, bool),
+}
+
+/// Looks for an entry on one page of a tree.
+pub(crate) fn see<P: Pages>(
+    pages: &mut P,
+    tree: &Tree,
+    page: u32,
+    entry: &[u8],
+) -> Result<Sight, StoreFault>
+    requires width { length entry.now ≡ tree.now.width }
+    requires going { (P.state pages.old).ended ≡ false }
+    requires within { page < length (P.state pages.old).work }
+    ensures sees { IfOk result (λ sight. Sees tree.now.width (nodes_in tree.now.width (P.state pages.old) page) entry.now sight) }
+    ensures same { (P.state pages.new).work ≡ (P.state pages.old).work }
+    ensures runs { RunsOverPages P.Pages NoPage (OnlyPage page) NoDamage pages.old pages.new (fault_of result) }
+{
+    bring(pages, page)?;
+    let Some(view) = NodeView::look(pages.page(), tree.width) else {
+        return Ok(Sight::Nothing);
+    };
+    Ok(sight_in(&view, entry))
+}
+
+// What a search for an entry sees in a node.
+fn sight_in(view: &NodeView, entry: &[u8]) -> Sight
+    requires { 0 < view.now.width }
+    ensures { Sees view.now.width view.now.node entry.now result }
+{
+    let full = view.is_full();
+    if view.is_leaf() {
+        let (at, there) = view.find(entry);
+        Sight::AtLeaf(at, there, full)
+    } else {
+        let (at, child) = view.child_of(entry);
+        Sight::AtInner(at, child, full)
+    }
+}
