@@ -1,0 +1,111 @@
+-- Which page breaks which rule (docs/FORMAT.md, "Rules"). Each rule is judged by what it speaks of alone, so that damage can be
+-- named on pages that break other rules too.
+use Rattle.std.specs.Prelude.{◌≡◌, ◌≢◌, ◌≤◌, ◌<◌, ◌⊎◌, ℕ, ◌+◌, ◌/◌, List, slice_get, Some, Contains}
+use Rattle.mdc_ast.specs.declared.definition.IndexDef.{IndexDef}
+use Rattle.mdc_ast.specs.declared.definition.TableDef.{TableDef}
+use Rattle.store_api.specs.Extents.{first_page_of, map_pages}
+use Rattle.store_api.specs.StoreState.{zero_page}
+use Rattle.extent_map.specs.Map.{HoldsMap, HoldsMapPage}
+use Rattle.extent_map.specs.Owners.{IsExtentPage, IsUsedPage, extent_of}
+use Rattle.extent_map.specs.declared.extents.Extents.{Extents}
+use Rattle.extent_map.specs.declared.kind.Kind.{Kind}
+use Rattle.row_page.specs.RowPage.{slot_count}
+use Rattle.entry_tree.specs.Forest.{Forest, times}
+use Rattle.mdc_sound.specs.BlockRules.{IsBlockPageSound, IsUsedCountSound, IsIdleCountSound, IsOfOneCell, IsBlockIndexSound, IsSoundIndex, AreRowNumbersSound, IsUniqueSound}
+use Rattle.mdc_sound.specs.FittingRows.{RowFits}
+use Rattle.mdc_sound.specs.SpaceRules.{IsRootSound, IsMapPageSound, IsIndexPage, IsBlockMapSound}
+use Rattle.mdc_sound.specs.TablePage.{DefinesTable, table_page_at}
+use Rattle.mdc_sound.specs.TableRows.{MapLine, PlacedRow, map_lines, pending_blocks, rows_in_block, rows_in_table, used_blocks}
+use Rattle.mdc_sound.specs.TableTrees.{HasTree, TreePlace, cell_parts, composite_place, dimension_place, map_place, record_place, rising_parts, tree_places}
+use Rattle.mdc_sound.specs.ToldPages.{PageList, told_pages}
+
+-- the extent map shows the extent of a page, with these owners
+abbrev pub ShowsExtentOf : Extents → PageList → List Kind → ℕ → Type 0
+ShowsExtentOf ext pages owners p = IsExtentPage ext p × HoldsMapPage told_pages ext pages owners (extent_of ext p / 512)
+
+-- table t, its block map and its rows
+pub record ShowsTable (pages : PageList) (t : ℕ) (def : TableDef) (map_tree : Forest) : Type 0 where
+  pub within : t < 16
+  pub defines : DefinesTable pages t def
+  pub has_map : HasTree pages (map_place def) map_tree
+
+-- tree i of table t
+pub record ShowsTree (pages : PageList) (t i : ℕ) (tree : Forest) : Type 0 where
+  pub within : t < 16
+  pub def : TableDef
+  pub place : TreePlace
+  pub defines : DefinesTable pages t def
+  pub is_its : slice_get (tree_places def) i ≡ Some place
+  pub has : HasTree pages place tree
+
+-- a table has a record index
+pub record HasIndex (pages : PageList) (t : ℕ) (index : IndexDef) : Type 0 where
+  pub within : t < 16
+  pub def : TableDef
+  pub defines : DefinesTable pages t def
+  pub is_its : Contains def.indexes index
+
+-- a rule is broken at a page
+pub data BreaksRule (ext : Extents) (pages : PageList) : (rule page : ℕ) → Type 0 where
+  -- the root page, or the count
+  root : (IsRootSound ext pages → ⊥) → BreaksRule ext pages 1 0
+  -- a page of the extent map, of which no owners can be said
+  map_page : (i : ℕ) → i < map_pages ext.cap → ((owners : List Kind) → IsMapPageSound ext pages owners i → ⊥) → BreaksRule ext pages 2 (17 + i)
+  -- a table page that is neither zeros alone nor that of a definition
+  table : (t : ℕ) → t < 16 → table_page_at pages t ≢ zero_page → ((def : TableDef) → DefinesTable pages t def → ⊥) → BreaksRule ext pages 3 (1 + t)
+  -- a root that lies in no extent, and one that isn't a page of an index extent
+  root_outside : (t : ℕ) (def : TableDef) (place : TreePlace) → t < 16 → DefinesTable pages t def → Contains (tree_places def) place
+      → (IsExtentPage ext place.root → ⊥) → BreaksRule ext pages 3 (1 + t)
+  root_no_index : (t : ℕ) (def : TableDef) (place : TreePlace) (owners : List Kind) → t < 16 → DefinesTable pages t def → Contains (tree_places def) place
+      → ShowsExtentOf ext pages owners place.root → (IsIndexPage ext owners place.root → ⊥) → BreaksRule ext pages 3 (1 + t)
+  -- two tables, or two indexes of two tables, of one name: the lower page
+  table_name : (t u : ℕ) (a b : TableDef) → t < u → u < 16 → DefinesTable pages t a → DefinesTable pages u b → a.name ≡ b.name → BreaksRule ext pages 3 (1 + t)
+  index_name : (t u : ℕ) (i j : IndexDef) → t < u → HasIndex pages t i → HasIndex pages u j → i.name ≡ j.name → BreaksRule ext pages 3 (1 + t)
+  -- a root at which no tree stands
+  tree : (t : ℕ) (def : TableDef) (place : TreePlace) → t < 16 → DefinesTable pages t def → Contains (tree_places def) place
+      → ((t : Forest) → HasTree pages place t → ⊥) → BreaksRule ext pages 4 place.root
+  -- a page in two trees, a used index page in none, and a page of a tree that isn't a used index page
+  shared : (t u i j p : ℕ) (a b : Forest) → ShowsTree pages t i a → ShowsTree pages u j b → (t ≢ u) ⊎ (i ≢ j)
+      → 0 < times p a → 0 < times p b → BreaksRule ext pages 5 p
+  in_none : (p : ℕ) (owners : List Kind) → ShowsExtentOf ext pages owners p → IsUsedPage ext owners p
+      → ((t i : ℕ) (tree : Forest) → ShowsTree pages t i tree → times p tree ≡ 0) → BreaksRule ext pages 5 p
+  outside : (t i p : ℕ) (tree : Forest) → ShowsTree pages t i tree → 0 < times p tree → (IsExtentPage ext p → ⊥) → BreaksRule ext pages 5 p
+  not_used : (t i p : ℕ) (tree : Forest) (owners : List Kind) → ShowsTree pages t i tree → 0 < times p tree → ShowsExtentOf ext pages owners p
+      → (IsUsedPage ext owners p → ⊥) → BreaksRule ext pages 5 p
+  -- a block map
+  block_map : (t : ℕ) (def : TableDef) (map_tree : Forest) (owners : List Kind) → ShowsTable pages t def map_tree → HoldsMap told_pages ext pages owners
+      → (IsBlockMapSound ext owners def map_tree → ⊥) → BreaksRule ext pages 6 def.roots.map
+  -- a page of a Used block that is no row page, and one with a row that doesn't fit
+  row_page : (t : ℕ) (def : TableDef) (map_tree : Forest) (block j : ℕ) → ShowsTable pages t def map_tree → Contains (used_blocks map_tree) block
+      → j < ext.extent_pages → (IsBlockPageSound ext pages def block j → ⊥) → BreaksRule ext pages 7 (first_page_of ext.cap ext.extent_pages block + j)
+  row : (t : ℕ) (def : TableDef) (map_tree : Forest) (block : ℕ) (placed : PlacedRow) → ShowsTable pages t def map_tree → Contains (used_blocks map_tree) block
+      → Contains (rows_in_block ext pages def block) placed → (RowFits def placed.row → ⊥)
+      → BreaksRule ext pages 7 (first_page_of ext.cap ext.extent_pages block + placed.rid.slot / slot_count def.columns)
+  -- the first page of a block whose count isn't right
+  used_count : (t : ℕ) (def : TableDef) (map_tree : Forest) (line : MapLine) → ShowsTable pages t def map_tree → Contains (map_lines map_tree) line
+      → (IsUsedCountSound ext pages def line → ⊥) → BreaksRule ext pages 8 (first_page_of ext.cap ext.extent_pages line.block)
+  idle_count : (t : ℕ) (def : TableDef) (map_tree : Forest) (line : MapLine) → ShowsTable pages t def map_tree → Contains (map_lines map_tree) line
+      → (IsIdleCountSound line → ⊥) → BreaksRule ext pages 8 (first_page_of ext.cap ext.extent_pages line.block)
+  -- the first page of a block whose rows are of two cells
+  cell : (t : ℕ) (def : TableDef) (map_tree : Forest) (block : ℕ) → ShowsTable pages t def map_tree → Contains (used_blocks map_tree) block
+      → (IsOfOneCell ext pages def block → ⊥) → BreaksRule ext pages 9 (first_page_of ext.cap ext.extent_pages block)
+  -- the root of a block index, and of a record index
+  composite : (t : ℕ) (def : TableDef) (map_tree index : Forest) → ShowsTable pages t def map_tree → HasTree pages (composite_place def) index
+      → (IsBlockIndexSound def (rows_in_table ext pages def map_tree) (cell_parts def) index → ⊥) → BreaksRule ext pages 10 def.roots.composite
+  dimension : (t i root : ℕ) (def : TableDef) (map_tree index : Forest) (dim : List ℕ) → ShowsTable pages t def map_tree
+      → slice_get def.dims i ≡ Some dim → slice_get def.roots.dims i ≡ Some root → HasTree pages (dimension_place def dim root) index
+      → (IsBlockIndexSound def (rows_in_table ext pages def map_tree) (rising_parts dim) index → ⊥) → BreaksRule ext pages 10 root
+  record_index : (t : ℕ) (def : TableDef) (map_tree tree : Forest) (index : IndexDef) → ShowsTable pages t def map_tree → Contains def.indexes index
+      → HasTree pages (record_place def index) tree
+      → (IsSoundIndex def (rows_in_table ext pages def map_tree) (pending_blocks map_tree) index tree → ⊥) → BreaksRule ext pages 11 index.root
+  -- the table page, for row numbers and for UNIQUE indexes
+  numbers : (t : ℕ) (def : TableDef) (map_tree : Forest) → ShowsTable pages t def map_tree
+      → (AreRowNumbersSound def (rows_in_table ext pages def map_tree) → ⊥) → BreaksRule ext pages 12 (1 + t)
+  unique : (t : ℕ) (def : TableDef) (map_tree : Forest) (index : IndexDef) → ShowsTable pages t def map_tree → Contains def.indexes index
+      → (IsUniqueSound (rows_in_table ext pages def map_tree) index → ⊥) → BreaksRule ext pages 12 (1 + t)
+
+-- of a database that isn't sound: the first rule that is broken, and the lowest page that breaks it
+pub record IsFirstBreak (ext : Extents) (pages : PageList) (rule page : ℕ) : Type 0 where
+  pub breaks : BreaksRule ext pages rule page
+  pub first : (other p : ℕ) → BreaksRule ext pages other p → rule ≤ other
+  pub lowest : (p : ℕ) → BreaksRule ext pages rule p → page ≤ p

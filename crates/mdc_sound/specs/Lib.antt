@@ -1,0 +1,14 @@
+pub mod EmptyDatabase
+pub mod BlockRules
+pub mod Breaks
+pub mod FittingRows
+pub mod Placing
+pub mod RunningFull
+pub mod SoundDatabase
+pub mod SpaceRules
+pub mod StandsForDatabase
+pub mod TableLimits
+pub mod TablePage
+pub mod TableRows
+pub mod TableTrees
+pub mod ToldPages

@@ -1,0 +1,173 @@
+-- Where a row goes, and what is left when it goes (docs/FORMAT.md, "Placing"). Pages don't occur here: what a table has is one
+-- spot for each extent.
+use Rattle.std.specs.Prelude.{◌≡◌, ◌<◌, ◌==◌, ◌*◌, ℕ, Bool, IsTrue, if◌then◌else◌, List, [], ◌∷◌, length, replicate, slice_index_or, slice_set, Option, Some, None, is_none, Contains}
+use Rattle.std.specs.List.{AllZip, list_all}
+use Rattle.mdc_words.specs.Listed.{listed}
+use Rattle.mdc_values.specs.declared.rid.Rid.{Rid}
+use Rattle.mdc_ast.specs.declared.definition.TableDef.{TableDef}
+use Rattle.mdc_ast.specs.declared.row.Row.{Row}
+use Rattle.extent_map.specs.Owners.{owner_of}
+use Rattle.extent_map.specs.declared.extents.Extents.{Extents}
+use Rattle.extent_map.specs.declared.kind.Kind.{Kind}
+use Rattle.extent_map.specs.declared.kind.Kind.TheVariants as kind
+use Rattle.key_codec.specs.KeyOrder.{AreSameAtParts}
+use Rattle.row_page.specs.RowPage.{slot_count}
+use Rattle.entry_tree.specs.Forest.{Forest}
+use Rattle.mdc_sound.specs.TableRows.{MapLine, block_slots, map_lines}
+use Rattle.mdc_sound.specs.TableTrees.{cell_parts}
+use Rattle.mdc_sound.specs.ToldPages.{PageList}
+
+-- What an extent is to a table: one that is free, one that isn't the table's, or a block of it, which is Free, Pending or
+-- Used; a Used block has slots, each empty or with a row.
+pub data Spot : Type 0 where
+  FreeExtent : Spot
+  NotMine : Spot
+  FreeBlock : Spot
+  PendingBlock : Spot
+  UsedBlock : (slots : List (Option Row)) → Spot
+
+-- ---- the lowest that is so
+
+-- P holds of the n-th of them, which is x, and of none before it
+pub record IsLowestAt {X : Type 0} (P : X → Type 0) (xs : List X) (n : ℕ) (x : X) : Type 0 where
+  pub within : n < length xs
+  pub is_it : (d : X) → slice_index_or xs n d ≡ x
+  pub holds : P x
+  pub lowest : (k : ℕ) (d : X) → k < n → P (slice_index_or xs k d) → ⊥
+
+-- P holds of none
+abbrev pub HoldsNowhere : {X : Type 0} → (X → Type 0) → List X → Type 0
+HoldsNowhere {X} P xs = (k : ℕ) (d : X) → k < length xs → P (slice_index_or xs k d) → ⊥
+
+-- ---- a row is put
+
+-- two rows have the same values in all dimension columns
+abbrev pub AreOfOneCellOf : TableDef → Row → Row → Type 0
+AreOfOneCellOf def a b = AreSameAtParts (cell_parts def) a.values b.values
+
+-- a Used block of the row's cell that has an empty slot
+abbrev pub HasRoomFor : TableDef → Row → Spot → Type 0
+HasRoomFor def row (UsedBlock slots) = ((other : Row) × Contains slots (Some other) × AreOfOneCellOf def other row) × Contains slots None
+HasRoomFor def row spot = ⊥
+
+-- a Free block of the table
+abbrev pub IsFreeBlock : Spot → Type 0
+IsFreeBlock FreeBlock = Unit {0}
+IsFreeBlock spot = ⊥
+
+-- an extent that is free
+abbrev pub IsFreeExtent : Spot → Type 0
+IsFreeExtent FreeExtent = Unit {0}
+IsFreeExtent spot = ⊥
+
+-- an empty slot
+abbrev pub IsEmptySlot : Option Row → Type 0
+IsEmptySlot None = Unit {0}
+IsEmptySlot (Some row) = ⊥
+
+-- a block of n slots that comes into use with one row, in its lowest slot
+abbrev pub begun_with : ℕ → Row → Spot
+begun_with n row = UsedBlock (slice_set (replicate n None) 0 (Some row))
+
+-- The row is put into the lowest Used block of its cell that has an empty slot, else into the table's lowest Free block, else
+-- into the lowest free extent, and there into the lowest empty slot. Blocks have n slots.
+pub data PutsRow (def : TableDef) (n : ℕ) (old : List Spot) (row : Row) (new : List Spot) : Rid → Type 0 where
+  in_cell : (block slot : ℕ) (slots : List (Option Row)) → IsLowestAt (HasRoomFor def row) old block (UsedBlock slots)
+      → IsLowestAt IsEmptySlot slots slot None → new ≡ slice_set old block (UsedBlock (slice_set slots slot (Some row)))
+      → PutsRow def n old row new (record { block = block; slot = slot })
+  in_free_block : (block : ℕ) → HoldsNowhere (HasRoomFor def row) old → IsLowestAt IsFreeBlock old block FreeBlock
+      → new ≡ slice_set old block (begun_with n row) → PutsRow def n old row new (record { block = block; slot = 0 })
+  in_free_extent : (block : ℕ) → HoldsNowhere (HasRoomFor def row) old → HoldsNowhere IsFreeBlock old
+      → IsLowestAt IsFreeExtent old block FreeExtent → new ≡ slice_set old block (begun_with n row)
+      → PutsRow def n old row new (record { block = block; slot = 0 })
+
+-- ---- a row is taken out, or changed
+
+-- what a Used block is when a slot was emptied: Free, where no row is left
+abbrev pub left_with : List (Option Row) → Spot
+left_with slots = if list_all is_none slots then FreeBlock else UsedBlock slots
+
+-- a row lies there, in a Used block of these slots
+pub record LiesAt (spots : List Spot) (rid : Rid) (row : Row) (slots : List (Option Row)) : Type 0 where
+  pub within : rid.block < length spots
+  pub block : (d : Spot) → slice_index_or spots rid.block d ≡ UsedBlock slots
+  pub slot : slice_index_or slots rid.slot None ≡ Some row
+
+-- the row that lies there is taken out: its slot is empty, and a block without rows is Free
+pub record TakesRow (old : List Spot) (rid : Rid) (row : Row) (new : List Spot) : Type 0 where
+  pub slots : List (Option Row)
+  pub lies : LiesAt old rid row slots
+  pub is_left : new ≡ slice_set old rid.block (left_with (slice_set slots rid.slot None))
+
+-- a row becomes another: it keeps its slot where it keeps its cell, and else it is taken out and then put
+pub data ChangesRow (def : TableDef) (n : ℕ) (old : List Spot) (rid : Rid) (row other : Row) (new : List Spot) : Rid → Type 0 where
+  stays : (slots : List (Option Row)) → AreOfOneCellOf def row other → LiesAt old rid row slots
+      → new ≡ slice_set old rid.block (UsedBlock (slice_set slots rid.slot (Some other))) → ChangesRow def n old rid row other new rid
+  moves : (mid : List Spot) (to : Rid) → (AreOfOneCellOf def row other → ⊥) → TakesRow old rid row mid → PutsRow def n mid other new to
+      → ChangesRow def n old rid row other new to
+
+-- ---- blocks as a whole
+
+-- a Used block with a row that is chosen; where all rows of a block are of one cell and whole cells are chosen, all are
+abbrev pub IsChosenBlock : (Row → Bool) → Spot → Type 0
+IsChosenBlock chosen (UsedBlock slots) = (row : Row) × Contains slots (Some row) × IsTrue (chosen row)
+IsChosenBlock chosen spot = ⊥
+
+-- what rollout makes of a spot: a chosen block becomes what is said, which is Free, or Pending where entries of record indexes
+-- are left, and any other stays
+pub data RollsOutSpot (chosen : Row → Bool) (rolled : Spot) : Spot → Spot → Type 0 where
+  goes : {spot : Spot} → IsChosenBlock chosen spot → RollsOutSpot chosen rolled spot rolled
+  stays : {spot : Spot} → (IsChosenBlock chosen spot → ⊥) → RollsOutSpot chosen rolled spot spot
+
+-- what is left when the Free blocks of a table are given back, and no other
+abbrev pub reclaimed_spot : Spot → Spot
+reclaimed_spot FreeBlock = FreeExtent
+reclaimed_spot spot = spot
+
+-- and when all its blocks are
+abbrev pub dropped_spot : Spot → Spot
+dropped_spot NotMine = NotMine
+dropped_spot spot = FreeExtent
+
+-- ---- the spots that pages show
+
+-- the state that a block map gives a block, and 3 for one that it doesn't name
+abbrev pub mapped_state : ℕ → List MapLine → ℕ
+mapped_state block [] = 3
+mapped_state block (line ∷ lines) = if line.block == block then line.state else mapped_state block lines
+
+-- a block of the table in a state, with these slots
+abbrev pub spot_of_state : ℕ → List (Option Row) → Spot
+spot_of_state state slots =
+    if state == 0 then FreeBlock else (if state == 1 then UsedBlock slots else (if state == 2 then PendingBlock else NotMine))
+
+-- an extent of this kind
+abbrev pub spot_of_kind : Extents → PageList → TableDef → Forest → ℕ → Kind → Spot
+spot_of_kind ext pages def map_tree e kind.Free = FreeExtent
+spot_of_kind ext pages def map_tree e (kind.Index used) = NotMine
+spot_of_kind ext pages def map_tree e (kind.Block t) =
+    if t == def.number then spot_of_state (mapped_state e (map_lines map_tree)) (block_slots ext pages def e) else NotMine
+
+-- what each extent is to the table, where these are the owners and its block map
+abbrev pub table_spots : Extents → PageList → TableDef → List Kind → Forest → List Spot
+table_spots ext pages def owners map_tree = listed ext.cap (λ e. spot_of_kind ext pages def map_tree e (owner_of owners e))
+
+-- how many slots a block has
+abbrev pub block_slot_count : Extents → TableDef → ℕ
+block_slot_count ext def = ext.extent_pages * slot_count def.columns
+
+-- the same spot, but that trees may take free extents and give theirs back
+abbrev pub IsSameSpot : Spot → Spot → Type 0
+IsSameSpot FreeExtent NotMine = Unit {0}
+IsSameSpot NotMine FreeExtent = Unit {0}
+IsSameSpot a b = a ≡ b
+
+-- the spots that pages show are these, index extents aside
+abbrev pub ShowsSpots : Extents → PageList → TableDef → List Kind → Forest → List Spot → Type 0
+ShowsSpots ext pages def owners map_tree spots = AllZip IsSameSpot spots (table_spots ext pages def owners map_tree)
+
+-- rows are put one after the other, and in between trees may take free extents
+pub data PutsRows (def : TableDef) (n : ℕ) : List Spot → List Row → List Spot → Type 0 where
+  none : {spots : List Spot} → PutsRows def n spots [] spots
+  one : {old mid next new : List Spot} {row : Row} {rows : List Row} (rid : Rid)
+      → PutsRow def n old row mid rid → AllZip IsSameSpot mid next → PutsRows def n next rows new → PutsRows def n old (row ∷ rows) new

@@ -1,0 +1,86 @@
+-- The trees of a table: its block map, a block index for each dimension and one for all of them, and its record indexes.
+use Rattle.std.specs.Prelude.{ℕ, ◌+◌, false, List, ◌∷◌, ◌++◌, map, flat_map, zip}
+use Rattle.byteorder.specs.Endian.{big_bytes}
+use Rattle.mdc_words.specs.ByteOrder.{Entry}
+use Rattle.mdc_values.specs.declared.rid.Rid.{Rid}
+use Rattle.mdc_values.specs.declared.value.Value.{Value}
+use Rattle.mdc_ast.specs.declared.definition.ColumnDef.{ColumnDef}
+use Rattle.mdc_ast.specs.declared.definition.IndexDef.{IndexDef}
+use Rattle.mdc_ast.specs.declared.definition.KeyPart.{KeyPart}
+use Rattle.mdc_ast.specs.declared.definition.TableDef.{TableDef}
+use Rattle.key_codec.specs.Keys.{key_bytes, width_of_parts}
+use Rattle.entry_tree.specs.Forest.{Forest, IsTree, IsTrimTree}
+use Rattle.entry_tree.specs.HeldTrees.{nodes_in}
+use Rattle.mdc_sound.specs.ToldPages.{PageList, telling}
+
+-- ---- keys and entries
+
+-- the parts of a key of columns in these places, none descending
+abbrev pub rising_parts : List ℕ → List KeyPart
+rising_parts places = map (λ place. record { column = place; descending = false }) places
+
+-- the parts of the key of a cell: all dimension columns, in the order of the dimensions
+abbrev pub cell_parts : TableDef → List KeyPart
+cell_parts def = rising_parts (flat_map (λ dim. dim) def.dims)
+
+-- an entry of a block index: the key of a block's rows, and the block
+abbrev pub block_entry : List ColumnDef → List KeyPart → List Value → ℕ → Entry
+block_entry columns parts values block = key_bytes columns parts values ++ big_bytes 4 block
+
+-- an entry of a record index: the key of a row, and where it lies
+abbrev pub record_entry : List ColumnDef → List KeyPart → List Value → Rid → Entry
+record_entry columns parts values rid = key_bytes columns parts values ++ big_bytes 4 rid.block ++ big_bytes 2 rid.slot
+
+-- ---- where the trees are
+
+-- where a tree is: its root page, and how many bytes its entries have
+pub record TreePlace : Type 0 where
+  pub root : ℕ
+  pub width : ℕ
+
+-- the block map; its entries are a block of four bytes, a state of one and a number of rows of two
+abbrev pub map_place : TableDef → TreePlace
+map_place def = record { root = def.roots.map; width = 7 }
+
+-- the composite index, by all dimension columns
+abbrev pub composite_place : TableDef → TreePlace
+composite_place def = record { root = def.roots.composite; width = width_of_parts def.columns (cell_parts def) + 4 }
+
+-- the index of a dimension, which has this root
+abbrev pub dimension_place : TableDef → List ℕ → ℕ → TreePlace
+dimension_place def dim root = record { root = root; width = width_of_parts def.columns (rising_parts dim) + 4 }
+
+-- the indexes of all dimensions
+abbrev pub dimension_places : TableDef → List TreePlace
+dimension_places def = map (λ pair. dimension_place def pair.0 pair.1) (zip def.dims def.roots.dims)
+
+-- a record index
+abbrev pub record_place : TableDef → IndexDef → TreePlace
+record_place def index = record { root = index.root; width = width_of_parts def.columns index.parts + 6 }
+
+-- all record indexes
+abbrev pub record_places : TableDef → List TreePlace
+record_places def = map (record_place def) def.indexes
+
+-- all trees of a table
+abbrev pub tree_places : TableDef → List TreePlace
+tree_places def = map_place def ∷ composite_place def ∷ dimension_places def ++ record_places def
+
+-- ---- what they are
+
+-- the pages hold this tree in this place, and each leaf of it but an empty root holds an entry
+pub record HasTree (pages : PageList) (place : TreePlace) (t : Forest) : Type 0 where
+  pub is_tree : IsTree (nodes_in place.width (telling pages)) place.root t
+  pub trim : IsTrimTree t
+
+-- a table with its trees
+pub record TableView : Type 0 where
+  pub def : TableDef
+  pub map : Forest
+  pub composite : Forest
+  pub dims : List Forest
+  pub indexes : List Forest
+
+-- all of them, in the order of their places
+abbrev pub trees_of_table : TableView → List Forest
+trees_of_table table = table.map ∷ table.composite ∷ table.dims ++ table.indexes
