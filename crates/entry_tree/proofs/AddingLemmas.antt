@@ -1,8 +1,8 @@
 -- What `add` needs, over plain variables.
-use Rattle.std.proofs.Common.{◌≡◌, ◌≢◌, ◌<◌, ◌≤◌, ◌+◌, ◌⊎◌, ℕ, List, [], ◌∷◌, ◌++◌, length, take, drop, refl, ap, arith, sym, ◌∙◌, subst, inl, inr, reverse, Bool, true, false}
-use Rattle.std.specs.Prelude.{if◌then◌else◌, Option, Some, None}
+use Rattle.std.proofs.Common.{◌≡◌, ◌<◌, ◌≤◌, ◌+◌, ◌⊎◌, ℕ, List, [], ◌∷◌, ◌++◌, length, take, drop, refl, ap, arith, sym, ◌∙◌, subst, inl, inr, reverse, Bool, true, false}
+use Rattle.std.specs.Prelude.{if◌then◌else◌, Option, None}
 use Rattle.mdc_words.specs.ByteOrder.{Entry}
-use Rattle.node_page.specs.Node.{Node, is_full}
+use Rattle.node_page.specs.Node.{is_full}
 use Rattle.node_page.specs.Node.Node.{LeafNode}
 use Rattle.store_api.specs.Frame.{Touches, NoPage, OnlyPage}
 use Rattle.store_api.specs.Works.{Steady}
@@ -10,30 +10,33 @@ use Rattle.store_api.specs.RunsOverPages.{RunsOverPages}
 use Rattle.store_api.specs.declared.fault.Damage.{Damage}
 use Rattle.store_api.specs.declared.fault.StoreFault.{StoreFault}
 use Rattle.store_api.specs.declared.pages.Pages.{Ghosts}
-use Rattle.store_api.proofs.FrameLemmas.{touches_then, touches_wider}
+use Rattle.store_api.proofs.FrameLemmas.{holds_along, touches_then, touches_wider}
 use Rattle.store_api.proofs.RunsOverPagesLemmas.{runs_wider}
-use Rattle.extent_map.specs.Damages.{IfFull}
-use Rattle.extent_map.specs.Map.{HoldsMap, IsSpacePage}
-use Rattle.extent_map.specs.Owners.{IsSameShape, AreRightNotes}
+use Rattle.store_api.specs.Extents.{first_count}
+use Rattle.extent_map.proofs.ClaimsLemmas.{counted_same}
+use Rattle.extent_map.proofs.DamagesLemmas.{breaks_space_same, holds_first_count}
+use Rattle.extent_map.proofs.GrowthLemmas.{growth_along, keeps_root_none, keeps_root_still, zeros_none, zeros_then, zeros_wider}
+use Rattle.extent_map.specs.Damages.{BreaksSpace, IfFull}
+use Rattle.extent_map.specs.Map.{HoldsMap, IsSpacePage, BringsZeros, KeepsRoot}
+use Rattle.extent_map.specs.Owners.{count_with, IsSameShape}
 use Rattle.extent_map.specs.declared.extents.Extents.{Extents}
 use Rattle.extent_map.specs.declared.fault.SpaceFault.{SpaceFault}
 use Rattle.extent_map.specs.declared.fault.SpaceFault.TheVariants.{Full, Store}
 use Rattle.extent_map.specs.declared.kind.Kind.{Kind}
-use Rattle.entry_tree.specs.EntryBounds.{IsEntryOf}
-use Rattle.entry_tree.specs.Forest.{Forest, leaf_entries, times}
+use Rattle.entry_tree.specs.Forest.{Forest, times}
 use Rattle.entry_tree.specs.TreePlaces.{pages_asked, run_up}
 use Rattle.entry_tree.specs.TreeChanges.{IsAdded, IsLeafFound, IsPut}
 use Rattle.entry_tree.specs.HeldTrees.{nodes_in, HoldsTree, IsTreePage, BreaksTree}
-use Rattle.entry_tree.specs.Standing.{StandsTree, with_pages, AreClaims, IsClaimed, ClaimsPages, IsIdlePage, MeetsFull, AsksPages, AddsEntry, FindsFull, IsTreeSpace, IsWholeCount, BreaksAtClaim, BreaksStanding, BreaksTreeOrMap}
-use Rattle.entry_tree.specs.Writing.{IsPathPage, IsWrittenPage, IsCutPage, BreaksWhere, IsLeafWith, IsReadyToCut}
+use Rattle.entry_tree.specs.Standing.{StandsTree, with_pages, AreClaims, IsClaimed, ClaimsPages, IsIdlePage, MeetsFull, AsksPages, AddsEntry, FindsFull, IsTreeSpace, GrowsWith, BreaksTreeOrMap}
+use Rattle.entry_tree.specs.Writing.{IsCutPage, BreaksWhere, IsLeafWith, IsReadyToCut}
 use Rattle.entry_tree.specs.declared.tree.Tree.{Tree}
 use Rattle.entry_tree.proofs.HeldTreesLemmas.{nodes_same}
 use Rattle.entry_tree.proofs.LeavesLemmas.{keeps_beside}
 use Rattle.entry_tree.proofs.GoingDownLemmas.{adds_here, not_there}
 use Rattle.entry_tree.proofs.WayLemmas.{head_times, at_place_times}
-use Rattle.entry_tree.proofs.ClaimsLemmas.{claims_none, shape_none, space_same}
-use Rattle.entry_tree.proofs.UsedPagesLemmas.{claims_idle, claims_pages, shape_back}
-use Rattle.entry_tree.proofs.StandingLemmas.{tree_stays, nodes_stay, map_stays, used_not_space, extent_not_space, path_times, asked_same, found_same, claims_fresh, added}
+use Rattle.entry_tree.proofs.ClaimsLemmas.{claims_none, grows_none, grows_same, grows_still, shape_none, space_same}
+use Rattle.entry_tree.proofs.UsedPagesLemmas.{claims_idle, claims_pages, shape_back, used_after, used_same}
+use Rattle.entry_tree.proofs.StandingLemmas.{page_there, tree_stays, nodes_stay, map_stays, used_not_space, extent_not_space, path_times, asked_same, found_same, claims_fresh, added}
 
 none_asked : (b : Bool) (run : ℕ) → 0 ≡ (if b then 1 + run else 0) → b ≡ false
 none_asked true run e = absurd (omega arith)
@@ -55,6 +58,11 @@ has_room g old mid tree x t stack page at n f e z same = record {
   room = ap (is_full tree.width) same ∙ none_asked (is_full tree.width (nodes_in tree.width (g.state old) page)) (run_up (is_full tree.width) (nodes_in tree.width (g.state old)) stack) (sym z ∙ e);
 }
 
+-- what came behind the pages of the map isn't one of them
+space_before : (ext : Extents) (p : ℕ) → first_count ext.cap ≤ p → IsSpacePage ext p → ⊥
+space_before ext p behind (inl root) = omega (arith, behind, root)
+space_before ext p behind (inr on) = omega (arith, behind, on.1)
+
 -- what the way down found, in each tree that was told
 abbrev pub FindsWay : {S : Type 0} → Ghosts S → S → Tree → Entry → List (ℕ × ℕ) → ℕ → ℕ → Bool → ℕ → Type 0
 FindsWay g old tree x stack page at there n =
@@ -69,6 +77,25 @@ module _ {S : Type 0} {g : Ghosts S} where
       runs_wider run (λ p there none. absurd none) (λ p is owners t s. inl (is t s.held))
       (λ damage breaks. inl (record { page = breaks.page; rule = breaks.rule; broken = λ owners t s. breaks.broken t s.held }))
 
+  -- a written page that came was claimed
+  behind_claimed : (old : S) (tree : Tree) (t : Forest) → HoldsTree g old tree t → (p : ℕ) (claimed : List ℕ) → length (g.state old).work ≤ p → 0 < times p t ⊎ IsClaimed p claimed → IsClaimed p claimed
+  behind_claimed old tree t h p claimed behind (inl in_tree) = absurd (omega (arith, behind, page_there old tree t p h in_tree))
+  behind_claimed old tree t h p claimed behind (inr is) = is
+
+  -- the way down changed nothing before the claims
+  grows_after : (ext : Extents) (old way new : S) (claimed : List ℕ) → (g.state way).is_told ≡ (g.state old).is_told → (g.state way).work ≡ (g.state old).work → Steady g way new → GrowsWith g ext way new claimed → GrowsWith g ext old new claimed
+  grows_after ext old way new claimed told same later grows = record {
+    count = grows.count ∙ ap (λ (pages : List (List ℕ)). count_with ext (length pages) claimed) same;
+    counted = λ was. grows.counted (counted_same told same was);
+    stated = growth_along told same grows.stated;
+  }
+
+  zeros_after : (ext : Extents) (old way new : S) (owners : List Kind) → HoldsMap g ext old owners → (g.state way).is_told ≡ (g.state old).is_told → (g.state way).work ≡ (g.state old).work
+      → BringsZeros g (IsSpacePage ext) way new → BringsZeros g NoPage old new
+  zeros_after ext old way new owners h told same zeros = record {
+    zeros = λ is p other behind within. zeros.zeros (told ∙ is) p (λ on. space_before ext p (omega (arith, behind, holds_first_count ext h)) on) (omega (arith, behind, ap length same)) within;
+  }
+
   -- nothing was touched on the way down
   pub map_after_way : (ext : Extents) (old mid : S) (tree : Tree) (owners : List Kind) → RunsOverPages g NoPage (IsTreePage g old tree) (BreaksTree g old tree) old mid None → HoldsMap g ext old owners → HoldsMap g ext mid owners
   map_after_way ext old mid tree owners run h = map_stays NoPage ext old mid owners h run.touches run.works.no_shorter (λ p on none. none)
@@ -80,10 +107,13 @@ module _ {S : Type 0} {g : Ghosts S} where
       → StandsTree g ext old tree owners t → IsLeafFound (nodes_in tree.width (g.state old)) t x stack page at false
       → n ≡ pages_asked (is_full tree.width) (nodes_in tree.width (g.state old)) stack page → n ≡ 0
       → Touches g NoPage old mid → Steady g old mid → (g.state mid).work ≡ (g.state old).work
-      → Touches g (OnlyPage page) mid new → Steady g mid new → length (g.state mid).work ≤ length (g.state new).work
+      → Touches g (OnlyPage page) mid new → Steady g mid new → length (g.state new).work ≡ length (g.state mid).work
       → ((items : List Entry) → nodes_in tree.width (g.state mid) page ≡ LeafNode items → IsPut (nodes_in tree.width (g.state mid)) (nodes_in tree.width (g.state new)) page (LeafNode (take at items ++ x ∷ drop at items)))
       → AddsEntry g ext ext old new tree x owners t
-  added_here ext old mid new tree x owners t stack page at n s f e z touched steady work written later longer put =
+  added_here ext old mid new tree x owners t stack page at n s f e z touched steady work written later count put =
+      let longer : length (g.state mid).work ≤ length (g.state new).work = omega (arith, count) in
+      let was : length (g.state old).work ≤ length (g.state mid).work = omega (arith, ap length work) in
+      let apart : IsSpacePage ext page → ⊥ = used_not_space ext owners page (s.used page (at_place_times f.place)) in
       let map = map_stays NoPage ext old mid owners s.map touched (omega (arith, ap length work)) (λ p on none. none) in
       let held = tree_stays NoPage old mid tree t s.held touched steady.is_told (λ p l none. none) in
       let same : (p : ℕ) → 0 < times p t → nodes_in tree.width (g.state mid) p ≡ nodes_in tree.width (g.state old) p =
@@ -91,7 +121,9 @@ module _ {S : Type 0} {g : Ghosts S} where
       let found = found_same (nodes_in tree.width (g.state old)) (nodes_in tree.width (g.state mid)) t x stack page at false same f in
       added NoPage (OnlyPage page) ext ext old mid new tree x owners t [] (shape_none ext) s (claims_none ext mid owners map)
       touched steady.is_told (λ p l none. none) written later.is_told longer
-      (λ p is on. used_not_space ext owners page (s.used page (at_place_times f.place)) (subst (IsSpacePage ext) is on))
+      (λ p is on. apart (subst (IsSpacePage ext) is on))
+      (grows_still ext old mid new [] was later.is_told (omega (arith, was, holds_first_count ext s.map)) count written (λ is. apart (inl (sym is))) (grows_same ext old old mid [] (omega arith) steady.is_told work (grows_none ext old)))
+      (zeros_none (omega (arith, count, ap length work)))
       (asks g old tree x t stack page at 0 false f (sym z ∙ e)) (not_there _ tree.root t x stack page at s.held.is_tree f)
       (adds_here tree.width _ _ tree.root t x stack page at held.is_tree found put (keeps_beside tree.width _ tree.root t held.is_tree held.trim))
 
@@ -145,12 +177,19 @@ module _ {S : Type 0} {g : Ghosts S} where
       → IsSameShape before ext → StandsTree g before old tree owners t → IsLeafFound (nodes_in tree.width (g.state old)) t x (reverse path) page at false
       → length claimed ≡ pages_asked (is_full tree.width) (nodes_in tree.width (g.state old)) (reverse path) page → ClaimsPages g before ext mid owners claimed
       → Touches g (IsSpacePage before) old mid → (g.state mid).is_told ≡ (g.state old).is_told
-      → Touches g (IsCutPage page tree.root path claimed) mid new → (g.state new).is_told ≡ (g.state mid).is_told → length (g.state mid).work ≤ length (g.state new).work
+      → Touches g (IsCutPage page tree.root path claimed) mid new → (g.state new).is_told ≡ (g.state mid).is_told → length (g.state old).work ≤ length (g.state mid).work → length (g.state new).work ≡ length (g.state mid).work
+      → GrowsWith g before old mid claimed → BringsZeros g (IsSpacePage before) old mid
       → IsAdded tree.width (nodes_in tree.width (g.state mid)) (nodes_in tree.width (g.state new)) tree.root t x claimed
       → AddsEntry g before ext old new tree x owners t
-  added_with_cuts before ext old mid new tree x owners t path page at claimed shape s f e c touched told written told_new longer a =
+  added_with_cuts before ext old mid new tree x owners t path page at claimed shape s f e c touched told written told_new was count grows zeros a =
+      let longer : length (g.state mid).work ≤ length (g.state new).work = omega (arith, count) in
+      let some : first_count before.cap ≤ length (g.state old).work = holds_first_count before s.map in
+      let apart : (p : ℕ) → IsCutPage page tree.root path claimed p → IsSpacePage before p → ⊥ = λ p is on. cut_not_space before old tree x owners t path page at claimed p s f c.claims is on in
       added (IsSpacePage before) (IsCutPage page tree.root path claimed) before ext old mid new tree x owners t claimed shape s c touched told (λ p l. used_not_space before owners p (s.used p l)) written told_new longer
-      (λ p is on. cut_not_space before old tree x owners t path page at claimed p s f c.claims is (space_same before ext p shape on))
+      (λ p is on. apart p is (space_same before ext p shape on))
+      (grows_still before old mid new claimed was told_new (omega (arith, was, some)) count written (λ is. apart 0 is (inl refl)) grows)
+      (zeros_then told was (zeros_wider zeros (λ p behind on. absurd (space_before before p (omega (arith, some, behind)) on))) written
+      (λ p behind is. behind_claimed old tree t s.held p claimed behind (cut_page before old tree x owners t path page at claimed p s f is)) (zeros_none (omega (arith, count))))
       (asks g old tree x t (reverse path) page at (length claimed) false f e) (not_there _ tree.root t x (reverse path) page at s.held.is_tree f) a
 
 -- ---- by what the way down found
@@ -175,32 +214,48 @@ module _ {S : Type 0} {g : Ghosts S} where
   pub adds_here_found : (ext : Extents) (old mid new : S) (tree : Tree) (x : Entry) (owners : List Kind) (t : Forest) (stack : List (ℕ × ℕ)) (page at n : ℕ) (there : Bool)
       → FindsWay g old tree x stack page at there n → there ≡ false → n ≡ 0 → StandsTree g ext old tree owners t
       → Touches g NoPage old mid → Steady g old mid → (g.state mid).work ≡ (g.state old).work
-      → Touches g (OnlyPage page) mid new → Steady g mid new → length (g.state mid).work ≤ length (g.state new).work
+      → Touches g (OnlyPage page) mid new → Steady g mid new → length (g.state new).work ≡ length (g.state mid).work
       → ((items : List Entry) → nodes_in tree.width (g.state mid) page ≡ LeafNode items → IsPut (nodes_in tree.width (g.state mid)) (nodes_in tree.width (g.state new)) page (LeafNode (take at items ++ x ∷ drop at items)))
       → AddsEntry g ext ext old new tree x owners t
   adds_here_found ext old mid new tree x owners t stack page at n there finds absent z s touched steady work written later longer put =
       added_here ext old mid new tree x owners t stack page at n s (not_found old tree x stack page at n there finds absent t s.held) (finds t s.held).1 z touched steady work written later longer put
 
   -- the claims met a full map
-  pub full_found : (ext : Extents) (old mid : S) (tree : Tree) (x : Entry) (stack : List (ℕ × ℕ)) (page at n : ℕ) (there : Bool) (fault : SpaceFault) → FindsWay g old tree x stack page at there n
+  pub full_found : (ext next : Extents) (old mid new : S) (tree : Tree) (x : Entry) (stack : List (ℕ × ℕ)) (page at n : ℕ) (there : Bool) (fault : SpaceFault) → FindsWay g old tree x stack page at there n
       → RunsOverPages g NoPage (IsTreePage g old tree) (BreaksTree g old tree) old mid None
-      → IfFull fault (λ cap. (cap ≡ ext.cap) × ((owners : List Kind) → HoldsMap g ext mid owners → AreRightNotes ext owners → MeetsFull ext owners n))
-      → IfFull fault (λ cap. (cap ≡ ext.cap) × ((owners : List Kind) (t : Forest) → StandsTree g ext old tree owners t → AreRightNotes ext owners → FindsFull g ext old tree x owners t))
-  full_found ext old mid tree x stack page at n there (Full cap) finds run h =
-      (h.0, λ owners t s right. record { wanted = n; asked = asks g old tree x t stack page at n there (finds t s.held).0 (finds t s.held).1; full = h.1 owners (map_after_way ext old mid tree owners run s.map) right })
-  full_found ext old mid tree x stack page at n there (Store fault) finds run h = tt
+      → there ≡ false → (g.state mid).work ≡ (g.state old).work → IsSameShape ext next → Touches g (IsSpacePage ext) mid new → Steady g mid new → BringsZeros g (IsSpacePage ext) mid new
+      → IfFull fault (λ cap. (cap ≡ ext.cap) × ((owners : List Kind) → HoldsMap g ext mid owners → MeetsFull g ext next mid new owners n))
+      → IfFull fault (λ cap. (cap ≡ ext.cap) × ((owners : List Kind) (t : Forest) → StandsTree g ext old tree owners t → FindsFull g ext next old new tree x owners t))
+  full_found ext next old mid new tree x stack page at n there (Full cap) finds run not_there_yet work shape touched later zeros h = (
+    h.0,
+    λ owners t s.
+        let m = h.1 owners (map_after_way ext old mid tree owners run s.map) in
+        let apart : (p : ℕ) → 0 < times p t → IsSpacePage ext p → ⊥ = λ p l. used_not_space ext owners p (s.used p l) in
+        let told = run.works.steady.is_told in
+        record {
+          wanted = n;
+          asked = asks g old tree x t stack page at n there (finds t s.held).0 (finds t s.held).1;
+          absent = not_there _ tree.root t x stack page at s.held.is_tree (subst (λ (b : Bool). IsLeafFound (nodes_in tree.width (g.state old)) t x stack page at b) not_there_yet (finds t s.held).0);
+          meets = record {
+            claimed = m.claimed;
+            fewer = m.fewer;
+            claims = m.claims;
+            grows = grows_after ext old mid new m.claimed told work later m.grows;
+            full = m.full;
+          };
+          stands = record {
+            map = m.claims.map;
+            held = tree_stays (IsSpacePage ext) old new tree t s.held (touches_then (touches_wider run.touches (λ p none. absurd none)) touched) (later.is_told ∙ told) apart;
+            used = λ p l. used_same next ext (with_pages ext owners m.claimed) p (shape_back ext next shape) (used_after ext owners m.claimed p (s.used p l));
+          };
+          zeros = zeros_after ext old mid new owners s.map told work zeros;
+        },
+  )
+  full_found ext next old mid new tree x stack page at n there (Store fault) finds run not_there_yet work shape touched later zeros h = tt
 
   pub claim_breaks : (ext : Extents) (old mid : S) (tree : Tree) (damage : Damage) → RunsOverPages g NoPage (IsTreePage g old tree) (BreaksTree g old tree) old mid None → (g.state mid).work ≡ (g.state old).work
-      → BreaksAtClaim g ext mid damage → BreaksTreeOrMap g ext old tree damage
-  claim_breaks ext old mid tree damage run work breaks = inr (record {
-    mid = breaks.mid;
-    now = breaks.now;
-    shape = breaks.shape;
-    claimed = breaks.claimed;
-    map = λ owners h. breaks.map owners (map_after_way ext old mid tree owners run h);
-    whole = λ w. breaks.whole (record { extents = w.extents; few = w.few; count = ap length work ∙ w.count });
-    breaks = breaks.breaks;
-  })
+      → BreaksSpace g ext mid damage → BreaksTreeOrMap g ext old tree damage
+  claim_breaks ext old mid tree damage run work breaks = inr (breaks_space_same damage run.works.steady.is_told work breaks)
 
   -- the way down and the claims touch the extent map alone
   pub claims_touch : (ext : Extents) (old way mid : S) (tree : Tree) → RunsOverPages g NoPage (IsTreePage g old tree) (BreaksTree g old tree) old way None → Touches g (IsSpacePage ext) way mid → Touches g (IsSpacePage ext) old mid
@@ -234,11 +289,38 @@ module _ {S : Type 0} {g : Ghosts S} where
       → FindsWay g old tree x (reverse path) page at there n → there ≡ false → length claimed ≡ n → IsSameShape ext now
       → RunsOverPages g NoPage (IsTreePage g old tree) (BreaksTree g old tree) old way None → Touches g (IsSpacePage ext) way mid → Steady g way mid
       → ((owners : List Kind) → HoldsMap g ext way owners → ClaimsPages g ext now mid owners claimed)
-      → Touches g (IsCutPage page tree.root path claimed) mid new → Steady g mid new → length (g.state mid).work ≤ length (g.state new).work
+      → ((g.state way).work ≡ (g.state old).work) → GrowsWith g ext way mid claimed → BringsZeros g (IsSpacePage ext) way mid
+      → Touches g (IsCutPage page tree.root path claimed) mid new → Steady g mid new → length (g.state way).work ≤ length (g.state mid).work → length (g.state new).work ≡ length (g.state mid).work
       → ((t : Forest) → IsReadyToCut tree.width (nodes_in tree.width (g.state mid)) tree.root t x (reverse path) page at claimed → IsAdded tree.width (nodes_in tree.width (g.state mid)) (nodes_in tree.width (g.state new)) tree.root t x claimed)
       → StandsTree g ext old tree owners t → AddsEntry g ext now old new tree x owners t
-  adds_with_cuts ext now old way mid new tree x owners t path page at n there claimed finds absent many shape run touched steady claims written later longer adds s =
+  adds_with_cuts ext now old way mid new tree x owners t path page at n there claimed finds absent many shape run touched steady claims work grows zeros written later longer count adds s =
       let c = claims owners (map_after_way ext old way tree owners run s.map) in
       added_with_cuts ext now old mid new tree x owners t path page at claimed shape s (not_found old tree x (reverse path) page at n there finds absent t s.held) (many ∙ (finds t s.held).1) c
-      (claims_touch ext old way mid tree run touched) (steady.is_told ∙ run.works.steady.is_told) written later.is_told longer
+      (claims_touch ext old way mid tree run touched) (steady.is_told ∙ run.works.steady.is_told) written later.is_told (omega (arith, longer, ap length work)) count
+      (grows_after ext old way mid claimed run.works.steady.is_told work steady grows) (zeros_wider (zeros_after ext old way mid owners s.map run.works.steady.is_told work zeros) (λ p behind none. absurd none))
       (adds t (ready_found ext now old way mid tree x owners t (reverse path) page at n there claimed finds absent many run touched steady c s))
+
+  -- ---- page 0
+
+  pub root_along : {old way new : S} → (g.state way).is_told ≡ (g.state old).is_told → (g.state way).work ≡ (g.state old).work → KeepsRoot g way new → KeepsRoot g old new
+  root_along told same run = record { root = λ bytes holds. run.root bytes (holds_along told same holds) }
+
+  pub root_same : {old new : S} → (g.state new).is_told ≡ (g.state old).is_told → (g.state new).work ≡ (g.state old).work → KeepsRoot g old new
+  root_same told same = root_along told same keeps_root_none
+
+  -- the leaf was written
+  pub root_here : (ext : Extents) (old way new : S) (tree : Tree) (x : Entry) (owners : List Kind) (t : Forest) (stack : List (ℕ × ℕ)) (page at n : ℕ) (there : Bool) → FindsWay g old tree x stack page at there n
+      → StandsTree g ext old tree owners t → (g.state way).is_told ≡ (g.state old).is_told → (g.state way).work ≡ (g.state old).work → Touches g (OnlyPage page) way new → KeepsRoot g old new
+  root_here ext old way new tree x owners t stack page at n there finds s told same written =
+      keeps_root_still (root_same told same) written (λ is. used_not_space ext owners page (s.used page (at_place_times (finds t s.held).0.place)) (inl (sym is)))
+
+  -- pages were claimed, and pages of the tree and the claimed ones were written
+  pub root_with_cuts : (ext now : Extents) (old way mid new : S) (tree : Tree) (x : Entry) (owners : List Kind) (t : Forest) (path : List (ℕ × ℕ)) (page at n : ℕ) (there : Bool) (claimed : List ℕ)
+      → FindsWay g old tree x (reverse path) page at there n → there ≡ false
+      → RunsOverPages g NoPage (IsTreePage g old tree) (BreaksTree g old tree) old way None → (g.state way).work ≡ (g.state old).work
+      → ((owners : List Kind) → HoldsMap g ext way owners → ClaimsPages g ext now mid owners claimed) → KeepsRoot g way mid
+      → Touches g (IsCutPage page tree.root path claimed) mid new → StandsTree g ext old tree owners t → KeepsRoot g old new
+  root_with_cuts ext now old way mid new tree x owners t path page at n there claimed finds absent run same claims kept written s =
+      let c = claims owners (map_after_way ext old way tree owners run s.map) in
+      keeps_root_still (root_along run.works.steady.is_told same kept) written
+      (λ is. cut_not_space ext old tree x owners t path page at claimed 0 s (not_found old tree x (reverse path) page at n there finds absent t s.held) c.claims is (inl refl))

@@ -1,6 +1,6 @@
 -- The steps of an addition, as the code meets them.
-use Rattle.std.proofs.Common.{◌≡◌, ◌≢◌, ◌<◌, ◌≤◌, ◌+◌, ◌-◌, ◌/◌, ℕ, zero, suc, List, [], ◌∷◌, ◌++◌, refl, ap, arith, sym, ◌∙◌, subst, append_assoc, append-nil, length, length-append, get_or, take, drop, ◌⊎◌, inl, inr}
-use Rattle.std.specs.Prelude.{Option, Some, None, ⊤, true, false, Bool}
+use Rattle.std.proofs.Common.{◌≡◌, ◌≢◌, ◌≤◌, ◌+◌, ◌/◌, ℕ, zero, suc, List, [], ◌∷◌, ◌++◌, refl, ap, arith, sym, ◌∙◌, subst, append_assoc, append-nil, length, length-append, take, drop, inl, inr}
+use Rattle.std.specs.Prelude.{None}
 use Rattle.std.proofs.lemmas.Bool.{cases_eq}
 use Rattle.std.proofs.lemmas.List.{length-take-le}
 use Rattle.std.proofs.Math.Seq.{take-append_seam, drop-append_seam}
@@ -327,7 +327,7 @@ raised width old now new t x root s b a claims w h z za e k o = top h.above h.wh
     off (Fork p seps kids next) e n z = let same : p ≡ root = cc in subst (λ (v : ℕ). n ≢ v) same (is_not n p (omega arith))
 
     go : (row : Forest) → t ≡ h.spot → Fits None None (s ∷ []) row → HoldsForest now row → NoPageTwice row → times a row ≡ 0 → heads row ≡ root ∷ b ∷ [] → leaf_entries row ≡ with_entry x (leaf_entries h.spot)
-        → EachNode (KeepsLeaf width old t) row → IsHalfHead width row → ((n : ℕ) → times n row ≤ times n t + times_among n claims)
+        → EachNode (KeepsLeaf width old t) row → IsHalfHead width row → ((n : ℕ) → times n row ≡ times n t + times_among n claims)
         → ((n : ℕ) → times n t ≡ 0 → once n a + times_among n claims ≡ 0 → new n ≡ old n) → IsAdded width old new root t x (a ∷ claims)
     go Nil d f g i out hr en kl hh pg kept = cc
     go (Leaf p items next) d f g i out hr en kl hh pg kept =

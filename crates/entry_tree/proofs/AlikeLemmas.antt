@@ -1,13 +1,13 @@
 -- Entries with the same first four bytes stand to all others alike.
-use Rattle.std.proofs.Common.{◌≡◌, ◌<◌, ◌≤◌, ◌+◌, ℕ, zero, suc, List, [], ◌∷◌, ◌++◌, refl, ap, arith, sym, ◌∙◌, subst, take, ◌==◌, inl, inr, ne_eqb, cond}
+use Rattle.std.proofs.Common.{◌≡◌, ℕ, zero, suc, List, [], ◌∷◌, ◌++◌, refl, ap, sym, ◌∙◌, subst, take, inl, inr, ne_eqb, cond}
 use Rattle.std.specs.Prelude.{true, false, Bool, nat_lt}
 use Rattle.std.proofs.lemmas.Bool.{cases_eq}
 use Rattle.std.specs.Ordering.{nat_cmp, is_lt, ordering_then}
 use Rattle.std.specs.declared.cmp.Ordering.{Ordering}
-use Rattle.std.specs.declared.cmp.Ordering.TheVariants.{Less, Equal, Greater}
+use Rattle.std.specs.declared.cmp.Ordering.TheVariants.{Less, Greater}
 use Rattle.std.specs.Cmp.Lexicographic.{slice_cmp}
 use Rattle.mdc_words.specs.ByteOrder.{Entry, below}
-use Rattle.entry_tree.specs.Amending.{StandsAlone}
+use Rattle.entry_tree.specs.Amending.{HasOwnFront}
 use Rattle.entry_tree.specs.EntryBounds.{IsEntryOf}
 use Rattle.entry_tree.proofs.EntryBoundsLemmas.{AllAbove, AllBelow, below_itself}
 
@@ -38,14 +38,14 @@ unfolding below
 alike_above y x z e d =
     ap is_lt (cmp_fronts 4 x y (λ q. d (sym q)) ∙ ap (λ (r : List ℕ). slice_cmp nat_cmp r (take 4 y)) e ∙ sym (cmp_fronts 4 z y (λ q. d (sym (e ∙ q)))))
 
-pub AllBelow-alike : (x z : Entry) (ys : List Entry) → take 4 x ≡ take 4 z → StandsAlone x ys → AllBelow x ys → AllBelow z ys
+pub AllBelow-alike : (x z : Entry) (ys : List Entry) → take 4 x ≡ take 4 z → HasOwnFront x ys → AllBelow x ys → AllBelow z ys
 AllBelow-alike x z [] e a h = tt
 AllBelow-alike x z (y ∷ ys) e a h = (
   sym (alike_below y x z e (λ q. let same = a y (inl refl) q in let i = below_itself x in let b : below x x ≡ true = subst (λ (v : Entry). below v x ≡ true) same h.0 in cc)) ∙ h.0,
   AllBelow-alike x z ys e (λ w i. a w (inr i)) h.1,
 )
 
-pub AllAbove-alike : (x z : Entry) (ys : List Entry) → take 4 x ≡ take 4 z → StandsAlone x ys → AllAbove x ys → AllAbove z ys
+pub AllAbove-alike : (x z : Entry) (ys : List Entry) → take 4 x ≡ take 4 z → HasOwnFront x ys → AllAbove x ys → AllAbove z ys
 AllAbove-alike x z [] e a h = tt
 AllAbove-alike x z (y ∷ ys) e a h = (
   sym (alike_above y x z e (λ q. let same = a y (inl refl) q in let i = below_itself x in let b : below x x ≡ true = subst (λ (v : Entry). below x v ≡ true) same h.0 in cc)) ∙ h.0,
@@ -53,7 +53,7 @@ AllAbove-alike x z (y ∷ ys) e a h = (
 )
 
 -- a part of a list
-pub alone_left : (x : Entry) (xs ys : List Entry) → StandsAlone x (xs ++ ys) → StandsAlone x xs
+pub alone_left : (x : Entry) (xs ys : List Entry) → HasOwnFront x (xs ++ ys) → HasOwnFront x xs
 alone_left x xs ys a y i = a y (left xs i)
   where
     left : (zs : List Entry) → IsEntryOf y zs → IsEntryOf y (zs ++ ys)
@@ -61,7 +61,7 @@ alone_left x xs ys a y i = a y (left xs i)
     left (z ∷ zs) (inl e) = inl e
     left (z ∷ zs) (inr i) = inr (left zs i)
 
-pub alone_right : (x : Entry) (xs ys : List Entry) → StandsAlone x (xs ++ ys) → StandsAlone x ys
+pub alone_right : (x : Entry) (xs ys : List Entry) → HasOwnFront x (xs ++ ys) → HasOwnFront x ys
 alone_right x xs ys a y i = a y (right xs)
   where
     right : (zs : List Entry) → IsEntryOf y (zs ++ ys)

@@ -1,6 +1,6 @@
 -- The replacement of an entry, in a tree that a store is told to hold.
-use Rattle.std.proofs.Common.{◌≡◌, ◌≢◌, ◌<◌, ◌≤◌, ◌+◌, ℕ, zero, suc, append-nil, List, [], ◌∷◌, ◌++◌, refl, ap, arith, sym, ◌∙◌, subst, length, get_or, take, drop, set, ◌⊎◌, inl, inr, length-append}
-use Rattle.std.specs.Prelude.{Option, Some, None, ⊤, true, false, Bool, IsTrue, not}
+use Rattle.std.proofs.Common.{get_or, ◌≡◌, ◌≢◌, ◌<◌, ℕ, zero, suc, append-nil, List, [], ◌∷◌, ◌++◌, refl, ap, arith, sym, ◌∙◌, subst, length, take, drop, set, inl, inr, length-append}
+use Rattle.std.specs.Prelude.{Option, Some, None, true, false, Bool, IsTrue, not}
 use Rattle.std.proofs.lemmas.Bool.{cases_lt}
 use Rattle.mdc_words.specs.ByteOrder.{Entry, below}
 use Rattle.node_page.specs.Node.{Node}
@@ -10,13 +10,13 @@ use Rattle.store_api.specs.RunsOverPages.{RunsOverPages}
 use Rattle.store_api.specs.Works.{Steady}
 use Rattle.store_api.specs.declared.fault.Damage.{Damage}
 use Rattle.store_api.specs.declared.pages.Pages.{Ghosts}
-use Rattle.entry_tree.specs.Amending.{AmendsEntry, BreaksMoved, BreaksSlot, HasBehind, IsFirstFrom, IsFirstOr, IsMovedPage, MakesRoom, MovesHigh, MovesLow, SetsAt, SetsMoved, StandsAlone, first_entry}
-use Rattle.entry_tree.specs.EntryBounds.{AtLeast, Bound, Climbs, Rises, Under, IsEntryOf, IsLeafPlace}
-use Rattle.entry_tree.specs.Forest.{EachNode, Fits, Forest, HasNode, HoldsForest, IsTree, IsTrimTree, heads, leaf_entries, once, times, ◌&◌}
+use Rattle.entry_tree.specs.Amending.{AmendsEntry, BreaksMoved, BreaksSlot, HasBehind, IsMovedPage, MakesRoom, SetsAt, SetsMoved, HasOwnFront}
+use Rattle.entry_tree.specs.EntryBounds.{AtLeast, Climbs, Rises, Under, IsEntryOf, IsLeafPlace}
+use Rattle.entry_tree.specs.Forest.{Fits, Forest, HasNode, HoldsForest, IsTree, IsTrimTree, heads, leaf_entries, times, ◌&◌}
 use Rattle.entry_tree.specs.Forest.Forest.{Fork, Leaf, Nil}
 use Rattle.entry_tree.specs.HeldTrees.{nodes_in, HoldsTree, IsTreePage, BreaksTree}
-use Rattle.entry_tree.specs.Reading.{AreAtLeast, IsLeafFrom, IsReadAt, entries_from}
-use Rattle.entry_tree.specs.Spots.{IsAtSpot, IsSpot, bound_of, high_fence, high_fence_in, low_fence, low_fence_in}
+use Rattle.entry_tree.specs.Reading.{AreAtLeast, entries_from}
+use Rattle.entry_tree.specs.Spots.{IsAtSpot, IsSpot, fence_bound, high_fence, high_fence_in, low_fence, low_fence_in}
 use Rattle.entry_tree.specs.TreePlaces.{Frame, entries_behind, high_of, low_of, plug}
 use Rattle.entry_tree.specs.declared.spot.Fence.{Fence}
 use Rattle.entry_tree.specs.declared.tree.Tree.{Tree}
@@ -26,7 +26,7 @@ use Rattle.entry_tree.proofs.EntryBoundsLemmas.{below_itself, below_trans}
 use Rattle.entry_tree.proofs.FencesLemmas.{SetsFence}
 use Rattle.entry_tree.proofs.ForestLemmas.{HoldsForest-agree, once_same}
 use Rattle.entry_tree.proofs.HeldTreesLemmas.{nodes_in-past, nodes_kept, nodes_same}
-use Rattle.entry_tree.proofs.LeafFromLemmas.{Fits-entries, first_of_rising, from_high}
+use Rattle.entry_tree.proofs.LeafFromLemmas.{from_high}
 use Rattle.entry_tree.proofs.ReadLeafLemmas.{high_fence-bound, holds_still}
 use Rattle.entry_tree.proofs.TreePlacesLemmas.{EachNode-from_plug, Fits-plug, times-plug}
 use Rattle.entry_tree.proofs.SightLemmas.{Rises-wide}
@@ -81,14 +81,6 @@ high_fence-of nodes (k ∷ fs) here f h e =
         let at_is : length k.lows ≡ f.at = cc in
         fence_node nodes fs k.page (length k.lows) (k.lows ++ k.highs) (k.left & (here & k.right)) f h page_is at_is (omega (arith, ap length q, length-append k.lows k.highs))
 
--- the lowest entry that a leaf gives is the lowest from its bound on
-pub first_given : (all : List Entry) (bound : Entry) (given : List Entry) (next : Bound) → Rises None None all → IsLeafFrom all bound given next → IsFirstOr all bound (first_entry given)
-first_given all bound [] next r l = l.whole ∙ l.some refl
-first_given all bound (x ∷ xs) next r l = record {
-  there = subst (IsEntryOf x) (sym l.whole) (inl refl);
-  lowest = subst (AreAtLeast (Some x)) (sym l.whole) (first_of_rising bound x all (xs ++ l.rest) r l.whole);
-}
-
 -- all that lies behind the place of x
 behind_is : (nodes : ℕ → Node) (root page at : ℕ) (there : Bool) (t : Forest) (x : Entry) (low high : Option Fence) (fence : Fence) → IsTree nodes root t → (s : IsSpot nodes t x page at there low high) → high ≡ Some fence
     → entries_from fence.bound (leaf_entries t) ≡ entries_behind s.above
@@ -103,7 +95,7 @@ behind_is nodes root page at there t x low high fence w s e =
       matched = s.matched;
       low = s.least;
       high = s.under;
-      next_is = high_fence-bound s.above ∙ ap bound_of (s.high_is ∙ e);
+      next_is = high_fence-bound s.above ∙ ap fence_bound (s.high_is ∙ e);
       spot = s.place;
       given_is = refl;
     })
@@ -163,7 +155,7 @@ module _ {S : Type 0} {g : Ghosts S} where
   has_behind {s} {tree} t x page at there low (Some fence) h k =
       subst (λ (l : List Entry). 0 < length l) (sym (behind_is (nodes_in tree.width (g.state s)) tree.root page at there t x low (Some fence) fence h.is_tree k refl))
       (behind_some k.above (Leaf page k.items Nil) page fence.bound k.matched refl (subst (Fits None None []) k.whole h.is_tree.fits) (subst IsTrimTree k.whole h.trim)
-      (high_fence-bound k.above ∙ ap bound_of k.high_is))
+      (high_fence-bound k.above ∙ ap fence_bound k.high_is))
 
   -- a tree was there where the pages are as they were
   pub holds_back : {s mid : S} {tree : Tree} {t : Forest} → Steady g s mid → (g.state mid).work ≡ (g.state s).work → HoldsTree g mid tree t → HoldsTree g s tree t
@@ -210,7 +202,7 @@ module _ {S : Type 0} {g : Ghosts S} where
       → IsRoomy (nodes_in tree.width (g.state three)) tree.root k.above (Leaf page (front ++ x ∷ back) Nil) y
   made_roomy {Kind} {Breaks} {s} {one} {two} {three} {tree} t x y page at there low high None front back h k w still same room steady still_same sets run count =
       roomy_still (nodes_in tree.width (g.state s)) (nodes_in tree.width (g.state three)) tree.root page k.above front x back y w
-      (subst (λ (f : Option Fence). AtLeast (bound_of f) y) (sym k.low_is) room.0) (subst (λ (f : Option Fence). Under (bound_of f) y) (sym k.high_is) room.1)
+      (subst (λ (f : Option Fence). AtLeast (fence_bound f) y) (sym k.low_is) room.0) (subst (λ (f : Option Fence). Under (fence_bound f) y) (sym k.high_is) room.1)
       (record {
         head = w.tree.head;
         holds = HoldsForest-agree (nodes_in tree.width (g.state s)) (nodes_in tree.width (g.state three)) (plug k.above (Leaf page (front ++ x ∷ back) Nil))
@@ -225,7 +217,7 @@ module _ {S : Type 0} {g : Ghosts S} where
       let first = r.first t (holds_still still same h) in
       let behind = behind_is (nodes_in tree.width (g.state s)) tree.root page at there t x low high r.fence h.is_tree k r.there in
       roomy_high (nodes_in tree.width (g.state s)) (nodes_in tree.width (g.state three)) tree.root page k.above front x back y m.bound r.fence w (k.high_is ∙ r.there)
-      (subst (λ (f : Option Fence). AtLeast (bound_of f) y) (sym k.low_is) r.least) r.over
+      (subst (λ (f : Option Fence). AtLeast (fence_bound f) y) (sym k.low_is) r.least) r.over
       (subst (IsEntryOf m.bound) behind first.there) (subst (AreAtLeast (Some m.bound)) behind first.lowest)
       (sets_fence tree.width m r.fence m.bound r.page_is r.at_is refl sets run count steady still_same)
 
@@ -308,7 +300,7 @@ module _ {S : Type 0} {g : Ghosts S} where
 
   -- what stands in the pages once the separator is moved
   pub meanwhile : {Kind : ℕ → Type 0} {Breaks : Damage → Type 0} {s two three : S} {tree : Tree} (one : S) (t : Forest) (x y : Entry) (page at : ℕ) (there : Bool) (low high moved : Option Fence)
-      → HoldsTree g s tree t → (k : IsSpot (nodes_in tree.width (g.state s)) t x page at there low high) → IsTrue there → StandsAlone x (leaf_entries t) → take 4 x ≡ take 4 y
+      → HoldsTree g s tree t → (k : IsSpot (nodes_in tree.width (g.state s)) t x page at there low high) → IsTrue there → HasOwnFront x (leaf_entries t) → take 4 x ≡ take 4 y
       → Steady g s one → (g.state one).work ≡ (g.state s).work → MakesRoom g one tree low high y moved
       → Steady g s two → (g.state two).work ≡ (g.state s).work → SetsMoved g two three tree.width moved → RunsOverPages g (IsMovedPage moved) Kind Breaks two three None → length (g.state three).work ≡ length (g.state two).work
       → IsRoomy (nodes_in tree.width (g.state three)) tree.root k.above (Leaf page (take at k.items ++ x ∷ drop (suc at) k.items) Nil) y
@@ -317,25 +309,47 @@ module _ {S : Type 0} {g : Ghosts S} where
       (twin_of (nodes_in tree.width (g.state s)) tree.root t k.above page k.items x y at h.is_tree h.trim k.whole k.matched k.least k.under (k.says.0 is) alone alike)
       steady1 same1 room steady2 same2 sets run count
 
-  -- so the leaf has a place for y
-  pub breaks_slot : {s three : S} {tree : Tree} (x y : Entry) (page at : ℕ) (there : Bool) (low high : Option Fence) (damage : Damage)
-      → ((t : Forest) → HoldsTree g s tree t → (k : IsSpot (nodes_in tree.width (g.state s)) t x page at there low high)
-      × IsRoomy (nodes_in tree.width (g.state three)) tree.root k.above (Leaf page (take at k.items ++ x ∷ drop (suc at) k.items) Nil) y)
+  -- the leaf of x isn't the node of a separator that is moved
+  pub leaf_meanwhile : {Kind : ℕ → Type 0} {Breaks : Damage → Type 0} {s two three : S} {tree : Tree} (one : S) (t : Forest) (x y : Entry) (page at : ℕ) (there : Bool) (low high moved : Option Fence)
+      → HoldsTree g s tree t → (k : IsSpot (nodes_in tree.width (g.state s)) t x page at there low high) → MakesRoom g one tree low high y moved
+      → Steady g s two → (g.state two).work ≡ (g.state s).work → SetsMoved g two three tree.width moved → RunsOverPages g (IsMovedPage moved) Kind Breaks two three None → length (g.state three).work ≡ length (g.state two).work
+      → nodes_in tree.width (g.state three) page ≡ LeafNode k.items
+  leaf_meanwhile {Kind} {Breaks} {s} {two} {three} {tree} one t x y page at there low high None h k room steady same sets run count =
+      nodes_same tree.width (g.state s) (g.state three) page (run.works.steady.is_told ∙ steady.is_told) (sets ∙ same) ∙ k.leaf
+  leaf_meanwhile {Kind} {Breaks} {s} {two} {three} {tree} one t x y page at there low high (Some m) h k room steady same sets run count =
+      let f = moved_of one t x y page at there low high m h k room in
+      others_kept tree.width m.page run count page (λ (e : page ≡ m.page). let inner = ap (nodes_in tree.width (g.state s)) e ∙ f.node in let leaf = k.leaf in cc)
+      ∙ nodes_same tree.width (g.state s) (g.state two) page steady.is_told same
+      ∙ k.leaf
+
+  -- so it has a place for y
+  pub breaks_slot : {s three : S} {tree : Tree} (x : Entry) (page at : ℕ) (there : Bool) (low high : Option Fence) (damage : Damage)
+      → ((t : Forest) → HoldsTree g s tree t → (k : IsSpot (nodes_in tree.width (g.state s)) t x page at there low high) × (nodes_in tree.width (g.state three) page ≡ LeafNode k.items))
       → IsTrue there → BreaksSlot g three tree page at damage → BreaksTree g s tree damage
-  breaks_slot {s} {three} {tree} x y page at there low high damage r is b = record {
+  breaks_slot {s} {three} {tree} x page at there low high damage r is b = record {
     page = b.page_is;
     rule = b.rule;
-    broken = λ t h.
-        let k = (r t h).0 in
-        let spot = k.says.0 is in
-        b.leaf (take at k.items ++ x ∷ drop (suc at) k.items)
-        (roomy_leaf (nodes_in tree.width (g.state three)) tree.root k.above page (take at k.items ++ x ∷ drop (suc at) k.items) y (r t h).1)
-        (subst (λ (l : List Entry). at < length l) (spot_split k.items x at spot) spot.0);
+    broken = λ t h. b.leaf (r t h).0.items (r t h).1 ((r t h).0.says.0 is).0;
   }
+
+  -- an entry that is at its place is there
+  pub is_there : {s : S} {tree : Tree} (t : Forest) (x : Entry) (page at : ℕ) (there : Bool) (low high : Option Fence) → HoldsTree g s tree t → IsSpot (nodes_in tree.width (g.state s)) t x page at there low high
+      → IsTrue there → IsEntryOf x (leaf_entries t)
+  is_there {s} {tree} t x page at there low high h k is =
+      let fit = subst (Fits None None []) k.whole h.is_tree.fits in
+      let here : Forest = Leaf page k.items Nil in
+      let o = outside None None k.above here page x k.matched refl fit k.least k.under in
+      let spot = k.says.0 is in
+      subst (λ (u : Forest). IsEntryOf x (leaf_entries u)) (sym k.whole) ((has_at k.above here x o).1 (rw append-nil (subst (λ (v : Entry). IsEntryOf v k.items) spot.1 (listed k.items at spot.0))))
+    where
+      listed : (xs : List Entry) (i : ℕ) → i < length xs → IsEntryOf (get_or xs i []) xs
+      listed [] i l = absurd (omega arith)
+      listed (v ∷ vs) zero l = inl refl
+      listed (v ∷ vs) (suc i) l = inr (listed vs i (omega arith))
 
   -- the tree afterwards
   pub amends_there : {Kind : ℕ → Type 0} {Breaks : Damage → Type 0} {s three four : S} {tree : Tree} (t : Forest) (x y : Entry) (page at : ℕ) (there : Bool) (low high : Option Fence)
-      → HoldsTree g s tree t → (k : IsSpot (nodes_in tree.width (g.state s)) t x page at there low high) → IsTrue there → StandsAlone x (leaf_entries t) → take 4 x ≡ take 4 y
+      → HoldsTree g s tree t → (k : IsSpot (nodes_in tree.width (g.state s)) t x page at there low high) → IsTrue there → HasOwnFront x (leaf_entries t) → take 4 x ≡ take 4 y
       → IsRoomy (nodes_in tree.width (g.state three)) tree.root k.above (Leaf page (take at k.items ++ x ∷ drop (suc at) k.items) Nil) y
       → SetsAt g three four tree.width page at y → RunsOverPages g (OnlyPage page) Kind Breaks three four None → length (g.state four).work ≡ length (g.state three).work
       → AmendsEntry g four tree x y t

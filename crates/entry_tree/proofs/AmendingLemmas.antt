@@ -1,24 +1,23 @@
 -- An entry is replaced by another one in its leaf.
-use Rattle.std.proofs.Common.{◌≡◌, ◌≢◌, ◌<◌, ◌≤◌, ◌+◌, ℕ, zero, suc, List, [], ◌∷◌, ◌++◌, refl, ap, arith, sym, ◌∙◌, subst, append_assoc, append-nil, length, get_or, take, drop, set, inl, inr}
-use Rattle.std.specs.Prelude.{Option, Some, None, ⊤, true, false}
+use Rattle.std.proofs.Common.{◌≡◌, ◌≢◌, ℕ, suc, List, [], ◌∷◌, ◌++◌, refl, ap, arith, sym, ◌∙◌, subst, append_assoc, append-nil, take, drop, set, inl, inr}
+use Rattle.std.specs.Prelude.{Some, None, true, false}
 use Rattle.std.proofs.Math.Seq.{drop-cons, set-append_seam}
 use Rattle.std.proofs.lemmas.List.{length-take-le, take-append-drop}
 use Rattle.mdc_words.specs.ByteOrder.{Entry, below}
 use Rattle.node_page.specs.Node.{Node}
 use Rattle.node_page.specs.Node.Node.{LeafNode}
-use Rattle.entry_tree.specs.Amending.{IsFirstFrom, StandsAlone}
+use Rattle.entry_tree.specs.Amending.{HasOwnFront}
 use Rattle.entry_tree.specs.EntryBounds.{AtLeast, Bound, Climbs, Rises, Room, Under, IsEntryOf, with_entry}
-use Rattle.entry_tree.specs.Forest.{EachNode, Fits, Forest, HoldsEntry, IsTree, IsTrimTree, heads, leaf_entries, times}
-use Rattle.entry_tree.specs.Forest.Forest.{Fork, Leaf, Nil}
-use Rattle.entry_tree.specs.Reading.{AreAtLeast, AreUnder, entries_from}
-use Rattle.entry_tree.specs.Spots.{IsAtSpot, bound_of, high_fence, low_fence}
-use Rattle.entry_tree.specs.TreePlaces.{AreMatched, Frame, entries_before, entries_behind, high_of, low_of, plug, times_beside}
+use Rattle.entry_tree.specs.Forest.{EachNode, Forest, HoldsEntry, IsTree, IsTrimTree, leaf_entries, times}
+use Rattle.entry_tree.specs.Forest.Forest.{Leaf, Nil}
+use Rattle.entry_tree.specs.Reading.{AreAtLeast, AreUnder}
+use Rattle.entry_tree.specs.Spots.{IsAtSpot, fence_bound, high_fence, low_fence}
+use Rattle.entry_tree.specs.TreePlaces.{AreMatched, Frame, entries_before, entries_behind, high_of, low_of, plug}
 use Rattle.entry_tree.specs.declared.spot.Fence.{Fence}
 use Rattle.entry_tree.proofs.AlikeLemmas.{AllAbove-alike, AllBelow-alike, alone_left, alone_right}
 use Rattle.entry_tree.proofs.DescentLemmas.{outside}
 use Rattle.entry_tree.proofs.EntryBoundsLemmas.{AllAbove, AllAbove-and, AllBelow, AllBelow-and, Climbs-above, Climbs-and, Rises-below, Under-up, below_itself, below_trans, put_between, up_to}
 use Rattle.entry_tree.proofs.FencesLemmas.{IsSamePlace, SetsFence, high_moved, high_of-with_high, high_of-with_low, holds_plug, low_moved, low_of-with_high, low_of-with_low, with_high, with_high-place, with_low, with_low-place}
-use Rattle.entry_tree.proofs.LeafFromLemmas.{Fits-entries}
 use Rattle.entry_tree.proofs.LeavesLemmas.{EachBeside-from_plug, fork_trim, trim_fork}
 use Rattle.entry_tree.proofs.ReadingLemmas.{AllAbove-least, AreAtLeast-and, AreAtLeast-down, AreBehind, AreUnder-and, Rises-least, Rises-under, behind_place}
 use Rattle.entry_tree.proofs.ReadLeafLemmas.{high_fence-bound, low_fence-bound}
@@ -84,7 +83,7 @@ pub record IsTwin (nodes : ℕ → Node) (root : ℕ) (above : List Frame) (page
 
 pub twin_of : (nodes : ℕ → Node) (root : ℕ) (t : Forest) (above : List Frame) (page : ℕ) (items : List Entry) (x y : Entry) (at : ℕ) → IsTree nodes root t → IsTrimTree t
     → t ≡ plug above (Leaf page items Nil) → AreMatched above → AtLeast (low_of None above) x → Under (high_of None above) x → IsAtSpot items x at
-    → StandsAlone x (leaf_entries t) → take 4 x ≡ take 4 y → IsTwin nodes root above page (take at items) x (drop (suc at) items) y
+    → HasOwnFront x (leaf_entries t) → take 4 x ≡ take 4 y → IsTwin nodes root above page (take at items) x (drop (suc at) items) y
 twin_of nodes root t above page items x y at w k e m l u s a q =
     let front = take at items in
     let back = drop (suc at) items in
@@ -93,8 +92,8 @@ twin_of nodes root t above page items x y at w k e m l u s a q =
     let tree = subst (IsTree nodes root) whole w in
     let around = Rises-around (low_of None above) (high_of None above) front x back (Fits-plug None None above here page m refl tree.fits).0.1 in
     let beside = outside None None above here page x m refl tree.fits l u in
-    let alone : StandsAlone x (entries_before above ++ (((front ++ x ∷ back) ++ []) ++ entries_behind above)) =
-    subst (StandsAlone x) (ap leaf_entries whole ∙ leaf_entries-plug above here) a in
+    let alone : HasOwnFront x (entries_before above ++ (((front ++ x ∷ back) ++ []) ++ entries_behind above)) =
+    subst (HasOwnFront x) (ap leaf_entries whole ∙ leaf_entries-plug above here) a in
     let right = alone_right x (entries_before above) (((front ++ x ∷ back) ++ []) ++ entries_behind above) alone in
     let inside = alone_left x (front ++ x ∷ back) [] (alone_left x ((front ++ x ∷ back) ++ []) (entries_behind above) right) in
     let later = alone_right x front (x ∷ back) inside in
@@ -138,7 +137,7 @@ same_place fs = record { matched = λ m. m; before = refl; behind = refl; counts
 
 -- there is room as it is
 pub roomy_still : (old new : ℕ → Node) (root page : ℕ) (above : List Frame) (front : List Entry) (x : Entry) (back : List Entry) (y : Entry) → IsTwin old root above page front x back y
-    → AtLeast (bound_of (low_fence above)) y → Under (bound_of (high_fence above)) y → IsTree new root (plug above (Leaf page (front ++ x ∷ back) Nil))
+    → AtLeast (fence_bound (low_fence above)) y → Under (fence_bound (high_fence above)) y → IsTree new root (plug above (Leaf page (front ++ x ∷ back) Nil))
     → IsRoomy new root above (Leaf page (front ++ x ∷ back) Nil) y
 roomy_still old new root page above front x back y w a u t = record {
   fs = above;
@@ -156,7 +155,7 @@ roomy_low old new root page [] front x back y fence w e b z = cc
 roomy_low old new root page (f ∷ above) front x back y fence w e b z =
     let here : Forest = Leaf page (front ++ x ∷ back) Nil in
     let fs = f ∷ above in
-    let bound : low_of None fs ≡ Some fence.bound = low_fence-bound fs ∙ ap bound_of e in
+    let bound : low_of None fs ≡ Some fence.bound = low_fence-bound fs ∙ ap fence_bound e in
     let fit = (Fits-plug None None fs here page w.matched refl w.tree.fits).0 in
     let least : AreAtLeast (Some fence.bound) (front ++ x ∷ back) =
     Rises-least (Some fence.bound) (high_of None fs) (front ++ x ∷ back) (subst (λ (v : Bound). Rises v (high_of None fs) (front ++ x ∷ back)) bound fit.1) in
@@ -174,14 +173,14 @@ roomy_low old new root page (f ∷ above) front x back y fence w e b z =
 
 -- y lies at or above the high bound, which becomes the lowest entry behind it
 pub roomy_high : (old new : ℕ → Node) (root page : ℕ) (above : List Frame) (front : List Entry) (x : Entry) (back : List Entry) (y first : Entry) (fence : Fence)
-    → IsTwin old root above page front x back y → high_fence above ≡ Some fence → AtLeast (bound_of (low_fence above)) y → below y fence.bound ≡ false
+    → IsTwin old root above page front x back y → high_fence above ≡ Some fence → AtLeast (fence_bound (low_fence above)) y → below y fence.bound ≡ false
     → IsEntryOf first (entries_behind above) → AreAtLeast (Some first) (entries_behind above) → SetsFence old new fence first
     → IsRoomy new root above (Leaf page (front ++ x ∷ back) Nil) y
 roomy_high old new root page [] front x back y first fence w e a b i d z = cc
 roomy_high old new root page (f ∷ above) front x back y first fence w e a b i d z =
     let here : Forest = Leaf page (front ++ x ∷ back) Nil in
     let fs = f ∷ above in
-    let bound : high_of None fs ≡ Some fence.bound = high_fence-bound fs ∙ ap bound_of e in
+    let bound : high_of None fs ≡ Some fence.bound = high_fence-bound fs ∙ ap fence_bound e in
     let fit = (Fits-plug None None fs here page w.matched refl w.tree.fits).0 in
     let under : AreUnder (Some fence.bound) (front ++ x ∷ back) =
     Rises-under (low_of None fs) (Some fence.bound) (front ++ x ∷ back) (subst (λ (v : Bound). Rises (low_of None fs) v (front ++ x ∷ back)) bound fit.1) in

@@ -1,5 +1,5 @@
 -- A tree in so many pages isn't deeper than their number.
-use Rattle.std.proofs.Common.{◌≡◌, ◌≢◌, ◌<◌, ◌≤◌, ◌+◌, ◌-◌, ℕ, zero, suc, List, [], ◌∷◌, ◌++◌, refl, ap, arith, sym, ◌∙◌, subst, length, ◌⊎◌, inl, inr}
+use Rattle.std.proofs.Common.{◌≡◌, ◌≢◌, ◌<◌, ◌≤◌, ◌+◌, ℕ, zero, suc, List, [], ◌∷◌, ◌++◌, refl, ap, arith, sym, subst, length, inl, inr}
 use Rattle.std.proofs.lemmas.Bool.{cases_eq}
 use Rattle.entry_tree.proofs.ForestLemmas.{once_other, once_same}
 use Rattle.entry_tree.specs.Forest.{EachNode, Forest, IsPageBelow, IsTree, NoPageTwice, heads, once, times, ◌&◌}

@@ -1,7 +1,6 @@
 -- A leaf that is empty is taken out.
-use Rattle.std.proofs.Common.{◌≡◌, ◌≢◌, ◌<◌, ◌≤◌, ◌+◌, ◌-◌, ℕ, zero, suc, List, [], ◌∷◌, ◌++◌, refl, ap, arith, sym, ◌∙◌, subst, append_assoc, append-nil, length, ◌⊎◌, inl, inr}
-use Rattle.std.specs.Prelude.{Option, Some, None, ⊤}
-use Rattle.std.proofs.lemmas.Bool.{cases_eq}
+use Rattle.std.proofs.Common.{◌≡◌, ◌≢◌, ◌≤◌, ◌+◌, ℕ, List, [], ◌∷◌, refl, ap, arith, sym, subst, length}
+use Rattle.std.specs.Prelude.{None}
 use Rattle.entry_tree.proofs.ForestLemmas.{HoldsForest-agree, leaf_entries-and, once_least, once_same}
 use Rattle.entry_tree.proofs.TreeChangesLemmas.{changed, row_change, within_plug}
 use Rattle.entry_tree.proofs.TreePlacesLemmas.{EachNode-from_plug, Fits-plug, times-plug}

@@ -1,24 +1,25 @@
 -- The runs of calls by which a leaf leaves its tree.
-use Rattle.std.proofs.Common.{◌≡◌, ◌≢◌, ◌<◌, ◌≤◌, ◌+◌, ◌-◌, ℕ, List, [], ◌∷◌, refl, ap, arith, sym, ◌∙◌, subst, length, get_or, ◌⊎◌, inl, inr}
-use Rattle.std.specs.Prelude.{Option, Some, None, Result, Ok, Err, OnOk, ⊤}
+use Rattle.std.proofs.Common.{◌≡◌, ◌≢◌, ◌<◌, ◌≤◌, ◌-◌, ℕ, List, [], ◌∷◌, sym, ◌∙◌, subst, length, get_or, inr}
+use Rattle.std.specs.Prelude.{Option, Some, None, Result, Ok, Err, OnOk}
 use Rattle.std.specs.List.{remove}
 use Rattle.mdc_words.specs.ByteOrder.{Entry}
 use Rattle.node_page.specs.Node.{Node}
-use Rattle.node_page.specs.Node.Node.{InnerNode, LeafNode, NoNode}
-use Rattle.store_api.specs.Frame.{NoPage, OnlyPage, Touches}
+use Rattle.node_page.specs.Node.Node.{InnerNode, NoNode}
+use Rattle.store_api.specs.Frame.{NoPage, OnlyPage}
 use Rattle.store_api.specs.RunsOverPages.{RunsOverPages}
 use Rattle.store_api.specs.declared.fault.Damage.{Damage}
 use Rattle.store_api.specs.declared.fault.StoreFault.{StoreFault}
 use Rattle.store_api.specs.declared.pages.Pages.{Ghosts}
 use Rattle.extent_map.specs.Damages.{BreaksUsedPage}
+use Rattle.extent_map.specs.Damages.{BreaksUsedPage}
 use Rattle.extent_map.specs.Map.{HoldsMap, IsMapPage}
-use Rattle.extent_map.specs.Owners.{AreRightNotes, IsExtentPage, IsSameShape, IsUsedPage, without_page}
+use Rattle.extent_map.specs.Owners.{AreRightNotes, IsSameShape, IsUsedPage, without_page}
 use Rattle.extent_map.specs.declared.extents.Extents.{Extents}
 use Rattle.extent_map.specs.declared.kind.Kind.{Kind}
 use Rattle.extent_map.proofs.HoldsMapLemmas.{holds_map_run}
-use Rattle.entry_tree.specs.Forest.{Forest, times}
+use Rattle.entry_tree.specs.Forest.{Forest}
 use Rattle.entry_tree.specs.HeldTrees.{nodes_in}
-use Rattle.entry_tree.specs.Pruning.{BreaksAtReturn, BreaksDrop, BreaksGiving, DropsLeaf, HasBeside, IsDroppable, IsDropping, IsDropPage, IsInnerFrom, IsOtherChild, IsPruned, IsSomeNode}
+use Rattle.entry_tree.specs.Pruning.{BreaksDrop, DropsLeaf, HasBeside, IsDroppable, IsDroppableLeaf, IsDropping, IsInnerFrom, IsOtherChild, IsSomeNode}
 use Rattle.entry_tree.specs.TreeChanges.{IsPut}
 use Rattle.entry_tree.specs.TreePlaces.{Frame}
 use Rattle.entry_tree.specs.Writing.{BreaksWhere}
@@ -26,7 +27,7 @@ use Rattle.entry_tree.specs.declared.tree.Tree.{Tree}
 use Rattle.entry_tree.proofs.DroppingLemmas.{IsPruned-agree, drops_inner, drops_other, node_above, other_above}
 use Rattle.entry_tree.proofs.HeldTreesLemmas.{nodes_same}
 use Rattle.entry_tree.proofs.LentNodesLemmas.{nodes_in-some, nodes_kept_all}
-use Rattle.entry_tree.proofs.ReturnedPagesLemmas.{apart_from_map, map_page-shape, used_beside, used-shape, without_page-shape}
+use Rattle.entry_tree.proofs.ReturnedPagesLemmas.{apart_from_map, map_page-shape, without_page-shape}
 
 pub breaks_where : {tree : Tree} {Wide Expected : Type 0} {damage : Damage} → BreaksWhere tree Wide damage → (Expected → Wide) → BreaksWhere tree Expected damage
 breaks_where b wider = record { page = b.page; rule = b.rule; not_so = λ e. b.not_so (wider e) }
@@ -53,27 +54,28 @@ all_same {S} {g} {s} {m} width run same n = nodes_same width (g.state s) (g.stat
 put_since : {old mid new : ℕ → Node} {page : ℕ} {node : Node} → ((n : ℕ) → mid n ≡ old n) → IsPut mid new page node → IsPut old new page node
 put_since same put = record { there = put.there; others = λ n d. put.others n d ∙ same n }
 
-module _ {S : Type 0} {g : Ghosts S} {ext : Extents} {s : S} {tree : Tree} {leaf page at : ℕ} where
+module _ {S : Type 0} (g : Ghosts S) (s : S) (tree : Tree) (leaf page at : ℕ) where
   -- what the node above is expected to be
-  pub drop_expects : ((owners : List Kind) × IsDroppable g ext s tree leaf page at owners) → IsInnerFrom (nodes_in tree.width (g.state s) page) at 0
+  pub drop_expects : IsDroppableLeaf g s tree leaf page at → IsInnerFrom (nodes_in tree.width (g.state s) page) at 0
   drop_expects d =
-      let n = node_above d.1.0 (nodes_in tree.width (g.state s)) tree.root d.1.1 d.1.2 d.1.3 leaf page at d.1.4.emptied in
+      let n = node_above d.0 (nodes_in tree.width (g.state s)) tree.root d.1 d.2 d.3 leaf page at d.4 in
       record { seps = n.seps; children = n.children; inner = n.node; within = n.within; some = nodes_in-some tree.width (g.state s) page n.seps n.children n.node }
 
   pub drop_expects_more : (m : S) → nodes_in tree.width (g.state m) page ≡ nodes_in tree.width (g.state s) page → HasBeside (nodes_in tree.width (g.state s) page) at None
-      → ((owners : List Kind) × IsDroppable g ext s tree leaf page at owners) → IsInnerFrom (nodes_in tree.width (g.state m) page) at 1
+      → IsDroppableLeaf g s tree leaf page at → IsInnerFrom (nodes_in tree.width (g.state m) page) at 1
   drop_expects_more m same beside d =
-      let n = node_above d.1.0 (nodes_in tree.width (g.state s)) tree.root d.1.1 d.1.2 d.1.3 leaf page at d.1.4.emptied in
+      let n = node_above d.0 (nodes_in tree.width (g.state s)) tree.root d.1 d.2 d.3 leaf page at d.4 in
       record { seps = n.seps; children = n.children; inner = same ∙ n.node; within = n.within; some = beside_none (nodes_in tree.width (g.state s) page) at n.seps n.children n.node beside }
 
   pub drop_expects_other : (m : S) (other : ℕ) → nodes_in tree.width (g.state m) other ≡ nodes_in tree.width (g.state s) other → HasBeside (nodes_in tree.width (g.state s) page) at (Some other)
-      → ((owners : List Kind) × IsDroppable g ext s tree leaf page at owners) → IsSomeNode (nodes_in tree.width (g.state m) other)
+      → IsDroppableLeaf g s tree leaf page at → IsSomeNode (nodes_in tree.width (g.state m) other)
   drop_expects_other m other same beside d =
-      let n = node_above d.1.0 (nodes_in tree.width (g.state s)) tree.root d.1.1 d.1.2 d.1.3 leaf page at d.1.4.emptied in
+      let n = node_above d.0 (nodes_in tree.width (g.state s)) tree.root d.1 d.2 d.3 leaf page at d.4 in
       let b = beside_some (nodes_in tree.width (g.state s) page) at other n.seps n.children n.node beside in
-      let o = other_above d.1.0 (nodes_in tree.width (g.state s)) tree.root d.1.1 d.1.2 d.1.3 leaf page at other d.1.4.emptied b.0 b.1 in
+      let o = other_above d.0 (nodes_in tree.width (g.state s)) tree.root d.1 d.2 d.3 leaf page at other d.4 b.0 b.1 in
       (λ (k : nodes_in tree.width (g.state m) other ≡ NoNode). o.is_node (sym same ∙ k))
 
+module _ {S : Type 0} {g : Ghosts S} {ext : Extents} {s : S} {tree : Tree} {leaf page at : ℕ} where
   module _ {owners : List Kind} {was : ℕ → Node} {t : Forest} {f : Frame} {fs : List Frame} where
     -- the map stands while the node above is written
     pub map_stands : {m0 m1 : S} {K0 K1 : ℕ → Type 0} {B0 B1 : Damage → Type 0} {fault : Option StoreFault} → IsDropping g ext s tree owners was t f fs leaf page at
@@ -151,8 +153,7 @@ module _ {S : Type 0} {g : Ghosts S} {ext : Extents} {s : S} {tree : Tree} {leaf
         }
 
   -- what a return may name
-  pub giving : {now : Extents} {mid : S} {p : ℕ} {damage : Damage} → BreaksGiving g now mid tree p damage
+  pub giving : {now : Extents} {mid : S} {p : ℕ} {damage : Damage} → BreaksUsedPage g now mid p damage
       → ((owners : List Kind) → IsDroppable g ext s tree leaf page at owners → (more : List Kind) × HoldsMap g now mid more × IsUsedPage now more p)
       → BreaksDrop g ext s tree leaf page at damage
-  giving (inl w) told = inl (breaks_where w (λ e. (told e.0 e.1).2.page))
-  giving {now} {mid} {p} (inr u) told = inr (record { mid = mid; ext = now; page = p; map = told; breaks = u })
+  giving {now} {mid} {p} u told = inr (record { mid = mid; ext = now; page = p; map = told; breaks = u })

@@ -1,16 +1,15 @@
 -- A leaf that leaves its tree: what stands above and beside it, and what the tree is then.
-use Rattle.std.proofs.Common.{◌≡◌, ◌≢◌, ◌<◌, ◌≤◌, ◌+◌, ◌-◌, ℕ, zero, suc, List, [], ◌∷◌, ◌++◌, refl, ap, arith, sym, ◌∙◌, subst, length, get_or, ◌⊎◌, inl, inr, length-append}
-use Rattle.std.specs.Prelude.{Option, Some, None, ⊤, Bool, true, false}
+use Rattle.std.proofs.Common.{◌≡◌, ◌≢◌, ◌<◌, ◌≤◌, ◌+◌, ◌-◌, ℕ, List, [], ◌∷◌, ◌++◌, refl, ap, arith, sym, ◌∙◌, subst, length, get_or, length-append}
+use Rattle.std.specs.Prelude.{None}
 use Rattle.std.specs.List.{remove}
 use Rattle.mdc_words.specs.ByteOrder.{Entry}
 use Rattle.node_page.specs.Node.{Node}
-use Rattle.node_page.specs.Node.Node.{InnerNode, LeafNode, NoNode}
-use Rattle.entry_tree.specs.EntryBounds.{Bound}
-use Rattle.entry_tree.specs.Forest.{EachNode, Fits, Forest, HasNode, HoldsForest, IsTree, IsTrimTree, NoPageTwice, heads, once, times, ◌&◌}
+use Rattle.node_page.specs.Node.Node.{InnerNode, NoNode}
+use Rattle.entry_tree.specs.Forest.{Forest, HasNode, IsTree, IsTrimTree, NoPageTwice, heads, once, times, ◌&◌}
 use Rattle.entry_tree.specs.Forest.Forest.{Fork, Leaf, Nil}
 use Rattle.entry_tree.specs.Pruning.{IsEmptied, IsPruned, IsSomeNode}
-use Rattle.entry_tree.specs.TreeChanges.{IsPut, times_among}
-use Rattle.entry_tree.specs.TreePlaces.{AreMatched, Frame, high_of, low_of, plug}
+use Rattle.entry_tree.specs.TreeChanges.{IsPut}
+use Rattle.entry_tree.specs.TreePlaces.{Frame, plug}
 use Rattle.entry_tree.proofs.DropLemmas.{node_of as node_at}
 use Rattle.entry_tree.proofs.ForestLemmas.{EachNode-and, EachNode-from_and, HoldsForest-agree, once_same, times-and}
 use Rattle.entry_tree.proofs.PruningLemmas.{node_there, other_heads, pruned_collapsed, pruned_fork}

@@ -1,15 +1,12 @@
 -- Pages of a tree that were edited and written, as nodes.
-use Rattle.std.proofs.Common.{◌≡◌, ◌≢◌, ◌<◌, ◌≤◌, ◌+◌, ℕ, List, [], ◌∷◌, ◌++◌, length, length-set, set, get_or, take, drop, refl, ap, sym, ◌∙◌, subst, arith, Bool, true, false, IsTrue, Option, get_or-set_same, get_or-set_other}
-use Rattle.std.specs.Prelude.{if◌then◌else◌}
+use Rattle.std.proofs.Common.{◌≡◌, ◌≢◌, ◌<◌, ◌+◌, ℕ, List, [], ◌∷◌, length, set, refl, ap, sym, ◌∙◌, arith, Bool, true, false, IsTrue, Option, get_or-set_same, get_or-set_other}
 use Rattle.std.specs.List.{insert}
-use Rattle.std.proofs.lemmas.List.{get_or_past}
-use Rattle.std.proofs.lemmas.Bool.{cases_lt}
 use Rattle.mdc_words.specs.ByteOrder.{Entry}
 use Rattle.node_page.specs.Node.{Node, node_of, is_full}
 use Rattle.node_page.specs.Node.Node.{LeafNode, InnerNode, NoNode}
 use Rattle.store_api.specs.StoreState.{StoreState, page_at, seen}
 use Rattle.store_api.specs.Calls.{Puts, Writes, Edits}
-use Rattle.std.proofs.Common.{inl, inr}
+use Rattle.std.proofs.Common.{inl}
 use Rattle.std.specs.Prelude.{None}
 use Rattle.store_api.specs.Causes.{NoDamage}
 use Rattle.store_api.specs.Frame.{NoPage, OnlyPage}

@@ -1,10 +1,9 @@
 -- Laws of the order of leaf_entries, and of bounds.
-use Rattle.std.proofs.Common.{◌≡◌, ◌<◌, ◌+◌, ℕ, List, [], ◌∷◌, ◌++◌, refl, ap, arith, sym, ◌∙◌, subst, length, ◌⊎◌, inl, inr}
-use Rattle.std.specs.Prelude.{Option, Some, None, ⊤, Bool, true, false}
+use Rattle.std.proofs.Common.{◌≡◌, List, [], ◌∷◌, ◌++◌, refl, ap, sym, ◌∙◌, subst, inl, inr}
+use Rattle.std.specs.Prelude.{Some, None, ⊤, Bool, true, false}
 use Rattle.std.specs.declared.cmp.Ordering.{Ordering}
 use Rattle.std.specs.declared.cmp.Ordering.TheVariants.{Less, Equal, Greater}
 use Rattle.std.specs.Ordering.{nat_cmp, is_lt, is_eq, ordering_reverse}
-use Rattle.std.specs.Cmp.{IsTotalOrder}
 use Rattle.std.specs.Cmp.Lexicographic.{slice_cmp, nat_list_cmp_total, same_text, texts_ties}
 use Rattle.entry_tree.specs.EntryBounds.{AtLeast, Bound, Climbs, IsEntryOf, Rises, Room, Under, with_entry}
 use Rattle.mdc_words.specs.ByteOrder.{Entry, below}

@@ -1,21 +1,21 @@
 -- The nearest separators of a place, moved.
-use Rattle.std.proofs.Common.{◌≡◌, ◌≢◌, ◌<◌, ◌≤◌, ◌+◌, ◌-◌, ℕ, zero, suc, List, [], ◌∷◌, ◌++◌, refl, ap, arith, sym, ◌∙◌, subst, append_assoc, append-nil, length, get_or, take, drop, set, length-append}
-use Rattle.std.specs.Prelude.{Option, Some, None, ⊤}
+use Rattle.std.proofs.Common.{◌≡◌, ◌≢◌, ℕ, suc, List, [], ◌∷◌, ◌++◌, refl, ap, arith, sym, ◌∙◌, subst, append_assoc, append-nil, length, get_or, take, set, length-append}
+use Rattle.std.specs.Prelude.{Some, None}
 use Rattle.std.proofs.Math.Seq.{drop-cons, set-append_seam}
 use Rattle.std.proofs.lemmas.List.{drop_all, length-take-le, take-append-drop}
 use Rattle.mdc_words.specs.ByteOrder.{Entry}
 use Rattle.node_page.specs.Node.{Node}
 use Rattle.node_page.specs.Node.Node.{InnerNode}
 use Rattle.entry_tree.specs.EntryBounds.{Bound}
-use Rattle.entry_tree.specs.Forest.{EachNode, Fits, Forest, HasNode, HoldsEntry, IsTree, IsTrimTree, heads, leaf_entries, ◌&◌}
+use Rattle.entry_tree.specs.Forest.{EachNode, Forest, HasNode, HoldsEntry, IsTree, IsTrimTree, heads, leaf_entries, ◌&◌}
 use Rattle.entry_tree.specs.Forest.Forest.{Fork, Leaf, Nil}
 use Rattle.entry_tree.specs.Reading.{AreAtLeast, AreUnder}
 use Rattle.entry_tree.specs.Spots.{high_fence, high_fence_in, low_fence, low_fence_in}
 use Rattle.entry_tree.specs.TreePlaces.{AreMatched, Frame, entries_before, entries_behind, first_or, high_of, last_or, low_of, plug, times_beside}
 use Rattle.entry_tree.specs.declared.spot.Fence.{Fence}
 use Rattle.entry_tree.proofs.ForestLemmas.{EachNode-and, and_assoc, and_nil, heads-and, leaf_entries-and}
-use Rattle.entry_tree.proofs.LeavesLemmas.{EachBeside, EachBeside-from_plug}
-use Rattle.entry_tree.proofs.ReadingLemmas.{AreAtLeast-and, AreAtLeast-from_and, AreUnder-and, AreUnder-from_and, RightRow, right_row}
+use Rattle.entry_tree.proofs.LeavesLemmas.{EachBeside}
+use Rattle.entry_tree.proofs.ReadingLemmas.{AreAtLeast-from_and, AreUnder-from_and, RightRow, right_row}
 use Rattle.entry_tree.proofs.RefitLemmas.{separator_moved}
 use Rattle.entry_tree.proofs.TreePlacesLemmas.{EachNode-from_plug, Fits-plug}
 use Rattle.entry_tree.proofs.TrimLemmas.{trim_children}

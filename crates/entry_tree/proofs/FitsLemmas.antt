@@ -1,6 +1,6 @@
 -- Rows whose bounds move, and rows that are cut in two.
-use Rattle.std.proofs.Common.{◌≡◌, ◌<◌, ◌≤◌, ◌+◌, ℕ, List, [], ◌∷◌, ◌++◌, refl, ap, arith, sym, ◌∙◌, subst, append_assoc, append-nil, length}
-use Rattle.std.specs.Prelude.{Option, Some, None, ⊤, true, false}
+use Rattle.std.proofs.Common.{◌≡◌, ◌+◌, ℕ, List, [], ◌∷◌, ◌++◌, refl, ap, arith, append-nil, length}
+use Rattle.std.specs.Prelude.{Some}
 use Rattle.entry_tree.proofs.EntryBoundsLemmas.{Climbs-and, Rises-down, Rises-up, Room-at_least, Room-under, below_itself, room_trans}
 use Rattle.entry_tree.proofs.ForestLemmas.{Fits-and, Fits-from_and, and_nil}
 use Rattle.entry_tree.specs.EntryBounds.{Bound, Rises, Room}

@@ -1,7 +1,7 @@
 -- Lemmas on forests.
 use Rattle.std.proofs.Common.{◌≡◌, ◌<◌, ◌≤◌, ◌+◌, ℕ, List, [], ◌∷◌, ◌++◌, refl, ap, arith, sym, ◌∙◌, subst, append_assoc, eq-eqb, ◌≢◌}
 use Rattle.std.proofs.Common.{ne_eqb, length}
-use Rattle.std.specs.Prelude.{◌==◌, Option, Some, None, ⊤}
+use Rattle.std.specs.Prelude.{Some}
 use Rattle.entry_tree.specs.EntryBounds.{Bound}
 use Rattle.entry_tree.specs.Forest.{EachNode, Fits, Forest, HasNode, HoldsForest, leaf_entries, heads, once, times, ◌&◌}
 use Rattle.entry_tree.specs.Forest.Forest.{Fork, Leaf, Nil}

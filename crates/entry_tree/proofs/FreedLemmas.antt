@@ -1,15 +1,14 @@
 -- The exits of giving all pages of a tree back.
-use Rattle.std.proofs.Common.{◌≡◌, ◌<◌, ◌≤◌, ◌+◌, ◌/◌, ℕ, suc, List, [], ◌∷◌, ◌++◌, refl, ap, arith, sym, ◌∙◌, subst, append-nil, length, get_or, inl, inr, ◌⊎◌, Option, Some, None, MatchOption}
+use Rattle.std.proofs.Common.{◌≡◌, ◌<◌, ◌≤◌, ◌+◌, ℕ, List, [], ◌∷◌, ◌++◌, refl, ap, arith, sym, ◌∙◌, subst, length, get_or, inl, inr, ◌⊎◌, Option, Some, None, MatchOption}
 use Rattle.std.specs.Prelude.{IsTrue, Bool, true, false}
 use Rattle.std.specs.Option.{option_to_list}
 use Rattle.std.proofs.lemmas.List.{get_or_default, same_lists}
-use Rattle.mdc_words.specs.ByteOrder.{Entry}
 use Rattle.mdc_words.specs.Listed.{listed}
 use Rattle.mdc_words.proofs.ListedLemmas.{get_or-listed, length-listed}
 use Rattle.node_page.specs.Node.{Node, node_of}
 use Rattle.node_page.specs.Node.Node.{InnerNode, LeafNode, NoNode}
 use Rattle.node_page.specs.Looked.{SeenNode, children_in, entries_in, is_leaf_node, seen_node}
-use Rattle.store_api.specs.Extents.{first_count, first_page_of, map_pages}
+use Rattle.store_api.specs.Extents.{first_count, map_pages}
 use Rattle.store_api.specs.RunsOverPages.{RunsOverPages}
 use Rattle.store_api.specs.Works.{Steady}
 use Rattle.store_api.specs.declared.fault.Damage.{Damage}
@@ -17,8 +16,8 @@ use Rattle.store_api.specs.declared.fault.StoreFault.{StoreFault}
 use Rattle.store_api.specs.declared.fault.StoreFault.TheVariants.{Damaged}
 use Rattle.store_api.specs.declared.pages.Pages.{Ghosts}
 use Rattle.store_api.proofs.RunsOverPagesLemmas.{runs_damage}
-use Rattle.extent_map.specs.Damages.{BreaksMapPage, BreaksUsedPage}
-use Rattle.extent_map.specs.Map.{HoldsMap, IsMapPage, map_page_of}
+use Rattle.extent_map.specs.Damages.{BreaksUsedPage}
+use Rattle.extent_map.specs.Map.{IsMapPage, map_page_of}
 use Rattle.extent_map.specs.Owners.{IsExtentPage, IsSameShape, extent_of}
 use Rattle.extent_map.specs.declared.extents.Extents.{Extents}
 use Rattle.extent_map.specs.declared.kind.Kind.{Kind}
@@ -27,10 +26,9 @@ use Rattle.extent_map.proofs.ExtentsLemmas.{extent_below}
 use Rattle.extent_map.proofs.HoldsMapLemmas.{holds_map_same, is_map_page}
 use Rattle.entry_tree.specs.Forest.{Forest, times}
 use Rattle.entry_tree.specs.Freeing.{BreaksFreeing, BreaksNode, Continues, IsFreeingPage}
-use Rattle.entry_tree.specs.HeldTrees.{nodes_in}
 use Rattle.entry_tree.specs.Standing.{StandsTree}
 use Rattle.entry_tree.specs.declared.tree.Tree.{Tree}
-use Rattle.entry_tree.proofs.FreeingLemmas.{IsFreeing, freeing_few, freeing_node, freeing_page, freeing_used_page}
+use Rattle.entry_tree.proofs.FreeingLemmas.{IsFreeing, freeing_node, freeing_page, freeing_used_page}
 use Rattle.entry_tree.proofs.HeldTreesLemmas.{nodes_in-past}
 use Rattle.entry_tree.proofs.PassedLemmas.{Looks}
 
@@ -93,6 +91,12 @@ module _ {S : Type 0} {g : Ghosts S} where
       subst (λ (f : StoreFault). RunsOverPages g Mine Kd (BreaksFreeing g ext old tree) old new (Some f)) (sym is)
       (runs_damage run (record { named = inl (refl, refl); broken = λ owners t h. broken owners t h }))
 
+  -- and one that meets a page that isn't used
+  pub runs_outside : {Mine Kd : ℕ → Type 0} {ext : Extents} {old new : S} {tree : Tree} (damage : Damage) → damage.rule ≡ 5
+      → RunsOverPages g Mine Kd (BreaksFreeing g ext old tree) old new None → ((owners : List Kind) (t : Forest) → StandsTree g ext old tree owners t → ⊥)
+      → RunsOverPages g Mine Kd (BreaksFreeing g ext old tree) old new (Some (Damaged damage))
+  runs_outside damage is run broken = runs_damage run (record { named = inr (inr (inr is)); broken = λ owners t h. broken owners t h })
+
   -- a page that is to be done is a page of the tree
   pub freeing_kind : {before ext : Extents} {s now : S} {tree : Tree} (todo rest : List ℕ) (page steps p : ℕ)
       → ((owners : List Kind) (t : Forest) → StandsTree g before s tree owners t → IsFreeing g before ext now tree owners t todo steps) → todo ≡ rest ++ page ∷ [] → p ≡ page → IsFreeingPage g before s tree p
@@ -130,10 +134,10 @@ module _ {S : Type 0} {g : Ghosts S} where
       on_map : (i : ℕ) → damage.page ≡ 17 + i → i < map_pages ext.cap → IsMapPage before damage.page
       on_map i p l = (omega (arith, p), subst (λ (c : ℕ). damage.page < first_count c) shape.cap (omega (arith, p, l)))
 
-      names : BreaksUsedPage g ext mid page damage → ((damage.page ≡ 0) × (damage.rule ≡ 1)) ⊎ (IsMapPage before damage.page × (damage.rule ≡ 2))
+      names : BreaksUsedPage g ext mid page damage → ((damage.page ≡ 0) × (damage.rule ≡ 1)) ⊎ ((IsMapPage before damage.page × (damage.rule ≡ 2)) ⊎ (damage.rule ≡ 5))
       names (inl (inl c)) = inl (c.page, c.rule)
-      names (inl (inr (i, m))) = inr (on_map i m.page m.on_map, m.rule)
-      names (inr m) = inr (on_map (extent_of ext page / 512) m.page m.on_map, m.rule)
+      names (inl (inr (i, m))) = inr (inl (on_map i m.page m.on_map, m.rule))
+      names (inr m) = inr (inr m.rule)
 
 -- what is written is a page of the map
 pub freeing_map_page : {before ext : Extents} (page p : ℕ) → IsSameShape before ext → IsExtentPage ext page → p ≡ map_page_of (extent_of ext page) → IsMapPage before p

@@ -1,20 +1,19 @@
 -- The pages of a tree that are still to be given back.
-use Rattle.std.proofs.Common.{◌≡◌, ◌≢◌, ◌<◌, ◌≤◌, ◌+◌, ◌-◌, ℕ, zero, suc, List, [], ◌∷◌, ◌++◌, refl, ap, arith, sym, ◌∙◌, subst, append_assoc, append-nil, length, length-append, get_or, set, take, drop, inl, inr, ◌⊎◌, get_or-set_same, get_or-set_other}
-use Rattle.std.specs.Prelude.{Option, Some, None, ⊤, true, false, Bool, IsTrue}
+use Rattle.std.proofs.Common.{◌≡◌, ◌≢◌, ◌<◌, ◌≤◌, ◌+◌, ℕ, zero, suc, List, [], ◌∷◌, ◌++◌, refl, ap, arith, sym, ◌∙◌, subst, length, length-append, reverse, take, drop, inl, inr, ◌⊎◌, get_or-set_same, get_or-set_other}
+use Rattle.std.specs.Prelude.{Some, None, ⊤, IsTrue}
 use Rattle.std.proofs.lemmas.Bool.{cases_eq, cases_lt}
 use Rattle.std.proofs.lemmas.List.{get_or_past}
 use Rattle.std.proofs.Math.Seq.{drop-append_seam, take-append_seam}
 use Rattle.node_page.specs.Node.{Node}
 use Rattle.node_page.specs.Node.Node.{InnerNode, LeafNode, NoNode}
 use Rattle.store_api.specs.Extents.{first_count, first_page_of}
-use Rattle.store_api.specs.Frame.{OnlyPage, Touches}
+use Rattle.store_api.specs.Frame.{OnlyPage}
 use Rattle.store_api.specs.RunsOverPages.{RunsOverPages}
 use Rattle.store_api.specs.Works.{Steady}
 use Rattle.store_api.specs.declared.fault.Damage.{Damage}
-use Rattle.store_api.specs.declared.fault.StoreFault.{StoreFault}
 use Rattle.store_api.specs.declared.pages.Pages.{Ghosts}
 use Rattle.extent_map.specs.Kinds.{is_used_place, without_place}
-use Rattle.extent_map.specs.Map.{HoldsMap, IsMapPage, map_page_of}
+use Rattle.extent_map.specs.Map.{HoldsMap, map_page_of}
 use Rattle.extent_map.specs.Owners.{AreRightNotes, IsExtentPage, IsSameShape, IsUsedPage, extent_of, owner_of, place_in_extent, without_page}
 use Rattle.extent_map.specs.declared.extents.Extents.{Extents}
 use Rattle.extent_map.specs.declared.kind.Kind.{Kind}
@@ -24,14 +23,16 @@ use Rattle.extent_map.proofs.ExtentsLemmas.{extent_below, extent_limits, page_of
 use Rattle.extent_map.proofs.HoldsMapLemmas.{holds_map_same, is_map_page}
 use Rattle.mdc_words.specs.ByteOrder.{Entry}
 use Rattle.entry_tree.specs.EntryBounds.{Bound}
-use Rattle.entry_tree.specs.Forest.{EachNode, Fits, Forest, HasNode, HoldsForest, IsPageBelow, IsTree, heads, once, times, ◌&◌}
+use Rattle.entry_tree.specs.Forest.{EachNode, Fits, Forest, HasNode, HoldsForest, IsPageBelow, heads, once, times, ◌&◌}
 use Rattle.entry_tree.specs.Forest.Forest.{Fork, Leaf, Nil}
-use Rattle.entry_tree.specs.Freeing.{Continues, FreesTree, owners_without}
+use Rattle.entry_tree.specs.Freeing.{Continues, FreesTree}
+use Rattle.entry_tree.specs.Pruning.{without_pages}
+use Rattle.std.proofs.lemmas.List.{reverse-append}
 use Rattle.entry_tree.specs.HeldTrees.{nodes_in}
 use Rattle.entry_tree.specs.Standing.{StandsTree}
 use Rattle.entry_tree.specs.TreeChanges.{times_among}
 use Rattle.entry_tree.specs.declared.tree.Tree.{Tree}
-use Rattle.entry_tree.proofs.ForestLemmas.{EachNode-and, EachNode-from_and, Fits-count, HoldsForest-agree, and_nil, heads-and, once_least, once_other, once_same, times-and}
+use Rattle.entry_tree.proofs.ForestLemmas.{EachNode-and, EachNode-from_and, Fits-count, HoldsForest-agree, heads-and, once_least, once_other, once_same, times-and}
 use Rattle.entry_tree.proofs.HeldTreesLemmas.{HoldsForest-below, nodes_kept, nodes_same}
 use Rattle.entry_tree.proofs.TreeRowLemmas.{halves_at}
 use Rattle.entry_tree.proofs.WayLemmas.{place_times, tree_below}
@@ -103,6 +104,28 @@ used_beside ext owners p q u x d = record { page = u.page; used = go (cases_eq (
           let wrong : IsTrue (is_used_place (place_in_extent ext p) Free) = subst (λ (k : Kind). IsTrue (is_used_place (place_in_extent ext p) k)) none u.used in cc
     ]
     go (inr n) = subst (λ (k : Kind). IsTrue (is_used_place (place_in_extent ext p) k)) (sym (get_or-set_other owners (extent_of ext q) (extent_of ext p) kind Free n)) u.used
+
+-- the owners once these pages were given back, the last one first
+abbrev pub owners_without : Extents → List Kind → List ℕ → List Kind
+owners_without ext owners [] = owners
+owners_without ext owners (p ∷ given) = without_page ext (owners_without ext owners given) p
+
+without_pages-push : (ext : Extents) (owners : List Kind) (given : List ℕ) (p : ℕ) → without_pages ext owners (given ++ p ∷ []) ≡ without_page ext (without_pages ext owners given) p
+without_pages-push ext owners [] p = refl
+without_pages-push ext owners (q ∷ given) p = without_pages-push ext (without_page ext owners q) given p
+
+without_pages-reverse : (ext : Extents) (owners : List Kind) (given : List ℕ) → without_pages ext owners (reverse given) ≡ owners_without ext owners given
+without_pages-reverse ext owners [] = refl
+without_pages-reverse ext owners (p ∷ given) =
+    ap (without_pages ext owners) (reverse-append (p ∷ []) given) ∙ (without_pages-push ext owners (reverse given) p ∙ ap (λ (o : List Kind). without_page ext o p) (without_pages-reverse ext owners given))
+
+times_among-push : (n : ℕ) (given : List ℕ) (p : ℕ) → times_among n (given ++ p ∷ []) ≡ times_among n given + once n p
+times_among-push n [] p = omega arith
+times_among-push n (q ∷ given) p = omega (arith, times_among-push n given p)
+
+times_among-reverse : (n : ℕ) (given : List ℕ) → times_among n (reverse given) ≡ times_among n given
+times_among-reverse n [] = refl
+times_among-reverse n (p ∷ given) = omega (arith, ap (times_among n) (reverse-append (p ∷ []) given), times_among-push n (reverse given) p, times_among-reverse n given)
 
 -- also after many
 used_still : (ext : Extents) (owners : List Kind) (given : List ℕ) (p : ℕ) → IsUsedPage ext owners p → ((q : ℕ) → 0 < times_among q given → IsExtentPage ext q) → times_among p given ≡ 0
@@ -204,10 +227,10 @@ module _ {S : Type 0} {g : Ghosts S} where
 
   pub freeing_ends : {before ext : Extents} {now : S} {tree : Tree} (owners : List Kind) (t : Forest) (steps : ℕ) → IsFreeing g before ext now tree owners t [] steps → FreesTree g before ext now owners t
   freeing_ends {before} {ext} {now} {tree} owners t steps f = record {
-    given = f.given;
-    counts = λ n. omega (arith, f.counts n, ap (times n) (no_heads f.left f.heads_are));
-    map = f.map;
-    notes = f.notes;
+    given = reverse f.given;
+    counts = λ n. omega (arith, times_among-reverse n f.given, f.counts n, ap (times n) (no_heads f.left f.heads_are));
+    map = subst (HoldsMap g ext now) (sym (without_pages-reverse before owners f.given)) f.map;
+    notes = λ right. subst (AreRightNotes ext) (sym (without_pages-reverse before owners f.given)) (f.notes right);
   }
 
   -- a page that is to be done is one of the tree, and wasn't given back

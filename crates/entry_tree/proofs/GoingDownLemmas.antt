@@ -1,6 +1,6 @@
 -- The way down to the leaf of an entry, and what an addition does there.
-use Rattle.std.proofs.Common.{◌≡◌, ◌≢◌, ◌<◌, ◌≤◌, ◌+◌, ◌-◌, ℕ, zero, suc, List, [], ◌∷◌, ◌++◌, refl, ap, arith, sym, ◌∙◌, subst, append-nil, length, get_or, take, drop, reverse}
-use Rattle.std.specs.Prelude.{Option, Some, None, ⊤, Bool, true, false, IsTrue, ◌↔◌, if◌then◌else◌}
+use Rattle.std.proofs.Common.{◌≡◌, ◌+◌, ℕ, List, [], ◌∷◌, ◌++◌, refl, ap, arith, sym, ◌∙◌, subst, append-nil, length, get_or, take, drop, reverse}
+use Rattle.std.specs.Prelude.{None, Bool, false, IsTrue, ◌↔◌, if◌then◌else◌}
 use Rattle.std.proofs.lemmas.List.{reverse-append, take-append-drop, length-take-le}
 use Rattle.entry_tree.specs.declared.sight.Sight.{Sight}
 use Rattle.entry_tree.specs.declared.sight.Sight.TheVariants.{Nothing, AtLeaf, AtInner}

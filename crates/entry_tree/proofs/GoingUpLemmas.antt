@@ -1,9 +1,8 @@
 -- What `go_up` needs, over plain variables.
-use Rattle.std.proofs.Common.{◌≡◌, ◌≢◌, ◌<◌, ◌≤◌, ◌+◌, ◌-◌, ℕ, zero, suc, List, [], ◌∷◌, ◌++◌, length-append, refl, ap, arith, sym, ◌∙◌, subst, length, get_or, take, drop, reverse, add-one}
-use Rattle.std.specs.Prelude.{Option, Some, None, ⊤, Bool, true, false, if◌then◌else◌}
+use Rattle.std.proofs.Common.{◌≡◌, ◌<◌, ◌≤◌, ◌+◌, ℕ, zero, suc, List, [], ◌∷◌, ◌++◌, length-append, refl, ap, arith, sym, ◌∙◌, subst, length, get_or, take, drop, reverse, add-one}
+use Rattle.std.specs.Prelude.{None, Bool, true, false, if◌then◌else◌}
 use Rattle.std.proofs.lemmas.List.{reverse-append}
 use Rattle.entry_tree.proofs.AdditionLemmas.{above_kept, raised, up_end, up_step}
-use Rattle.entry_tree.proofs.DropLemmas.{moved}
 use Rattle.entry_tree.proofs.ForestLemmas.{once_same}
 use Rattle.entry_tree.proofs.LeavesLemmas.{KeepsBeside}
 use Rattle.entry_tree.proofs.TreePlacesLemmas.{EachNode-from_plug}
@@ -27,6 +26,12 @@ times_among-front : (n used : ℕ) (fresh : List ℕ) → times_among n (take us
 times_among-front n zero fresh = omega arith
 times_among-front n (suc used) [] = omega arith
 times_among-front n (suc used) (p ∷ ps) = omega (arith, times_among-front n used ps)
+
+times_among-all : (n used : ℕ) (fresh : List ℕ) → length fresh ≤ used → times_among n (take used fresh) ≡ times_among n fresh
+times_among-all n zero [] l = refl
+times_among-all n zero (p ∷ ps) l = absurd (omega arith)
+times_among-all n (suc used) [] l = refl
+times_among-all n (suc used) (p ∷ ps) l = omega (arith, times_among-all n used ps (omega arith))
 
 pub turned : (items rest : List (ℕ × ℕ)) (q : ℕ × ℕ) → items ≡ rest ++ q ∷ [] → reverse items ≡ q ∷ reverse rest
 turned items rest q e = ap reverse e ∙ reverse-append rest (q ∷ [])
@@ -80,21 +85,21 @@ above_node width old now t x root p i stack page s b claims w h = go h.above h.w
           omega (arith, length-append f.lows f.highs, ap (λ (q : List (ℕ × ℕ)). second q) y),
         )
 
-pub among_them : {width : ℕ} {old new : ℕ → Node} {root : ℕ} {t : Forest} {x : Entry} (claims fresh : List ℕ) → ((n : ℕ) → times_among n claims ≤ times_among n fresh)
+pub among_them : {width : ℕ} {old new : ℕ → Node} {root : ℕ} {t : Forest} {x : Entry} (claims fresh : List ℕ) → ((n : ℕ) → times_among n claims ≡ times_among n fresh)
     → IsAdded width old new root t x claims → IsAdded width old new root t x fresh
 among_them claims fresh f a = record { after = a.after; tree = a.tree; adds = a.adds; leaves = a.leaves; pages = λ n. omega (arith, a.pages n, f n); kept = λ n z q. a.kept n z (omega (arith, f n, q)) }
 
 -- the node above has room
 pub goes_end : (width : ℕ) (old now new : ℕ → Node) (t : Forest) (x : Entry) (root p i : ℕ) (items rest : List (ℕ × ℕ)) (s : Entry) (b : ℕ) (fresh : List ℕ) (used : ℕ)
-    → IsTree old root t → IsGoingUp width old now t x (reverse items) s b fresh used → items ≡ rest ++ (p, i) ∷ []
+    → IsTree old root t → used ≡ length fresh → IsGoingUp width old now t x (reverse items) s b fresh used → items ≡ rest ++ (p, i) ∷ []
     → ((seps : List Entry) (children : List ℕ) → now p ≡ InnerNode seps children → IsPut now new p (InnerNode (take i seps ++ s ∷ drop i seps) (take (i + 1) children ++ b ∷ drop (i + 1) children)))
     → KeepsBeside width old t → IsAdded width old new root t x fresh
-goes_end width old now new t x root p i items rest s b fresh used w u e k kb =
+goes_end width old now new t x root p i items rest s b fresh used w all u e k kb =
     let h : IsHalfway width old now t x ((p, i) ∷ reverse rest) u.page s b u.claims =
     subst (λ (v : List (ℕ × ℕ)). IsHalfway width old now t x v u.page s b u.claims) (turned items rest (p, i) e) u.half in
     let n = above_node width old now t x root p i (reverse rest) u.page s b u.claims w h in
     let q = k n.0 n.1 n.2 in
-    among_them u.claims fresh (λ j. omega (arith, u.counts j, times_among-front j used fresh)) (up_end width old now new t x root p i (reverse rest) u.page s b n.0 n.1 u.claims w h n.2 q.there q.others kb)
+    among_them u.claims fresh (λ j. u.counts j ∙ times_among-all j used fresh (omega (arith, all))) (up_end width old now new t x root p i (reverse rest) u.page s b n.0 n.1 u.claims w h n.2 q.there q.others kb)
 
 -- the node above is full too
 pub goes_on : (width : ℕ) (old now new : ℕ → Node) (t : Forest) (x : Entry) (root p i : ℕ) (items rest : List (ℕ × ℕ)) (s : Entry) (b : ℕ) (fresh : List ℕ) (used : ℕ) (m : Entry)
@@ -120,9 +125,10 @@ goes_on width old now new t x root p i items rest s b fresh used m w a l u e k k
 
 -- no node is above
 pub goes_top : (width : ℕ) (old now new : ℕ → Node) (t : Forest) (x : Entry) (root : ℕ) (items : List (ℕ × ℕ)) (s : Entry) (b : ℕ) (fresh : List ℕ) (used : ℕ)
-    → IsTree old root t → AreFresh t fresh → used < length fresh → IsGoingUp width old now t x (reverse items) s b fresh used → items ≡ []
+    → IsTree old root t → AreFresh t fresh → used + 1 ≡ length fresh → IsGoingUp width old now t x (reverse items) s b fresh used → items ≡ []
     → IsRaised now new root s b (get_or fresh used 0) → IsAdded width old new root t x fresh
-goes_top width old now new t x root items s b fresh used w a l u e k =
+goes_top width old now new t x root items s b fresh used w a all u e k =
+    let l : used < length fresh = omega (arith, all) in
     let c : ℕ = get_or fresh used 0 in
     let h : IsHalfway width old now t x [] u.page s b u.claims =
     subst (λ (v : List (ℕ × ℕ)). IsHalfway width old now t x v u.page s b u.claims) (ap reverse e) u.half in
@@ -131,7 +137,7 @@ goes_top width old now new t x root items s b fresh used w a l u e k =
     let none : times_among c u.claims ≡ 0 = omega (arith, u.counts c, more, front, a.once c, once_same c) in
     let apart : times c t ≡ 0 = a.apart c (omega (arith, more, front, once_same c)) in
     let page_is : u.page ≡ root = root_is h.above h.whole h.way in
-    among_them (c ∷ u.claims) fresh (λ j. omega (arith, u.counts j, times_among-take j used fresh l, times_among-front j (used + 1) fresh))
+    among_them (c ∷ u.claims) fresh (λ j. omega (arith, u.counts j, times_among-take j used fresh l, times_among-all j (used + 1) fresh (omega (arith, all))))
     (raised width old now new t x root s b c u.claims w (subst (λ (v : ℕ). IsHalfway width old now t x [] v s b u.claims) page_is h) apart none k.moved k.top k.others)
   where
     root_is : (above : List Frame) → t ≡ plug above u.half.spot → places above ≡ [] → u.page ≡ root

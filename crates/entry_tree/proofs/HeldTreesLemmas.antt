@@ -1,17 +1,17 @@
 -- Trees that a store is told to hold.
-use Rattle.std.proofs.Common.{◌≡◌, ◌≢◌, ◌<◌, ◌≤◌, ◌+◌, ℕ, List, [], ◌∷◌, refl, ap, arith, sym, ◌∙◌, subst, length, inl, inr}
-use Rattle.std.specs.Prelude.{Bool, true, false, IsTrue, if◌then◌else◌, ⊤}
+use Rattle.std.proofs.Common.{◌≡◌, ◌≢◌, ◌<◌, ◌≤◌, ℕ, [], refl, sym, ◌∙◌, length, inl, inr}
+use Rattle.std.specs.Prelude.{Bool, true, false, IsTrue, if◌then◌else◌}
 use Rattle.std.proofs.lemmas.Bool.{cases_lt}
 use Rattle.std.proofs.lemmas.List.{get_or_past}
 use Rattle.store_api.specs.StoreState.{StoreState, page_at}
 use Rattle.store_api.specs.Frame.{HoldsPage, Touches}
 use Rattle.store_api.specs.declared.pages.Pages.{Ghosts}
 use Rattle.node_page.specs.Node.{Node, node_of}
-use Rattle.node_page.specs.Node.Node.{LeafNode, InnerNode, NoNode}
-use Rattle.entry_tree.specs.Forest.{Forest, heads, times, EachNode, HasNode, HoldsForest, IsTree, IsPageBelow}
+use Rattle.node_page.specs.Node.Node.{NoNode}
+use Rattle.entry_tree.specs.Forest.{Forest, EachNode, HoldsForest, IsPageBelow}
 use Rattle.entry_tree.specs.Forest.Forest.{Nil, Leaf, Fork}
 use Rattle.entry_tree.specs.HeldTrees.{nodes_in, HoldsTree}
-use Rattle.entry_tree.proofs.ForestLemmas.{same_forest, once_same}
+use Rattle.entry_tree.proofs.ForestLemmas.{same_forest}
 
 -- a page that isn't there is no node
 no_bytes : (width : ℕ) → node_of width [] ≡ NoNode

@@ -1,22 +1,22 @@
 -- What a walk is given from a leaf, or from the next one where the first has nothing to give.
-use Rattle.std.proofs.Common.{◌≡◌, ◌<◌, ◌≤◌, ◌+◌, ℕ, zero, suc, List, [], ◌∷◌, ◌++◌, refl, ap, arith, sym, ◌∙◌, subst, append-nil, length, get_or, drop, ◌⊎◌, inl, inr}
-use Rattle.std.specs.Prelude.{Option, Some, None, ⊤, true, false, Bool, if◌then◌else◌}
+use Rattle.std.proofs.Common.{◌≡◌, ◌<◌, List, [], ◌∷◌, ◌++◌, refl, ap, arith, sym, ◌∙◌, subst, append-nil, length}
+use Rattle.std.specs.Prelude.{Some, None, true, false, Bool, if◌then◌else◌}
 use Rattle.mdc_words.specs.ByteOrder.{Entry, below}
-use Rattle.entry_tree.specs.EntryBounds.{Bound, AtLeast, Under, Room, Climbs, Rises, IsLeafPlace}
-use Rattle.entry_tree.specs.Forest.{Forest, Fits, IsTrimTree, leaf_entries, heads}
+use Rattle.entry_tree.specs.EntryBounds.{Bound, Under, Room, Climbs, Rises}
+use Rattle.entry_tree.specs.Forest.{Forest, Fits, IsTrimTree, leaf_entries}
 use Rattle.entry_tree.specs.Forest.Forest.{Nil, Leaf, Fork}
 use Rattle.entry_tree.specs.Reading.{AreAtLeast, AreUnder, IsLeafFrom, IsReadAt, RestBegins, entries_from}
-use Rattle.entry_tree.specs.TreePlaces.{Frame, plug, entries_before, entries_behind, low_of, high_of}
+use Rattle.entry_tree.specs.TreePlaces.{entries_before, entries_behind, low_of, high_of}
 use Rattle.entry_tree.proofs.EntryBoundsLemmas.{AllBelow, Rises-down, Under-up, below_itself, below_trans, up_to}
 use Rattle.entry_tree.proofs.FitsLemmas.{Fits-room}
 use Rattle.entry_tree.proofs.TreePlacesLemmas.{Fits-plug, leaf_entries-plug}
 use Rattle.entry_tree.proofs.DescentLemmas.{outside}
 use Rattle.entry_tree.proofs.SightLemmas.{Rises-wide}
-use Rattle.entry_tree.proofs.ReadingLemmas.{AreAtLeast-and, AreBehind, AreUnder-drop, Climbs-least, Rises-under, behind_place, entries_from-and, entries_from-below, entries_from-least, entries_from-plug}
+use Rattle.entry_tree.proofs.ReadingLemmas.{AreBehind, AreUnder-drop, Climbs-least, Rises-under, behind_place, entries_from-and, entries_from-below, entries_from-least, entries_from-plug}
 use Rattle.entry_tree.proofs.SeparatorsLemmas.{IsSeparatorIn, high_is_separator, separator_leaf}
 use Rattle.entry_tree.proofs.TrimLemmas.{behind_some}
 
-begins_at : (given : List Entry) (next : Bound) (rest : List Entry) → AreBehind next rest → AreUnder next given → ((s : Entry) → next ≡ Some s → 0 < length rest) → RestBegins given next rest
+pub begins_at : (given : List Entry) (next : Bound) (rest : List Entry) → AreBehind next rest → AreUnder next given → ((s : Entry) → next ≡ Some s → 0 < length rest) → RestBegins given next rest
 begins_at given None rest b u n = b
 begins_at given (Some s) [] b u n = absurd (let k = n s refl in omega (arith, k))
 begins_at given (Some s) (x ∷ rest) b u n = (u, b)
@@ -32,7 +32,7 @@ rest_behind t x given next f k r =
     (λ s e. behind_some r.above (Leaf r.page r.items Nil) r.page s r.matched refl fit (subst IsTrimTree r.whole k) (r.next_is ∙ e))
 
 -- the leaf of the bound, and what lies behind it
-from_leaf : (t : Forest) (x : Entry) (given : List Entry) (next : Bound) → Fits None None [] t → (r : IsReadAt t x given next)
+pub from_leaf : (t : Forest) (x : Entry) (given : List Entry) (next : Bound) → Fits None None [] t → (r : IsReadAt t x given next)
     → entries_from x (leaf_entries t) ≡ given ++ entries_behind r.above
 from_leaf t x given next f r =
     let fit = subst (Fits None None []) r.whole f in

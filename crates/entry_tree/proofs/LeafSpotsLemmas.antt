@@ -1,6 +1,6 @@
 -- The spot of an entry, by what a search finds.
-use Rattle.std.proofs.Common.{◌≡◌, ◌≢◌, ◌<◌, ◌≤◌, ◌+◌, ◌-◌, ℕ, zero, suc, List, [], ◌∷◌, ◌++◌, refl, ap, arith, sym, ◌∙◌, subst, length, get_or, reverse, ◌⊎◌, inl, inr}
-use Rattle.std.specs.Prelude.{All, Option, Some, None, IfSome, IsSome, ⊤, Bool, true, false, IsTrue, ◌↔◌, option_to_list}
+use Rattle.std.proofs.Common.{◌≡◌, ◌<◌, ℕ, zero, suc, List, [], ◌∷◌, ◌++◌, refl, ap, arith, sym, ◌∙◌, subst, length, get_or, reverse, inl, inr}
+use Rattle.std.specs.Prelude.{All, Option, Some, None, IfSome, IsSome, Bool, true, false, IsTrue, ◌↔◌, option_to_list}
 use Rattle.std.proofs.lemmas.Bool.{cases_lt}
 use Rattle.entry_tree.proofs.UnderWayLemmas.{last_there}
 use Rattle.std.proofs.lemmas.List.{reverse-append}
@@ -8,9 +8,9 @@ use Rattle.mdc_words.specs.ByteOrder.{Entry, below}
 use Rattle.node_page.specs.Node.{Node}
 use Rattle.node_page.specs.Node.Node.{InnerNode, LeafNode}
 use Rattle.entry_tree.specs.EntryBounds.{Climbs, IsEntryOf, IsLeafPlace, Rises}
-use Rattle.entry_tree.specs.Forest.{Forest, HasNode, HoldsForest, IsTree, leaf_entries, heads}
+use Rattle.entry_tree.specs.Forest.{Forest, HasNode, HoldsForest, IsTree, heads}
 use Rattle.entry_tree.specs.Forest.Forest.{Fork, Leaf, Nil}
-use Rattle.entry_tree.specs.LeafSpots.{IsEntrySpot, IsItemSpot, IsParent, IsSeenSpot}
+use Rattle.entry_tree.specs.LeafSpots.{IsItemSpot, IsParent, IsSeenSpot}
 use Rattle.entry_tree.specs.TreeChanges.{IsLeafFound}
 use Rattle.entry_tree.specs.TreePlaces.{Frame, frame_place, places, plug}
 use Rattle.entry_tree.proofs.EntryBoundsLemmas.{below_itself, below_trans}

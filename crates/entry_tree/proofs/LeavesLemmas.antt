@@ -1,11 +1,11 @@
 -- Leaves of a tree and of what it becomes: each holds an entry, and is half full where it was.
-use Rattle.std.proofs.Common.{◌≡◌, ◌<◌, ◌≤◌, ◌+◌, ◌/◌, ℕ, suc, List, [], ◌∷◌, ◌++◌, refl, ap, arith, sym, ◌∙◌, subst, length, inl, inr}
+use Rattle.std.proofs.Common.{◌≡◌, ◌<◌, ◌≤◌, ℕ, suc, List, [], ◌∷◌, ◌++◌, refl, ap, arith, sym, subst, length, inr}
 use Rattle.std.specs.Prelude.{Bool, true, false, if◌then◌else◌, ⊤}
 use Rattle.mdc_words.specs.ByteOrder.{Entry, below}
-use Rattle.node_page.specs.Node.{Node, leaf_room}
-use Rattle.node_page.specs.Node.Node.{LeafNode, InnerNode, NoNode}
+use Rattle.node_page.specs.Node.{Node}
+use Rattle.node_page.specs.Node.Node.{LeafNode}
 use Rattle.entry_tree.specs.EntryBounds.{with_entry}
-use Rattle.entry_tree.specs.Forest.{Forest, ◌&◌, heads, once, times, EachNode, HoldsForest, HoldsEntry, IsTrimTree, IsTree}
+use Rattle.entry_tree.specs.Forest.{Forest, ◌&◌, heads, times, EachNode, HoldsForest, HoldsEntry, IsTrimTree, IsTree}
 use Rattle.entry_tree.specs.Forest.Forest.{Nil, Leaf, Fork}
 use Rattle.entry_tree.specs.TreePlaces.{Frame, plug}
 use Rattle.entry_tree.specs.TreeChanges.{KeepsLeaf}

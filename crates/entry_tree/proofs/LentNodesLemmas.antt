@@ -1,13 +1,13 @@
 -- The node that a lent page is, and pages that are written over.
-use Rattle.std.proofs.Common.{◌≡◌, ◌≢◌, ◌<◌, ◌≤◌, ◌+◌, ℕ, List, length, refl, ap, arith, sym, ◌∙◌, subst, ◌⊎◌, inl, inr}
-use Rattle.std.specs.Prelude.{Bool, true, false, IsTrue, Option, Some, None, ◌==◌, ◌&&◌, ◌*◌, nat_lt, nat_le, if◌then◌else◌}
+use Rattle.std.proofs.Common.{◌≡◌, ◌≢◌, ◌<◌, ◌≤◌, ◌+◌, ℕ, List, length, refl, ap, arith, sym, ◌∙◌, subst, inl, inr}
+use Rattle.std.specs.Prelude.{Bool, true, false, IsTrue, Option, Some, ◌==◌, ◌&&◌, ◌*◌, nat_lt, nat_le, if◌then◌else◌}
 use Rattle.std.specs.Str.{bytes_eq}
 use Rattle.std.proofs.lemmas.Bool.{cases_lt, ltb-true}
 use Rattle.mdc_words.specs.ByteOrder.{Entry}
 use Rattle.mdc_words.specs.Listed.{listed}
 use Rattle.mdc_words.proofs.ListedLemmas.{length-listed}
 use Rattle.node_page.specs.Node.{Node, bytes_in, node_bytes, node_of, number_within, stated_entries, stated_inner, stated_leaf, stated_node}
-use Rattle.node_page.specs.Node.Node.{LeafNode, InnerNode, NoNode}
+use Rattle.node_page.specs.Node.Node.{InnerNode, NoNode}
 use Rattle.store_api.specs.Frame.{HoldsPage, OnlyPage, Touches, WritesPage}
 use Rattle.store_api.specs.StoreState.{StoreState, page_at}
 use Rattle.store_api.specs.declared.pages.Pages.{Ghosts}

@@ -12,6 +12,8 @@ pub mod DroppingLemmas
 pub mod EditsLemmas
 pub mod EntryBoundsLemmas
 pub mod FencesLemmas
+pub mod FirstFromLemmas
+pub mod FirstLeafLemmas
 pub mod FitsLemmas
 pub mod ForestLemmas
 pub mod FreedLemmas
@@ -44,11 +46,15 @@ pub mod SpotLemmas
 pub mod StandingLemmas
 pub mod StringsLemmas
 pub mod SublistLemmas
+pub mod SweepingLemmas
 pub mod TreeChangesLemmas
 pub mod TreePlacesLemmas
 pub mod TreeRowLemmas
 pub mod TrimLemmas
 pub mod UnderWayLemmas
+pub mod UnsweptLemmas
 pub mod UsedPagesLemmas
 pub mod WayLemmas
+pub mod WalksLemmas
+pub mod WidthsLemmas
 pub mod WorkedTreeLemmas

@@ -1,17 +1,17 @@
 -- A step on the way down, with what bounds the child.
-use Rattle.std.proofs.Common.{◌≡◌, ◌<◌, ◌≤◌, ◌+◌, ◌-◌, ℕ, List, [], ◌∷◌, ◌++◌, refl, ap, arith, sym, ◌∙◌, subst, length, get_or, take, drop, ◌⊎◌, inl, inr}
-use Rattle.std.specs.Prelude.{Option, Some, None, true, false, Bool}
+use Rattle.std.proofs.Common.{◌≡◌, ◌+◌, ℕ, List, [], ◌∷◌, refl, ap, arith, sym, ◌∙◌, subst, length, get_or, take, drop, ◌⊎◌, inl, inr}
+use Rattle.std.specs.Prelude.{None}
 use Rattle.std.proofs.lemmas.List.{take-append-drop, length-take-le}
 use Rattle.mdc_words.specs.ByteOrder.{Entry}
 use Rattle.node_page.specs.Node.{Node}
 use Rattle.node_page.specs.Node.Node.{InnerNode, LeafNode}
-use Rattle.entry_tree.specs.EntryBounds.{Bound, Room, Rises}
-use Rattle.entry_tree.specs.Forest.{Fits, Forest, HasNode, HoldsForest, IsTree, heads, ◌&◌}
+use Rattle.entry_tree.specs.EntryBounds.{Room, Rises}
+use Rattle.entry_tree.specs.Forest.{Fits, Forest, HasNode, HoldsForest, IsTree, heads}
 use Rattle.entry_tree.specs.Forest.Forest.{Fork, Leaf, Nil}
 use Rattle.entry_tree.specs.TreePlaces.{AreMatched, Frame, IsChildPlace, IsOnWay, high_of, low_of, plug}
 use Rattle.entry_tree.proofs.DescentLemmas.{cut_at, place_high, place_low}
 use Rattle.entry_tree.proofs.ForestLemmas.{Fits-count}
-use Rattle.entry_tree.proofs.SightLemmas.{Fits-rises, Rises-wide}
+use Rattle.entry_tree.proofs.SightLemmas.{Fits-rises}
 use Rattle.entry_tree.proofs.TreePlacesLemmas.{EachNode-from_plug, Fits-plug}
 
 -- the page of a tree is a leaf, with entries between the bounds of its place

@@ -1,19 +1,21 @@
 -- What a change of one tree leaves of another, and of the blocks.
-use Rattle.std.proofs.Common.{◌≡◌, ◌≢◌, ◌<◌, ◌≤◌, ◌⊎◌, ℕ, List, [], ◌∷◌, refl, ap, sym, ◌∙◌, subst, inl, inr, IsTrue, get_or-set_other}
+use Rattle.std.proofs.Common.{◌≡◌, ◌<◌, ◌≤◌, ◌⊎◌, ℕ, List, [], ◌∷◌, ap, sym, ◌∙◌, subst, inl, inr, IsTrue, arith, length, get_or-set_other}
 use Rattle.std.proofs.lemmas.Bool.{cases_eq}
 use Rattle.store_api.specs.Frame.{Touches}
 use Rattle.store_api.specs.declared.pages.Pages.{Ghosts}
-use Rattle.extent_map.specs.Kinds.{is_used_place, is_unused_place, with_used_place}
+use Rattle.extent_map.specs.Kinds.{is_unused_place, with_used_place}
 use Rattle.extent_map.specs.Map.{HoldsMap, IsSpacePage}
-use Rattle.extent_map.specs.Owners.{IsUsedPage, IsUnusedPage, IsClaimable, IsSameShape, owner_of, extent_of, place_in_extent, with_used_page}
+use Rattle.extent_map.specs.Owners.{IsUnusedPage, IsClaimable, IsSameShape, owner_of, extent_of, place_in_extent, with_used_page}
 use Rattle.extent_map.specs.declared.extents.Extents.{Extents}
 use Rattle.extent_map.specs.declared.kind.Kind.{Kind}
-use Rattle.extent_map.specs.declared.kind.Kind.TheVariants.{Free, Block, Index}
+use Rattle.extent_map.specs.declared.kind.Kind.TheVariants.{Free, Block}
+use Rattle.mdc_words.specs.ByteOrder.{Entry}
+use Rattle.entry_tree.specs.Amending.{AmendsEntry}
 use Rattle.entry_tree.specs.Forest.{Forest, times}
-use Rattle.entry_tree.specs.HeldTrees.{HoldsTree}
+use Rattle.entry_tree.specs.HeldTrees.{IsTreePage}
 use Rattle.entry_tree.specs.Standing.{StandsTree, with_pages, AreClaims, IsIdlePage, IsTreeSpace}
 use Rattle.entry_tree.specs.declared.tree.Tree.{Tree}
-use Rattle.entry_tree.proofs.StandingLemmas.{tree_stays, used_not_space}
+use Rattle.entry_tree.proofs.StandingLemmas.{map_stays, tree_stays, used_not_space}
 use Rattle.entry_tree.proofs.UsedPagesLemmas.{used_after, used_same, shape_back, used_not_idle}
 
 module _ {S : Type 0} {g : Ghosts S} where
@@ -51,3 +53,13 @@ block_stays ext owners p e table c is = elim (cases_eq e (extent_of ext p)) [
 pub blocks_stay : (ext : Extents) (owners : List Kind) (claimed : List ℕ) (e table : ℕ) → AreClaims ext owners claimed → owner_of owners e ≡ Block table → owner_of (with_pages ext owners claimed) e ≡ Block table
 blocks_stay ext owners [] e table h is = is
 blocks_stay ext owners (p ∷ claimed) e table h is = blocks_stay ext (with_used_page ext owners p) claimed e table h.1 (block_stays ext owners p e table h.0 is)
+
+module _ {S : Type 0} {g : Ghosts S} where
+  -- where an entry was replaced by another one, tree and map still stand together, with the same owners
+  pub amended_stands : (ext : Extents) (old new : S) (tree : Tree) (x y : Entry) (owners : List Kind) (t : Forest) → StandsTree g ext old tree owners t → Touches g (IsTreePage g old tree) old new
+      → length (g.state old).work ≤ length (g.state new).work → (a : AmendsEntry g new tree x y t) → StandsTree g ext new tree owners a.after
+  amended_stands ext old new tree x y owners t s touched longer a = record {
+    map = map_stays (IsTreePage g old tree) ext old new owners s.map touched longer (λ p on mine. used_not_space ext owners p (s.used p (mine t s.held)) (inr on));
+    held = a.held;
+    used = λ p l. s.used p (omega (arith, l, a.pages p));
+  }

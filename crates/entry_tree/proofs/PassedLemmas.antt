@@ -1,15 +1,15 @@
 -- What a look at a page shows to a way down, and where an entry belongs among others.
-use Rattle.std.proofs.Common.{◌≡◌, ◌<◌, ◌≤◌, ◌+◌, ◌-◌, ◌*◌, ℕ, zero, suc, List, [], ◌∷◌, ◌++◌, refl, ap, arith, sym, ◌∙◌, subst, length, get_or, take, drop}
-use Rattle.std.specs.Prelude.{Option, Some, None, ⊤, true, false, Bool, IsTrue, ◌↔◌, nat_lt, if◌then◌else◌}
+use Rattle.std.proofs.Common.{◌≡◌, ◌<◌, ◌-◌, ℕ, zero, suc, List, [], ◌∷◌, refl, arith, sym, subst, get_or}
+use Rattle.std.specs.Prelude.{Option, Some, None, true, false, Bool, IsTrue, ◌↔◌, if◌then◌else◌}
 use Rattle.mdc_words.specs.ByteOrder.{Entry, below}
-use Rattle.node_page.specs.Node.{Node, node_of, bytes_in, stated_entries}
+use Rattle.node_page.specs.Node.{Node, node_of}
 use Rattle.node_page.specs.Node.Node.{InnerNode, LeafNode, NoNode}
 use Rattle.node_page.specs.Entries.{EntriesRise, StandsAt, child_in, place_in}
-use Rattle.node_page.specs.Looked.{SeenNode, seen_node, entries_in, children_in, is_leaf_node, item_width, fork_width}
+use Rattle.node_page.specs.Looked.{SeenNode, seen_node, entries_in, children_in, is_leaf_node}
 use Rattle.store_api.specs.StoreState.{StoreState, page_at}
 use Rattle.entry_tree.specs.HeldTrees.{nodes_in}
-use Rattle.entry_tree.specs.EntryBounds.{Bound, Climbs, Rises, IsLeafPlace}
-use Rattle.entry_tree.specs.Spots.{FenceFits, IsAtSpot, LendsLeaf, Passes, fence_before, fence_behind}
+use Rattle.entry_tree.specs.EntryBounds.{Climbs, Rises, IsLeafPlace}
+use Rattle.entry_tree.specs.Spots.{MeetsOnWay, fence_before, fence_behind}
 use Rattle.entry_tree.specs.TreePlaces.{IsChildPlace}
 use Rattle.entry_tree.specs.declared.spot.Fence.{Fence}
 use Rattle.entry_tree.specs.declared.spot.Passed.{Passed}
@@ -65,19 +65,19 @@ pub record Looks (w : ℕ) (bytes : List ℕ) (seen : Option SeenNode) : Type 0 
   pub leaf : (entries : List Entry) → node_of w bytes ≡ LeafNode entries → seen ≡ Some (seen_node w (LeafNode entries))
   pub inner : (separators : List Entry) (children : List ℕ) → node_of w bytes ≡ InnerNode separators children → seen ≡ Some (seen_node w (InnerNode separators children))
 
-pub none_passed : (w : ℕ) (bytes : List ℕ) (seen : Option SeenNode) (page : ℕ) (x : Entry) → Looks w bytes seen → seen ≡ None → Passes (node_of w bytes) page x NoNodeThere
+pub none_passed : (w : ℕ) (bytes : List ℕ) (seen : Option SeenNode) (page : ℕ) (x : Entry) → Looks w bytes seen → seen ≡ None → MeetsOnWay (node_of w bytes) page x NoNodeThere
 none_passed w bytes seen page x l e = go (node_of w bytes) refl
   where
-    go : (n : Node) → node_of w bytes ≡ n → Passes n page x NoNodeThere
+    go : (n : Node) → node_of w bytes ≡ n → MeetsOnWay n page x NoNodeThere
     go (LeafNode items) q = let k = l.leaf items q in cc
     go (InnerNode seps children) q = let k = l.inner seps children q in cc
     go NoNode q = tt
 
 pub leaf_passed : (w : ℕ) (bytes : List ℕ) (seen : Option SeenNode) (view : SeenNode) (page : ℕ) (x : Entry) (at : ℕ) (there : Bool) → Looks w bytes seen → seen ≡ Some view → is_leaf_node view.node ≡ true
-    → (EntriesRise (entries_in view.node) → at ≡ place_in x (entries_in view.node)) → IsTrue there ↔ StandsAt x at (entries_in view.node) → Passes (node_of w bytes) page x (LeafThere at there)
+    → (EntriesRise (entries_in view.node) → at ≡ place_in x (entries_in view.node)) → IsTrue there ↔ StandsAt x at (entries_in view.node) → MeetsOnWay (node_of w bytes) page x (LeafThere at there)
 leaf_passed w bytes seen view page x at there l e k p h = go (node_of w bytes) refl
   where
-    go : (n : Node) → node_of w bytes ≡ n → Passes n page x (LeafThere at there)
+    go : (n : Node) → node_of w bytes ≡ n → MeetsOnWay n page x (LeafThere at there)
     go (LeafNode items) q =
         let same : view ≡ seen_node w (LeafNode items) = let s = l.leaf items q in cc in
         λ r.
@@ -90,10 +90,10 @@ leaf_passed w bytes seen view page x at there l e k p h = go (node_of w bytes) r
 
 pub inner_passed : (w : ℕ) (bytes : List ℕ) (seen : Option SeenNode) (view : SeenNode) (page : ℕ) (x : Entry) (at child : ℕ) (before behind : Option Fence) → Looks w bytes seen → seen ≡ Some view
     → is_leaf_node view.node ≡ false → (EntriesRise (entries_in view.node) → at ≡ child_in x (entries_in view.node)) → child ≡ get_or (children_in view.node) at 0
-    → before ≡ fence_before page (entries_in view.node) at → behind ≡ fence_behind page (entries_in view.node) at → Passes (node_of w bytes) page x (ChildThere child before behind)
+    → before ≡ fence_before page (entries_in view.node) at → behind ≡ fence_behind page (entries_in view.node) at → MeetsOnWay (node_of w bytes) page x (ChildThere at child before behind)
 inner_passed w bytes seen view page x at child before behind l e k p c b d = go (node_of w bytes) refl
   where
-    go : (n : Node) → node_of w bytes ≡ n → Passes n page x (ChildThere child before behind)
+    go : (n : Node) → node_of w bytes ≡ n → MeetsOnWay n page x (ChildThere at child before behind)
     go (LeafNode items) q =
         let same : view ≡ seen_node w (LeafNode items) = let s = l.leaf items q in cc in
         let wrong : true ≡ false = subst (λ (v : SeenNode). is_leaf_node v.node ≡ false) same k in cc
@@ -101,7 +101,6 @@ inner_passed w bytes seen view page x at child before behind l e k p c b d = go 
         let same : view ≡ seen_node w (InnerNode seps children) = let s = l.inner seps children q in cc in
         λ r.
         let place : at ≡ child_in x seps = subst (λ (v : SeenNode). EntriesRise (entries_in v.node) → at ≡ child_in x (entries_in v.node)) same p (rise_of seps r) in (
-          at,
           subst (IsChildPlace seps x) (sym place) (child_in-is x seps),
           subst (λ (v : SeenNode). child ≡ get_or (children_in v.node) at 0) same c,
           subst (λ (v : SeenNode). before ≡ fence_before page (entries_in v.node) at) same b,
@@ -113,10 +112,10 @@ pub same_some : (hand : Option (List ℕ)) (one other : List ℕ) → hand ≡ S
 same_some hand one other e k = cc
 
 -- the same of the page at hand
-pub passes_told : (w : ℕ) (state : StoreState) (p : ℕ) (x : Entry) (now : List ℕ) (passed : Passed) → (IsTrue state.is_told → now ≡ page_at state.work p) → Passes (node_of w now) p x passed
-    → Passes (nodes_in w state p) p x passed
+pub passes_told : (w : ℕ) (state : StoreState) (p : ℕ) (x : Entry) (now : List ℕ) (passed : Passed) → (IsTrue state.is_told → now ≡ page_at state.work p) → MeetsOnWay (node_of w now) p x passed
+    → MeetsOnWay (nodes_in w state p) p x passed
 passes_told w state p x now passed same h = go state.is_told same
   where
-    go : (b : Bool) → (IsTrue b → now ≡ page_at state.work p) → Passes (if b then node_of w (page_at state.work p) else NoNode) p x passed
-    go true same = subst (λ (l : List ℕ). Passes (node_of w l) p x passed) (same refl) h
+    go : (b : Bool) → (IsTrue b → now ≡ page_at state.work p) → MeetsOnWay (if b then node_of w (page_at state.work p) else NoNode) p x passed
+    go true same = subst (λ (l : List ℕ). MeetsOnWay (node_of w l) p x passed) (same refl) h
     go false same = tt

@@ -1,8 +1,7 @@
 -- A leaf keeps some of its entries, or leaves its tree with what it had.
-use Rattle.std.proofs.Common.{◌≡◌, ◌≢◌, ◌<◌, ◌≤◌, ◌+◌, ◌-◌, ℕ, zero, suc, List, [], ◌∷◌, ◌++◌, refl, ap, arith, sym, ◌∙◌, subst, append_assoc, append-nil, length, get_or, take, drop, ◌⊎◌, inl, inr, length-append, eq-eqb, ne_eqb}
-use Rattle.std.specs.Prelude.{Option, Some, None, ⊤, Bool, true, false, if◌then◌else◌, ◌==◌}
+use Rattle.std.proofs.Common.{◌≡◌, ◌≢◌, ◌<◌, ◌+◌, ◌-◌, ℕ, zero, suc, List, [], ◌∷◌, ◌++◌, refl, ap, arith, sym, ◌∙◌, subst, append_assoc, append-nil, length, get_or, length-append, eq-eqb, ne_eqb}
+use Rattle.std.specs.Prelude.{None, if◌then◌else◌, ◌==◌}
 use Rattle.std.specs.List.{remove}
-use Rattle.std.proofs.lemmas.Bool.{cases_eq}
 use Rattle.mdc_words.specs.ByteOrder.{Entry}
 use Rattle.node_page.specs.Node.{Node}
 use Rattle.node_page.specs.Node.Node.{InnerNode, LeafNode}
@@ -10,11 +9,10 @@ use Rattle.entry_tree.specs.EntryBounds.{Bound, Rises}
 use Rattle.entry_tree.specs.Forest.{EachNode, Fits, Forest, HasNode, HoldsEntry, HoldsForest, IsTree, IsTrimTree, leaf_entries, heads, once, times, ◌&◌}
 use Rattle.entry_tree.specs.Forest.Forest.{Fork, Leaf, Nil}
 use Rattle.entry_tree.specs.Pruning.{IsPruned}
-use Rattle.entry_tree.specs.TreeChanges.{IsTreeChange, times_among}
 use Rattle.entry_tree.specs.TreePlaces.{AreMatched, Frame, entries_before, entries_behind, high_of, low_of, plug}
 use Rattle.entry_tree.proofs.DropLemmas.{child_dropped, collapsed, moved, node_of as node_at}
 use Rattle.entry_tree.proofs.FitsLemmas.{drop_first, drop_later}
-use Rattle.entry_tree.proofs.ForestLemmas.{EachNode-and, EachNode-from_and, Fits-count, and_nil, leaf_entries-and, heads-and, once_other, once_same, times-and}
+use Rattle.entry_tree.proofs.ForestLemmas.{EachNode-and, EachNode-from_and, Fits-count, leaf_entries-and, heads-and, once_same, times-and}
 use Rattle.entry_tree.proofs.LeavesLemmas.{HoldsEntry-moved}
 use Rattle.entry_tree.proofs.TreeChangesLemmas.{changed, leaf_change}
 use Rattle.entry_tree.proofs.TreePlacesLemmas.{EachNode-from_plug, Fits-plug, leaf_entries-plug, times-plug}

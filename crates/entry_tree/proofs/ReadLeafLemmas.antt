@@ -1,5 +1,5 @@
 -- What the leaf of a bound gives, in a tree that a store is told to hold.
-use Rattle.std.proofs.Common.{◌≡◌, ◌<◌, ◌≤◌, ◌+◌, ℕ, List, [], ◌∷◌, ◌++◌, refl, ap, arith, sym, ◌∙◌, subst, length, get_or, drop}
+use Rattle.std.proofs.Common.{◌≡◌, ◌<◌, ◌≤◌, ℕ, List, [], ◌∷◌, refl, ap, arith, sym, ◌∙◌, subst, length, get_or, drop}
 use Rattle.std.specs.Prelude.{Option, Some, None, Bool}
 use Rattle.mdc_words.specs.ByteOrder.{Entry}
 use Rattle.node_page.specs.Node.{Node}
@@ -11,7 +11,7 @@ use Rattle.entry_tree.specs.EntryBounds.{Bound}
 use Rattle.entry_tree.specs.Forest.{Forest, leaf_entries}
 use Rattle.entry_tree.specs.HeldTrees.{nodes_in, HoldsTree, IsTreePage, BreaksTree}
 use Rattle.entry_tree.specs.Reading.{IsLeafFrom, IsReadAt}
-use Rattle.entry_tree.specs.Spots.{IsSpot, bound_of, high_fence, high_fence_in, low_fence, low_fence_in}
+use Rattle.entry_tree.specs.Spots.{IsSpot, fence_bound, high_fence, high_fence_in, low_fence, low_fence_in}
 use Rattle.entry_tree.specs.TreePlaces.{Frame, first_or, high_of, last_or, low_of}
 use Rattle.entry_tree.specs.declared.spot.Fence.{Fence}
 use Rattle.entry_tree.specs.declared.tree.Tree.{Tree}
@@ -20,11 +20,11 @@ use Rattle.entry_tree.proofs.HeldTreesLemmas.{nodes_same}
 use Rattle.entry_tree.proofs.LeafFromLemmas.{first_read, second_read}
 
 -- the nearest separators are the bounds of a place
-pub high_fence-bound : (fs : List Frame) → high_of None fs ≡ bound_of (high_fence fs)
+pub high_fence-bound : (fs : List Frame) → high_of None fs ≡ fence_bound (high_fence fs)
 high_fence-bound [] = refl
 high_fence-bound (f ∷ fs) = go f.highs (high_fence-bound fs)
   where
-    go : (highs : List Entry) → high_of None fs ≡ bound_of (high_fence fs) → first_or highs (high_of None fs) ≡ bound_of (high_fence_in f highs (high_fence fs))
+    go : (highs : List Entry) → high_of None fs ≡ fence_bound (high_fence fs) → first_or highs (high_of None fs) ≡ fence_bound (high_fence_in f highs (high_fence fs))
     go [] e = e
     go (h ∷ highs) e = refl
 
@@ -32,17 +32,17 @@ last_or-last : (low : Bound) (l : Entry) (ls : List Entry) → last_or low (l �
 last_or-last low l [] = refl
 last_or-last low l (m ∷ ls) = last_or-last (Some l) m ls
 
-pub low_fence-bound : (fs : List Frame) → low_of None fs ≡ bound_of (low_fence fs)
+pub low_fence-bound : (fs : List Frame) → low_of None fs ≡ fence_bound (low_fence fs)
 low_fence-bound [] = refl
 low_fence-bound (f ∷ fs) = go f.lows (low_fence-bound fs)
   where
-    go : (lows : List Entry) → low_of None fs ≡ bound_of (low_fence fs) → last_or (low_of None fs) lows ≡ bound_of (low_fence_in f lows (low_fence fs))
+    go : (lows : List Entry) → low_of None fs ≡ fence_bound (low_fence fs) → last_or (low_of None fs) lows ≡ fence_bound (low_fence_in f lows (low_fence fs))
     go [] e = e
     go (l ∷ lows) e = last_or-last (low_of None fs) l lows
 
 -- a leaf from the place of a bound on
 pub read_spot : (nodes : ℕ → Node) (t : Forest) (x : Entry) (page at : ℕ) (there : Bool) (low high : Option Fence) (given : List Entry) (next : Bound) → IsSpot nodes t x page at there low high
-    → ((items : List Entry) → nodes page ≡ LeafNode items → given ≡ drop at items) → next ≡ bound_of high → IsReadAt t x given next
+    → ((items : List Entry) → nodes page ≡ LeafNode items → given ≡ drop at items) → next ≡ fence_bound high → IsReadAt t x given next
 read_spot nodes t x page at there low high given next s d e = record {
   above = s.above;
   page = page;
@@ -52,7 +52,7 @@ read_spot nodes t x page at there low high given next s d e = record {
   matched = s.matched;
   low = s.least;
   high = s.under;
-  next_is = high_fence-bound s.above ∙ ap bound_of s.high_is ∙ sym e;
+  next_is = high_fence-bound s.above ∙ ap fence_bound s.high_is ∙ sym e;
   spot = s.place;
   given_is = d s.items s.leaf;
 }

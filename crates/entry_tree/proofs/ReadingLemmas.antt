@@ -1,16 +1,14 @@
 -- What stands in the leaf of a bound, and what lies behind it.
-use Rattle.std.proofs.Common.{◌≡◌, ◌<◌, ◌≤◌, ◌+◌, ℕ, zero, suc, List, [], ◌∷◌, ◌++◌, refl, ap, arith, sym, ◌∙◌, subst, append-nil, length, get_or, drop}
-use Rattle.std.specs.Prelude.{Option, Some, None, ⊤, true, false, Bool, if◌then◌else◌}
-use Rattle.std.proofs.lemmas.Bool.{cases_eq}
+use Rattle.std.proofs.Common.{◌≡◌, ℕ, zero, suc, List, [], ◌∷◌, ◌++◌, refl, ap, arith, ◌∙◌, append-nil, length, drop}
+use Rattle.std.specs.Prelude.{Some, None, true, false, Bool, if◌then◌else◌}
 use Rattle.mdc_words.specs.ByteOrder.{Entry, below}
 use Rattle.entry_tree.specs.EntryBounds.{Bound, AtLeast, Under, Room, Climbs, Rises, IsLeafPlace}
 use Rattle.entry_tree.specs.Forest.{Forest, Fits, leaf_entries, heads, ◌&◌}
 use Rattle.entry_tree.specs.Forest.Forest.{Nil, Leaf, Fork}
 use Rattle.entry_tree.specs.Reading.{AreAtLeast, AreUnder, entries_from}
-use Rattle.entry_tree.specs.TreePlaces.{AreMatched, Frame, plug, entries_before, entries_behind, last_or, first_or, low_of, high_of}
-use Rattle.entry_tree.proofs.EntryBoundsLemmas.{AllAbove, AllBelow, AtLeast-down, Under-up, below_itself, below_trans, not_below, up_to}
+use Rattle.entry_tree.specs.TreePlaces.{AreMatched, Frame, plug, entries_before, entries_behind, first_or, low_of, high_of}
+use Rattle.entry_tree.proofs.EntryBoundsLemmas.{AllAbove, AllBelow, AtLeast-down, Under-up, below_trans, not_below}
 use Rattle.entry_tree.proofs.FitsLemmas.{Fits-room}
-use Rattle.entry_tree.proofs.ForestLemmas.{leaf_entries-and}
 use Rattle.entry_tree.proofs.TreePlacesLemmas.{Fits-plug, leaf_entries-plug}
 use Rattle.entry_tree.proofs.DescentLemmas.{outside}
 

@@ -1,14 +1,13 @@
 -- A separator may be any bound between the entries before it and those behind it.
-use Rattle.std.proofs.Common.{◌≡◌, ◌≢◌, ◌<◌, ◌≤◌, ◌+◌, ℕ, List, [], ◌∷◌, ◌++◌, refl, ap, arith, sym, ◌∙◌, subst, length}
-use Rattle.std.specs.Prelude.{Option, Some, None, ⊤}
+use Rattle.std.proofs.Common.{◌≡◌, ◌≢◌, ◌≤◌, ◌+◌, ℕ, List, [], ◌∷◌, ◌++◌, refl, arith, sym, subst, length}
+use Rattle.std.specs.Prelude.{Some, None}
 use Rattle.mdc_words.specs.ByteOrder.{Entry}
 use Rattle.node_page.specs.Node.{Node}
 use Rattle.node_page.specs.Node.Node.{InnerNode}
 use Rattle.entry_tree.specs.EntryBounds.{Bound, AtLeast, Under, Room, Climbs, Rises}
-use Rattle.entry_tree.specs.Forest.{Fits, Forest, HasNode, HoldsForest, IsTree, EachNode, HoldsEntry, leaf_entries, heads, once, times, ◌&◌}
+use Rattle.entry_tree.specs.Forest.{Fits, Forest, HasNode, IsTree, EachNode, HoldsEntry, leaf_entries, heads, once, times, ◌&◌}
 use Rattle.entry_tree.specs.Forest.Forest.{Fork, Leaf, Nil}
 use Rattle.entry_tree.specs.Reading.{AreAtLeast, AreUnder}
-use Rattle.entry_tree.specs.TreeChanges.{IsTreeChange}
 use Rattle.entry_tree.specs.TreePlaces.{AreMatched, Frame, high_of, low_of, plug}
 use Rattle.entry_tree.proofs.EntryBoundsLemmas.{from_below}
 use Rattle.entry_tree.proofs.FitsLemmas.{Fits-room}

@@ -1,11 +1,11 @@
 -- What a removal leaves of a tree.
-use Rattle.std.proofs.Common.{◌≡◌, ◌≢◌, ◌<◌, ◌≤◌, ◌+◌, ◌-◌, ℕ, zero, suc, List, [], ◌∷◌, ◌++◌, refl, ap, arith, sym, ◌∙◌, subst, append_assoc, append-nil, length, get_or, take, drop, ◌⊎◌, inl, inr, length-append}
-use Rattle.std.specs.Prelude.{Option, Some, None, ⊤, Bool, true, false}
+use Rattle.std.proofs.Common.{◌≡◌, ◌<◌, ◌≤◌, ◌+◌, ℕ, zero, suc, List, [], ◌∷◌, ◌++◌, refl, ap, arith, sym, ◌∙◌, subst, append_assoc, append-nil, length, get_or, take, drop, inl, inr}
+use Rattle.std.specs.Prelude.{Option, Some, None, true}
 use Rattle.std.specs.List.{remove}
 use Rattle.mdc_words.specs.ByteOrder.{Entry, below}
 use Rattle.node_page.specs.Node.{Node}
-use Rattle.node_page.specs.Node.Node.{InnerNode, LeafNode}
-use Rattle.store_api.specs.Frame.{NoPage, OnlyPage}
+use Rattle.node_page.specs.Node.Node.{LeafNode}
+use Rattle.store_api.specs.Frame.{OnlyPage}
 use Rattle.store_api.specs.RunsOverPages.{RunsOverPages}
 use Rattle.store_api.specs.declared.fault.Damage.{Damage}
 use Rattle.store_api.specs.declared.fault.StoreFault.{StoreFault}
@@ -16,14 +16,14 @@ use Rattle.extent_map.specs.declared.extents.Extents.{Extents}
 use Rattle.extent_map.specs.declared.kind.Kind.{Kind}
 use Rattle.extent_map.proofs.HoldsMapLemmas.{holds_map_run, holds_map_same}
 use Rattle.entry_tree.specs.EntryBounds.{AtLeast, Bound, Climbs, IsEntryOf, Rises, Under, with_entry}
-use Rattle.entry_tree.specs.Forest.{Fits, Forest, HoldsForest, IsTree, IsTrimTree, leaf_entries, heads, once, times}
-use Rattle.entry_tree.specs.Forest.Forest.{Fork, Leaf, Nil}
+use Rattle.entry_tree.specs.Forest.{Fits, Forest, IsTree, IsTrimTree, leaf_entries, once, times}
+use Rattle.entry_tree.specs.Forest.Forest.{Leaf, Nil}
 use Rattle.entry_tree.specs.HeldTrees.{nodes_in, HoldsTree}
 use Rattle.entry_tree.specs.LeafSpots.{IsItemSpot, IsParent}
-use Rattle.entry_tree.specs.Pruning.{BreaksAtReturn, BreaksDrop, BreaksTreeOrReturn, DropsLeaf, IsDropLook, IsDropPage, IsDropping, IsInnerFrom, IsLeafFrom, IsOtherChild, IsPruned, IsTreeOrMapPage, RemovesEntry, without_pages}
+use Rattle.entry_tree.specs.Pruning.{BreaksDrop, BreaksTreeOrReturn, DropsLeaf, IsDropLook, IsDropPage, IsDroppableLeaf, IsDropping, IsLeafFrom, IsPruned, IsTreeOrMapPage, RemovesEntry, without_pages}
 use Rattle.entry_tree.specs.Standing.{StandsTree}
 use Rattle.entry_tree.specs.TreeChanges.{IsPut, times_among}
-use Rattle.entry_tree.specs.TreePlaces.{AreMatched, Frame, entries_before, entries_behind, high_of, low_of, frame_place, plug}
+use Rattle.entry_tree.specs.TreePlaces.{AreMatched, Frame, entries_before, entries_behind, high_of, low_of, plug}
 use Rattle.entry_tree.specs.Writing.{BreaksWhere}
 use Rattle.entry_tree.specs.declared.tree.Tree.{Tree}
 use Rattle.entry_tree.proofs.DescentLemmas.{outside}
@@ -105,6 +105,17 @@ used_without ext owners (q ∷ gone) p are out is =
     once_here = once_same q
 
 module _ {S : Type 0} {g : Ghosts S} {before : Extents} {s : S} {tree : Tree} {owners : List Kind} {t : Forest} where
+  -- a tree whose leaf has lost entries still stands, where the map has lost its pages
+  pub stands_pruned : {after : Extents} {new : S} {gone : List ℕ} {above : List Frame} {kept : List Entry} → StandsTree g before s tree owners t
+      → (p : IsPruned (nodes_in tree.width (g.state new)) tree.root t above kept gone) → HoldsMap g after new (without_pages before owners gone) → IsSameShape before after
+      → StandsTree g after new tree (without_pages before owners gone) p.after
+  stands_pruned {after} {new} {gone} {above} {kept} st p map shape = record {
+    map = map;
+    held = record { is_tree = p.tree; trim = p.trim };
+    used = λ q there. used-shape before after (without_pages before owners gone) q shape
+        (used_without before owners gone q (λ k among. (st.used k (omega (arith, p.counts k))).page) (omega (arith, p.counts q, st.held.is_tree.distinct q)) (st.used q (omega (arith, p.counts q))));
+  }
+
   -- a tree whose leaf has lost an entry, with what its pages are
   pub removes : {after : Extents} {new : S} {gone : List ℕ} (page : ℕ) (items : List Entry) (at : ℕ) (above : List Frame) → StandsTree g before s tree owners t → t ≡ plug above (Leaf page items Nil) → AreMatched above → at < length items
       → IsPruned (nodes_in tree.width (g.state new)) tree.root t above (remove items at) gone → HoldsMap g after new (without_pages before owners gone)
@@ -114,12 +125,7 @@ module _ {S : Type 0} {g : Ghosts S} {before : Extents} {s : S} {tree : Tree} {o
       record {
         gone = gone;
         after = p.after;
-        stands = record {
-          map = map;
-          held = record { is_tree = p.tree; trim = p.trim };
-          used = λ q there. used-shape before after (without_pages before owners gone) q shape
-              (used_without before owners gone q (λ k among. (st.used k (omega (arith, p.counts k))).page) (omega (arith, p.counts q, st.held.is_tree.distinct q)) (st.used q (omega (arith, p.counts q))));
-        };
+        stands = stands_pruned st p map shape;
         takes = ap leaf_entries whole ∙ (r.0 ∙ ap (with_entry (get_or items at [])) (sym p.entries));
         absent = λ i. r.1 (subst (IsEntryOf (get_or items at [])) p.entries i);
         pages = p.counts;
@@ -149,6 +155,31 @@ pub record SpotToDrop {S : Type 0} (g : Ghosts S) (ext : Extents) (s m : S) (tre
   pub upper : List Frame
   pub above_is : above ≡ frame ∷ upper
   pub dropping : IsDropping g ext m tree owners (nodes_in tree.width (g.state s)) t frame upper leaf page at
+
+-- the same of the tree alone
+pub spot_emptied : {S : Type 0} {g : Ghosts S} {s m : S} {tree : Tree} {t : Forest} {leaf place page at : ℕ} → HoldsTree g s tree t
+    → (sp : IsItemSpot (nodes_in tree.width (g.state s)) t leaf place (Some (page, at))) → (g.state m).is_told ≡ (g.state s).is_told → (g.state m).work ≡ (g.state s).work
+    → IsDroppableLeaf g m tree leaf page at
+spot_emptied {S} {g} {s} {m} {tree} {t} {leaf} {place} {page} {at} h sp told same = go sp.above sp.whole sp.matched sp.parent_is
+  where
+    go : (above : List Frame) → t ≡ plug above (Leaf leaf sp.items Nil) → AreMatched above → IsParent above (Some (page, at)) → IsDroppableLeaf g m tree leaf page at
+    go [] whole matched is = absurd is
+    go (f ∷ fs) whole matched is = (
+      nodes_in tree.width (g.state s),
+      t,
+      f,
+      fs,
+      record {
+        items = sp.items;
+        whole = whole;
+        matched = matched;
+        is_tree = h.is_tree;
+        trim = h.trim;
+        page_is = ap (λ (q : ℕ × ℕ). q.0) is;
+        at_is = ap (λ (q : ℕ × ℕ). q.1) is;
+        same = λ n d. nodes_same tree.width (g.state s) (g.state m) n told same;
+      },
+    )
 
 pub spot_to_drop : {S : Type 0} {g : Ghosts S} {ext : Extents} {s m : S} {tree : Tree} {owners : List Kind} {t : Forest} {leaf place page at : ℕ} → StandsTree g ext s tree owners t
     → (sp : IsItemSpot (nodes_in tree.width (g.state s)) t leaf place (Some (page, at))) → (g.state m).is_told ≡ (g.state s).is_told → (g.state m).work ≡ (g.state s).work
@@ -182,8 +213,8 @@ item_leaf sp = record { items = sp.items; leaf = sp.leaf; within = sp.within }
 
 -- what isn't met where the tree stands
 pub breaks_unmet : {S : Type 0} {g : Ghosts S} {ext : Extents} {s : S} {tree : Tree} {Expected : Type 0} {damage : Damage} → BreaksWhere tree Expected damage
-    → ((owners : List Kind) (t : Forest) → StandsTree g ext s tree owners t → Expected) → BreaksTreeOrReturn g ext s tree damage
-breaks_unmet b met = inl (record { page = b.page; rule = b.rule; broken = λ owners t st. b.not_so (met owners t st) })
+    → ((t : Forest) → HoldsTree g s tree t → Expected) → BreaksTreeOrReturn g ext s tree damage
+breaks_unmet b met = inl (record { page = b.page; rule = b.rule; broken = λ t h. b.not_so (met t h) })
 
 module _ {S : Type 0} {g : Ghosts S} {ext : Extents} {s : S} {tree : Tree} {leaf place : ℕ} {parent : Option (ℕ × ℕ)} where
   -- the leaf is a page of the tree
@@ -217,9 +248,7 @@ module _ {S : Type 0} {g : Ghosts S} {ext : Extents} {s m : S} {tree : Tree} {le
   breaks_drop spot told same (inl w) = inl (record {
     page = w.page;
     rule = w.rule;
-    broken = λ owners t st.
-        let d = spot_to_drop st (spot t st.held) told same in
-        w.not_so (owners, (nodes_in tree.width (g.state s), t, d.frame, d.upper, d.dropping));
+    broken = λ t h. w.not_so (spot_emptied {s = s} {m = m} h (spot t h) told same);
   })
   breaks_drop spot told same (inr r) = inr (record {
     mid = r.mid;

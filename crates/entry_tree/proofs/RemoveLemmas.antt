@@ -1,5 +1,5 @@
 -- A removal, over a search that left the pages as they were.
-use Rattle.std.proofs.Common.{◌≡◌, ◌<◌, ℕ, List, [], refl, ap, sym, ◌∙◌, subst, get_or, inl, inr}
+use Rattle.std.proofs.Common.{◌≡◌, ℕ, List, refl, ◌∙◌, subst, inl, inr}
 use Rattle.std.specs.Prelude.{Option, Bool, true, false, not, IsTrue}
 use Rattle.mdc_words.specs.ByteOrder.{Entry}
 use Rattle.node_page.specs.Node.{Node}
@@ -8,9 +8,9 @@ use Rattle.store_api.specs.declared.pages.Pages.{Ghosts}
 use Rattle.extent_map.specs.declared.extents.Extents.{Extents}
 use Rattle.extent_map.specs.declared.kind.Kind.{Kind}
 use Rattle.extent_map.proofs.HoldsMapLemmas.{holds_map_same}
-use Rattle.entry_tree.specs.Forest.{Forest, times}
+use Rattle.entry_tree.specs.Forest.{Forest}
 use Rattle.entry_tree.specs.HeldTrees.{nodes_in, BreaksTree, HoldsTree, IsTreePage}
-use Rattle.entry_tree.specs.LeafSpots.{IsEntrySpot, IsItemSpot, IsSeenSpot}
+use Rattle.entry_tree.specs.LeafSpots.{IsEntrySpot, IsItemSpot}
 use Rattle.entry_tree.specs.Pruning.{BreaksTreeOrReturn, IsTreeOrMapPage, RemovesEntry, RemovesItem}
 use Rattle.entry_tree.specs.Standing.{StandsTree}
 use Rattle.entry_tree.specs.declared.tree.Tree.{Tree}
@@ -57,14 +57,14 @@ pub tree_page : {S : Type 0} {g : Ghosts S} {ext : Extents} {s : S} {tree : Tree
 tree_page is owners t st = inl (is t st.held)
 
 pub breaks_held : {S : Type 0} {g : Ghosts S} {ext : Extents} {s : S} {tree : Tree} {damage : Damage} → BreaksTree g s tree damage → BreaksTreeOrReturn g ext s tree damage
-breaks_held b = inl (record { page = b.page; rule = b.rule; broken = λ owners t st. b.broken t st.held })
+breaks_held b = inl b
 
 module _ {S : Type 0} {g : Ghosts S} {ext : Extents} {s m : S} {tree : Tree} where
   pub page_same : {p : ℕ} → (g.state m).is_told ≡ (g.state s).is_told → (g.state m).work ≡ (g.state s).work → IsTreeOrMapPage g ext m tree p → IsTreeOrMapPage g ext s tree p
   page_same told same is owners t st = is owners t (stands_same told same st)
 
   pub breaks_same : {damage : Damage} → (g.state m).is_told ≡ (g.state s).is_told → (g.state m).work ≡ (g.state s).work → BreaksTreeOrReturn g ext m tree damage → BreaksTreeOrReturn g ext s tree damage
-  breaks_same told same (inl b) = inl (record { page = b.page; rule = b.rule; broken = λ owners t st. b.broken owners t (stands_same told same st) })
+  breaks_same told same (inl b) = inl (record { page = b.page; rule = b.rule; broken = λ t h. b.broken t (held_same told same h) })
   breaks_same told same (inr r) = inr (record { mid = r.mid; ext = r.ext; page = r.page; map = λ owners held. r.map owners (held.0, stands_same told same held.1); breaks = r.breaks })
 
 -- the item that went is the entry

@@ -1,6 +1,6 @@
 -- Pages that are given back, and those that stay in use.
-use Rattle.std.proofs.Common.{◌≡◌, ◌≢◌, ◌<◌, ◌≤◌, ◌+◌, ◌-◌, ◌^◌, ◌/◌, ◌%◌, ◌==◌, ℕ, List, [], ◌∷◌, length, refl, ap, arith, sym, ◌∙◌, subst, set, get_or, ◌⊎◌, inl, inr, min, get_or-set_other, get_or-set_same}
-use Rattle.std.specs.Prelude.{Bool, true, false, IsTrue, bit_and, if◌then◌else◌}
+use Rattle.std.proofs.Common.{◌≡◌, ◌≢◌, ◌<◌, ◌+◌, ◌-◌, ◌^◌, ℕ, List, length, refl, ap, arith, sym, ◌∙◌, subst, set, inl, inr, min, get_or-set_other, get_or-set_same}
+use Rattle.std.specs.Prelude.{IsTrue, bit_and, if◌then◌else◌}
 use Rattle.std.specs.Int.{bit_at, bit_not, w32}
 use Rattle.std.proofs.Math.Pow.{pow-lt}
 use Rattle.std.proofs.lemmas.Bool.{cases_eq, cases_lt, eq-eqb, eqb-true, ne_eqb}

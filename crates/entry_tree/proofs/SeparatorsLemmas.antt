@@ -1,6 +1,6 @@
 -- Where a separator of a tree stands to the place of an entry.
-use Rattle.std.proofs.Common.{◌≡◌, ◌<◌, ◌≤◌, ◌+◌, ℕ, zero, suc, List, [], ◌∷◌, ◌++◌, refl, ap, arith, sym, ◌∙◌, subst, length, get_or, drop, ◌⊎◌, inl, inr}
-use Rattle.std.specs.Prelude.{Option, Some, None, ⊤, true, false, Bool}
+use Rattle.std.proofs.Common.{◌≡◌, ◌<◌, ℕ, zero, suc, List, [], ◌∷◌, ◌++◌, refl, ap, arith, sym, subst, length, drop, ◌⊎◌, inl, inr}
+use Rattle.std.specs.Prelude.{Some, None, true, false}
 use Rattle.mdc_words.specs.ByteOrder.{Entry, below}
 use Rattle.entry_tree.specs.EntryBounds.{Bound, AtLeast, Under, Room, Rises, IsEntryOf, IsLeafPlace}
 use Rattle.entry_tree.specs.Forest.{Forest, Fits, EachNode, HoldsEntry, IsTrimTree, heads, ◌&◌}

@@ -1,11 +1,10 @@
 -- What a search sees at a place of a tree.
-use Rattle.std.proofs.Common.{◌≡◌, ◌<◌, ◌≤◌, ◌+◌, ◌-◌, ℕ, zero, suc, List, [], ◌∷◌, ◌++◌, refl, ap, arith, sym, ◌∙◌, subst, length, get_or, take, drop}
-use Rattle.std.specs.Prelude.{Option, Some, None, ⊤, true, false, Bool, if◌then◌else◌}
-use Rattle.mdc_words.specs.ByteOrder.{Entry, below}
-use Rattle.entry_tree.specs.EntryBounds.{Bound, AtLeast, Under, Room, Climbs, Rises, with_entry, IsLeafPlace}
+use Rattle.std.proofs.Common.{◌≡◌, ℕ, zero, suc, List, [], ◌∷◌, ◌++◌, refl, ap, arith, take, drop}
+use Rattle.std.specs.Prelude.{Some, None}
+use Rattle.mdc_words.specs.ByteOrder.{Entry}
+use Rattle.entry_tree.specs.EntryBounds.{Bound, Climbs, Rises, with_entry, IsLeafPlace}
 use Rattle.entry_tree.specs.Forest.{Forest, Fits}
 use Rattle.entry_tree.specs.Forest.Forest.{Nil, Leaf, Fork}
-use Rattle.entry_tree.proofs.EntryBoundsLemmas.{below_trans, not_below}
 
 -- entries that rise within bounds rise without them
 pub Climbs-wide : (last : Entry) (high : Bound) (xs : List Entry) → Climbs last high xs → Climbs last None xs

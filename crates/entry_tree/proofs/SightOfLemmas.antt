@@ -1,6 +1,6 @@
 -- What a look at a page shows, as a search sees it.
-use Rattle.std.proofs.Common.{◌≡◌, ◌≢◌, ◌<◌, ◌≤◌, ◌+◌, ◌-◌, ℕ, zero, suc, List, [], ◌∷◌, refl, ap, arith, sym, ◌∙◌, subst, length, get_or, inl, inr, Bool, true, false, IsTrue}
-use Rattle.std.specs.Prelude.{Option, Some, None, ⊤, if◌then◌else◌, ◌↔◌}
+use Rattle.std.proofs.Common.{◌≡◌, ◌≢◌, ◌<◌, ◌≤◌, ◌-◌, ℕ, zero, suc, List, [], ◌∷◌, refl, arith, sym, ◌∙◌, subst, length, get_or, inl, inr, Bool, true, false, IsTrue}
+use Rattle.std.specs.Prelude.{Some, None, if◌then◌else◌, ◌↔◌}
 use Rattle.std.proofs.lemmas.Option.{same_Some}
 use Rattle.mdc_words.specs.ByteOrder.{Entry, below}
 use Rattle.node_page.specs.Node.{Node, node_of, is_full}
@@ -11,7 +11,7 @@ use Rattle.node_page.proofs.FindLemmas.{place_before, place_here}
 use Rattle.store_api.specs.StoreState.{StoreState, page_at}
 use Rattle.store_api.specs.Frame.{HoldsPage}
 use Rattle.store_api.specs.declared.pages.Pages.{Ghosts}
-use Rattle.entry_tree.specs.EntryBounds.{Bound, AtLeast, Under, Climbs, Rises, IsEntryOf, IsLeafPlace}
+use Rattle.entry_tree.specs.EntryBounds.{Climbs, Rises, IsEntryOf, IsLeafPlace}
 use Rattle.entry_tree.specs.TreePlaces.{IsChildPlace}
 use Rattle.entry_tree.specs.HeldTrees.{nodes_in}
 use Rattle.entry_tree.specs.Sight.{Sees}

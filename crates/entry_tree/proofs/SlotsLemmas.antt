@@ -1,6 +1,6 @@
 -- An entry or a separator is written over on a page.
-use Rattle.std.proofs.Common.{◌≡◌, ◌≢◌, ◌<◌, ◌≤◌, ◌+◌, ◌-◌, ◌*◌, ℕ, List, [], ◌∷◌, refl, ap, arith, sym, ◌∙◌, subst, length, get_or, get_or-set_same, set}
-use Rattle.std.specs.Prelude.{Option, Some, None, ⊤, true, false, Bool, IsTrue, if◌then◌else◌, slice_set}
+use Rattle.std.proofs.Common.{◌≡◌, ◌≢◌, ◌<◌, ◌≤◌, ◌*◌, ℕ, List, [], refl, ap, arith, sym, ◌∙◌, subst, length, get_or-set_same, set}
+use Rattle.std.specs.Prelude.{Option, Some, None, true, false, Bool, IsTrue, if◌then◌else◌, slice_set}
 use Rattle.mdc_words.specs.ByteOrder.{Entry}
 use Rattle.node_page.specs.Node.{Node, node_of, stated_entries}
 use Rattle.node_page.specs.Node.Node.{InnerNode, LeafNode, NoNode}

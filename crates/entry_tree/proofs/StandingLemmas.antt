@@ -1,36 +1,32 @@
 -- Trees among the extents: what stays, and what an addition makes of both.
-use Rattle.std.proofs.Common.{◌≡◌, ◌≢◌, ◌<◌, ◌≤◌, ◌+◌, ◌*◌, ◌/◌, ◌⊎◌, ℕ, zero, suc, List, [], ◌∷◌, ◌++◌, length, get_or, refl, ap, arith, sym, ◌∙◌, subst, inl, inr, reverse, Bool, true, false}
-use Rattle.std.specs.Prelude.{if◌then◌else◌, ⊤}
+use Rattle.std.proofs.Common.{◌≡◌, ◌<◌, ◌≤◌, ◌+◌, ◌/◌, ◌⊎◌, ℕ, List, [], ◌∷◌, ◌++◌, length, refl, ap, arith, sym, ◌∙◌, subst, inl, inr, reverse, Bool}
 use Rattle.std.proofs.lemmas.Bool.{cases_eq, cases_lt}
-use Rattle.std.proofs.lemmas.List.{reverse-append, reverse-reverse}
+use Rattle.std.proofs.lemmas.List.{reverse-append}
 use Rattle.mdc_words.specs.ByteOrder.{Entry}
-use Rattle.node_page.specs.Node.{Node, is_full, leaf_room}
-use Rattle.node_page.specs.Node.Node.{LeafNode, InnerNode, NoNode}
-use Rattle.store_api.specs.StoreState.{StoreState}
-use Rattle.store_api.specs.Extents.{first_count, map_pages}
-use Rattle.store_api.specs.Frame.{HoldsPage, Touches}
+use Rattle.node_page.specs.Node.{Node, leaf_room}
+use Rattle.node_page.specs.Node.Node.{LeafNode}
+use Rattle.store_api.specs.Frame.{Touches}
 use Rattle.store_api.specs.declared.pages.Pages.{Ghosts}
-use Rattle.extent_map.specs.Map.{HoldsMap, HoldsMapPage, IsMapPage, IsSpacePage, map_page}
-use Rattle.extent_map.specs.Owners.{IsUsedPage, IsExtentPage, IsClaimable, IsUnusedPage, IsSameShape, AreRightNotes, owner_of, extent_of, with_used_page, place_in_extent}
+use Rattle.extent_map.specs.Map.{BringsZeros, HoldsMap, IsMapPage, IsSpacePage, map_page}
+use Rattle.extent_map.specs.Owners.{IsUsedPage, IsExtentPage, IsSameShape, with_used_page}
 use Rattle.extent_map.specs.declared.extents.Extents.{Extents}
 use Rattle.extent_map.specs.declared.kind.Kind.{Kind}
-use Rattle.extent_map.specs.declared.kind.Kind.TheVariants.{Free}
 use Rattle.entry_tree.specs.EntryBounds.{IsEntryOf}
-use Rattle.entry_tree.specs.Forest.{Forest, heads, leaf_entries, once, times, EachNode, HasNode, HoldsForest, HoldsEntry, IsPageBelow, IsTree, IsTrimTree}
+use Rattle.entry_tree.specs.Forest.{Forest, leaf_entries, once, times, EachNode, HoldsEntry, IsPageBelow}
 use Rattle.entry_tree.specs.Forest.Forest.{Nil, Leaf, Fork}
-use Rattle.entry_tree.specs.TreePlaces.{Frame, plug, places, times_beside, IsAtPlace, run_up, pages_asked}
+use Rattle.entry_tree.specs.TreePlaces.{Frame, places, times_beside, IsAtPlace, run_up, pages_asked}
 use Rattle.entry_tree.specs.TreeChanges.{KeepsLeaf, AreFresh, IsAdded, IsLeafFound, times_among}
 use Rattle.entry_tree.specs.HeldTrees.{nodes_in, HoldsTree}
-use Rattle.entry_tree.specs.Standing.{StandsTree, with_pages, AreClaims, IsClaimed, ClaimsPages, IsIdlePage, AsksPages, AddsEntry}
-use Rattle.entry_tree.specs.Writing.{IsPathPage, IsWrittenPage, IsCutPage}
+use Rattle.entry_tree.specs.Standing.{StandsTree, GrowsWith, with_pages, AreClaims, IsClaimed, ClaimsPages, AsksPages, AddsEntry}
+use Rattle.entry_tree.specs.Writing.{IsPathPage}
 use Rattle.entry_tree.specs.declared.tree.Tree.{Tree}
-use Rattle.entry_tree.proofs.ForestLemmas.{once_same, once_other, EachNode-agree, HoldsForest-agree}
+use Rattle.entry_tree.proofs.ForestLemmas.{once_same, once_other, HoldsForest-agree}
 use Rattle.entry_tree.proofs.TreePlacesLemmas.{times-plug}
 use Rattle.entry_tree.proofs.LeavesLemmas.{fork_trim}
 use Rattle.entry_tree.proofs.HeldTreesLemmas.{nodes_kept}
 use Rattle.entry_tree.proofs.UnderWayLemmas.{path_front, path_end}
 use Rattle.entry_tree.proofs.WayLemmas.{tree_below, at_place_times}
-use Rattle.entry_tree.proofs.UsedPagesLemmas.{length-with_pages, claims_apart, claims_used, claimed_used, used_after, used_same, claimable_same, shape_back}
+use Rattle.entry_tree.proofs.UsedPagesLemmas.{length-with_pages, claims_apart, claims_used, claimed_used, used_after, used_same, shape_back}
 
 -- ---- pages of a tree
 
@@ -75,6 +71,10 @@ module _ {S : Type 0} {g : Ghosts S} where
     };
     trim = h.trim;
   }
+
+  -- each of its pages is there
+  pub page_there : (old : S) (tree : Tree) (t : Forest) (p : ℕ) → HoldsTree g old tree t → 0 < times p t → p < length (g.state old).work
+  page_there old tree t p h l = below_each (length (g.state old).work) p t (tree_below h) l
 
   -- the extent map stays where none of its pages is touched
   pub map_stays : (Mine : ℕ → Type 0) (ext : Extents) (old new : S) (owners : List Kind) → HoldsMap g ext old owners → Touches g Mine old new
@@ -165,7 +165,7 @@ claims_fresh ext owners claimed t l h used = record {
 
 -- ---- an addition among the extents
 
-pages_apart : (whole after : Forest) (claimed : List ℕ) (p : ℕ) → ((n : ℕ) → times n after ≤ times n whole + times_among n claimed) → 0 < times p after → 0 < times p whole ⊎ IsClaimed p claimed
+pages_apart : (whole after : Forest) (claimed : List ℕ) (p : ℕ) → ((n : ℕ) → times n after ≡ times n whole + times_among n claimed) → 0 < times p after → 0 < times p whole ⊎ IsClaimed p claimed
 pages_apart whole after claimed p pages l = elim (cases_lt 0 (times p whole)) [
   | inl some ↦ inl some
   | inr none ↦ inr (among_claimed p claimed (let k = pages p in omega arith))
@@ -194,10 +194,11 @@ module _ {S : Type 0} {g : Ghosts S} where
       → IsSameShape before ext → StandsTree g before old tree owners t → ClaimsPages g before ext mid owners claimed
       → Touches g Mine old mid → (g.state mid).is_told ≡ (g.state old).is_told → ((p : ℕ) → 0 < times p t → Mine p → ⊥)
       → Touches g Wrote mid new → (g.state new).is_told ≡ (g.state mid).is_told → length (g.state mid).work ≤ length (g.state new).work → ((p : ℕ) → Wrote p → IsSpacePage ext p → ⊥)
+      → GrowsWith g before old new claimed → BringsZeros g (λ p. IsClaimed p claimed) old new
       → AsksPages tree.width (nodes_in tree.width (g.state old)) t x (length claimed) → (IsEntryOf x (leaf_entries t) → ⊥)
       → IsAdded tree.width (nodes_in tree.width (g.state mid)) (nodes_in tree.width (g.state new)) tree.root t x claimed
       → AddsEntry g before ext old new tree x owners t
-  added Mine Wrote before ext old mid new tree x owners t claimed s stood c touched told apart written told_new longer off asks absent a =
+  added Mine Wrote before ext old mid new tree x owners t claimed s stood c touched told apart written told_new longer off grows zeros asks absent a =
       let same = nodes_stay Mine old mid tree t stood.held touched told apart in
       record {
         claimed = claimed;
@@ -214,7 +215,9 @@ module _ {S : Type 0} {g : Ghosts S} where
         lowest = c.lowest;
         notes = c.notes;
         leaves = keeps_same tree.width (nodes_in tree.width (g.state mid)) (nodes_in tree.width (g.state old)) t a.after (λ p l. sym (same p l)) a.leaves;
-        pages = λ p l. pages_apart t a.after claimed p a.pages l;
+        pages = a.pages;
+        grows = grows;
+        zeros = zeros;
       }
     where
       used : (p : ℕ) → 0 < times p t ⊎ IsClaimed p claimed → IsUsedPage before (with_pages before owners claimed) p

@@ -1,5 +1,5 @@
 -- Byte strings of one width that lie behind one another.
-use Rattle.std.proofs.Common.{Result, Ok, Err, OnOk, OnErr, ◌≡◌, ◌<◌, ◌≤◌, ◌+◌, ◌-◌, ◌*◌, ℕ, zero, suc, List, [], ◌∷◌, ◌++◌, refl, ap, arith, sym, ◌∙◌, subst, length, get_or, take, drop, length-append}
+use Rattle.std.proofs.Common.{Result, Ok, Err, OnOk, OnErr, ◌≡◌, ◌<◌, ◌≤◌, ◌+◌, ◌-◌, ◌*◌, ℕ, zero, suc, List, [], ◌∷◌, ◌++◌, ap, arith, sym, ◌∙◌, subst, length, get_or, take, drop}
 use Rattle.std.specs.Prelude.{true, false, Bool, if◌then◌else◌, nat_le, nat_lt, ◌==◌, ◌&&◌}
 use Rattle.std.proofs.Math.Nat.{add-mul, mul-le-mul_right, suc-mul, zero-mul}
 use Rattle.std.proofs.Math.Seq.{drop-append_seam, take-length}
@@ -9,8 +9,8 @@ use Rattle.std.specs.Str.{bytes_eq}
 use Rattle.mdc_words.specs.ByteOrder.{Entry}
 use Rattle.mdc_words.specs.Listed.{listed}
 use Rattle.mdc_words.proofs.ListedLemmas.{length-listed, get_or-listed, listed_same}
-use Rattle.node_page.specs.Node.{Node, bytes_in, node_of, node_bytes, number_within, stated_entries, stated_inner, stated_leaf, stated_node}
-use Rattle.node_page.specs.Node.Node.{InnerNode, LeafNode, NoNode}
+use Rattle.node_page.specs.Node.{bytes_in, node_of, node_bytes, number_within, stated_entries, stated_inner, stated_leaf, stated_node}
+use Rattle.node_page.specs.Node.Node.{LeafNode, NoNode}
 use Rattle.entry_tree.specs.Entries.{AreOfWidth, strings_in}
 
 -- the end of one of the rows
@@ -98,7 +98,7 @@ taken w at count page part items given e p n c h =
     e ∙ ap (strings_in w (count - at)) p ∙ drop-strings w count at page h
     ∙ ap (drop at) (ap (λ (m : ℕ). listed m (λ i. bytes_in (16 + i * w) w page)) (sym k) ∙ sym s)
 
-all_wide : (w : ℕ) (xs : List Entry) → ((k : ℕ) → k < length xs → length (get_or xs k []) ≡ w) → AreOfWidth w xs
+pub all_wide : (w : ℕ) (xs : List Entry) → ((k : ℕ) → k < length xs → length (get_or xs k []) ≡ w) → AreOfWidth w xs
 all_wide w [] h = tt
 all_wide w (x ∷ xs) h = (h 0 (omega arith), all_wide w xs (λ k l. h (suc k) (omega arith)))
 

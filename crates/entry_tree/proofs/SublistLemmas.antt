@@ -1,6 +1,6 @@
 -- Lists that keep some of the entries of another, in order.
-use Rattle.std.proofs.Common.{◌≡◌, ◌<◌, ◌≤◌, ◌+◌, ◌-◌, ℕ, zero, suc, List, [], ◌∷◌, ◌++◌, refl, ap, arith, sym, ◌∙◌, subst, length, get_or, take, drop}
-use Rattle.std.specs.Prelude.{Option, Some, None, ⊤, Bool, true, false, if◌then◌else◌}
+use Rattle.std.proofs.Common.{◌≡◌, ℕ, zero, suc, List, [], ◌∷◌, ◌++◌, take, drop}
+use Rattle.std.specs.Prelude.{Some, None, Bool, true, false, if◌then◌else◌}
 use Rattle.std.specs.List.{filter, remove}
 use Rattle.mdc_words.specs.ByteOrder.{Entry, below}
 use Rattle.entry_tree.specs.EntryBounds.{Bound, Climbs, Rises, AtLeast}

@@ -1,7 +1,7 @@
 -- The changes of a tree.
-use Rattle.std.proofs.Common.{◌≡◌, ◌≢◌, ◌<◌, ◌≤◌, ◌+◌, ◌-◌, ℕ, zero, suc, List, [], ◌∷◌, ◌++◌, refl, ap, arith, sym, ◌∙◌, subst, append_assoc, append-nil, length, get_or, take, drop, ◌⊎◌, inl, inr}
+use Rattle.std.proofs.Common.{◌≡◌, ◌≢◌, ◌<◌, ◌≤◌, ◌+◌, ℕ, zero, suc, List, [], ◌∷◌, ◌++◌, refl, arith, sym, ◌∙◌, subst, length, inl, inr}
 use Rattle.std.proofs.lemmas.Bool.{cases_eq}
-use Rattle.std.specs.Prelude.{Option, Some, None, ⊤, true, false, Bool}
+use Rattle.std.specs.Prelude.{None}
 use Rattle.entry_tree.proofs.FitsLemmas.{Fits-room, fork_halves, leaf_halves}
 use Rattle.entry_tree.proofs.ForestLemmas.{EachNode-and, EachNode-from_and, HoldsForest-agree, leaf_entries-and, once_least, once_other, once_same, times-and}
 use Rattle.entry_tree.proofs.TreePlacesLemmas.{EachNode-from_plug, EachNode-plug, Fits-frame, Fits-plug, leaf_entries-plug, times-plug}

@@ -1,6 +1,6 @@
 -- Lemmas on a tree with a place in it.
-use Rattle.std.proofs.Common.{◌≡◌, ◌<◌, ◌≤◌, ◌+◌, ℕ, List, [], ◌∷◌, ◌++◌, refl, ap, arith, sym, ◌∙◌, subst, append_assoc, append-nil, length}
-use Rattle.std.specs.Prelude.{Option, Some, None, ⊤}
+use Rattle.std.proofs.Common.{◌≡◌, ◌<◌, ◌+◌, ℕ, List, [], ◌∷◌, ◌++◌, refl, ap, arith, sym, ◌∙◌, subst, append_assoc, append-nil, length}
+use Rattle.std.specs.Prelude.{Some}
 use Rattle.entry_tree.proofs.ForestLemmas.{EachNode-agree, EachNode-and, EachNode-from_and, Fits-and, and_nil, leaf_entries-and, heads-and, once_same, times-and}
 use Rattle.entry_tree.specs.EntryBounds.{Bound}
 use Rattle.entry_tree.specs.Forest.{EachNode, Fits, Forest, leaf_entries, heads, times, ◌&◌}

@@ -1,6 +1,6 @@
 -- Trees whose leaves hold entries.
-use Rattle.std.proofs.Common.{◌≡◌, ◌<◌, ◌≤◌, ◌+◌, ℕ, List, [], ◌∷◌, ◌++◌, refl, ap, arith, sym, ◌∙◌, append-nil, length, length-append}
-use Rattle.std.specs.Prelude.{Option, Some, None, ⊤}
+use Rattle.std.proofs.Common.{◌≡◌, ◌<◌, ℕ, List, [], ◌∷◌, ◌++◌, refl, arith, length, length-append}
+use Rattle.std.specs.Prelude.{Some, None}
 use Rattle.mdc_words.specs.ByteOrder.{Entry}
 use Rattle.entry_tree.specs.EntryBounds.{Bound}
 use Rattle.entry_tree.specs.Forest.{Forest, Fits, EachNode, HoldsEntry, IsTrimTree, leaf_entries, heads, ◌&◌}

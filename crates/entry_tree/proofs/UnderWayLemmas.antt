@@ -1,7 +1,7 @@
 -- An addition on its way up.
-use Rattle.std.proofs.Common.{◌≡◌, ◌≢◌, ◌<◌, ◌≤◌, ◌+◌, ℕ, zero, suc, List, [], ◌∷◌, ◌++◌, refl, ap, arith, sym, ◌∙◌, subst, length, get_or, take, drop, reverse}
+use Rattle.std.proofs.Common.{◌≡◌, ◌≢◌, ◌<◌, ◌+◌, ℕ, zero, suc, List, [], ◌∷◌, ◌++◌, refl, ap, arith, sym, ◌∙◌, subst, length, get_or, take, drop, reverse}
 use Rattle.std.specs.Prelude.{Bool, true, false, if◌then◌else◌}
-use Rattle.std.specs.Prelude.{IsTrue, All, Option, Some, None}
+use Rattle.std.specs.Prelude.{IsTrue, All, Some, None}
 use Rattle.std.proofs.Common.{inl, inr}
 use Rattle.std.proofs.Common.{length-append}
 use Rattle.std.proofs.lemmas.List.{get_or_append_left, get_or_push}
@@ -20,14 +20,14 @@ use Rattle.entry_tree.proofs.HeldTreesLemmas.{told_by}
 use Rattle.entry_tree.proofs.WayLemmas.{head_times, at_place_times}
 use Rattle.entry_tree.proofs.GoingDownLemmas.{cuts_here}
 use Rattle.node_page.specs.Node.{Node, is_full}
-use Rattle.node_page.specs.Node.Node.{LeafNode, InnerNode, NoNode}
-use Rattle.entry_tree.specs.Forest.{Forest, HoldsForest, IsTree, IsTrimTree, heads, once, times}
+use Rattle.node_page.specs.Node.Node.{LeafNode, InnerNode}
+use Rattle.entry_tree.specs.Forest.{Forest, HoldsForest, heads, times}
 use Rattle.entry_tree.specs.TreePlaces.{Frame, plug, places, run_up}
-use Rattle.entry_tree.specs.TreeChanges.{AreFresh, IsAdded, IsGoingUp, IsHalfway, IsInnerCut, IsLeafCut, IsPut, IsRaised, times_among}
+use Rattle.entry_tree.specs.TreeChanges.{AreFresh, IsAdded, IsHalfway, IsInnerCut, IsLeafCut, IsPut, IsRaised, times_among}
 use Rattle.entry_tree.specs.Writing.{IsUnderWay, IsInnerWith, IsPathPage, IsWrittenPage, EitherPage, BreaksWhere, IsReadyToCut, IsLeafWith, IsCutPage}
 use Rattle.entry_tree.proofs.ForestLemmas.{once_same}
 use Rattle.entry_tree.proofs.TreePlacesLemmas.{times-plug}
-use Rattle.entry_tree.proofs.LeavesLemmas.{KeepsBeside, keeps_beside}
+use Rattle.entry_tree.proofs.LeavesLemmas.{keeps_beside}
 use Rattle.entry_tree.proofs.GoingUpLemmas.{above_same, above_node, turned, goes_end, goes_on, goes_top}
 
 -- a path, turned round, begins with its last node
@@ -98,11 +98,11 @@ under_other {width} {old} {now} {root} {t} {x} {path} {s} {other} {claimed} {use
 
 -- the node above took what came
 pub under_end : {width : ℕ} {old now : ℕ → Node} {root : ℕ} {t : Forest} {x : Entry} {new : ℕ → Node} {path : List (ℕ × ℕ)} {s : Entry} {other : ℕ} {claimed : List ℕ} {used : ℕ} (rest : List (ℕ × ℕ)) (p i : ℕ)
-    → IsUnderWay width old now root t x (reverse path) s other claimed used → path ≡ rest ++ (p, i) ∷ []
+    → IsUnderWay width old now root t x (reverse path) s other claimed used → path ≡ rest ++ (p, i) ∷ [] → used ≡ length claimed
     → ((seps : List Entry) (children : List ℕ) → now p ≡ InnerNode seps children → IsPut now new p (InnerNode (take i seps ++ s ∷ drop i seps) (take (i + 1) children ++ other ∷ drop (i + 1) children)))
     → IsAdded width old new root t x claimed
-under_end {width} {old} {now} {root} {t} {x} {new} {path} {s} {other} {claimed} {used} rest p i u e k =
-    goes_end width old now new t x root p i path rest s other claimed used u.is_tree u.going e k (keeps_beside width old root t u.is_tree u.trim)
+under_end {width} {old} {now} {root} {t} {x} {new} {path} {s} {other} {claimed} {used} rest p i u e all k =
+    goes_end width old now new t x root p i path rest s other claimed used u.is_tree all u.going e k (keeps_beside width old root t u.is_tree u.trim)
 
 -- the node above was cut in two
 pub under_on : {width : ℕ} {old now : ℕ → Node} {root : ℕ} {t : Forest} {x : Entry} {new : ℕ → Node} {path : List (ℕ × ℕ)} {s : Entry} {other : ℕ} {claimed : List ℕ} {used : ℕ} {m : Entry} (rest : List (ℕ × ℕ)) (p i : ℕ)
@@ -134,7 +134,7 @@ pub under_top : {width : ℕ} {old now : ℕ → Node} {root : ℕ} {t : Forest}
     → IsUnderWay width old now root t x (reverse path) s other claimed used → path ≡ [] → used < length claimed
     → IsRaised now new root s other (get_or claimed used 0) → IsAdded width old new root t x claimed
 under_top {width} {old} {now} {root} {t} {x} {new} {path} {s} {other} {claimed} {used} u e l k =
-    goes_top width old now new t x root path s other claimed used u.is_tree u.fresh l u.going e k
+    goes_top width old now new t x root path s other claimed used u.is_tree u.fresh (under_last u e) u.going e k
 
 -- pages are told where an addition is under way in them
 pub under_told : {width : ℕ} {old : ℕ → Node} (state : StoreState) {root : ℕ} {t : Forest} {x : Entry} {stack : List (ℕ × ℕ)} {s : Entry} {other : ℕ} {claimed : List ℕ} {used : ℕ}

@@ -1,5 +1,5 @@
 -- Pages of index extents that are claimed: used afterwards, and not before; other used pages stay used.
-use Rattle.std.proofs.Common.{◌≡◌, ◌≢◌, ◌<◌, ◌≤◌, ◌+◌, ◌*◌, ◌-◌, ◌^◌, ◌/◌, ◌%◌, ◌==◌, ◌⊎◌, ℕ, zero, suc, List, [], ◌∷◌, ◌++◌, Bool, true, false, max, IsTrue, length, length-set, get_or, set, refl, ap, arith, sym, ◌∙◌, subst, inl, inr, bit_or, get_or-set_same, get_or-set_other}
+use Rattle.std.proofs.Common.{◌≡◌, ◌≢◌, ◌<◌, ◌≤◌, ◌-◌, ◌^◌, ◌/◌, ◌==◌, ◌⊎◌, ℕ, zero, suc, List, [], ◌∷◌, ◌++◌, true, max, IsTrue, length, length-set, refl, ap, arith, sym, ◌∙◌, subst, inl, inr, bit_or, get_or-set_same, get_or-set_other}
 use Rattle.std.specs.Int.{bit_at}
 use Rattle.std.proofs.lemmas.Bool.{cases_eq, cases_lt}
 use Rattle.std.proofs.lemmas.List.{get_or_past}
@@ -7,11 +7,11 @@ use Rattle.std.proofs.lemmas.Nat.{div_below}
 use Rattle.std.proofs.lemmas.Nat.Bits.{bit_at_or, bit_at-lt, bit_at-pow_same}
 use Rattle.store_api.specs.Extents.{first_count, first_page_of}
 use Rattle.extent_map.specs.Kinds.{is_used_place, is_unused_place, with_used_place}
-use Rattle.extent_map.specs.Owners.{owner_of, extent_of, place_in_extent, IsExtentPage, IsUsedPage, IsUnusedPage, IsClaimable, IsLowestUnused, IsLowestClaimable, IsLowestFree, HasNoUnused, IsSameShape, with_used_page}
+use Rattle.extent_map.specs.Owners.{owner_of, extent_of, place_in_extent, IsExtentPage, IsUsedPage, IsUnusedPage, IsClaimable, IsLowestClaimable, IsLowestFree, HasNoUnused, IsSameShape, with_used_page}
 use Rattle.extent_map.specs.declared.extents.Extents.{Extents}
 use Rattle.extent_map.specs.declared.kind.Kind.{Kind}
 use Rattle.extent_map.specs.declared.kind.Kind.TheVariants.{Free, Block, Index}
-use Rattle.entry_tree.specs.Standing.{with_pages, AreClaims, AreLowestClaims, IsClaimed, IsFullMap, IsIdlePage}
+use Rattle.entry_tree.specs.Standing.{with_pages, AreClaims, AreLowestClaims, IsClaimed, IsIdlePage}
 
 -- an extent page lies in an extent
 below_cap : (cap pages p : ℕ) → first_count cap ≤ p → p < first_page_of cap pages cap → (p - first_count cap) / pages < cap
@@ -204,7 +204,12 @@ lowest_same one other owners p s (inl h) = inl (record {
   unused = unused_same one other owners p s h.unused;
   lowest = λ q l u. h.lowest q l (unused_same other one owners q (shape_back one other s) u);
 })
-lowest_same one other owners p s (inr h) = inr (no_unused_same one other owners s h.0, subst (λ (e : ℕ). IsLowestFree owners e) (same_extent one other p s) h.1, sym (same_place one other p s) ∙ h.2)
+lowest_same one other owners p s (inr h) = inr (record {
+  page = extent_page_same one other p s h.page;
+  none_unused = no_unused_same one other owners s h.none_unused;
+  lowest = subst (λ (e : ℕ). IsLowestFree owners e) (same_extent one other p s) h.lowest;
+  first = sym (same_place one other p s) ∙ h.first;
+})
 
 -- ---- claimed pages were idle
 

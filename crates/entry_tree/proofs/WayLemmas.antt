@@ -1,6 +1,6 @@
 -- The way of an entry in a tree that a store is told to hold.
-use Rattle.std.proofs.Common.{◌≡◌, ◌<◌, ◌≤◌, ◌+◌, ℕ, List, [], ◌∷◌, refl, ap, arith, sym, ◌∙◌, subst, length}
-use Rattle.std.specs.Prelude.{Option, Some, None}
+use Rattle.std.proofs.Common.{◌≡◌, ◌<◌, ℕ, List, [], ◌∷◌, refl, ap, arith, sym, subst, length}
+use Rattle.std.specs.Prelude.{Some, None}
 use Rattle.node_page.specs.Node.{Node}
 use Rattle.store_api.specs.Works.{Steady}
 use Rattle.store_api.specs.RunsOverPages.{RunsOverPages}

@@ -1,7 +1,7 @@
 -- The tree of three levels is one.
-use Rattle.std.proofs.Common.{◌≡◌, ◌≤◌, ◌+◌, ℕ, zero, suc, List, [], ◌∷◌, refl, arith}
+use Rattle.std.proofs.Common.{◌≤◌, ℕ, zero, suc, refl, arith}
 use Rattle.mdc_words.specs.ByteOrder.{below}
-use Rattle.entry_tree.specs.Forest.{IsTree, once, times}
+use Rattle.entry_tree.specs.Forest.{IsTree, times}
 use Rattle.entry_tree.specs.WorkedTree.{worked_nodes, worked_tree}
 use Rattle.entry_tree.proofs.ForestLemmas.{once_other}
 

@@ -1,5 +1,5 @@
 -- What replacing an entry by another one does.
-use Rattle.std.specs.Prelude.{◌≡◌, ◌<◌, ◌⊎◌, ℕ, ⊤, Bool, true, false, List, [], ◌∷◌, length, take, slice_set, Option, Some, None}
+use Rattle.std.specs.Prelude.{◌≡◌, ◌<◌, ◌⊎◌, ℕ, ⊤, Bool, true, false, List, length, take, slice_set, Option, Some, None}
 use Rattle.mdc_words.specs.ByteOrder.{Entry, below}
 use Rattle.node_page.specs.Node.Node.{LeafNode, InnerNode}
 use Rattle.store_api.specs.declared.fault.Damage.{Damage}
@@ -7,14 +7,14 @@ use Rattle.store_api.specs.declared.pages.Pages.{Ghosts}
 use Rattle.entry_tree.specs.EntryBounds.{AtLeast, Under, IsEntryOf, with_entry}
 use Rattle.entry_tree.specs.Forest.{Forest, leaf_entries, times}
 use Rattle.entry_tree.specs.HeldTrees.{nodes_in, HoldsTree}
-use Rattle.entry_tree.specs.Reading.{AreAtLeast, entries_from}
-use Rattle.entry_tree.specs.Spots.{bound_of}
+use Rattle.entry_tree.specs.Reading.{entries_from, IsFirstFrom}
+use Rattle.entry_tree.specs.Spots.{fence_bound}
 use Rattle.entry_tree.specs.declared.spot.Fence.{Fence}
 use Rattle.entry_tree.specs.declared.tree.Tree.{Tree}
 
 -- no other entry of the list has the first four bytes of x
-abbrev pub StandsAlone : Entry → List Entry → Type 0
-StandsAlone x xs = (y : Entry) → IsEntryOf y xs → take 4 y ≡ take 4 x → y ≡ x
+abbrev pub HasOwnFront : Entry → List Entry → Type 0
+HasOwnFront x xs = (y : Entry) → IsEntryOf y xs → take 4 y ≡ take 4 x → y ≡ x
 
 -- the tree with y in the place of x, on the same pages
 pub record AmendsEntry {S : Type 0} (g : Ghosts S) (new : S) (tree : Tree) (x y : Entry) (t : Forest) : Type 0 where
@@ -25,25 +25,10 @@ pub record AmendsEntry {S : Type 0} (g : Ghosts S) (new : S) (tree : Tree) (x y 
   pub is : leaf_entries after ≡ with_entry y rest
   pub pages : (p : ℕ) → times p after ≡ times p t
 
--- it was done, or x wasn't there and the work stays
+-- x was there, and it was done where no other entry has the first four bytes of x; or x wasn't there, and the work stays
 abbrev pub IsAmended : {S : Type 0} → Ghosts S → S → S → Tree → Entry → Entry → Forest → Bool → Type 0
-IsAmended g old new tree x y t true = AmendsEntry g new tree x y t
+IsAmended g old new tree x y t true = IsEntryOf x (leaf_entries t) × (HasOwnFront x (leaf_entries t) → AmendsEntry g new tree x y t)
 IsAmended g old new tree x y t false = ((g.state new).work ≡ (g.state old).work) × (IsEntryOf x (leaf_entries t) → ⊥)
-
--- the lowest entry from a bound on
-pub record IsFirstFrom (all : List Entry) (bound first : Entry) : Type 0 where
-  pub there : IsEntryOf first (entries_from bound all)
-  pub lowest : AreAtLeast (Some first) (entries_from bound all)
-
--- the same, or that there is none
-abbrev pub IsFirstOr : List Entry → Entry → Option Entry → Type 0
-IsFirstOr all bound None = entries_from bound all ≡ []
-IsFirstOr all bound (Some first) = IsFirstFrom all bound first
-
--- the first of a list
-abbrev pub first_entry : List Entry → Option Entry
-first_entry [] = None
-first_entry (x ∷ xs) = Some x
 
 -- an entry is there from a separator on, if there is a separator
 abbrev pub HasBehind : List Entry → Option Fence → Type 0
@@ -73,12 +58,12 @@ pub record MovesHigh {S : Type 0} (g : Ghosts S) (s : S) (tree : Tree) (low high
   pub there : high ≡ Some fence
   pub page_is : moved.page ≡ fence.page
   pub at_is : moved.at ≡ fence.at
-  pub least : AtLeast (bound_of low) x
+  pub least : AtLeast (fence_bound low) x
   pub over : below x fence.bound ≡ false
   pub first : (t : Forest) → HoldsTree g s tree t → IsFirstFrom (leaf_entries t) fence.bound moved.bound
 
 abbrev pub MakesRoom : {S : Type 0} → Ghosts S → S → Tree → Option Fence → Option Fence → Entry → Option Fence → Type 0
-MakesRoom g s tree low high x None = AtLeast (bound_of low) x × Under (bound_of high) x
+MakesRoom g s tree low high x None = AtLeast (fence_bound low) x × Under (fence_bound high) x
 MakesRoom g s tree low high x (Some moved) = MovesLow low x moved ⊎ MovesHigh g s tree low high x moved
 
 -- a node of the page has another entry or separator at a place

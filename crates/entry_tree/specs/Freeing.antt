@@ -1,39 +1,36 @@
 -- What giving all pages of a tree back does.
-use Rattle.std.specs.Prelude.{◌≡◌, ◌⊎◌, ◌<◌, ◌≤◌, ◌+◌, ℕ, Bool, true, List, [], ◌∷◌, ◌++◌, length}
+use Rattle.std.specs.Prelude.{◌≡◌, ◌⊎◌, ◌<◌, ◌+◌, ℕ, List, ◌++◌, length}
 use Rattle.mdc_words.specs.ByteOrder.{Entry}
 use Rattle.node_page.specs.Node.{Node}
 use Rattle.node_page.specs.Node.Node.{LeafNode, InnerNode, NoNode}
 use Rattle.store_api.specs.declared.fault.Damage.{Damage}
 use Rattle.store_api.specs.declared.pages.Pages.{Ghosts}
 use Rattle.extent_map.specs.Map.{HoldsMap, IsMapPage}
-use Rattle.extent_map.specs.Owners.{AreRightNotes, without_page}
+use Rattle.extent_map.specs.Owners.{AreRightNotes}
 use Rattle.extent_map.specs.declared.extents.Extents.{Extents}
 use Rattle.extent_map.specs.declared.kind.Kind.{Kind}
 use Rattle.entry_tree.specs.Forest.{Forest, times}
 use Rattle.entry_tree.specs.HeldTrees.{nodes_in}
+use Rattle.entry_tree.specs.Pruning.{without_pages}
 use Rattle.entry_tree.specs.Standing.{StandsTree}
 use Rattle.entry_tree.specs.TreeChanges.{times_among}
 use Rattle.entry_tree.specs.declared.tree.Tree.{Tree}
-
--- the owners once these pages were given back, one after the other
-abbrev pub owners_without : Extents → List Kind → List ℕ → List Kind
-owners_without ext owners [] = owners
-owners_without ext owners (p ∷ given) = without_page ext (owners_without ext owners given) p
 
 -- each page of the tree was given back once, and no other page
 pub record FreesTree {S : Type 0} (g : Ghosts S) (before ext : Extents) (new : S) (owners : List Kind) (t : Forest) : Type 0 where
   pub given : List ℕ
   pub counts : (p : ℕ) → times_among p given ≡ times p t
-  pub map : HoldsMap g ext new (owners_without before owners given)
-  pub notes : AreRightNotes before owners → AreRightNotes ext (owners_without before owners given)
+  pub map : HoldsMap g ext new (without_pages before owners given)
+  pub notes : AreRightNotes before owners → AreRightNotes ext (without_pages before owners given)
 
 -- a page of the tree or of the map, where both are told to have their form
 abbrev pub IsFreeingPage : {S : Type 0} → Ghosts S → Extents → S → Tree → ℕ → Type 0
 IsFreeingPage g ext s tree p = (owners : List Kind) (t : Forest) → StandsTree g ext s tree owners t → 0 < times p t ⊎ IsMapPage ext p
 
--- the root with rule 4, or a page of the map or page 0 with a rule of the map; never where tree and map had their form
+-- The root with rule 4, a page of the map or page 0 with a rule of the map, or a page that isn't a used one with rule 5; never
+-- where tree and map had their form.
 pub record BreaksFreeing {S : Type 0} (g : Ghosts S) (ext : Extents) (s : S) (tree : Tree) (damage : Damage) : Type 0 where
-  pub named : ((damage.page ≡ tree.root) × (damage.rule ≡ 4)) ⊎ (((damage.page ≡ 0) × (damage.rule ≡ 1)) ⊎ (IsMapPage ext damage.page × (damage.rule ≡ 2)))
+  pub named : ((damage.page ≡ tree.root) × (damage.rule ≡ 4)) ⊎ (((damage.page ≡ 0) × (damage.rule ≡ 1)) ⊎ ((IsMapPage ext damage.page × (damage.rule ≡ 2)) ⊎ (damage.rule ≡ 5)))
   pub broken : (owners : List Kind) (t : Forest) → StandsTree g ext s tree owners t → ⊥
 
 -- the children of a page are still to be done

@@ -11,6 +11,7 @@ pub mod Sight
 pub mod Slots
 pub mod Spots
 pub mod Standing
+pub mod Sweeping
 pub mod TreeChanges
 pub mod TreePlaces
 pub mod WorkedTree

@@ -1,5 +1,5 @@
 -- A leaf of a tree that keeps some of its entries, and what becomes of the tree where it keeps none.
-use Rattle.std.specs.Prelude.{◌≡◌, ◌≢◌, ◌⊎◌, ◌<◌, ◌≤◌, ◌+◌, ◌-◌, ℕ, ⊤, Bool, true, false, List, [], ◌∷◌, ◌++◌, length, Option, Some, None, slice_index_or as get_or}
+use Rattle.std.specs.Prelude.{◌≡◌, ◌≢◌, ◌⊎◌, ◌<◌, ◌≤◌, ◌+◌, ◌-◌, ℕ, ⊤, List, [], ◌∷◌, ◌++◌, length, Option, Some, None, slice_index_or as get_or}
 use Rattle.mdc_words.specs.ByteOrder.{Entry}
 use Rattle.node_page.specs.Node.{Node}
 use Rattle.node_page.specs.Node.Node.{LeafNode, InnerNode, NoNode}
@@ -7,14 +7,14 @@ use Rattle.store_api.specs.declared.fault.Damage.{Damage}
 use Rattle.store_api.specs.declared.pages.Pages.{Ghosts}
 use Rattle.extent_map.specs.Damages.{BreaksUsedPage}
 use Rattle.extent_map.specs.Map.{HoldsMap, IsMapPage}
-use Rattle.extent_map.specs.Owners.{AreRightNotes, IsExtentPage, IsUsedPage, without_page}
+use Rattle.extent_map.specs.Owners.{AreRightNotes, IsUsedPage, without_page}
 use Rattle.extent_map.specs.declared.extents.Extents.{Extents}
 use Rattle.extent_map.specs.declared.kind.Kind.{Kind}
 use Rattle.entry_tree.specs.EntryBounds.{IsEntryOf, with_entry}
 use Rattle.entry_tree.specs.Forest.{Forest, leaf_entries, times, IsTree, IsTrimTree}
 use Rattle.entry_tree.specs.Forest.Forest.{Leaf, Nil}
-use Rattle.entry_tree.specs.HeldTrees.{nodes_in}
-use Rattle.entry_tree.specs.Standing.{StandsTree, BreaksStanding}
+use Rattle.entry_tree.specs.HeldTrees.{nodes_in, BreaksTree}
+use Rattle.entry_tree.specs.Standing.{StandsTree}
 use Rattle.entry_tree.specs.TreePlaces.{AreMatched, Frame, entries_before, entries_behind, plug}
 use Rattle.entry_tree.specs.TreeChanges.{times_among}
 use Rattle.entry_tree.specs.Writing.{BreaksWhere}
@@ -89,8 +89,8 @@ IsDropPage ext page p = (p ≡ page) ⊎ IsMapPage ext p
 abbrev pub IsDropLook : Extents → Node → ℕ → ℕ → ℕ → Type 0
 IsDropLook ext node page at p = IsDropPage ext page p ⊎ IsOtherChild node at p
 
--- The extent map broke a rule at a return. Whatever owners were told before to meet a fact, the map is told there with that
--- page in use; so where they were told none is named.
+-- The extent map broke a rule at the return of a page, or that page isn't a used one. Whatever owners were told before to meet a
+-- fact, the map is told there with that page in use; so where they were told none is named.
 pub record BreaksAtReturn {S : Type 0} (g : Ghosts S) (Told : List Kind → Type 0) (damage : Damage) : Type 0 where
   pub mid : S
   pub ext : Extents
@@ -98,23 +98,24 @@ pub record BreaksAtReturn {S : Type 0} (g : Ghosts S) (Told : List Kind → Type
   pub map : (owners : List Kind) → Told owners → (more : List Kind) × HoldsMap g ext mid more × IsUsedPage ext more page
   pub breaks : BreaksUsedPage g ext mid page damage
 
--- the same of a return that begins at s
-abbrev pub BreaksGiving : {S : Type 0} → Ghosts S → Extents → S → Tree → ℕ → Damage → Type 0
-BreaksGiving g ext s tree page damage = BreaksWhere tree (IsExtentPage ext page) damage ⊎ BreaksUsedPage g ext s page damage
-
 -- the leaf may leave its tree: map and tree are told, and each page of the tree is in use
 pub record IsDropping {S : Type 0} (g : Ghosts S) (ext : Extents) (s : S) (tree : Tree) (owners : List Kind) (was : ℕ → Node) (t : Forest) (frame : Frame) (above : List Frame) (leaf page at : ℕ) : Type 0 where
   pub emptied : IsEmptied was (nodes_in tree.width (g.state s)) tree.root t frame above leaf page at
   pub map : HoldsMap g ext s owners
   pub used : (p : ℕ) → 0 < times p t → IsUsedPage ext owners p
 
--- what is named where a leaf can't leave
+-- the same of some tree that had its form
 abbrev pub IsDroppable : {S : Type 0} → Ghosts S → Extents → S → Tree → ℕ → ℕ → ℕ → List Kind → Type 0
 IsDroppable g ext s tree leaf page at owners = (was : ℕ → Node) × (t : Forest) × (frame : Frame) × (above : List Frame) × IsDropping g ext s tree owners was t frame above leaf page at
 
+-- the leaf is one of a tree that had its form, and holds no entry that is to stay
+abbrev pub IsDroppableLeaf : {S : Type 0} → Ghosts S → S → Tree → ℕ → ℕ → ℕ → Type 0
+IsDroppableLeaf g s tree leaf page at =
+    (was : ℕ → Node) × (t : Forest) × (frame : Frame) × (above : List Frame) × IsEmptied was (nodes_in tree.width (g.state s)) tree.root t frame above leaf page at
+
 abbrev pub BreaksDrop : {S : Type 0} → Ghosts S → Extents → S → Tree → ℕ → ℕ → ℕ → Damage → Type 0
 BreaksDrop g ext s tree leaf page at damage =
-    BreaksWhere tree ((owners : List Kind) × IsDroppable g ext s tree leaf page at owners) damage
+    BreaksWhere tree (IsDroppableLeaf g s tree leaf page at) damage
     ⊎ BreaksAtReturn g (IsDroppable g ext s tree leaf page at) damage
 
 -- what a removal did: the entry is gone, and the pages that the tree no longer has are given back
@@ -136,7 +137,7 @@ RemovesItem g before ext old new tree owners t page at =
 abbrev pub IsTreeOrMapPage : {S : Type 0} → Ghosts S → Extents → S → Tree → ℕ → Type 0
 IsTreeOrMapPage g ext s tree p = (owners : List Kind) (t : Forest) → StandsTree g ext s tree owners t → 0 < times p t ⊎ IsMapPage ext p
 
--- what a removal may name
+-- what a removal may name: the tree where it hasn't its form, or what broke a rule at a return
 abbrev pub BreaksTreeOrReturn : {S : Type 0} → Ghosts S → Extents → S → Tree → Damage → Type 0
 BreaksTreeOrReturn g ext s tree damage =
-    BreaksStanding g ext s tree damage ⊎ BreaksAtReturn g (λ owners. (t : Forest) × StandsTree g ext s tree owners t) damage
+    BreaksTree g s tree damage ⊎ BreaksAtReturn g (λ owners. (t : Forest) × StandsTree g ext s tree owners t) damage

@@ -1,7 +1,7 @@
 -- What a walk over the leaves of a tree is given.
-use Rattle.std.specs.Prelude.{◌≡◌, ℕ, List, [], ◌∷◌, ◌++◌, length, drop, Some, None, ⊤, if◌then◌else◌}
+use Rattle.std.specs.Prelude.{◌≡◌, ℕ, List, [], ◌∷◌, ◌++◌, length, drop, Option, Some, None, ⊤, if◌then◌else◌}
 use Rattle.mdc_words.specs.ByteOrder.{Entry, below}
-use Rattle.entry_tree.specs.EntryBounds.{Bound, AtLeast, Under, IsLeafPlace}
+use Rattle.entry_tree.specs.EntryBounds.{Bound, AtLeast, Under, IsEntryOf, IsLeafPlace}
 use Rattle.entry_tree.specs.Forest.{Forest}
 use Rattle.entry_tree.specs.Forest.Forest.{Leaf, Nil}
 use Rattle.entry_tree.specs.TreePlaces.{AreMatched, Frame, plug, low_of, high_of}
@@ -54,3 +54,24 @@ pub record IsReadAt (t : Forest) (bound : Entry) (given : List Entry) (next : Bo
 abbrev pub BoundFits : ℕ → Bound → Type 0
 BoundFits width None = ⊤
 BoundFits width (Some s) = length s ≡ width
+
+-- the lowest entry from a bound on
+pub record IsFirstFrom (all : List Entry) (bound first : Entry) : Type 0 where
+  pub there : IsEntryOf first (entries_from bound all)
+  pub lowest : AreAtLeast (Some first) (entries_from bound all)
+
+-- the same, or that there is none
+abbrev pub IsFirstOr : List Entry → Entry → Option Entry → Type 0
+IsFirstOr all bound None = entries_from bound all ≡ []
+IsFirstOr all bound (Some first) = IsFirstFrom all bound first
+
+-- the first of a list
+abbrev pub first_entry : List Entry → Option Entry
+first_entry [] = None
+first_entry (x ∷ xs) = Some x
+
+-- the same of the leaf of a bound: the first entry that it gives, if it gives one, and its high bound
+pub record IsFirstRead (t : Forest) (bound : Entry) (first : Option Entry) (next : Bound) : Type 0 where
+  pub given : List Entry
+  pub read : IsReadAt t bound given next
+  pub first_is : first ≡ first_entry given

@@ -1,5 +1,5 @@
 -- What a search for an entry sees on one page.
-use Rattle.std.specs.Prelude.{◌≡◌, ℕ, ⊤, ◌↔◌, Bool, IsTrue, None, slice_index_or as get_or}
+use Rattle.std.specs.Prelude.{◌≡◌, ℕ, ⊤, ◌↔◌, IsTrue, None, slice_index_or as get_or}
 use Rattle.mdc_words.specs.ByteOrder.{Entry}
 use Rattle.node_page.specs.Node.{Node, is_full}
 use Rattle.node_page.specs.Node.Node.{LeafNode, InnerNode, NoNode}

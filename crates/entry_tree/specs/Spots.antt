@@ -1,11 +1,12 @@
 -- The separators nearest to the place of an entry, and where they stand.
-use Rattle.std.specs.Prelude.{◌≡◌, ◌<◌, ◌-◌, ℕ, ⊤, ◌↔◌, Bool, IsTrue, nat_lt, if◌then◌else◌, List, [], ◌∷◌, length, drop, Option, Some, None, slice_index_or as get_or}
+use Rattle.std.specs.Prelude.{◌≡◌, ◌<◌, ◌-◌, ℕ, ⊤, ◌↔◌, Bool, IsTrue, nat_lt, if◌then◌else◌, List, [], ◌∷◌, length, Option, Some, None, slice_index_or as get_or}
 use Rattle.mdc_words.specs.ByteOrder.{Entry}
 use Rattle.node_page.specs.Node.{Node, node_of}
 use Rattle.node_page.specs.Node.Node.{LeafNode, InnerNode, NoNode}
 use Rattle.entry_tree.specs.EntryBounds.{Bound, AtLeast, Under, Rises, IsLeafPlace}
 use Rattle.entry_tree.specs.Forest.{Forest}
 use Rattle.entry_tree.specs.Forest.Forest.{Leaf, Nil}
+use Rattle.entry_tree.specs.LeafSpots.{IsParent}
 use Rattle.entry_tree.specs.TreePlaces.{AreMatched, Frame, IsChildPlace, plug, low_of, high_of}
 use Rattle.entry_tree.specs.declared.spot.Fence.{Fence}
 use Rattle.entry_tree.specs.declared.spot.Passed.{Passed}
@@ -42,9 +43,9 @@ high_fence [] = None
 high_fence (f ∷ fs) = high_fence_in f f.highs (high_fence fs)
 
 -- the bound that a separator is
-abbrev pub bound_of : Option Fence → Bound
-bound_of None = None
-bound_of (Some fence) = Some fence.bound
+abbrev pub fence_bound : Option Fence → Bound
+fence_bound None = None
+fence_bound (Some fence) = Some fence.bound
 
 -- a separator, if there is one, has this width
 abbrev pub FenceFits : ℕ → Option Fence → Type 0
@@ -54,7 +55,7 @@ FenceFits width (Some fence) = length fence.bound ≡ width
 abbrev pub PassedFits : ℕ → Passed → Type 0
 PassedFits width NoNodeThere = ⊤
 PassedFits width (LeafThere at there) = ⊤
-PassedFits width (ChildThere child low high) = FenceFits width low × FenceFits width high
+PassedFits width (ChildThere at child low high) = FenceFits width low × FenceFits width high
 
 -- x stands at a place of the list
 abbrev pub IsAtSpot : List Entry → Entry → ℕ → Type 0
@@ -62,16 +63,16 @@ IsAtSpot items x at = (at < length items) × (get_or items at [] ≡ x)
 
 -- what a way down for x meets on a page: where it belongs in a leaf, and whether it is there, or the child to go on with,
 -- and the separators around that
-abbrev pub Passes : Node → ℕ → Entry → Passed → Type 0
-Passes (LeafNode items) page x NoNodeThere = ⊥
-Passes (LeafNode items) page x (LeafThere at there) = Rises None None items → IsLeafPlace items x at × (IsTrue there ↔ IsAtSpot items x at)
-Passes (LeafNode items) page x (ChildThere child low high) = ⊥
-Passes (InnerNode seps children) page x NoNodeThere = ⊥
-Passes (InnerNode seps children) page x (LeafThere at there) = ⊥
-Passes (InnerNode seps children) page x (ChildThere child low high) =
+abbrev pub MeetsOnWay : Node → ℕ → Entry → Passed → Type 0
+MeetsOnWay (LeafNode items) page x NoNodeThere = ⊥
+MeetsOnWay (LeafNode items) page x (LeafThere at there) = Rises None None items → IsLeafPlace items x at × (IsTrue there ↔ IsAtSpot items x at)
+MeetsOnWay (LeafNode items) page x (ChildThere at child low high) = ⊥
+MeetsOnWay (InnerNode seps children) page x NoNodeThere = ⊥
+MeetsOnWay (InnerNode seps children) page x (LeafThere at there) = ⊥
+MeetsOnWay (InnerNode seps children) page x (ChildThere at child low high) =
     Rises None None seps
-    → (i : ℕ) × IsChildPlace seps x i × (child ≡ get_or children i 0) × (low ≡ fence_before page seps i) × (high ≡ fence_behind page seps i)
-Passes NoNode page x passed = ⊤
+    → IsChildPlace seps x at × (child ≡ get_or children at 0) × (low ≡ fence_before page seps at) × (high ≡ fence_behind page seps at)
+MeetsOnWay NoNode page x passed = ⊤
 
 -- the page at hand is a leaf with these entries
 pub record LendsLeaf (width : ℕ) (hand : Option (List ℕ)) (items : List Entry) : Type 0 where
@@ -92,3 +93,8 @@ pub record IsSpot (nodes : ℕ → Node) (t : Forest) (x : Entry) (page at : ℕ
   pub says : IsTrue there ↔ IsAtSpot items x at
   pub low_is : low_fence above ≡ low
   pub high_is : high_fence above ≡ high
+
+-- the same with the node just above it
+pub record IsSpotBelow (nodes : ℕ → Node) (t : Forest) (x : Entry) (page at : ℕ) (there : Bool) (low high : Option Fence) (parent : Option (ℕ × ℕ)) : Type 0 where
+  pub spot : IsSpot nodes t x page at there low high
+  pub parent_is : IsParent spot.above parent

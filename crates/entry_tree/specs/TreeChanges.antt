@@ -1,5 +1,5 @@
 -- Changes of one place of a tree, and how an addition goes up from its leaf.
-use Rattle.std.specs.Prelude.{◌≡◌, ◌≢◌, ◌<◌, ◌≤◌, ◌+◌, ◌/◌, ◌⊎◌, ⊤, ℕ, Bool, true, false, IsTrue, ◌↔◌, List, [], ◌∷◌, ◌++◌, length, take, drop, None}
+use Rattle.std.specs.Prelude.{◌≡◌, ◌≢◌, ◌<◌, ◌≤◌, ◌+◌, ◌/◌, ◌⊎◌, ⊤, ℕ, Bool, IsTrue, ◌↔◌, List, [], ◌∷◌, ◌++◌, length, take, drop, None}
 use Rattle.mdc_words.specs.ByteOrder.{Entry}
 use Rattle.node_page.specs.Node.{Node, leaf_room}
 use Rattle.node_page.specs.Node.Node.{LeafNode, InnerNode, NoNode}
@@ -60,7 +60,7 @@ pub record IsHalfway (width : ℕ) (old now : ℕ → Node) (t : Forest) (x : En
   pub adds : leaf_entries row ≡ with_entry x (leaf_entries spot)
   pub leaves : EachNode (KeepsLeaf width old t) row
   pub half : IsHalfHead width row
-  pub claimed : (n : ℕ) → times n row ≤ times n spot + times_among n claims
+  pub claimed : (n : ℕ) → times n row ≡ times n spot + times_among n claims
 
 -- the tree with an entry more, where pages that were in neither the tree nor the claimed ones are as they were
 pub record IsAdded (width : ℕ) (old new : ℕ → Node) (root : ℕ) (t : Forest) (x : Entry) (claims : List ℕ) : Type 0 where
@@ -68,7 +68,7 @@ pub record IsAdded (width : ℕ) (old new : ℕ → Node) (root : ℕ) (t : Fore
   pub tree : IsTree new root after
   pub adds : leaf_entries after ≡ with_entry x (leaf_entries t)
   pub leaves : EachNode (KeepsLeaf width old t) after
-  pub pages : (n : ℕ) → times n after ≤ times n t + times_among n claims
+  pub pages : (n : ℕ) → times n after ≡ times n t + times_among n claims
   pub kept : (n : ℕ) → times n t ≡ 0 → times_among n claims ≡ 0 → new n ≡ old n
 
 -- one page is written

@@ -4,7 +4,7 @@ use Rattle.mdc_words.specs.ByteOrder.{Entry, below}
 use Rattle.node_page.specs.Node.{Node}
 use Rattle.entry_tree.specs.EntryBounds.{Bound, AtLeast, Under}
 use Rattle.entry_tree.specs.Forest.{Forest, ◌&◌, heads, leaf_entries, once, times}
-use Rattle.entry_tree.specs.Forest.Forest.{Nil, Leaf, Fork}
+use Rattle.entry_tree.specs.Forest.Forest.{Nil, Fork}
 
 -- an inner node less one of its children: what stands before and behind that child
 pub record Frame : Type 0 where

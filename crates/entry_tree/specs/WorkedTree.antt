@@ -1,5 +1,5 @@
 -- A tree of three levels, one branch of which ends earlier than the other.
-use Rattle.std.specs.Prelude.{ℕ, zero, suc, List, [], ◌∷◌}
+use Rattle.std.specs.Prelude.{ℕ, zero, suc, [], ◌∷◌}
 use Rattle.node_page.specs.Node.{Node}
 use Rattle.node_page.specs.Node.Node.{LeafNode, InnerNode, NoNode}
 use Rattle.entry_tree.specs.Forest.{Forest}

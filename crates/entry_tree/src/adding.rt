@@ -3,7 +3,8 @@ ghost use Rattle.std.specs.Prelude.{◌≡◌, ◌<◌, ℕ, List, length, rever
 ghost use Rattle.store_api.specs.Causes.{fault_of, store_fault_in};
 ghost use Rattle.store_api.specs.RunsOverPages.{RunsOverPages};
 ghost use Rattle.extent_map.specs.Damages.{IfFull, store_part_of};
-ghost use Rattle.extent_map.specs.Owners.{AreRightNotes, IsSameShape};
+ghost use Rattle.extent_map.specs.Map.{KeepsRoot};
+ghost use Rattle.extent_map.specs.Owners.{IsSameShape};
 ghost use Rattle.extent_map.specs.declared.kind.Kind.{Kind};
 ghost use Rattle.entry_tree.specs.EntryBounds.{IsEntryOf};
 ghost use Rattle.entry_tree.specs.Forest.{Forest, leaf_entries};
@@ -38,7 +39,8 @@ impl Tree {
         ensures there { IfOk result (λ added. added ≡ false → (P.state pages.new).work ≡ (P.state pages.old).work) }
         ensures there_notes { IfOk result (λ added. added ≡ false → ext.new ≡ ext.old) }
         ensures full { IfErr result (λ fault. IfFull fault (λ cap. (cap ≡ ext.old.cap)
-            × ((owners : List Kind) (t : Forest) → StandsTree P.Pages ext.old pages.old self.now owners t → AreRightNotes ext.old owners → FindsFull P.Pages ext.old pages.old self.now entry.now owners t))) }
+            × ((owners : List Kind) (t : Forest) → StandsTree P.Pages ext.old pages.old self.now owners t → FindsFull P.Pages ext.old ext.new pages.old pages.new self.now entry.now owners t))) }
+        ensures root { (owners : List Kind) (t : Forest) → StandsTree P.Pages ext.old pages.old self.now owners t → KeepsRoot P.Pages pages.old pages.new }
         ensures shape { IsSameShape ext.old ext.new }
         ensures runs { RunsOverPages P.Pages (IsTreeSpace P.Pages ext.old pages.old self.now) (IsTreeSpace P.Pages ext.old pages.old self.now)
             (BreaksTreeOrMap P.Pages ext.old pages.old self.now) pages.old pages.new (store_fault_in store_part_of result) }

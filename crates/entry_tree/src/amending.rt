@@ -6,27 +6,24 @@ ghost use Rattle.node_page.specs.Node.Node.{LeafNode, InnerNode};
 ghost use Rattle.store_api.specs.Frame.{NoPage, OnlyPage};
 ghost use Rattle.store_api.specs.Causes.{fault_of};
 ghost use Rattle.store_api.specs.RunsOverPages.{RunsOverPages};
-ghost use Rattle.entry_tree.specs.Amending.{StandsAlone, IsAmended, MakesRoom, HasBehind, IsFirstOr, first_entry, lies_below, moved_to, SetsAt, SetsMoved, IsMovedPage, BreaksSlot, BreaksMoved};
+ghost use Rattle.entry_tree.specs.Amending.{HasOwnFront, IsAmended, MakesRoom, HasBehind, lies_below, moved_to, SetsAt, SetsMoved, IsMovedPage, BreaksSlot, BreaksMoved};
 ghost use Rattle.entry_tree.specs.Slots.{IsSlot};
 ghost use Rattle.entry_tree.specs.Forest.{Forest, leaf_entries};
 ghost use Rattle.entry_tree.specs.HeldTrees.{HoldsTree, IsTreePage, BreaksTree};
-ghost use Rattle.entry_tree.specs.Entries.{AreOfWidth};
-ghost use Rattle.entry_tree.specs.Reading.{BoundFits};
 ghost use Rattle.entry_tree.specs.Spots.{FenceFits};
 
 use crate::spot::{Fence, find_spot};
-use crate::{Entries, Entry, Tree};
+use crate::{Entry, Tree};
 use node_page::{NodeView, set_entry, set_separator};
 use store_api::{Page, Pages, StoreFault};
 
 impl Tree {
-    /// Replaces an entry by another one with the same first four bytes, which begin no other entry. Answers whether it was
-    /// there. It claims no page. Damaged names the root.
+    /// Replaces an entry by another one with the same first four bytes. Answers whether it was there. Where these bytes begin
+    /// no other entry, the tree is as before but for that entry. It claims no page. Damaged names the root.
     pub fn amend<P: Pages>(&self, pages: &mut P, old: &[u8], new: &[u8]) -> Result<bool, StoreFault>
         requires old_width { length old.now ≡ self.now.width }
         requires new_width { length new.now ≡ self.now.width }
         requires alike { take 4 old.now ≡ take 4 new.now }
-        requires alone { (t : Forest) → HoldsTree P.Pages pages.old self.now t → StandsAlone old.now (leaf_entries t) }
         requires going { (P.state pages.old).ended ≡ false }
         ensures amended { IfOk result (λ there. (t : Forest) → HoldsTree P.Pages pages.old self.now t → IsAmended P.Pages pages.old pages.new self.now old.now new.now t there) }
         ensures count { length (P.state pages.new).work ≡ length (P.state pages.old).work }
@@ -73,32 +70,6 @@ impl Tree {
             None => Err(self.damaged()),
         }
     }
-
-    // The lowest entry from a bound on, if there is one.
-    fn first_from<P: Pages>(&self, pages: &mut P, bound: &[u8]) -> Result<Option<Entry>, StoreFault>
-        requires width { length bound.now ≡ self.now.width }
-        requires going { (P.state pages.old).ended ≡ false }
-        ensures first { IfOk result (λ first. (t : Forest) → HoldsTree P.Pages pages.old self.now t → IsFirstOr (leaf_entries t) bound.now first) }
-        ensures width { IfOk result (λ first. BoundFits self.now.width first) }
-        ensures same { (P.state pages.new).work ≡ (P.state pages.old).work }
-        ensures runs { RunsOverPages P.Pages NoPage (IsTreePage P.Pages pages.old self.now) (BreaksTree P.Pages pages.old self.now) pages.old pages.new (fault_of result) }
-    {
-        let leaf = self.leaf_from(pages, bound)?;
-        Ok(first_entry(&leaf.entries, self.width))
-    }
-}
-
-// The first of a list of byte strings of a width.
-fn first_entry(entries: &Entries, width: u16) -> Option<Entry>
-    requires width { AreOfWidth width entries.now }
-    requires narrow { width ≤ 134 }
-    ensures first { result ≡ first_entry entries.now }
-    ensures fits { BoundFits width result }
-{
-    if entries.len() == 0 {
-        return None;
-    }
-    Some(Entry::of(entries.at(0)))
 }
 
 // Whether a byte string comes before another one.

@@ -2,11 +2,11 @@
 ghost use Rattle.std.specs.Prelude.{◌≡◌, ◌<◌, ℕ, List, length, false, IfOk, IfErr, All};
 ghost use Rattle.store_api.specs.Causes.{store_fault_in};
 ghost use Rattle.store_api.specs.RunsOverPages.{RunsOverPages};
-ghost use Rattle.extent_map.specs.Damages.{IfFull, store_part_of};
-ghost use Rattle.extent_map.specs.Map.{HoldsMap, IsSpacePage};
-ghost use Rattle.extent_map.specs.Owners.{AreRightNotes, IsSameShape};
+ghost use Rattle.extent_map.specs.Damages.{BreaksSpace, IfFull, store_part_of};
+ghost use Rattle.extent_map.specs.Map.{HoldsMap, IsSpacePage, KeepsRoot, BringsZeros, KeepsMapForm};
+ghost use Rattle.extent_map.specs.Owners.{IsSameShape};
 ghost use Rattle.extent_map.specs.declared.kind.Kind.{Kind};
-ghost use Rattle.entry_tree.specs.Standing.{ClaimsPages, MeetsFull, BreaksAtClaim};
+ghost use Rattle.entry_tree.specs.Standing.{ClaimsPages, GrowsWith, MeetsFull};
 
 use extent_map::{Extents, SpaceFault};
 use std::alloc::Global;
@@ -22,10 +22,14 @@ pub(crate) fn claim_pages<P: Pages>(
     requires going { (P.state pages.old).ended ≡ false }
     ensures many { IfOk result (λ claimed. length claimed.items ≡ n) }
     ensures there { IfOk result (λ claimed. All (λ p. p < length (P.state pages.new).work) claimed.items) }
+    ensures grows { IfOk result (λ claimed. GrowsWith P.Pages ext.old pages.old pages.new claimed.items) }
     ensures claims { IfOk result (λ claimed. (owners : List Kind) → HoldsMap P.Pages ext.old pages.old owners → ClaimsPages P.Pages ext.old ext.new pages.new owners claimed.items) }
-    ensures full { IfErr result (λ fault. IfFull fault (λ cap. (cap ≡ ext.old.cap) × ((owners : List Kind) → HoldsMap P.Pages ext.old pages.old owners → AreRightNotes ext.old owners → MeetsFull ext.old owners n))) }
+    ensures full { IfErr result (λ fault. IfFull fault (λ cap. (cap ≡ ext.old.cap) × ((owners : List Kind) → HoldsMap P.Pages ext.old pages.old owners → MeetsFull P.Pages ext.old ext.new pages.old pages.new owners n))) }
+    ensures root { KeepsRoot P.Pages pages.old pages.new }
+    ensures zeros { BringsZeros P.Pages (IsSpacePage ext.old) pages.old pages.new }
+    ensures forms { KeepsMapForm P.Pages ext.old pages.old pages.new }
     ensures shape { IsSameShape ext.old ext.new }
-    ensures runs { RunsOverPages P.Pages (IsSpacePage ext.old) (IsSpacePage ext.old) (BreaksAtClaim P.Pages ext.old pages.old) pages.old pages.new (store_fault_in store_part_of result) }
+    ensures runs { RunsOverPages P.Pages (IsSpacePage ext.old) (IsSpacePage ext.old) (BreaksSpace P.Pages ext.old pages.old) pages.old pages.new (store_fault_in store_part_of result) }
 {
     let mut claimed = Vec::with_capacity(alloc, n)?;
     for i in 0..n {

@@ -3,17 +3,18 @@ ghost use Rattle.std.specs.Prelude.{◌≡◌, ◌<◌, ℕ, List, ◌∷◌, le
 ghost use Rattle.node_page.specs.Node.{Node};
 ghost use Rattle.store_api.specs.Causes.{fault_of};
 ghost use Rattle.store_api.specs.RunsOverPages.{RunsOverPages};
+ghost use Rattle.extent_map.specs.Damages.{BreaksUsedPage};
 ghost use Rattle.extent_map.specs.Map.{HoldsMap, IsMapPage};
 ghost use Rattle.extent_map.specs.Owners.{AreRightNotes, IsUsedPage, IsSameShape, without_page};
 ghost use Rattle.extent_map.specs.declared.kind.Kind.{Kind};
 ghost use Rattle.entry_tree.specs.Forest.{Forest, times};
 ghost use Rattle.entry_tree.specs.HeldTrees.{nodes_in};
 ghost use Rattle.entry_tree.specs.TreePlaces.{Frame};
-ghost use Rattle.entry_tree.specs.Pruning.{IsEmptied, DropsLeaf, IsDropPage, IsDropLook, BreaksDrop, BreaksGiving, IsDropping};
+ghost use Rattle.entry_tree.specs.Pruning.{IsEmptied, DropsLeaf, IsDropPage, IsDropLook, BreaksDrop, IsDropping};
 
 use crate::Tree;
 use crate::pruning::{other_child, take_content, take_from_inner};
-use extent_map::Extents;
+use extent_map::{Extents, unused_page};
 use store_api::{Pages, StoreFault};
 
 /// Takes a leaf without entries out of the node above it, and gives its page back. Where that node would keep one child
@@ -38,19 +39,18 @@ pub(crate) fn drop_leaf<P: Pages>(
     match other_child(tree, pages, page, at)? {
         None => {
             take_from_inner(tree, pages, page, at)?;
-            give_page(tree, ext, pages, leaf)
+            give_page(ext, pages, leaf)
         }
         Some(other) => {
             take_content(tree, pages, page, other)?;
-            give_page(tree, ext, pages, other)?;
-            give_page(tree, ext, pages, leaf)
+            give_page(ext, pages, other)?;
+            give_page(ext, pages, leaf)
         }
     }
 }
 
-/// Gives a page of a tree back.
+/// Gives a page of a tree back. Damaged names the page where it isn't a used page of an index extent.
 pub(crate) fn give_page<P: Pages>(
-    tree: &Tree,
     ext: &mut Extents,
     pages: &mut P,
     page: u32,
@@ -60,10 +60,10 @@ pub(crate) fn give_page<P: Pages>(
     ensures notes { OnOk result ((owners : List Kind) → HoldsMap P.Pages ext.old pages.old owners → AreRightNotes ext.old owners → AreRightNotes ext.new (without_page ext.old owners page)) }
     ensures count { length (P.state pages.new).work ≡ length (P.state pages.old).work }
     ensures shape { IsSameShape ext.old ext.new }
-    ensures runs { RunsOverPages P.Pages (IsMapPage ext.old) (IsMapPage ext.old) (BreaksGiving P.Pages ext.old pages.old tree.now page) pages.old pages.new (fault_of result) }
+    ensures runs { RunsOverPages P.Pages (IsMapPage ext.old) (IsMapPage ext.old) (BreaksUsedPage P.Pages ext.old pages.old page) pages.old pages.new (fault_of result) }
 {
     if !ext.has_page(page) {
-        return Err(tree.damaged());
+        return Err(StoreFault::Damaged(unused_page(page)));
     }
     ext.give_index_page(pages, page)
 }

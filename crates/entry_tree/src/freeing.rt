@@ -15,14 +15,14 @@ ghost use Rattle.entry_tree.specs.HeldTrees.{nodes_in};
 ghost use Rattle.entry_tree.specs.Standing.{StandsTree};
 
 use crate::Tree;
-use extent_map::Extents;
+use extent_map::{Extents, unused_page};
 use node_page::NodeView;
 use std::alloc::AllocError;
 use store_api::{Page, Pages, StoreFault, bring};
 
 impl Tree {
-    /// Gives all pages of the tree back, the root too. The tree isn't there afterwards. Damaged names the root, or a page of
-    /// the extent map.
+    /// Gives all pages of the tree back, the root too. The tree isn't there afterwards. Damaged names the root, a page of the
+    /// extent map, or a page of the tree that isn't a used one of an index extent.
     pub fn free_all<P: Pages>(&self, ext: &mut Extents, pages: &mut P) -> Result<(), StoreFault>
         requires going { (P.state pages.old).ended ≡ false }
         ensures freed { OnOk result ((owners : List Kind) (t : Forest) → StandsTree P.Pages ext.old pages.old self.now owners t → FreesTree P.Pages ext.old ext.new pages.new owners t) }
@@ -38,7 +38,7 @@ impl Tree {
                 return Ok(());
             };
             if !ext.has_page(page) {
-                return Err(self.damaged());
+                return Err(StoreFault::Damaged(unused_page(page)));
             }
             self.push_children(pages, page, &mut todo)?;
             ext.give_index_page(pages, page)?;

@@ -5,7 +5,7 @@ ghost use Rattle.store_api.specs.Frame.{OnlyPage};
 ghost use Rattle.store_api.specs.Causes.{fault_of, store_fault_in, NoDamage};
 ghost use Rattle.store_api.specs.RunsOverPages.{RunsOverPages};
 ghost use Rattle.extent_map.specs.Damages.{IfFull, BreaksSpace, store_part_of};
-ghost use Rattle.extent_map.specs.Map.{HoldsMap};
+ghost use Rattle.extent_map.specs.Map.{HoldsMap, KeepsRoot};
 ghost use Rattle.extent_map.specs.Owners.{AreRightNotes, IsSameShape};
 ghost use Rattle.extent_map.specs.declared.kind.Kind.{Kind};
 ghost use Rattle.entry_tree.specs.HeldTrees.{nodes_in};
@@ -29,9 +29,11 @@ impl Tree {
         requires wide { 5 ≤ width }
         requires narrow { width ≤ 134 }
         requires going { (P.state pages.old).ended ≡ false }
-        ensures makes { IfOk result (λ tree. (owners : List Kind) → HoldsMap P.Pages ext.old pages.old owners → MakesTree P.Pages ext.old ext.new pages.new tree owners) }
+        ensures makes { IfOk result (λ tree. (owners : List Kind) → HoldsMap P.Pages ext.old pages.old owners → MakesTree P.Pages ext.old ext.new pages.old pages.new tree owners) }
         ensures width { IfOk result (λ tree. tree.width ≡ width) }
         ensures full { IfErr result (λ fault. IfFull fault (λ cap. (cap ≡ ext.old.cap) × ((owners : List Kind) → HoldsMap P.Pages ext.old pages.old owners → AreRightNotes ext.old owners → IsFullMap ext.old owners))) }
+        ensures full_same { IfErr result (λ fault. IfFull fault (λ cap. (P.state pages.new).work ≡ (P.state pages.old).work)) }
+        ensures root { (owners : List Kind) → HoldsMap P.Pages ext.old pages.old owners → KeepsRoot P.Pages pages.old pages.new }
         ensures shape { IsSameShape ext.old ext.new }
         ensures runs { RunsOverPages P.Pages (IsMapSpace P.Pages ext.old pages.old) (IsMapSpace P.Pages ext.old pages.old) (BreaksSpace P.Pages ext.old pages.old) pages.old pages.new (store_fault_in store_part_of result) }
     {
@@ -45,6 +47,7 @@ impl Tree {
 fn clear_leaf<P: Pages>(pages: &mut P, page: u32, width: u16) -> Result<(), StoreFault>
     requires going { (P.state pages.old).ended ≡ false }
     requires within { page < length (P.state pages.old).work }
+    ensures count { length (P.state pages.new).work ≡ length (P.state pages.old).work }
     ensures clears { OnOk result (IsTrue (P.state pages.old).is_told → nodes_in width (P.state pages.new) page ≡ LeafNode []) }
     ensures runs { RunsOverPages P.Pages (OnlyPage page) (OnlyPage page) NoDamage pages.old pages.new (fault_of result) }
 {

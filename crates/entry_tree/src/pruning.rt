@@ -163,9 +163,10 @@ fn take_item(page: &mut Page, width: u16, at: usize) -> bool
     true
 }
 
-// Whether a page is a leaf with an entry at a place.
-fn has_item(page: &Page, width: u16, at: usize) -> bool
+/// Whether a page is a leaf with an entry at a place.
+pub(crate) fn has_item(page: &Page, width: u16, at: usize) -> bool
     ensures leaf { (items : List Entry) → node_of width page.now ≡ LeafNode items → at < length items → IsTrue result }
+    ensures only { (items : List Entry) → node_of width page.now ≡ LeafNode items → IsTrue result → at < length items }
     ensures within { IsTrue result → at < stated_entries page.now }
     ensures fits { IsTrue result → stated_entries page.now * width ≤ 4080 }
 {

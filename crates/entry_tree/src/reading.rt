@@ -8,8 +8,8 @@ ghost use Rattle.node_page.specs.Node.{bytes_in};
 ghost use Rattle.entry_tree.specs.Entries.{AreOfWidth};
 ghost use Rattle.entry_tree.specs.Forest.{Forest, leaf_entries};
 ghost use Rattle.entry_tree.specs.HeldTrees.{HoldsTree, IsTreePage, BreaksTree};
-ghost use Rattle.entry_tree.specs.Reading.{IsLeafFrom, IsReadAt, BoundFits};
-ghost use Rattle.entry_tree.specs.Spots.{LendsLeaf, bound_of};
+ghost use Rattle.entry_tree.specs.Reading.{IsLeafFrom, IsReadAt, BoundFits, IsFirstOr, first_entry};
+ghost use Rattle.entry_tree.specs.Spots.{LendsLeaf, fence_bound};
 
 use crate::spot::{Fence, find_spot};
 use crate::{Entries, Entry, Leaf, Tree};
@@ -68,6 +68,36 @@ impl Tree {
         Ok(())
     }
 
+    /// The lowest entry at or above a bound, if there is one. It takes no memory. Damaged names the root.
+    pub fn first_from<P: Pages>(
+        &self,
+        pages: &mut P,
+        bound: &[u8],
+    ) -> Result<Option<Entry>, StoreFault>
+        requires width { length bound.now ≡ self.now.width }
+        requires going { (P.state pages.old).ended ≡ false }
+        ensures first { IfOk result (λ first. (t : Forest) → HoldsTree P.Pages pages.old self.now t → IsFirstOr (leaf_entries t) bound.now first) }
+        ensures width { IfOk result (λ first. BoundFits self.now.width first) }
+        ensures same { (P.state pages.new).work ≡ (P.state pages.old).work }
+        ensures runs { RunsOverPages P.Pages NoPage (IsTreePage P.Pages pages.old self.now) (BreaksTree P.Pages pages.old self.now) pages.old pages.new (fault_of result) }
+    {
+        let spot = find_spot(self, pages, bound)?;
+        let first = take_first(self, pages, spot.at);
+        if first.is_some() {
+            return Ok(first);
+        }
+        // The leaf of the bound has only entries below it. The next leaf has some above it.
+        let Some(next) = spot.high else {
+            return Ok(None);
+        };
+        let behind = find_spot(self, pages, next.bound.bytes())?;
+        let first = take_first(self, pages, behind.at);
+        if first.is_none() {
+            return Err(self.damaged());
+        }
+        Ok(first)
+    }
+
     // What the leaf of the bound itself has.
     fn read_leaf<P: Pages>(
         &self,
@@ -87,14 +117,14 @@ impl Tree {
         leaf.entries.clear();
         let spot = find_spot(self, pages, bound)?;
         take_entries(self, pages, spot.at, &mut leaf.entries)?;
-        leaf.next = bound_of(spot.high);
+        leaf.next = fence_bound(spot.high);
         Ok(())
     }
 }
 
-// The bound that a separator is.
-fn bound_of(fence: Option<Fence>) -> Option<Entry>
-    ensures { result ≡ bound_of fence }
+/// The bound that a separator is.
+pub(crate) fn fence_bound(fence: Option<Fence>) -> Option<Entry>
+    ensures { result ≡ fence_bound fence }
 {
     match fence {
         Some(fence) => {
@@ -128,6 +158,19 @@ fn take_entries<P: Pages>(
     }
     let width = usize::from(tree.width);
     entries.fill(width, count - at, part_of(page, width, at, count))
+}
+
+// Copies the entry at a place of the leaf at hand, if there is one.
+fn take_first<P: Pages>(tree: &Tree, pages: &P, at: usize) -> Option<Entry>
+    requires hand { IsSome (P.state pages.now).hand }
+    ensures taken { (items : List Entry) → LendsLeaf tree.now.width (P.state pages.now).hand items → result ≡ first_entry (drop at items) }
+    ensures width { BoundFits tree.now.width result }
+{
+    let view = NodeView::look(pages.page(), tree.width)?;
+    if !view.is_leaf() || at >= view.len() {
+        return None;
+    }
+    Some(Entry::of(view.entry(at)))
 }
 
 // Lends the bytes of the entries of a leaf, which are so many, from a place on.

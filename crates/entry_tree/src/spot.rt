@@ -1,5 +1,5 @@
 // The way down to the leaf of an entry, with the separators nearest to it.
-ghost use Rattle.std.specs.Prelude.{◌≡◌, ◌<◌, ◌≤◌, ℕ, List, length, false, IsSome, IfOk, OnOk};
+ghost use Rattle.std.specs.Prelude.{◌≡◌, ◌<◌, ◌≤◌, ℕ, List, length, false, IsSome, IfOk, IfSome, OnOk};
 ghost use Rattle.mdc_words.specs.ByteOrder.{Entry};
 ghost use Rattle.store_api.specs.Frame.{NoPage, OnlyPage};
 ghost use Rattle.store_api.specs.Causes.{fault_of, NoDamage};
@@ -9,7 +9,7 @@ ghost use Rattle.node_page.specs.Node.Node.{LeafNode};
 ghost use Rattle.node_page.specs.Looked.{entries_in};
 ghost use Rattle.entry_tree.specs.Forest.{Forest};
 ghost use Rattle.entry_tree.specs.HeldTrees.{nodes_in, HoldsTree, IsTreePage, BreaksTree};
-ghost use Rattle.entry_tree.specs.Spots.{nearer_fence, fence_before, fence_behind, Passes, PassedFits, FenceFits, LendsLeaf, IsSpot};
+ghost use Rattle.entry_tree.specs.Spots.{nearer_fence, fence_before, fence_behind, MeetsOnWay, PassedFits, FenceFits, LendsLeaf, IsSpotBelow, IsSpot};
 
 use crate::{Entry, Tree};
 use node_page::NodeView;
@@ -30,8 +30,8 @@ pub enum Passed {
     NoNodeThere,
     /// A leaf: where the entry belongs in it, and whether it is there.
     LeafThere(usize, bool),
-    /// The child below which the entry belongs, and the separators before and behind that child.
-    ChildThere(u32, Option<Fence>, Option<Fence>),
+    /// The place of the child below which the entry belongs, that child, and the separators before and behind it.
+    ChildThere(usize, u32, Option<Fence>, Option<Fence>),
 }
 
 /// The leaf of an entry.
@@ -46,6 +46,8 @@ pub(crate) struct Spot {
     pub(crate) low: Option<Fence>,
     /// The nearest separator above it.
     pub(crate) high: Option<Fence>,
+    /// The page of the node just above, and which of its children the leaf is. The root has none.
+    pub(crate) parent: Option<(u32, usize)>,
 }
 
 /// Goes down to the leaf of an entry, which is at hand afterwards. Damaged names the root.
@@ -57,10 +59,11 @@ pub(crate) fn find_spot<P: Pages>(
     requires width { length entry.now ≡ tree.now.width }
     requires going { (P.state pages.old).ended ≡ false }
     ensures found { IfOk result (λ spot. (t : Forest) → HoldsTree P.Pages pages.old tree.now t
-        → IsSpot (nodes_in tree.now.width (P.state pages.old)) t entry.now spot.page spot.at spot.there spot.low spot.high) }
+        → IsSpotBelow (nodes_in tree.now.width (P.state pages.old)) t entry.now spot.page spot.at spot.there spot.low spot.high spot.parent) }
     ensures low { IfOk result (λ spot. FenceFits tree.now.width spot.low) }
     ensures high { IfOk result (λ spot. FenceFits tree.now.width spot.high) }
     ensures there { IfOk result (λ spot. spot.page < length (P.state pages.old).work) }
+    ensures parent { IfOk result (λ spot. IfSome spot.parent (λ place. place.0 < length (P.state pages.old).work)) }
     ensures hand { OnOk result (IsSome (P.state pages.new).hand) }
     ensures lent { IfOk result (λ spot. (items : List Entry) → nodes_in tree.now.width (P.state pages.old) spot.page ≡ LeafNode items → LendsLeaf tree.now.width (P.state pages.new).hand items) }
     ensures same { (P.state pages.new).work ≡ (P.state pages.old).work }
@@ -70,6 +73,7 @@ pub(crate) fn find_spot<P: Pages>(
     let mut page = tree.root;
     let mut low = None;
     let mut high = None;
+    let mut parent = None;
     for step in 0..count {
         if page >= count {
             return Err(tree.damaged());
@@ -83,9 +87,11 @@ pub(crate) fn find_spot<P: Pages>(
                     there,
                     low,
                     high,
+                    parent,
                 });
             }
-            Passed::ChildThere(child, before, behind) => {
+            Passed::ChildThere(at, child, before, behind) => {
+                parent = Some((page, at));
                 page = child;
                 low = nearer(before, low);
                 high = nearer(behind, high);
@@ -110,7 +116,7 @@ fn pass<P: Pages>(tree: &Tree, pages: &mut P, page: u32, entry: &[u8]) -> Result
     requires width { length entry.now ≡ tree.now.width }
     requires going { (P.state pages.old).ended ≡ false }
     requires within { page < length (P.state pages.old).work }
-    ensures passes { IfOk result (λ passed. Passes (nodes_in tree.now.width (P.state pages.old) page) page entry.now passed) }
+    ensures passes { IfOk result (λ passed. MeetsOnWay (nodes_in tree.now.width (P.state pages.old) page) page entry.now passed) }
     ensures fits { IfOk result (λ passed. PassedFits tree.now.width passed) }
     ensures hand { OnOk result (IsSome (P.state pages.new).hand) }
     ensures lent { OnOk result ((items : List Entry) → nodes_in tree.now.width (P.state pages.old) page ≡ LeafNode items → LendsLeaf tree.now.width (P.state pages.new).hand items) }
@@ -124,7 +130,7 @@ fn pass<P: Pages>(tree: &Tree, pages: &mut P, page: u32, entry: &[u8]) -> Result
 // What a page shows to the way of an entry.
 fn look_down(bytes: &Page, width: u16, page: u32, entry: &[u8]) -> Passed
     requires narrow { width ≤ 134 }
-    ensures passes { Passes (node_of width bytes.now) page entry.now result }
+    ensures passes { MeetsOnWay (node_of width bytes.now) page entry.now result }
     ensures fits { PassedFits width result }
 {
     let Some(view) = NodeView::look(bytes, width) else {
@@ -137,7 +143,7 @@ fn look_down(bytes: &Page, width: u16, page: u32, entry: &[u8]) -> Passed
     let (at, child) = view.child_of(entry);
     let before = fence_before(&view, page, at);
     let behind = fence_behind(&view, page, at);
-    Passed::ChildThere(child, before, behind)
+    Passed::ChildThere(at, child, before, behind)
 }
 
 // The separator before a child.

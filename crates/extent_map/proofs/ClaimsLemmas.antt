@@ -10,12 +10,13 @@ use Rattle.store_api.proofs.FrameLemmas.{holds_along, holds_still, counted_still
 use Rattle.std.specs.Int.{to_be_bytes, w32}
 use Rattle.extent_map.specs.Claims.{ClaimsExtent, TakesPage}
 use Rattle.extent_map.specs.Kinds.{IsKindOf, kind_bytes, lowest_unused_place, with_used_place}
-use Rattle.extent_map.specs.Map.{HoldsMap, ChangesCount, map_page_of, entry_place}
+use Rattle.extent_map.specs.Map.{HoldsMap, ChangesCount, StatesGrowth, map_page_of, entry_place}
 use Rattle.extent_map.specs.Searches.{IsFound, FindsWanted}
 use Rattle.extent_map.specs.declared.extents.Extents.{Extents}
 use Rattle.extent_map.specs.declared.finding.Wanted.TheVariants.{FreeExtent}
 use Rattle.extent_map.specs.declared.kind.Kind.{Kind}
 use Rattle.extent_map.proofs.BitsLemmas.{is_free-Free, is_kind-with_place, lowest_unused_below}
+use Rattle.extent_map.proofs.GrowthLemmas.{growth_same, growth_still, growth_then}
 use Rattle.extent_map.proofs.HoldsMapLemmas.{holds_map_run, holds_map_same, holds_map_set}
 
 pub on_err : {T E P : Type 0} (r : Result T E) → P → OnErr r P
@@ -47,17 +48,19 @@ module _ {S : Type 0} {g : Ghosts S} where
       → ((owners : List Kind) → HoldsMap g ext old owners → FindsWanted FreeExtent ext.extent_pages owners ext.free_from ext.cap (Some (e, was)))
       → IsKindOf ext.extent_pages kind → map_page_of e < length (g.state old).work
       → (g.state middle).is_told ≡ (g.state old).is_told → (g.state middle).work ≡ (g.state old).work
-      → length (g.state grown).work ≡ max (length (g.state middle).work) (first_page_of ext.cap ext.extent_pages (e + 1)) → (IsCounted g middle → IsCounted g grown)
+      → length (g.state grown).work ≡ max (length (g.state middle).work) (first_page_of ext.cap ext.extent_pages (e + 1)) → (IsCounted g middle → IsCounted g grown) → StatesGrowth g middle grown
       → RunsOverPages g (OnlyPage 0) (OnlyPage 0) NoDamage middle grown None
       → PatchesPage g (map_page_of e) (entry_place e) (kind_bytes kind) grown new → length (g.state new).work ≡ length (g.state grown).work
       → RunsOverPages g (OnlyPage (map_page_of e)) (OnlyPage (map_page_of e)) NoDamage grown new None
       → ClaimsExtent g ext kind old new e
-  claims_extent {ext = ext} {kind = kind} {was = was} e found finds is_kind there told same count counted grows sets same_count changes =
+  claims_extent {ext = ext} {kind = kind} {was = was} e found finds is_kind there told same count counted stated grows sets same_count changes =
       let end = first_page_of ext.cap ext.extent_pages (e + 1) in
       record {
         within = found.within;
         count = same_count ∙ (count ∙ ap (λ pages. max (length pages) end) same);
         counted = λ before. counted_still changes.works.steady.is_told changes.touches (omega arith) (omega (arith, there, ap length same, grows.works.no_shorter)) same_count (counted (counted_same told same before));
+        stated = growth_then (omega (arith, ap length same)) (omega (arith, grows.works.no_shorter, same_count)) (growth_same told same)
+            (growth_then grows.works.no_shorter (omega (arith, same_count)) stated (growth_still changes.touches (omega arith) same_count));
         free = λ owners is. (finds owners is).0 ∙ is_free-Free was found.is_it;
         passed = λ owners is. (finds owners is).1;
         holds = λ owners is. holds_map_set e kind found.within is_kind (λ some. omega (arith, count, same_count)) (omega (arith, same_count)) sets changes.touches

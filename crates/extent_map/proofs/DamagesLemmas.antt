@@ -1,17 +1,17 @@
 -- Which damage is there, where the bytes of an extent have a wrong form, and where it lies behind the pages that there are.
-use Rattle.std.proofs.Common.{◌≡◌, ◌≢◌, ◌<◌, ◌≤◌, ◌+◌, ◌-◌, ◌/◌, ℕ, IsTrue, max, List, length, inl, inr, refl, ap, ◌∙◌, arith}
+use Rattle.std.proofs.Common.{◌≡◌, ◌≢◌, ◌<◌, ◌≤◌, ◌+◌, ◌-◌, ◌/◌, ℕ, IsTrue, max, List, length, inl, inr, refl, ap, arith}
 use Rattle.std.proofs.lemmas.Bool.{cases_lt}
 use Rattle.store_api.specs.Extents.{first_count, first_page_of, map_pages}
 use Rattle.store_api.specs.declared.fault.Damage.{Damage}
 use Rattle.store_api.specs.declared.pages.Pages.{Ghosts}
 use Rattle.extent_map.specs.Damages.{BreaksSpace, BreaksBlock, BreaksUsedPage}
 use Rattle.extent_map.specs.Kinds.{is_block_kind}
-use Rattle.extent_map.specs.Map.{HoldsMap, HoldsMapPage, IsWhole, map_page_of}
+use Rattle.extent_map.specs.Map.{HoldsMap, HoldsMapPage, IsWholeCount, map_page_of}
 use Rattle.extent_map.specs.Owners.{owner_of, extent_of, IsUsedPage}
 use Rattle.extent_map.specs.declared.extents.Extents.{Extents}
 use Rattle.extent_map.specs.declared.kind.Kind.{Kind}
 use Rattle.extent_map.specs.declared.kind.Kind.TheVariants.{Free}
-use Rattle.extent_map.proofs.ExtentsLemmas.{some_extents}
+use Rattle.extent_map.proofs.ExtentsLemmas.{some_extents, extent_below}
 use Rattle.extent_map.proofs.HoldsMapLemmas.{map_page_same, on_map}
 
 module _ {S : Type 0} {g : Ghosts S} where
@@ -61,12 +61,12 @@ module _ {S : Type 0} {g : Ghosts S} where
       → BreaksUsedPage g ext s p damage → ⊥
   breaks_used_page_never {ext = ext} {owners = owners} p damage is used breaks = elim breaks [
     | inl space ↦ breaks_space_never damage is space
-    | inr map ↦ map.none_told owners (is.pages (extent_of ext p / 512) map.on_map) used
+    | inr stray ↦ stray.not_used owners (is.pages (extent_of ext p / 512) (on_map ext.cap (extent_of ext p) (extent_below ext p used.page))) used
   ]
 
   -- a claim leaves as many pages as whole extents make
   pub whole_claimed : {ext : Extents} {old new : S} (e : ℕ) → e < ext.cap → length (g.state new).work ≡ max (length (g.state old).work) (first_page_of ext.cap ext.extent_pages (e + 1))
-      → IsWhole g ext old → IsWhole g ext new
+      → IsWholeCount g ext old → IsWholeCount g ext new
   whole_claimed {ext = ext} {old = old} {new = new} e below count is = elim (cases_lt (length (g.state old).work) (first_page_of ext.cap ext.extent_pages (e + 1))) [
     | inl grows ↦ record { extents = e + 1; within = omega (arith, below); count = omega (arith, count, grows) }
     | inr there ↦ record { extents = is.extents; within = is.within; count = omega (arith, count, there, is.count) }

@@ -95,26 +95,31 @@ module _ {S : Type 0} {g : Ghosts S} where
         (run.others (17 + i) (map_page owners i) (λ same. there (omega (arith, same))) holds)
   ]
 
+  -- the page of the map that says so
+  pub map_page_becomes : {ext : Extents} {owners : List Kind} {i : ℕ} {old new : S} (e : ℕ) (kind : Kind) → e < length owners → IsKindOf ext.extent_pages kind
+      → (kind ≢ Free → first_page_of ext.cap ext.extent_pages (e + 1) ≤ length (g.state new).work) → length (g.state old).work ≤ length (g.state new).work
+      → PatchesPage g (map_page_of e) (entry_place e) (kind_bytes kind) old new → Touches g (OnlyPage (map_page_of e)) old new
+      → HoldsMapPage g ext old owners i → HoldsMapPage g ext new (set owners e kind) i
+  map_page_becomes {ext = ext} {owners = owners} {i = i} {new = new} e kind inside is_kind lies longer patches run was = record {
+    page = map_page_set owners e i kind inside patches run was.page;
+    kinds = λ x on. elim (cases_eq x e) [
+      | inl here ↦ subst (λ k. IsKindOf ext.extent_pages k) (sym (ap (λ y. owner_of (set owners e kind) y) here ∙ get_or-set_same owners e kind Free inside)) is_kind
+      | inr other ↦ subst (λ k. IsKindOf ext.extent_pages k) (sym (get_or-set_other owners e x kind Free other)) (was.kinds x on)
+    ];
+    there = λ x on used. elim (cases_eq x e) [
+      | inl here ↦ subst (λ y. first_page_of ext.cap ext.extent_pages (y + 1) ≤ length (g.state new).work) (sym here)
+          (lies (λ free. used (ap (λ y. owner_of (set owners e kind) y) here ∙ get_or-set_same owners e kind Free inside ∙ free)))
+      | inr other ↦ omega (arith, longer, was.there x on (λ free. used (get_or-set_other owners e x kind Free other ∙ free)))
+    ];
+  }
+
   pub holds_map_set : {ext : Extents} {owners : List Kind} {old new : S} (e : ℕ) (kind : Kind) → e < ext.cap → IsKindOf ext.extent_pages kind
       → (kind ≢ Free → first_page_of ext.cap ext.extent_pages (e + 1) ≤ length (g.state new).work) → length (g.state old).work ≤ length (g.state new).work
       → PatchesPage g (map_page_of e) (entry_place e) (kind_bytes kind) old new → Touches g (OnlyPage (map_page_of e)) old new
       → HoldsMap g ext old owners → HoldsMap g ext new (set owners e kind)
-  holds_map_set {ext = ext} {owners = owners} {old = old} {new = new} e kind below is_kind lies longer patches run is =
+  holds_map_set {ext = ext} {owners = owners} e kind below is_kind lies longer patches run is =
       let inside : e < length owners = omega (arith, below, is.count) in
       record {
         count = length-set owners e kind ∙ is.count;
-        pages = λ i within.
-            let was = is.pages i within in
-            record {
-              page = map_page_set owners e i kind inside patches run was.page;
-              kinds = λ x on. elim (cases_eq x e) [
-                | inl here ↦ subst (λ k. IsKindOf ext.extent_pages k) (sym (ap (λ y. owner_of (set owners e kind) y) here ∙ get_or-set_same owners e kind Free inside)) is_kind
-                | inr other ↦ subst (λ k. IsKindOf ext.extent_pages k) (sym (get_or-set_other owners e x kind Free other)) (was.kinds x on)
-              ];
-              there = λ x on used. elim (cases_eq x e) [
-                | inl here ↦ subst (λ y. first_page_of ext.cap ext.extent_pages (y + 1) ≤ length (g.state new).work) (sym here)
-                    (lies (λ free. used (ap (λ y. owner_of (set owners e kind) y) here ∙ get_or-set_same owners e kind Free inside ∙ free)))
-                | inr other ↦ omega (arith, longer, was.there x on (λ free. used (get_or-set_other owners e x kind Free other ∙ free)))
-              ];
-            };
+        pages = λ i within. map_page_becomes e kind inside is_kind lies longer patches run (is.pages i within);
       }

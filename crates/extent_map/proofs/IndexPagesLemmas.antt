@@ -122,11 +122,12 @@ module _ (ext : Extents) (owners : List Kind) where
       let some : 0 < ext.extent_pages = omega (arith, (extent_limits ext).0) in
       let at : p ≡ first_page_of ext.cap ext.extent_pages e + 0 = omega (arith, is) in
       let extent : extent_of ext p ≡ e = ap (extent_of ext) at ∙ extent_of-page ext e 0 some in
-      inr (
-        has_no_unused kinds notes unused,
-        subst (λ x. IsLowestFree owners x) (sym extent) (record { within = omega (arith, below, count); free = free; lowest = λ i less. none_free_below e notes passed i less (omega (arith, less, below, count)) }),
-        ap (place_in_extent ext) at ∙ place_of-page ext e 0 some,
-      )
+      inr (record {
+        page = subst (λ q. IsExtentPage ext q) (sym at) (is_extent_page ext e 0 below some);
+        none_unused = has_no_unused kinds notes unused;
+        lowest = subst (λ x. IsLowestFree owners x) (sym extent) (record { within = omega (arith, below, count); free = free; lowest = λ i less. none_free_below e notes passed i less (omega (arith, less, below, count)) });
+        first = ap (place_in_extent ext) at ∙ place_of-page ext e 0 some;
+      })
 
   pub begun_list : (p e : ℕ) → p ≡ first_page_of ext.cap ext.extent_pages e → owner_of owners e ≡ Free → set owners e (Index 1) ≡ with_used_page ext owners p
   begun_list p e is free =

@@ -3,10 +3,12 @@ pub mod ClaimsLemmas
 pub mod CountsLemmas
 pub mod DamagesLemmas
 pub mod ExtentsLemmas
+pub mod GrowthLemmas
 pub mod HoldsMapLemmas
 pub mod IndexPagesLemmas
 pub mod KindsLemmas
 pub mod LawsOfTheMap
+pub mod MapFormLemmas
 pub mod MapLemmas
 pub mod OwnersLemmas
 pub mod SearchesLemmas

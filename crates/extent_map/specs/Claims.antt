@@ -4,7 +4,7 @@ use Rattle.store_api.specs.Extents.{first_page_of}
 use Rattle.store_api.specs.Frame.{IsCounted}
 use Rattle.store_api.specs.declared.pages.Pages.{Ghosts}
 use Rattle.extent_map.specs.Kinds.{lowest_unused_place, with_used_place}
-use Rattle.extent_map.specs.Map.{HoldsMap}
+use Rattle.extent_map.specs.Map.{HoldsMap, StatesGrowth}
 use Rattle.extent_map.specs.Owners.{owner_of}
 use Rattle.extent_map.specs.Searches.{NoneWanted}
 use Rattle.extent_map.specs.declared.extents.Extents.{Extents}
@@ -21,6 +21,7 @@ pub record ClaimsExtent {S : Type 0} (g : Ghosts S) (ext : Extents) (kind : Kind
   pub within : e < ext.cap
   pub count : length (g.state new).work ≡ max (length (g.state old).work) (first_page_of ext.cap ext.extent_pages (e + 1))
   pub counted : IsCounted g old → IsCounted g new
+  pub stated : StatesGrowth g old new
   pub free : (owners : List Kind) → HoldsMap g ext old owners → owner_of owners e ≡ Free
   pub passed : (owners : List Kind) → HoldsMap g ext old owners → HasNoneFrom ext owners e
   pub holds : (owners : List Kind) → HoldsMap g ext old owners → HoldsMap g ext new (slice_set owners e kind)

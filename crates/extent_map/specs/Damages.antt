@@ -44,7 +44,12 @@ abbrev pub BreaksBlock : {S : Type 0} → Ghosts S → Extents → S → ℕ →
 BreaksBlock g ext s e damage =
     BreaksSpace g ext s damage ⊎ BreaksMapPage g ext s (λ owners. IsTrue (is_block_kind (owner_of owners e))) (e / 512) damage
 
--- the same, or the page isn't a used page of an index extent
+-- rule 5: the page isn't a used page of an index extent, where its page of the map is told to have its form
+pub record BreaksUse {S : Type 0} (g : Ghosts S) (ext : Extents) (s : S) (p : ℕ) (damage : Damage) : Type 0 where
+  pub page : damage.page ≡ p
+  pub rule : damage.rule ≡ 5
+  pub not_used : (owners : List Kind) → HoldsMapPage g ext s owners (extent_of ext p / 512) → IsUsedPage ext owners p → ⊥
+
+-- the number of pages or a page of the map breaks its rule, or the page isn't a used one
 abbrev pub BreaksUsedPage : {S : Type 0} → Ghosts S → Extents → S → ℕ → Damage → Type 0
-BreaksUsedPage g ext s p damage =
-    BreaksSpace g ext s damage ⊎ BreaksMapPage g ext s (λ owners. IsUsedPage ext owners p) (extent_of ext p / 512) damage
+BreaksUsedPage g ext s p damage = BreaksSpace g ext s damage ⊎ BreaksUse g ext s p damage

@@ -1,9 +1,9 @@
 -- The pages of the extent map, and what they are told to hold (docs/FORMAT.md, "Extent map").
-use Rattle.std.specs.Prelude.{◌≡◌, ◌≢◌, ◌⊎◌, ◌<◌, ◌≤◌, ◌+◌, ◌*◌, ◌/◌, ◌%◌, ℕ, zero, suc, List, [], ◌++◌, length, take, drop}
+use Rattle.std.specs.Prelude.{◌≡◌, ◌≢◌, ◌⊎◌, ◌<◌, ◌≤◌, ◌+◌, ◌*◌, ◌/◌, ◌%◌, ℕ, IsTrue, zero, suc, List, [], ◌++◌, length, take, drop}
 use Rattle.std.specs.Int.{to_be_bytes, w32}
 use Rattle.store_api.specs.Extents.{first_count, first_page_of, map_pages}
 use Rattle.store_api.specs.Frame.{HoldsPage}
-use Rattle.store_api.specs.StoreState.{patched}
+use Rattle.store_api.specs.StoreState.{patched, zero_page}
 use Rattle.store_api.specs.declared.pages.Pages.{Ghosts}
 use Rattle.extent_map.specs.Kinds.{kind_bytes, IsKindOf}
 use Rattle.extent_map.specs.Owners.{owner_of}
@@ -45,7 +45,7 @@ pub record HoldsMap {S : Type 0} (g : Ghosts S) (ext : Extents) (s : S) (owners 
   pub pages : (i : ℕ) → i < map_pages ext.cap → HoldsMapPage g ext s owners i
 
 -- there are as many pages as some number of whole extents make
-pub record IsWhole {S : Type 0} (g : Ghosts S) (ext : Extents) (s : S) : Type 0 where
+pub record IsWholeCount {S : Type 0} (g : Ghosts S) (ext : Extents) (s : S) : Type 0 where
   pub extents : ℕ
   pub within : extents ≤ ext.cap
   pub count : length (g.state s).work ≡ first_page_of ext.cap ext.extent_pages extents
@@ -58,7 +58,31 @@ IsMapPage ext p = (17 ≤ p) × (p < first_count ext.cap)
 abbrev pub IsSpacePage : Extents → ℕ → Type 0
 IsSpacePage ext p = (p ≡ 0) ⊎ IsMapPage ext p
 
+-- page 0 with another page count
+abbrev pub root_stating : ℕ → List ℕ → List ℕ
+root_stating count bytes = patched 8 (to_be_bytes w32 count) bytes
+
 -- page 0, where it is told, is as it was, or it states how many pages there are now
 pub record ChangesCount {S : Type 0} (g : Ghosts S) (old new : S) : Type 0 where
   pub root : (bytes : List ℕ) → HoldsPage g old 0 bytes
-      → HoldsPage g new 0 bytes ⊎ HoldsPage g new 0 (patched 8 (to_be_bytes w32 (length (g.state new).work)) bytes)
+      → HoldsPage g new 0 bytes ⊎ HoldsPage g new 0 (root_stating (length (g.state new).work) bytes)
+
+-- page 0, where it is told, is as it was, or it is but for the page count that it states
+pub record KeepsRoot {S : Type 0} (g : Ghosts S) (old new : S) : Type 0 where
+  pub root : (bytes : List ℕ) → HoldsPage g old 0 bytes → HoldsPage g new 0 bytes ⊎ ((count : ℕ) × HoldsPage g new 0 (root_stating count bytes))
+
+-- Page 0, where it is told, is as it was if no page came. Else it states how many pages there are now, and is as it was but for
+-- that; it has 4,096 bytes then.
+pub record StatesGrowth {S : Type 0} (g : Ghosts S) (old new : S) : Type 0 where
+  pub same : length (g.state new).work ≡ length (g.state old).work → (bytes : List ℕ) → HoldsPage g old 0 bytes → HoldsPage g new 0 bytes
+  pub grown : length (g.state old).work < length (g.state new).work → (bytes : List ℕ) → HoldsPage g old 0 bytes
+      → HoldsPage g new 0 (root_stating (length (g.state new).work) bytes)
+  pub whole : length (g.state old).work < length (g.state new).work → (bytes : List ℕ) → HoldsPage g old 0 bytes → length bytes ≡ 4096
+
+-- the pages that came, but for those that are mine, are told to be zeros
+pub record BringsZeros {S : Type 0} (g : Ghosts S) (Mine : ℕ → Type 0) (old new : S) : Type 0 where
+  pub zeros : IsTrue (g.state old).is_told → (p : ℕ) → (Mine p → ⊥) → length (g.state old).work ≤ p → p < length (g.state new).work → HoldsPage g new p zero_page
+
+-- each page of the map that is told to have its form still has it, whatever it says now
+pub record KeepsMapForm {S : Type 0} (g : Ghosts S) (ext : Extents) (old new : S) : Type 0 where
+  pub forms : (i : ℕ) (owners : List Kind) → i < map_pages ext.cap → HoldsMapPage g ext old owners i → (more : List Kind) × HoldsMapPage g ext new more i

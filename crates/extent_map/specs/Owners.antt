@@ -1,5 +1,5 @@
 -- Who owns each extent, as a list of kinds, and which index pages are used.
-use Rattle.std.specs.Prelude.{◌≡◌, ◌≢◌, ◌⊎◌, ◌<◌, ◌≤◌, ◌-◌, ◌/◌, ◌%◌, ℕ, IsTrue, List, length, slice_index_or, slice_set}
+use Rattle.std.specs.Prelude.{◌≡◌, ◌≢◌, ◌⊎◌, ◌<◌, ◌≤◌, ◌+◌, ◌-◌, ◌/◌, ◌%◌, ℕ, IsTrue, List, [], ◌∷◌, length, max, slice_index_or, slice_set}
 use Rattle.store_api.specs.Extents.{first_count, first_page_of}
 use Rattle.extent_map.specs.Kinds.{is_used_place, is_unused_place, with_used_place, without_place}
 use Rattle.extent_map.specs.declared.extents.Extents.{Extents}
@@ -57,10 +57,16 @@ pub record IsClaimable (ext : Extents) (owners : List Kind) (p : ℕ) : Type 0 w
   pub page : IsExtentPage ext p
   pub claimable : IsUnusedPage ext owners p ⊎ ((owner_of owners (extent_of ext p) ≡ Free) × (place_in_extent ext p ≡ 0))
 
+-- the first page of the lowest free extent, where each page of an index extent is used
+pub record IsFirstOfFree (ext : Extents) (owners : List Kind) (p : ℕ) : Type 0 where
+  pub page : IsExtentPage ext p
+  pub none_unused : HasNoUnused ext owners
+  pub lowest : IsLowestFree owners (extent_of ext p)
+  pub first : place_in_extent ext p ≡ 0
+
 -- the one of them that a claim takes: the lowest that isn't used, or else the first of the lowest free extent
 abbrev pub IsLowestClaimable : Extents → List Kind → ℕ → Type 0
-IsLowestClaimable ext owners p =
-    IsLowestUnused ext owners p ⊎ (HasNoUnused ext owners × IsLowestFree owners (extent_of ext p) × (place_in_extent ext p ≡ 0))
+IsLowestClaimable ext owners p = IsLowestUnused ext owners p ⊎ IsFirstOfFree ext owners p
 
 -- the list with the extent a block of the table
 abbrev pub with_block : List Kind → ℕ → ℕ → List Kind
@@ -88,3 +94,8 @@ pub record AreRightNotes (ext : Extents) (owners : List Kind) : Type 0 where
 pub record IsSameShape (old new : Extents) : Type 0 where
   pub cap : new.cap ≡ old.cap
   pub extent_pages : new.extent_pages ≡ old.extent_pages
+
+-- how many pages there are once these were claimed, where there were n before: as many as the extent of each needs
+abbrev pub count_with : Extents → ℕ → List ℕ → ℕ
+count_with ext n [] = n
+count_with ext n (p ∷ claimed) = count_with ext (max n (first_page_of ext.cap ext.extent_pages (extent_of ext p + 1))) claimed

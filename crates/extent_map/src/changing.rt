@@ -6,7 +6,7 @@ ghost use Rattle.store_api.specs.Causes.{fault_of, NoDamage};
 ghost use Rattle.store_api.specs.RunsOverPages.{RunsOverPages};
 ghost use Rattle.extent_map.specs.Damages.{BreaksSpace};
 ghost use Rattle.extent_map.specs.Kinds.{kind_bytes};
-ghost use Rattle.extent_map.specs.Map.{ChangesCount, map_page_of, entry_place};
+ghost use Rattle.extent_map.specs.Map.{ChangesCount, StatesGrowth, BringsZeros, KeepsMapForm, map_page_of, entry_place};
 
 use crate::Extents;
 use crate::kind::{Kind, kind_bytes};
@@ -77,6 +77,8 @@ pub(crate) fn grow_to<P: Pages>(pages: &mut P, end: u32) -> Result<(), StoreFaul
     requires few { end ≤ MAX_PAGES }
     ensures count { OnOk result (length (P.state pages.new).work ≡ max (length (P.state pages.old).work) end) }
     ensures root { ChangesCount P.Pages pages.old pages.new }
+    ensures stated { OnOk result (StatesGrowth P.Pages pages.old pages.new) }
+    ensures zeros { BringsZeros P.Pages NoPage pages.old pages.new }
     ensures counted { OnOk result (IsCounted P.Pages pages.old → IsCounted P.Pages pages.new) }
     ensures runs { RunsOverPages P.Pages (OnlyPage 0) (OnlyPage 0) NoDamage pages.old pages.new (fault_of result) }
 {

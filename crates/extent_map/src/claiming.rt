@@ -1,12 +1,12 @@
 // The two things that a claim takes: a free extent, or a page of an index extent.
 ghost use Rattle.std.specs.Prelude.{◌≡◌, ◌+◌, ◌<◌, List, length, false, IfOk, IfSome, IfNone, OnErr};
-ghost use Rattle.store_api.specs.Frame.{OnlyPage};
+ghost use Rattle.store_api.specs.Frame.{OnlyPage, NoPage};
 ghost use Rattle.store_api.specs.Causes.{fault_of};
 ghost use Rattle.store_api.specs.RunsOverPages.{RunsOverPages};
 ghost use Rattle.extent_map.specs.Claims.{ClaimsExtent, HasNoneFrom, TakesPage};
 ghost use Rattle.extent_map.specs.Damages.{BreaksSpace};
 ghost use Rattle.extent_map.specs.Kinds.{IsKindOf, with_used_place};
-ghost use Rattle.extent_map.specs.Map.{HoldsMap, IsSpacePage, ChangesCount, map_page_of};
+ghost use Rattle.extent_map.specs.Map.{HoldsMap, IsSpacePage, ChangesCount, BringsZeros, KeepsMapForm, map_page_of};
 ghost use Rattle.extent_map.specs.Searches.{IsFound, ShowsOwner};
 ghost use Rattle.extent_map.specs.declared.kind.Kind.{Kind};
 ghost use Rattle.extent_map.specs.declared.finding.Wanted.TheVariants.{UnusedPage};
@@ -32,6 +32,8 @@ pub(crate) fn claim_extent<P: Pages>(
     ensures none_same { IfOk result (λ found. IfNone found ((P.state pages.new).work ≡ (P.state pages.old).work)) }
     ensures kept { OnErr result ((owners : List Kind) → HoldsMap P.Pages ext.now pages.old owners → HoldsMap P.Pages ext.now pages.new owners) }
     ensures root { ChangesCount P.Pages pages.old pages.new }
+    ensures zeros { BringsZeros P.Pages NoPage pages.old pages.new }
+    ensures forms { KeepsMapForm P.Pages ext.now pages.old pages.new }
     ensures runs { RunsOverPages P.Pages (IsSpacePage ext.now) (IsSpacePage ext.now) (BreaksSpace P.Pages ext.now pages.old) pages.old pages.new (fault_of result) }
 {
     let found = find(ext, pages, Wanted::FreeExtent, ext.free_from, ext.cap)?;
@@ -57,6 +59,7 @@ pub(crate) fn take_page<P: Pages>(
     requires shown { ShowsOwner P.Pages ext.now pages.old e kind }
     ensures takes { IfOk result (λ p. TakesPage P.Pages ext.now kind pages.old pages.new e p) }
     ensures kept { OnErr result ((P.state pages.new).work ≡ (P.state pages.old).work) }
+    ensures forms { KeepsMapForm P.Pages ext.now pages.old pages.new }
     ensures runs { RunsOverPages P.Pages (OnlyPage (map_page_of e)) (OnlyPage (map_page_of e)) (BreaksSpace P.Pages ext.now pages.old) pages.old pages.new (fault_of result) }
 {
     if ext.end_of(e) > pages.count() {

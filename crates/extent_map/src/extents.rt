@@ -9,7 +9,7 @@ use crate::changing::{bring_map_page, set_kind};
 use crate::claiming::{claim_extent, take_page};
 use crate::finding::{Wanted, find};
 use crate::kind::{is_block_kind, is_owned, is_used_place, kind_in, without_place};
-use crate::layout::{FIRST_MAP_PAGE, PAGE_EXTENTS, wrong_entry};
+use crate::layout::{FIRST_MAP_PAGE, PAGE_EXTENTS, unused_page, wrong_entry};
 use crate::{Kind, SpaceFault};
 use store_api::{MAX_PAGES, Pages, StoreFault};
 
@@ -30,7 +30,7 @@ pub struct Extents {
 impl Extents {
     ghost use Rattle.extent_map.specs.Damages.{BreaksSpace, BreaksBlock, BreaksUsedPage, IfFull, store_part_of};
     ghost use Rattle.extent_map.specs.Kinds.{IsKindOf, is_block_kind};
-    ghost use Rattle.extent_map.specs.Map.{HoldsMap, IsSpacePage, ChangesCount, map_page_of};
+    ghost use Rattle.extent_map.specs.Map.{HoldsMap, IsSpacePage, ChangesCount, StatesGrowth, BringsZeros, KeepsMapForm, map_page_of};
     ghost use Rattle.extent_map.specs.Owners.{owner_of, extent_of, place_in_extent, IsExtentPage, IsUsedPage, HasNoFree, HasNoUnused, IsLowestFree, IsClaimable, IsLowestClaimable, with_block, without_block, with_used_page, without_page, AreRightNotes, IsSameShape};
     ghost use Rattle.extent_map.specs.Searches.{ShowsOwner};
     ghost use Rattle.extent_map.specs.declared.kind.Kind.{Kind};
@@ -110,6 +110,7 @@ impl Extents {
         ensures within { IfOk result (λ e. e < self.old.cap) }
         ensures count { IfOk result (λ e. length (P.state pages.new).work ≡ max (length (P.state pages.old).work) (first_page_of self.old.cap self.old.extent_pages (e + 1))) }
         ensures counted { OnOk result (IsCounted P.Pages pages.old → IsCounted P.Pages pages.new) }
+        ensures stated { OnOk result (StatesGrowth P.Pages pages.old pages.new) }
 
         ensures full { IfErr result (λ fault. IfFull fault (λ cap. (cap ≡ self.old.cap) × ((P.state pages.new).work ≡ (P.state pages.old).work))) }
         ensures only_full { IfErr result (λ fault. IfFull fault (λ cap. (owners : List Kind) → HoldsMap P.Pages self.old pages.old owners → AreRightNotes self.old owners → HasNoFree owners)) }
@@ -118,6 +119,8 @@ impl Extents {
 
         ensures shape { IsSameShape self.old self.new }
         ensures root { ChangesCount P.Pages pages.old pages.new }
+        ensures zeros { BringsZeros P.Pages NoPage pages.old pages.new }
+        ensures forms { KeepsMapForm P.Pages self.old pages.old pages.new }
         ensures runs { RunsOverPages P.Pages (IsSpacePage self.old) (IsSpacePage self.old) (BreaksSpace P.Pages self.old pages.old) pages.old pages.new (store_fault_in store_part_of result) }
     {
         let Some(e) = claim_extent(self, pages, Kind::Block(table))? else {
@@ -141,6 +144,7 @@ impl Extents {
         ensures there { IfOk result (λ p. p < length (P.state pages.new).work) }
         ensures count { IfOk result (λ p. length (P.state pages.new).work ≡ max (length (P.state pages.old).work) (first_page_of self.old.cap self.old.extent_pages (extent_of self.old p + 1))) }
         ensures counted { OnOk result (IsCounted P.Pages pages.old → IsCounted P.Pages pages.new) }
+        ensures stated { OnOk result (StatesGrowth P.Pages pages.old pages.new) }
 
         ensures full { IfErr result (λ fault. IfFull fault (λ cap. (cap ≡ self.old.cap) × ((P.state pages.new).work ≡ (P.state pages.old).work))) }
         ensures only_full { IfErr result (λ fault. IfFull fault (λ cap. (owners : List Kind) → HoldsMap P.Pages self.old pages.old owners → AreRightNotes self.old owners → HasNoFree owners × HasNoUnused self.old owners)) }
@@ -149,6 +153,8 @@ impl Extents {
 
         ensures shape { IsSameShape self.old self.new }
         ensures root { ChangesCount P.Pages pages.old pages.new }
+        ensures zeros { BringsZeros P.Pages NoPage pages.old pages.new }
+        ensures forms { KeepsMapForm P.Pages self.old pages.old pages.new }
         ensures runs { RunsOverPages P.Pages (IsSpacePage self.old) (IsSpacePage self.old) (BreaksSpace P.Pages self.old pages.old) pages.old pages.new (store_fault_in store_part_of result) }
     {
         // Behind the pages that there are, each extent is free.
@@ -179,6 +185,7 @@ impl Extents {
         ensures notes { OnOk result ((owners : List Kind) → AreRightNotes self.old owners → AreRightNotes self.new (without_block owners e)) }
         ensures kept { OnErr result ((P.state pages.new).work ≡ (P.state pages.old).work) }
         ensures kept_notes { OnErr result (self.new ≡ self.old) }
+        ensures forms { KeepsMapForm P.Pages self.old pages.old pages.new }
         ensures count { length (P.state pages.new).work ≡ length (P.state pages.old).work }
         ensures shape { IsSameShape self.old self.new }
         ensures runs { RunsOverPages P.Pages (OnlyPage (map_page_of e)) (OnlyPage (map_page_of e)) (BreaksBlock P.Pages self.old pages.old e) pages.old pages.new (fault_of result) }
@@ -192,8 +199,9 @@ impl Extents {
         Ok(())
     }
 
-    /// Gives a used page of an index extent back. An extent without a used page becomes free. `Damaged` says that the map
-    /// has a wrong form there, or that the page isn't a used one of an index extent. After a fault the map is as it was.
+    /// Gives a used page of an index extent back. An extent without a used page becomes free. `Damaged` names the page of
+    /// the map where that has a wrong form, and the page itself where it isn't a used one of an index extent. After a fault
+    /// the map is as it was.
     pub fn give_index_page<P: Pages>(&mut self, pages: &mut P, p: u32) -> Result<(), StoreFault>
         requires going { (P.state pages.old).ended ≡ false }
         requires page { IsExtentPage self.old p }
@@ -202,6 +210,7 @@ impl Extents {
         ensures notes { OnOk result ((owners : List Kind) → HoldsMap P.Pages self.old pages.old owners → AreRightNotes self.old owners → AreRightNotes self.new (without_page self.old owners p)) }
         ensures kept { OnErr result ((P.state pages.new).work ≡ (P.state pages.old).work) }
         ensures kept_notes { OnErr result (self.new ≡ self.old) }
+        ensures forms { KeepsMapForm P.Pages self.old pages.old pages.new }
         ensures count { length (P.state pages.new).work ≡ length (P.state pages.old).work }
         ensures shape { IsSameShape self.old self.new }
         ensures runs { RunsOverPages P.Pages (OnlyPage (map_page_of (extent_of self.old p))) (OnlyPage (map_page_of (extent_of self.old p))) (BreaksUsedPage P.Pages self.old pages.old p) pages.old pages.new (fault_of result) }
@@ -210,7 +219,7 @@ impl Extents {
         let place = self.place_of(p);
         let kind = self.kind(pages, e)?;
         if !is_used_place(kind, place) {
-            return Err(StoreFault::Damaged(wrong_entry(e)));
+            return Err(StoreFault::Damaged(unused_page(p)));
         }
         set_kind(pages, e, without_place(kind, place))?;
         self.free_from = self.free_from.min(e);

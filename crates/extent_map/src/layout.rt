@@ -46,3 +46,10 @@ pub(crate) fn wrong_entry(e: u32) -> Damage
         rule: 2,
     }
 }
+
+/// The page isn't a used page of an index extent.
+pub fn unused_page(p: u32) -> Damage
+    ensures { (result.page ≡ p) × (result.rule ≡ 5) }
+{
+    Damage { page: p, rule: 5 }
+}

@@ -19,3 +19,4 @@ pub use extents::Extents;
 pub use fault::SpaceFault;
 pub use kind::Kind;
 pub use laws::{fresh_map, one_map, worked_entries};
+pub use layout::unused_page;

@@ -6,7 +6,7 @@ use Rattle.mdc_ast.specs.declared.definition.IndexDef.{IndexDef}
 use Rattle.mdc_ast.specs.declared.definition.TableDef.{TableDef}
 use Rattle.store_api.specs.Extents.{map_pages}
 use Rattle.store_api.specs.StoreState.{page_at, zero_page}
-use Rattle.extent_map.specs.Map.{HoldsMapPage, IsWhole}
+use Rattle.extent_map.specs.Map.{HoldsMapPage, IsWholeCount}
 use Rattle.extent_map.specs.Owners.{IsExtentPage, IsUsedPage, extent_of, owner_of}
 use Rattle.extent_map.specs.declared.extents.Extents.{Extents}
 use Rattle.extent_map.specs.declared.kind.Kind.{Kind}
@@ -41,7 +41,7 @@ stated_root count = filled_page ((82 ∷ 79 ∷ 79 ∷ 84 ∷ []) ++ big_bytes 4
 
 -- The root page states how many pages there are, which some number of whole extents make, and each has 4,096 bytes.
 pub record IsRootSound (ext : Extents) (pages : PageList) : Type 0 where
-  pub count : IsWhole told_pages ext pages
+  pub count : IsWholeCount told_pages ext pages
   pub root : page_at pages 0 ≡ stated_root (length pages)
   pub whole : AllByRecursion (λ page. length page ≡ 4096) pages
 

@@ -1,6 +1,7 @@
 -- Entries that leave a leaf in one pass.
-use Rattle.std.proofs.Common.{◌≡◌, ◌==◌, ◌+◌, ◌*◌, ◌-◌, ◌<◌, ◌≤◌, ℕ, zero, suc, List, [], ◌∷◌, ◌++◌, length, take, drop, get_or, refl, ap, sym, subst, ◌∙◌, arith, append_assoc, length-append, cond, not, Bool, true, false, inl, inr, mul-le-mul_right, Result, Ok, Err, MatchResult}
+use Rattle.std.proofs.Common.{◌≡◌, ◌==◌, ◌+◌, ◌*◌, ◌-◌, ◌<◌, ◌≤◌, ℕ, zero, suc, List, [], ◌∷◌, ◌++◌, length, take, drop, get_or, refl, ap, sym, subst, ◌∙◌, arith, append_assoc, length-append, cond, not, Bool, true, false, inl, inr, add-one, mul-le-mul_right, Result, Ok, Err, MatchResult}
 use Rattle.std.specs.List.{filter, list_any, copy_within}
+use Rattle.std.proofs.Math.Seq.{drop-cons}
 use Rattle.std.specs.List.Sorted.{IsBinarySearchResult}
 use Rattle.std.specs.Ordering.{nat_cmp}
 use Rattle.std.specs.Result.{is_ok}
@@ -16,7 +17,7 @@ use Rattle.mdc_words.specs.ByteOrder.{Entry}
 use Rattle.store_api.specs.StoreState.{patched, zero_page}
 use Rattle.node_page.specs.Node.{node_of, bytes_in, number_within, stated_entries}
 use Rattle.node_page.specs.Node.Node.{LeafNode}
-use Rattle.node_page.specs.Entries.{HaveWidth, names_block, without_blocks}
+use Rattle.node_page.specs.Entries.{HaveWidth, count_named, names_block, without_blocks}
 use Rattle.node_page.specs.Laid.{laid}
 use Rattle.node_page.specs.Slots.{blanked, with_count}
 use Rattle.node_page.proofs.BytesLemmas.{patched_twice}
@@ -154,6 +155,41 @@ number_here blocks at from i to w old page entries is long bytes lt le s =
     let most : to * w ≤ i * w = mul-le-mul_right w le in
     entry_here w i old page (joined (left_upto blocks at from i entries)) entries was.0 was.1 long s.form
     (omega (arith, length_left blocks at from i to w entries was.0.wide s.count)) (subst (λ k. i < k) (leaf_count w old entries was.0 was.1) lt)
+
+-- and so of a page that is as it was
+block_here : (i w : ℕ) (page : List ℕ) (entries : List Entry) → node_of w page ≡ LeafNode entries → length page ≡ 4096 → AreBytes page
+    → i < stated_entries page → bytes_in (16 + i * w) w page ≡ get_or entries i []
+block_here i w page entries is long bytes lt =
+    let was = leaf_was w page entries is long bytes in
+    entry_here w i page page [] entries was.0 was.1 long (sym (ap (λ xs. xs ++ drop 16 page) (append-nil (take 16 page)) ∙ take-append-drop 16 page)) (omega arith) (subst (λ k. i < k) (leaf_count w page entries was.0 was.1) lt)
+
+filter_first : (p : Entry → Bool) (x : Entry) (xs : List Entry) (b : Bool) → p x ≡ b → length (filter p (x ∷ xs)) ≡ cond b 1 0 + length (filter p xs)
+filter_first p x xs b e = ap (λ k. length (cond k (x ∷ filter p xs) (filter p xs))) e ∙ counted b
+  where
+    counted : (b : Bool) → length (cond b (x ∷ filter p xs) (filter p xs)) ≡ cond b 1 0 + length (filter p xs)
+    counted true = omega arith
+    counted false = omega arith
+
+-- one more that was counted
+pub counts_more : (blocks : List ℕ) (at from i w n : ℕ) (page : List ℕ) (entries : List Entry) (named : Bool) → node_of w page ≡ LeafNode entries → length page ≡ 4096 → AreBytes page
+    → i < stated_entries page → names_block blocks at (bytes_in (16 + i * w) w page) ≡ named → n + count_named blocks at i entries ≡ count_named blocks at from entries
+    → n + cond named 1 0 + count_named blocks at (i + 1) entries ≡ count_named blocks at from entries
+counts_more blocks at from i w n page entries named is long bytes lt e sofar =
+    let was = leaf_was w page entries is long bytes in
+    let under : i < length entries = subst (λ k. i < k) (leaf_count w page entries was.0 was.1) lt in
+    let here : names_block blocks at (get_or entries i []) ≡ named = ap (names_block blocks at) (sym (block_here i w page entries is long bytes lt)) ∙ e in
+    let next : count_named blocks at i entries ≡ cond named 1 0 + count_named blocks at (i + 1) entries =
+    ap (λ xs. length (filter (names_block blocks at) xs)) (drop-cons entries i [] under ∙ ap (λ k. get_or entries i [] ∷ drop k entries) (sym (add-one i)))
+    ∙ filter_first (names_block blocks at) (get_or entries i []) (drop (i + 1) entries) named here in
+    omega (arith, sofar, next)
+
+-- and none behind the last
+pub counts_all : (blocks : List ℕ) (at from i w n : ℕ) (page : List ℕ) (entries : List Entry) → node_of w page ≡ LeafNode entries → length page ≡ 4096 → AreBytes page
+    → stated_entries page ≤ i → n + count_named blocks at i entries ≡ count_named blocks at from entries → n ≡ count_named blocks at from entries
+counts_all blocks at from i w n page entries is long bytes le sofar =
+    let was = leaf_was w page entries is long bytes in
+    let past : length entries ≤ i = subst (λ k. k ≤ i) (leaf_count w page entries was.0 was.1) le in
+    omega (arith, sofar, ap (λ xs. length (filter (names_block blocks at) xs)) (drop_all i entries past))
 
 -- at the beginning
 pub sweeps_start : (blocks : List ℕ) (at from w : ℕ) (old : List ℕ) (entries : List Entry) → node_of w old ≡ LeafNode entries → length old ≡ 4096 → AreBytes old

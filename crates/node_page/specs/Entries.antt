@@ -32,6 +32,10 @@ names_block blocks at entry = list_any (λ block. block == number_within at 4 en
 abbrev pub without_blocks : List ℕ → ℕ → ℕ → List Entry → List Entry
 without_blocks blocks at from entries = take from entries ++ filter (λ entry. not (names_block blocks at entry)) (drop from entries)
 
+-- how many entries from a place on name one of these blocks
+abbrev pub count_named : List ℕ → ℕ → ℕ → List Entry → ℕ
+count_named blocks at from entries = length (filter (names_block blocks at) (drop from entries))
+
 -- how many of n entries and one more stay in the lower of two leaves
 abbrev pub lower_half : ℕ → ℕ
 lower_half n = n / 2 + 1

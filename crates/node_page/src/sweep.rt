@@ -1,11 +1,11 @@
 // Many entries that leave a leaf in one pass.
-ghost use Rattle.std.specs.Prelude.{◌≡◌, ◌==◌, ◌+◌, ◌*◌, ◌≤◌, List};
+ghost use Rattle.std.specs.Prelude.{◌≡◌, ◌==◌, ◌+◌, ◌*◌, ◌<◌, ◌≤◌, List};
 ghost use Rattle.std.specs.List.{list_any};
 ghost use Rattle.mdc_words.specs.ByteOrder.{Entry};
 ghost use Rattle.node_page.specs.Node.{bytes_in, node_of, number_within, stated_entries};
 ghost use Rattle.node_page.specs.Node.Node.{LeafNode};
 ghost use Rattle.store_api.specs.StoreState.{patched};
-ghost use Rattle.node_page.specs.Entries.{without_blocks};
+ghost use Rattle.node_page.specs.Entries.{count_named, without_blocks};
 
 use crate::slots::{blank_bytes, number_at, set_count, short_at, slot_at};
 use mdc_values::Blocks;
@@ -35,6 +35,25 @@ pub fn drop_blocks(page: &mut Page, width: u16, from: usize, at: usize, blocks: 
     blank_bytes(page, slot_at(to, step), end);
     set_count(page, to as u16);
     count - to
+}
+
+/// How many entries of a leaf from a place on name one of these blocks in their four bytes at `at`.
+pub fn count_named(page: &Page, width: u16, from: usize, at: usize, blocks: &Blocks) -> usize
+    requires named { at + 4 ≤ width }
+    requires fits { stated_entries page.now * width ≤ 4080 }
+    ensures entries { (entries : List Entry) → node_of width page.now ≡ LeafNode entries → result ≡ count_named blocks.now at from entries }
+    ensures few { result < 65536 }
+{
+    let count = usize::from(short_at(page, 4));
+    let step = usize::from(width);
+    let mut named = 0;
+    for i in from..count {
+        if !has_block(blocks, block_at(page, step, i, at)) {
+            continue;
+        }
+        named += 1;
+    }
+    named
 }
 
 // The number in the four bytes of an entry from a place on.

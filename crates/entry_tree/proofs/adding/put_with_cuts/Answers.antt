@@ -1,11 +1,11 @@
-use Rattle.std.proofs.Common.{◌≡◌, ◌<◌, ℕ, arith, refl, subst, sym, ap, reverse, length, get_or, inl, inr}
+use Rattle.std.proofs.Common.{reverse, inr}
 use Rattle.store_api.proofs.RunsOverPagesLemmas.{runs_then, runs_on, runs_wider, runs_exit}
 use Rattle.store_api.specs.RunsOverPages.{RunsOverPages}
 use Rattle.std.specs.Prelude.{None}
 use Rattle.entry_tree.specs.Forest.{Forest}
 use Rattle.entry_tree.specs.HeldTrees.{nodes_in}
-use Rattle.entry_tree.specs.Writing.{IsCutPage, EitherPage, IsReadyToCut, BreaksWhere}
-use Rattle.entry_tree.proofs.UnderWayLemmas.{ready_full, ready_begins, wrote_claimed, wrote_cut}
+use Rattle.entry_tree.specs.Writing.{IsCutPage, IsReadyToCut, BreaksWhere}
+use Rattle.entry_tree.proofs.UnderWayLemmas.{ready_full, ready_begins, wrote_cut}
 use Rattle.entry_tree.proofs.adding.put_with_cuts.Goals as goal
 
 pub returns-in_err-cut_leaf-clause-runs : goal.returns-in_err-cut_leaf-clause-runs

@@ -1,4 +1,4 @@
-use Rattle.std.proofs.Common.{◌≡◌, ap, sym, ◌∙◌, refl, arith, true, false}
+use Rattle.std.proofs.Common.{◌≡◌, ap, sym, ◌∙◌, arith, true, false}
 use Rattle.std.specs.Result.{is_ok}
 use Rattle.store_api.proofs.RunsOverPagesLemmas.{runs_edit, runs_none, runs_wider}
 use Rattle.entry_tree.proofs.SlotsLemmas.{breaks_at, past_slot, runs_slot}

@@ -1,9 +1,10 @@
 use Rattle.std.proofs.Common.{◌≡◌, ◌<◌, None, List, length, All}
 use Rattle.store_api.specs.RunsOverPages.{RunsOverPages}
-use Rattle.extent_map.specs.Map.{HoldsMap, IsSpacePage}
+use Rattle.extent_map.specs.Damages.{BreaksSpace}
+use Rattle.extent_map.specs.Map.{HoldsMap, IsSpacePage, BringsZeros, KeepsMapForm}
 use Rattle.extent_map.specs.Owners.{IsSameShape}
 use Rattle.extent_map.specs.declared.kind.Kind.{Kind}
-use Rattle.entry_tree.specs.Standing.{ClaimsPages, IsWholeCount, BreaksAtClaim}
+use Rattle.entry_tree.specs.Standing.{ClaimsPages, GrowsWith}
 use Rattle.entry_tree.proofs.claims.claim_pages.Given as goal
 
 abbrev pub invariant-loop-i : goal.invariant-loop-i
@@ -11,7 +12,9 @@ invariant-loop-i g l = record {
   many : length l.claimed.items ≡ l.i;
   there : All (λ p. p < length (g.P.Pages.state l.pages).work) l.claimed.items;
   claims : (owners : List Kind) → HoldsMap g.P.Pages l.fn.ext l.fn.pages owners → ClaimsPages g.P.Pages l.fn.ext l.ext l.pages owners l.claimed.items;
+  grows : GrowsWith g.P.Pages l.fn.ext l.fn.pages l.pages l.claimed.items;
+  zeros : BringsZeros g.P.Pages (IsSpacePage l.fn.ext) l.fn.pages l.pages;
+  forms : KeepsMapForm g.P.Pages l.fn.ext l.fn.pages l.pages;
   shape : IsSameShape l.fn.ext l.ext;
-  whole : IsWholeCount g.P.Pages l.fn.ext l.fn.pages → IsWholeCount g.P.Pages l.fn.ext l.pages;
-  runs : RunsOverPages g.P.Pages (IsSpacePage l.fn.ext) (IsSpacePage l.fn.ext) (BreaksAtClaim g.P.Pages l.fn.ext l.fn.pages) l.fn.pages l.pages None;
+  runs : RunsOverPages g.P.Pages (IsSpacePage l.fn.ext) (IsSpacePage l.fn.ext) (BreaksSpace g.P.Pages l.fn.ext l.fn.pages) l.fn.pages l.pages None;
 }

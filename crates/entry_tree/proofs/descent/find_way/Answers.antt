@@ -1,4 +1,4 @@
-use Rattle.std.proofs.Common.{◌≡◌, arith, refl, subst, ◌∙◌, sym, ap, reverse, rules, length, inl, inr, ◌<◌}
+use Rattle.std.proofs.Common.{◌≡◌, arith, subst, ◌∙◌, rules, length, inl, inr, ◌<◌}
 use Rattle.std.proofs.lemmas.Bool.{cases_lt}
 use Rattle.std.proofs.lemmas.List.Elements.{All-push}
 use Rattle.store_api.proofs.RunsOverPagesLemmas.{runs_more, runs_exit, runs_memory}

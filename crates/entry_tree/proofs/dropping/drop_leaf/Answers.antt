@@ -1,10 +1,9 @@
-use Rattle.std.proofs.Common.{◌≡◌, ◌≢◌, ℕ, List, Option, None, Some, inl, inr, subst, sym}
+use Rattle.std.proofs.Common.{◌≡◌, None, Some, inl, inr, subst, sym}
 use Rattle.store_api.specs.RunsOverPages.{RunsOverPages}
 use Rattle.store_api.proofs.RunsOverPagesLemmas.{runs_exit, runs_on, runs_then, runs_wider}
-use Rattle.extent_map.specs.declared.kind.Kind.{Kind}
 use Rattle.extent_map.specs.Owners.{without_page}
 use Rattle.entry_tree.specs.HeldTrees.{nodes_in}
-use Rattle.entry_tree.specs.Pruning.{BreaksDrop, HasBeside, IsDroppable, IsDropLook, IsDropPage}
+use Rattle.entry_tree.specs.Pruning.{BreaksDrop, HasBeside, IsDropLook, IsDropPage}
 use Rattle.entry_tree.proofs.DropRunsLemmas.{all_same, breaks_where, drop_expects, drop_expects_more, drop_expects_other, drops_none, drops_some, giving, leaf_used, map_stands, on_ok_both, other_look, other_used}
 use Rattle.entry_tree.proofs.ReturnedPagesLemmas.{map_page-shape, used_beside, used-shape}
 use Rattle.entry_tree.proofs.dropping.drop_leaf.Goals as goal
@@ -12,7 +11,7 @@ use Rattle.entry_tree.proofs.dropping.drop_leaf.Goals as goal
 pub returns-in_err-other_child-clause-runs : goal.returns-in_err-other_child-clause-runs
 returns-in_err-other_child-clause-runs g c =
     runs_exit c.from_residual.result c.from_residual.ensures.1
-    (runs_wider c.in_err-other_child.ensures.runs (λ p there none. absurd none) (λ p is. inl (inl is)) (λ damage b. inl (breaks_where b drop_expects)))
+    (runs_wider c.in_err-other_child.ensures.runs (λ p there none. absurd none) (λ p is. inl (inl is)) (λ damage b. inl (breaks_where b (drop_expects g.P.Pages c.args.pages.now c.args.tree.now c.args.leaf c.args.page c.args.at))))
 
 pub returns-in_err-take_from_inner-in-None-clause-runs : goal.returns-in_err-take_from_inner-in-None-clause-runs
 returns-in_err-take_from_inner-in-None-clause-runs g c =
@@ -22,7 +21,7 @@ returns-in_err-take_from_inner-in-None-clause-runs g c =
     (BreaksDrop g.P.Pages c.args.ext.now c.args.pages.now c.args.tree.now c.args.leaf c.args.page c.args.at) c.args.pages.now c.other_child.new.pages None =
     runs_wider (runs_on c.in_ok-other_child.ensures.runs) (λ p there none. absurd none) (λ p is. inl (inl is)) (λ damage b. b) in
     runs_exit c.from_residual-in_err-take_from_inner-in-None.result c.from_residual-in_err-take_from_inner-in-None.ensures.1
-    (runs_then start c.in_err-take_from_inner-in-None.ensures.runs (λ p there is. inl is) (λ p is. inl (inl is)) (λ damage b. inl (breaks_where b (drop_expects_more c.other_child.new.pages (all_same c.args.tree.now.width c.in_ok-other_child.ensures.runs c.other_child.ensures.same c.args.page) beside))))
+    (runs_then start c.in_err-take_from_inner-in-None.ensures.runs (λ p there is. inl is) (λ p is. inl (inl is)) (λ damage b. inl (breaks_where b (drop_expects_more g.P.Pages c.args.pages.now c.args.tree.now c.args.leaf c.args.page c.args.at c.other_child.new.pages (all_same c.args.tree.now.width c.in_ok-other_child.ensures.runs c.other_child.ensures.same c.args.page) beside))))
 
 pub returns-in_ok-take_from_inner-in-None-clause-drops : goal.returns-in_ok-take_from_inner-in-None-clause-drops
 returns-in_ok-take_from_inner-in-None-clause-drops g c =
@@ -56,7 +55,7 @@ returns-in_err-take_content-in-Some-clause-runs g c =
     runs_exit c.from_residual-in_err-take_content-in-Some.result c.from_residual-in_err-take_content-in-Some.ensures.1
     (runs_then start c.in_err-take_content-in-Some.ensures.runs (λ p there is. inl is)
     (λ p is. inr (other_look (nodes_in c.args.tree.now.width (g.P.Pages.state c.args.pages.now) c.args.page) c.args.at c.in-Some.other p beside is))
-    (λ damage b. inl (breaks_where b (drop_expects_other c.other_child.new.pages c.in-Some.other (all_same c.args.tree.now.width c.in_ok-other_child.ensures.runs c.other_child.ensures.same c.in-Some.other) beside))))
+    (λ damage b. inl (breaks_where b (drop_expects_other g.P.Pages c.args.pages.now c.args.tree.now c.args.leaf c.args.page c.args.at c.other_child.new.pages c.in-Some.other (all_same c.args.tree.now.width c.in_ok-other_child.ensures.runs c.other_child.ensures.same c.in-Some.other) beside))))
 
 pub returns-in_err-give_page-in-Some-clause-runs : goal.returns-in_err-give_page-in-Some-clause-runs
 returns-in_err-give_page-in-Some-clause-runs g c =

@@ -1,10 +1,6 @@
-use Rattle.std.proofs.Common.{ap, inl, inr, Ok, Err, ◌∙◌, sym}
-use Rattle.std.specs.Prelude.{None}
+use Rattle.std.proofs.Common.{ap, inr, Ok, Err}
 use Rattle.std.specs.Result.{is_ok}
-use Rattle.store_api.specs.RunsOverPages.{RunsOverPages}
-use Rattle.store_api.proofs.RunsOverPagesLemmas.{runs_on, runs_wider, runs_more, runs_edit, runs_write, runs_exit}
-use Rattle.entry_tree.specs.HeldTrees.{nodes_in}
-use Rattle.entry_tree.specs.Writing.{EitherPage, BreaksWhere, IsLeafWith}
+use Rattle.store_api.proofs.RunsOverPagesLemmas.{runs_more, runs_write, runs_exit}
 use Rattle.entry_tree.proofs.UnderWayLemmas.{runs_not_so}
 use Rattle.entry_tree.proofs.EditsLemmas.{edit_cuts, lent_leaf, never, edited_either, still_below}
 use Rattle.entry_tree.proofs.edits.cut_leaf.Goals as goal

@@ -1,6 +1,6 @@
-use Rattle.std.proofs.Common.{ap, inl, inr, Ok, Err, sym}
+use Rattle.std.proofs.Common.{ap, inl, inr, Ok}
 use Rattle.std.specs.Result.{is_ok}
-use Rattle.store_api.proofs.RunsOverPagesLemmas.{runs_wider, runs_more, runs_edit, runs_write}
+use Rattle.store_api.proofs.RunsOverPagesLemmas.{runs_more, runs_edit, runs_write}
 use Rattle.entry_tree.proofs.EditsLemmas.{brought_either}
 use Rattle.entry_tree.proofs.edits.raise.Goals as goal
 

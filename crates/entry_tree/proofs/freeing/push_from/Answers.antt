@@ -1,4 +1,4 @@
-use Rattle.std.proofs.Common.{◌≡◌, ◌++◌, ◌+◌, ◌∷◌, [], sym, ◌∙◌, ap, arith, append_assoc, get_or, List, ℕ}
+use Rattle.std.proofs.Common.{◌++◌, ◌∷◌, [], sym, ◌∙◌, ap, arith, append_assoc, get_or, List, ℕ}
 use Rattle.std.proofs.lemmas.List.FromFn.{map-range_with_len_more}
 use Rattle.mdc_words.specs.Listed.{listed}
 use Rattle.node_page.specs.Looked.{children_in}

@@ -1,14 +1,13 @@
-use Rattle.std.proofs.Common.{◌≡◌, ◌<◌, ◌≤◌, ◌+◌, ℕ, List, [], ◌∷◌, ◌++◌, arith, refl, subst, ◌∙◌, sym, ap, reverse, rules, length, get_or, inl, inr}
+use Rattle.std.proofs.Common.{◌<◌, arith, ◌∙◌, rules, length}
 use Rattle.std.proofs.lemmas.Result.{on_ok_weaker}
 use Rattle.store_api.proofs.RunsOverPagesLemmas.{runs_then, runs_more, runs_exit}
-use Rattle.entry_tree.specs.Writing.{IsPathPage, IsWrittenPage}
-use Rattle.entry_tree.proofs.UnderWayLemmas.{under_room, under_full, under_other, under_end, under_on, under_last, under_top, under_told, under_root, none_left, last_there, front_on, last_on, claimed_at, runs_not_so, wrote_above, wrote_both, wrote_top}
+use Rattle.entry_tree.proofs.UnderWayLemmas.{under_room, under_full, under_other, under_end, under_on, under_last, under_top, under_told, under_root, none_left, last_there, front_on, last_on, runs_not_so, wrote_above, wrote_both, wrote_top}
 use Rattle.entry_tree.proofs.going_up.go_up.Goals as goal
 
 pub returns-then-used-claimed-clause-adds : goal.returns-then-used-claimed-clause-adds
 returns-then-used-claimed-clause-adds g c old t x u =
     on_ok_weaker c.put_in_inner.result
-    (λ put. under_end c.pop.new.self.items c.in-Some.page c.in-Some.at (c.loop-page.invariant.under old t x u) c.in-Some.ensures.items put) c.put_in_inner.ensures.put
+    (λ put. under_end c.pop.new.self.items c.in-Some.page c.in-Some.at (c.loop-page.invariant.under old t x u) c.in-Some.ensures.items c.if-used-claimed.true put) c.put_in_inner.ensures.put
 
 pub returns-then-used-claimed-clause-runs : goal.returns-then-used-claimed-clause-runs
 returns-then-used-claimed-clause-runs g c =

@@ -1,4 +1,3 @@
-use Rattle.entry_tree.proofs.RemovalLemmas.{removes_here}
 use Rattle.std.proofs.Common.{length, ◌<◌}
 use Rattle.entry_tree.proofs.LeafSpotsLemmas.{last_holds, none_left, seen_spot}
 use Rattle.entry_tree.proofs.leaf_spot.leaf_spot.Goals as goal

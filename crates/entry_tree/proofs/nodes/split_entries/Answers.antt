@@ -1,4 +1,4 @@
-use Rattle.std.proofs.Common.{◌≡◌, ◌≤◌, ◌++◌, ◌∙◌, sym, ap, arith, length, Option, Some, Bool, ℕ}
+use Rattle.std.proofs.Common.{◌≡◌, ◌≤◌, ◌∙◌, sym, ap, arith, length}
 use Rattle.std.proofs.lemmas.Option.{same_Some}
 use Rattle.entry_tree.proofs.SplitsLemmas.{splits_leaf, full_some}
 use Rattle.entry_tree.proofs.nodes.split_entries.Goals as goal

@@ -1,4 +1,4 @@
-use Rattle.std.proofs.Common.{◌≡◌, ◌≤◌, ◌++◌, ◌∙◌, sym, ap, arith, length, Option, Some, Bool, ℕ}
+use Rattle.std.proofs.Common.{◌≡◌, ◌≤◌, ◌∙◌, sym, ap, arith, length}
 use Rattle.std.proofs.lemmas.Option.{same_Some}
 use Rattle.entry_tree.proofs.SplitsLemmas.{splits_inner, full_three}
 use Rattle.entry_tree.proofs.nodes.split_separators.Goals as goal

@@ -1,4 +1,4 @@
-use Rattle.std.proofs.Common.{◌≡◌, ◌≤◌, ◌+◌, ◌-◌, ◌*◌, arith, ap, sym, subst, ◌∙◌, length, List, ℕ, Some}
+use Rattle.std.proofs.Common.{◌≡◌, ◌+◌, ◌-◌, ◌*◌, arith, ap, subst, ◌∙◌, length, List, ℕ}
 use Rattle.std.proofs.lemmas.Result.{on_ok_weaker}
 use Rattle.node_page.specs.Node.{bytes_in, node_of}
 use Rattle.node_page.specs.Node.Node.{LeafNode}

@@ -1,12 +1,11 @@
-use Rattle.std.proofs.Common.{◌≡◌, ◌<◌, ◌∙◌, ℕ, List, [], Option, None, Some, IfSome, arith, get_or, length, refl, subst, sym}
+use Rattle.std.proofs.Common.{◌<◌, ℕ, List, Option, None, Some, IfSome, arith, length, refl, subst, sym}
 use Rattle.std.proofs.lemmas.Result.{on_ok_weaker}
-use Rattle.mdc_words.specs.ByteOrder.{Entry}
 use Rattle.store_api.specs.RunsOverPages.{RunsOverPages}
 use Rattle.store_api.proofs.RunsOverPagesLemmas.{runs_exit, runs_on, runs_then, runs_wider}
 use Rattle.entry_tree.specs.Forest.{Forest}
 use Rattle.entry_tree.specs.HeldTrees.{nodes_in, HoldsTree}
 use Rattle.entry_tree.specs.LeafSpots.{IsItemSpot, IsParent}
-use Rattle.entry_tree.specs.Pruning.{BreaksTreeOrReturn, IsTreeOrMapPage, RemovesEntry}
+use Rattle.entry_tree.specs.Pruning.{BreaksTreeOrReturn, IsTreeOrMapPage}
 use Rattle.entry_tree.proofs.HeldTreesLemmas.{nodes_same}
 use Rattle.entry_tree.proofs.RemovalLemmas.{breaks_drop, breaks_unmet, item_leaf, only_drop, only_leaf, only_look, removes_drop, removes_here, root_alone, same_item, some_kept, leaf_as}
 use Rattle.entry_tree.proofs.removing.take_out.Goals as goal
@@ -23,13 +22,13 @@ returns-in_default-clause-takes g c =
 pub returns-in_default-clause-runs : goal.returns-in_default-clause-runs
 returns-in_default-clause-runs g c =
     runs_wider c.take_from_leaf.ensures.runs (λ p there is. only_leaf c.requires.spot is) (λ p is. only_leaf c.requires.spot is)
-    (λ damage b. breaks_unmet b (λ owners t st. item_leaf (c.requires.spot t st.held)))
+    (λ damage b. breaks_unmet b (λ t h. item_leaf (c.requires.spot t h)))
 
 pub returns-in_err-len-clause-runs : goal.returns-in_err-len-clause-runs
 returns-in_err-len-clause-runs g c =
     runs_exit c.from_residual.result c.from_residual.ensures.1
     (runs_wider c.in_err-len.ensures.runs (λ p there none. absurd none) (λ p is. only_leaf c.requires.spot is)
-    (λ damage b. breaks_unmet b (λ owners t st. let sp = c.requires.spot t st.held in (sp.items, sp.leaf))))
+    (λ damage b. breaks_unmet b (λ t h. let sp = c.requires.spot t h in (sp.items, sp.leaf))))
 
 pub returns-then-len-gt1-clause-takes : goal.returns-then-len-gt1-clause-takes
 returns-then-len-gt1-clause-takes g c =
@@ -46,9 +45,9 @@ returns-then-len-gt1-clause-runs g c =
     (BreaksTreeOrReturn g.P.Pages c.args.ext.now c.args.pages.now c.args.tree.now) c.args.pages.now c.leaf_len.new.pages None =
     runs_wider (runs_on c.in_ok-len.ensures.runs) (λ p there none. absurd none) (λ p is. only_leaf c.requires.spot is) (λ damage b. b) in
     runs_then start c.take_from_leaf-then-len-gt1.ensures.runs (λ p there is. only_leaf c.requires.spot is) (λ p is. only_leaf c.requires.spot is)
-    (λ damage b. breaks_unmet b (λ owners t st.
+    (λ damage b. breaks_unmet b (λ t h.
     leaf_as (nodes_same c.args.tree.now.width (g.P.Pages.state c.args.pages.now) (g.P.Pages.state c.leaf_len.new.pages) c.args.spot.page c.in_ok-len.ensures.runs.works.steady.is_told c.leaf_len.ensures.same)
-    (item_leaf (c.requires.spot t st.held))))
+    (item_leaf (c.requires.spot t h))))
 
 pub drop_leaf-requires-clause-within : goal.drop_leaf-requires-clause-within
 drop_leaf-requires-clause-within g c =

@@ -1,8 +1,4 @@
-use Rattle.std.proofs.Common.{◌≡◌, ◌∙◌, sym, refl, IsTrue}
-use Rattle.std.proofs.lemmas.Option.{same_Some}
-use Rattle.store_api.specs.StoreState.{page_at}
-use Rattle.entry_tree.specs.HeldTrees.{nodes_in}
-use Rattle.entry_tree.proofs.SightOfLemmas.{look_sees, look_misses, hand_is}
+use Rattle.entry_tree.proofs.SightOfLemmas.{look_sees, hand_is}
 use Rattle.entry_tree.proofs.sight.see.Goals as goal
 
 pub returns-clause-sees : goal.returns-clause-sees

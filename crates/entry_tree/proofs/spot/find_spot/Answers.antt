@@ -1,13 +1,7 @@
-use Rattle.std.proofs.Common.{◌≡◌, ◌+◌, ℕ, List, arith, refl, subst, ◌∙◌, sym, None}
-use Rattle.store_api.specs.RunsOverPages.{RunsOverPages}
-use Rattle.store_api.specs.Frame.{NoPage}
+use Rattle.std.proofs.Common.{arith, refl, subst, ◌∙◌}
 use Rattle.store_api.proofs.RunsOverPagesLemmas.{runs_more, runs_exit, runs_none}
-use Rattle.node_page.specs.Node.{Node}
-use Rattle.node_page.specs.Node.Node.{LeafNode}
-use Rattle.entry_tree.specs.Forest.{Forest}
-use Rattle.entry_tree.specs.HeldTrees.{nodes_in, HoldsTree, IsTreePage, BreaksTree}
-use Rattle.entry_tree.specs.Spots.{Passes, PassedFits, LendsLeaf}
-use Rattle.entry_tree.specs.TreePlaces.{IsOnWay}
+use Rattle.entry_tree.specs.HeldTrees.{nodes_in}
+use Rattle.entry_tree.specs.Spots.{MeetsOnWay, PassedFits}
 use Rattle.entry_tree.specs.declared.spot.Passed.{Passed}
 use Rattle.entry_tree.specs.declared.spot.Passed.TheVariants.{NoNodeThere, LeafThere, ChildThere}
 use Rattle.entry_tree.proofs.HeldTreesLemmas.{nodes_same}
@@ -20,6 +14,7 @@ loop-step-init g c = record {
   way = λ t h. passed_begins _ c.args.tree.now.root t c.args.entry.now h.is_tree;
   low = tt;
   high = tt;
+  parent = tt;
   same = refl;
   runs = runs_none;
 }
@@ -38,12 +33,12 @@ returns-in-NoNodeThere-clause-runs g c =
     runs_broken _ _ c.damaged-in-NoNodeThere.ensures
     (runs_more c.loop-step.invariant.runs c.in_ok-pass.ensures.runs (λ p there none. absurd none) (λ p is. only_way (λ t h. (c.loop-step.invariant.way t h).way) is))
     (λ t h. passes_on h (c.loop-step.invariant.way t h) c.loop-step.invariant.runs.works.steady c.loop-step.invariant.same NoNodeThere
-    (subst (λ (s : Passed). Passes (nodes_in c.args.tree.now.width (g.P.Pages.state c.loop-step.pages) c.loop-step.page) c.loop-step.page c.args.entry.now s) c.in-NoNodeThere.is c.in_ok-pass.ensures.passes))
+    (subst (λ (s : Passed). MeetsOnWay (nodes_in c.args.tree.now.width (g.P.Pages.state c.loop-step.pages) c.loop-step.page) c.loop-step.page c.args.entry.now s) c.in-NoNodeThere.is c.in_ok-pass.ensures.passes))
 
 pub returns-in-LeafThere-clause-found : goal.returns-in-LeafThere-clause-found
 returns-in-LeafThere-clause-found g c t h =
     passes_on h (c.loop-step.invariant.way t h) c.loop-step.invariant.runs.works.steady c.loop-step.invariant.same (LeafThere c.in-LeafThere.at c.in-LeafThere.there)
-    (subst (λ (s : Passed). Passes (nodes_in c.args.tree.now.width (g.P.Pages.state c.loop-step.pages) c.loop-step.page) c.loop-step.page c.args.entry.now s) c.in-LeafThere.is c.in_ok-pass.ensures.passes)
+    (subst (λ (s : Passed). MeetsOnWay (nodes_in c.args.tree.now.width (g.P.Pages.state c.loop-step.pages) c.loop-step.page) c.loop-step.page c.args.entry.now s) c.in-LeafThere.is c.in_ok-pass.ensures.passes)
 
 pub returns-in-LeafThere-clause-lent : goal.returns-in-LeafThere-clause-lent
 returns-in-LeafThere-clause-lent g c items e =
@@ -56,14 +51,15 @@ returns-in-LeafThere-clause-runs g c =
 
 pub loop-step-preserved : goal.loop-step-preserved
 loop-step-preserved g c =
-    let fits : PassedFits c.args.tree.now.width (ChildThere c.in-ChildThere.child c.in-ChildThere.before c.in-ChildThere.behind) =
+    let fits : PassedFits c.args.tree.now.width (ChildThere c.in-ChildThere.at c.in-ChildThere.child c.in-ChildThere.before c.in-ChildThere.behind) =
     subst (PassedFits c.args.tree.now.width) c.in-ChildThere.is c.in_ok-pass.ensures.fits in
     record {
       way = λ t h. passed_as c.nearer-low.ensures c.nearer-high.ensures
-          (passes_on h (c.loop-step.invariant.way t h) c.loop-step.invariant.runs.works.steady c.loop-step.invariant.same (ChildThere c.in-ChildThere.child c.in-ChildThere.before c.in-ChildThere.behind)
-          (subst (λ (s : Passed). Passes (nodes_in c.args.tree.now.width (g.P.Pages.state c.loop-step.pages) c.loop-step.page) c.loop-step.page c.args.entry.now s) c.in-ChildThere.is c.in_ok-pass.ensures.passes));
+          (passes_on h (c.loop-step.invariant.way t h) c.loop-step.invariant.runs.works.steady c.loop-step.invariant.same (ChildThere c.in-ChildThere.at c.in-ChildThere.child c.in-ChildThere.before c.in-ChildThere.behind)
+          (subst (λ (s : Passed). MeetsOnWay (nodes_in c.args.tree.now.width (g.P.Pages.state c.loop-step.pages) c.loop-step.page) c.loop-step.page c.args.entry.now s) c.in-ChildThere.is c.in_ok-pass.ensures.passes));
       low = rw c.nearer-low.ensures (fits_nearer c.args.tree.now.width c.in-ChildThere.before c.loop-step.low fits.0 c.loop-step.invariant.low);
       high = rw c.nearer-high.ensures (fits_nearer c.args.tree.now.width c.in-ChildThere.behind c.loop-step.high fits.1 c.loop-step.invariant.high);
+      parent = omega (arith, c.if-page-count.false, c.count-count.ensures);
       same = c.pass.ensures.same ∙ c.loop-step.invariant.same;
       runs = runs_more c.loop-step.invariant.runs c.in_ok-pass.ensures.runs (λ p there none. absurd none) (λ p is. only_way (λ t h. (c.loop-step.invariant.way t h).way) is);
     }

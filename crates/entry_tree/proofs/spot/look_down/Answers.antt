@@ -1,4 +1,4 @@
-use Rattle.std.proofs.Common.{◌≡◌, sym, ◌∙◌}
+use Rattle.std.proofs.Common.{sym, ◌∙◌}
 use Rattle.entry_tree.proofs.PassedLemmas.{inner_passed, leaf_passed}
 use Rattle.entry_tree.proofs.spot.look_down.Goals as goal
 

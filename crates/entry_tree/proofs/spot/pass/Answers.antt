@@ -1,4 +1,4 @@
-use Rattle.std.proofs.Common.{◌≡◌, IsTrue, refl, Some}
+use Rattle.std.proofs.Common.{refl}
 use Rattle.store_api.specs.StoreState.{page_at}
 use Rattle.entry_tree.proofs.PassedLemmas.{passes_told, same_some}
 use Rattle.entry_tree.proofs.spot.pass.Goals as goal

@@ -1,4 +1,4 @@
-use Rattle.std.proofs.Common.{rules, ℕ, List, ◌-◌, ◌≡◌, ◌≤◌, ◌+◌, ◌*◌, ◌<◌, ap, sym, ◌∙◌, [], arith, length, get_or, take, drop}
+use Rattle.std.proofs.Common.{rules, ℕ, List, ◌-◌, ◌≡◌, ◌+◌, ◌*◌, ap, sym, ◌∙◌, [], arith, length, get_or, take, drop}
 use Rattle.mdc_words.proofs.ListedLemmas.{get_or-listed, length-listed}
 use Rattle.node_page.specs.Node.{bytes_in}
 use Rattle.entry_tree.proofs.StringsLemmas.{row_end}

@@ -1,5 +1,5 @@
-use Rattle.std.proofs.Common.{◌≡◌, ◌+◌, ◌*◌, ◌++◌, ◌∷◌, ◌∙◌, ap, [], List, ℕ, arith, length, length-append, sym}
-use Rattle.std.proofs.Math.Nat.{le-mul_of_pos_right, suc-mul}
+use Rattle.std.proofs.Common.{◌≡◌, ◌+◌, ◌*◌, ◌++◌, ◌∷◌, ◌∙◌, ap, [], List, ℕ, arith, length}
+use Rattle.std.proofs.Math.Nat.{suc-mul}
 use Rattle.entry_tree.specs.Entries.{strings_in, AreOfWidth}
 use Rattle.entry_tree.proofs.StringsLemmas.{length-push, strings_in-push}
 use Rattle.entry_tree.proofs.entries.Entries.push.Goals as goal

@@ -1,14 +1,14 @@
-use Rattle.std.proofs.Common.{◌≡◌, ◌<◌, ℕ, List, arith, refl, subst, sym, ap, ◌∙◌, reverse, length, inl, inr, Bool, true, false}
+use Rattle.std.proofs.Common.{List, subst, sym, ap, ◌∙◌, reverse, length, inl, inr}
 use Rattle.std.specs.Prelude.{None}
 use Rattle.store_api.specs.RunsOverPages.{RunsOverPages}
 use Rattle.store_api.proofs.RunsOverPagesLemmas.{runs_then, runs_exit_as}
 use Rattle.extent_map.specs.Damages.{store_part_of}
 use Rattle.extent_map.specs.Map.{HoldsMap}
 use Rattle.extent_map.specs.declared.kind.Kind.{Kind}
-use Rattle.entry_tree.specs.Standing.{ClaimsPages, IsTreeSpace, BreaksTreeOrMap}
+use Rattle.entry_tree.specs.Standing.{ClaimsPages, GrowsWith, IsTreeSpace, BreaksTreeOrMap}
 use Rattle.entry_tree.proofs.GoingDownLemmas.{found_in}
 use Rattle.entry_tree.proofs.ClaimsLemmas.{if_err_by}
-use Rattle.entry_tree.proofs.AddingLemmas.{way_runs, here_in_space, room_breaks, adds_here_found, full_found, claim_breaks, cuts_in_space, cuts_break, adds_with_cuts}
+use Rattle.entry_tree.proofs.AddingLemmas.{way_runs, here_in_space, room_breaks, adds_here_found, full_found, claim_breaks, cuts_in_space, cuts_break, adds_with_cuts, root_along, root_here, root_same, root_with_cuts}
 use Rattle.entry_tree.proofs.tree.Tree.add.Goals as goal
 
 pub returns-then-there-clause-adds : goal.returns-then-there-clause-adds
@@ -30,7 +30,7 @@ returns-then-asked-eq0-clause-adds g c owners t s =
     let way = c.in_ok-path.field-0 in
     adds_here_found c.args.ext.now c.args.pages.now c.find_way.new.pages c.put_in_leaf.new.pages c.args.self.now c.args.entry.now owners t (reverse way.path.items) way.page way.at way.asked way.there c.in_ok-path.ensures.found
     c.if-there.false c.if-asked-eq0.true s c.in_ok-path.ensures.runs.touches c.in_ok-path.ensures.runs.works.steady c.in_ok-path.ensures.same
-    c.in_ok-put_in_leaf.ensures.runs.touches c.in_ok-put_in_leaf.ensures.runs.works.steady c.in_ok-put_in_leaf.ensures.runs.works.no_shorter c.in_ok-put_in_leaf.ensures.put
+    c.in_ok-put_in_leaf.ensures.runs.touches c.in_ok-put_in_leaf.ensures.runs.works.steady c.put_in_leaf.ensures.count c.in_ok-put_in_leaf.ensures.put
 
 pub returns-then-asked-eq0-clause-runs : goal.returns-then-asked-eq0-clause-runs
 returns-then-asked-eq0-clause-runs g c =
@@ -45,8 +45,8 @@ pub returns-in_err-claimed-clause-full : goal.returns-in_err-claimed-clause-full
 returns-in_err-claimed-clause-full g c =
     let way = c.in_ok-path.field-0 in
     if_err_by c.from_residual-in_err-claimed.result c.in_err-claimed.field-0.0 _ c.from_residual-in_err-claimed.ensures.1
-    (full_found c.args.ext.now c.args.pages.now c.find_way.new.pages c.args.self.now c.args.entry.now (reverse way.path.items) way.page way.at way.asked way.there c.in_err-claimed.field-0.0 c.in_ok-path.ensures.found
-    c.in_ok-path.ensures.runs c.in_err-claimed.ensures.full)
+    (full_found c.args.ext.now c.claim_pages.new.ext c.args.pages.now c.find_way.new.pages c.claim_pages.new.pages c.args.self.now c.args.entry.now (reverse way.path.items) way.page way.at way.asked way.there c.in_err-claimed.field-0.0 c.in_ok-path.ensures.found
+    c.in_ok-path.ensures.runs c.if-there.false c.in_ok-path.ensures.same c.claim_pages.ensures.shape c.claim_pages.ensures.runs.touches c.claim_pages.ensures.runs.works.steady c.claim_pages.ensures.zeros c.in_err-claimed.ensures.full)
 
 pub returns-in_err-claimed-clause-runs : goal.returns-in_err-claimed-clause-runs
 returns-in_err-claimed-clause-runs g c =
@@ -82,7 +82,8 @@ returns-clause-adds g c owners t s =
     λ owners h. subst (λ l. ClaimsPages g.P.Pages c.args.ext.now c.claim_pages.new.ext c.claim_pages.new.pages owners l) (sym c.deref.ensures.value) (c.in_ok-claimed.ensures.claims owners h) in
     adds_with_cuts c.args.ext.now c.claim_pages.new.ext c.args.pages.now c.find_way.new.pages c.claim_pages.new.pages c.put_with_cuts.new.pages c.args.self.now c.args.entry.now owners t way.path.items way.page way.at way.asked way.there
     c.deref.result.now c.in_ok-path.ensures.found c.if-there.false (ap length c.deref.ensures.value ∙ c.in_ok-claimed.ensures.many) c.in_ok-claimed.ensures.shape c.in_ok-path.ensures.runs c.in_ok-claimed.ensures.runs.touches c.in_ok-claimed.ensures.runs.works.steady
-    claims c.in_ok-put_with_cuts.ensures.runs.touches c.in_ok-put_with_cuts.ensures.runs.works.steady c.in_ok-put_with_cuts.ensures.runs.works.no_shorter c.in_ok-put_with_cuts.ensures.adds s
+    claims c.in_ok-path.ensures.same (subst (λ l. GrowsWith g.P.Pages c.args.ext.now c.find_way.new.pages c.claim_pages.new.pages l) (sym c.deref.ensures.value) c.in_ok-claimed.ensures.grows) c.claim_pages.ensures.zeros
+    c.in_ok-put_with_cuts.ensures.runs.touches c.in_ok-put_with_cuts.ensures.runs.works.steady c.claim_pages.ensures.runs.works.no_shorter c.put_with_cuts.ensures.count c.in_ok-put_with_cuts.ensures.adds s
 
 pub returns-clause-runs : goal.returns-clause-runs
 returns-clause-runs g c =
@@ -102,3 +103,40 @@ returns-clause-runs g c =
     (λ damage breaks. cuts_break c.args.ext.now c.claim_pages.new.ext c.args.pages.now c.find_way.new.pages c.claim_pages.new.pages c.args.self.now c.args.entry.now (reverse way.path.items) way.page way.at way.asked way.there
     c.deref.result.now damage c.in_ok-path.ensures.found c.if-there.false (ap length c.deref.ensures.value ∙ c.in_ok-claimed.ensures.many) c.in_ok-path.ensures.runs c.in_ok-claimed.ensures.runs.touches c.in_ok-claimed.ensures.runs.works.steady
     claims breaks)
+
+pub returns-in_err-path-clause-root : goal.returns-in_err-path-clause-root
+returns-in_err-path-clause-root g c owners t s = root_same c.find_way.ensures.runs.works.steady.is_told c.find_way.ensures.same
+
+pub returns-then-there-clause-root : goal.returns-then-there-clause-root
+returns-then-there-clause-root g c owners t s = root_same c.find_way.ensures.runs.works.steady.is_told c.find_way.ensures.same
+
+pub returns-in_err-put_in_leaf-clause-root : goal.returns-in_err-put_in_leaf-clause-root
+returns-in_err-put_in_leaf-clause-root g c owners t s =
+    let way = c.in_ok-path.field-0 in
+    root_here c.args.ext.now c.args.pages.now c.find_way.new.pages c.put_in_leaf.new.pages c.args.self.now c.args.entry.now owners t (reverse way.path.items) way.page way.at way.asked way.there c.in_ok-path.ensures.found s
+    c.find_way.ensures.runs.works.steady.is_told c.find_way.ensures.same c.put_in_leaf.ensures.runs.touches
+
+pub returns-then-asked-eq0-clause-root : goal.returns-then-asked-eq0-clause-root
+returns-then-asked-eq0-clause-root g c owners t s =
+    let way = c.in_ok-path.field-0 in
+    root_here c.args.ext.now c.args.pages.now c.find_way.new.pages c.put_in_leaf.new.pages c.args.self.now c.args.entry.now owners t (reverse way.path.items) way.page way.at way.asked way.there c.in_ok-path.ensures.found s
+    c.find_way.ensures.runs.works.steady.is_told c.find_way.ensures.same c.put_in_leaf.ensures.runs.touches
+
+pub returns-in_err-claimed-clause-root : goal.returns-in_err-claimed-clause-root
+returns-in_err-claimed-clause-root g c owners t s = root_along c.find_way.ensures.runs.works.steady.is_told c.find_way.ensures.same c.claim_pages.ensures.root
+
+pub returns-in_err-put_with_cuts-clause-root : goal.returns-in_err-put_with_cuts-clause-root
+returns-in_err-put_with_cuts-clause-root g c owners t s =
+    let way = c.in_ok-path.field-0 in
+    let claims : (owners : List Kind) → HoldsMap g.P.Pages c.args.ext.now c.find_way.new.pages owners → ClaimsPages g.P.Pages c.args.ext.now c.claim_pages.new.ext c.claim_pages.new.pages owners c.deref.result.now =
+    λ owners h. subst (λ l. ClaimsPages g.P.Pages c.args.ext.now c.claim_pages.new.ext c.claim_pages.new.pages owners l) (sym c.deref.ensures.value) (c.in_ok-claimed.ensures.claims owners h) in
+    root_with_cuts c.args.ext.now c.claim_pages.new.ext c.args.pages.now c.find_way.new.pages c.claim_pages.new.pages c.put_with_cuts.new.pages c.args.self.now c.args.entry.now owners t way.path.items way.page way.at way.asked way.there
+    c.deref.result.now c.in_ok-path.ensures.found c.if-there.false c.in_ok-path.ensures.runs c.in_ok-path.ensures.same claims c.claim_pages.ensures.root c.put_with_cuts.ensures.runs.touches s
+
+pub returns-clause-root : goal.returns-clause-root
+returns-clause-root g c owners t s =
+    let way = c.in_ok-path.field-0 in
+    let claims : (owners : List Kind) → HoldsMap g.P.Pages c.args.ext.now c.find_way.new.pages owners → ClaimsPages g.P.Pages c.args.ext.now c.claim_pages.new.ext c.claim_pages.new.pages owners c.deref.result.now =
+    λ owners h. subst (λ l. ClaimsPages g.P.Pages c.args.ext.now c.claim_pages.new.ext c.claim_pages.new.pages owners l) (sym c.deref.ensures.value) (c.in_ok-claimed.ensures.claims owners h) in
+    root_with_cuts c.args.ext.now c.claim_pages.new.ext c.args.pages.now c.find_way.new.pages c.claim_pages.new.pages c.put_with_cuts.new.pages c.args.self.now c.args.entry.now owners t way.path.items way.page way.at way.asked way.there
+    c.deref.result.now c.in_ok-path.ensures.found c.if-there.false c.in_ok-path.ensures.runs c.in_ok-path.ensures.same claims c.claim_pages.ensures.root c.put_with_cuts.ensures.runs.touches s

@@ -1,9 +1,9 @@
-use Rattle.std.proofs.Common.{◌≡◌, ◌++◌, ◌+◌, ◌∷◌, [], sym, ◌∙◌, ap, arith, subst, refl, None, Some, List, ℕ, inl, inr, length}
+use Rattle.std.proofs.Common.{◌≡◌, ◌++◌, ◌∷◌, [], sym, ◌∙◌, ap, arith, subst, refl, None, List, ℕ, inr, length}
 use Rattle.store_api.specs.RunsOverPages.{RunsOverPages}
 use Rattle.store_api.proofs.RunsOverPagesLemmas.{runs_exit, runs_none, runs_then}
 use Rattle.extent_map.specs.Map.{IsMapPage}
 use Rattle.entry_tree.specs.Freeing.{BreaksFreeing, IsFreeingPage}
-use Rattle.entry_tree.proofs.FreedLemmas.{freeing_breaks_map, freeing_breaks_node, freeing_extent, freeing_kind, freeing_map_page, none_left, not_so, popped, runs_freeing, shape_then}
+use Rattle.entry_tree.proofs.FreedLemmas.{freeing_breaks_map, freeing_breaks_node, freeing_extent, freeing_kind, freeing_map_page, none_left, not_so, popped, runs_freeing, runs_outside, shape_then}
 use Rattle.entry_tree.proofs.FreeingLemmas.{IsFreeing, freeing_begins, freeing_ends, freeing_few, freeing_goes_on}
 use Rattle.entry_tree.proofs.tree.Tree.free_all.Goals as goal
 
@@ -25,7 +25,7 @@ returns-in_default-clause-freed g c owners t h =
 pub returns-then-not-has_page-clause-runs : goal.returns-then-not-has_page-clause-runs
 returns-then-not-has_page-clause-runs g c =
     let items = popped c.loop-step.todo.items c.pop.new.self.items c.pop.result c.in-Some.page c.pop.ensures.items c.in-Some.is in
-    runs_freeing c.damaged.result c.damaged.ensures c.loop-step.invariant.runs
+    runs_outside c.unused_page.result c.unused_page.ensures.1 c.loop-step.invariant.runs
     (λ owners t h. not_so c.has_page.result c.if-not-has_page.true (c.has_page.ensures.1
     (freeing_extent c.loop-step.todo.items c.pop.new.self.items c.in-Some.page c.loop-step.step c.loop-step.invariant.freeing items c.loop-step.invariant.shape owners t h)))
 
@@ -83,7 +83,7 @@ returns-in_default-pop-clause-freed g c owners t h =
 pub returns-clause-runs : goal.returns-clause-runs
 returns-clause-runs g c =
     let items = popped c.loop-step.todo.items c.pop-2.new.self.items c.pop-2.result c.in-Some-pop.field-0 c.pop-2.ensures.items c.in-Some-pop.is in
-    runs_freeing c.damaged-2.result c.damaged-2.ensures c.loop-step.invariant.runs
+    runs_freeing c.damaged.result c.damaged.ensures c.loop-step.invariant.runs
     (λ owners t h.
     let few = freeing_few owners t c.pop-2.new.self.items c.in-Some-pop.field-0 c.loop-step.step h
     (subst (λ (l : List ℕ). IsFreeing g.P.Pages c.args.ext.now c.loop-step.ext c.loop-step.pages c.args.self.now owners t l c.loop-step.step) items (c.loop-step.invariant.freeing owners t h)) in

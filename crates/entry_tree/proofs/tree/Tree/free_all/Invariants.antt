@@ -1,4 +1,4 @@
-use Rattle.std.proofs.Common.{◌≡◌, None, List, ℕ, length}
+use Rattle.std.proofs.Common.{◌≡◌, None, List, length}
 use Rattle.store_api.specs.RunsOverPages.{RunsOverPages}
 use Rattle.extent_map.specs.Map.{IsMapPage}
 use Rattle.extent_map.specs.Owners.{IsSameShape}

@@ -1,4 +1,4 @@
-use Rattle.std.proofs.Common.{◌≡◌, arith, refl, subst, ◌∙◌, sym}
+use Rattle.std.proofs.Common.{arith, subst, ◌∙◌}
 use Rattle.store_api.proofs.RunsOverPagesLemmas.{runs_more, runs_exit}
 use Rattle.entry_tree.specs.declared.sight.Sight.{Sight}
 use Rattle.entry_tree.specs.declared.sight.Sight.TheVariants.{Nothing, AtLeaf, AtInner}

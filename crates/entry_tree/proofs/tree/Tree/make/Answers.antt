@@ -1,10 +1,11 @@
-use Rattle.std.proofs.Common.{inl, inr}
+use Rattle.std.proofs.Common.{inl}
 use Rattle.std.specs.Prelude.{None}
 use Rattle.store_api.specs.RunsOverPages.{RunsOverPages}
 use Rattle.store_api.proofs.RunsOverPagesLemmas.{runs_wider, runs_more, runs_exit_as}
 use Rattle.extent_map.specs.Damages.{store_part_of, BreaksSpace}
+use Rattle.extent_map.proofs.GrowthLemmas.{keeps_root}
 use Rattle.entry_tree.specs.Standing.{IsMapSpace}
-use Rattle.entry_tree.proofs.MakingLemmas.{makes_tree, root_in_space}
+use Rattle.entry_tree.proofs.MakingLemmas.{makes_tree, root_in_space, root_kept_made}
 use Rattle.entry_tree.proofs.tree.Tree.make.Goals as goal
 
 pub returns-in_err-root-clause-runs : goal.returns-in_err-root-clause-runs
@@ -24,7 +25,19 @@ pub returns-clause-makes : goal.returns-clause-makes
 returns-clause-makes g c owners h =
     makes_tree c.args.ext.now c.claim_index_page.new.self c.args.pages.now c.claim_index_page.new.pages c.clear_leaf.new.pages c.at.result c.in_ok-root.root c.args.width owners c.at.ensures.root c.at.ensures.width
     c.in_ok-root.ensures.shape h (c.in_ok-root.ensures.unused owners h) (c.in_ok-root.ensures.lowest owners h) (c.in_ok-root.ensures.claims owners h) (c.in_ok-root.ensures.notes owners h)
+    c.claim_index_page.ensures.runs.works.steady.is_told c.claim_index_page.ensures.runs.works.no_shorter c.clear_leaf.ensures.count c.in_ok-root.ensures.count c.in_ok-root.ensures.counted c.in_ok-root.ensures.stated c.claim_index_page.ensures.zeros
     c.in_ok-clear_leaf.ensures.runs c.in_ok-clear_leaf.ensures.clears
+
+pub returns-in_err-root-clause-root : goal.returns-in_err-root-clause-root
+returns-in_err-root-clause-root g c owners h = keeps_root c.claim_index_page.ensures.root
+
+pub returns-in_err-clear_leaf-clause-root : goal.returns-in_err-clear_leaf-clause-root
+returns-in_err-clear_leaf-clause-root g c owners h =
+    root_kept_made c.args.ext.now c.args.pages.now c.claim_index_page.new.pages c.clear_leaf.new.pages c.in_ok-root.root c.in_ok-root.ensures.within c.claim_index_page.ensures.runs.works.no_shorter c.in_ok-root.ensures.stated c.clear_leaf.ensures.runs.touches
+
+pub returns-clause-root : goal.returns-clause-root
+returns-clause-root g c owners h =
+    root_kept_made c.args.ext.now c.args.pages.now c.claim_index_page.new.pages c.clear_leaf.new.pages c.in_ok-root.root c.in_ok-root.ensures.within c.claim_index_page.ensures.runs.works.no_shorter c.in_ok-root.ensures.stated c.clear_leaf.ensures.runs.touches
 
 pub returns-clause-runs : goal.returns-clause-runs
 returns-clause-runs g c =

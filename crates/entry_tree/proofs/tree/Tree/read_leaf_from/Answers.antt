@@ -1,4 +1,4 @@
-use Rattle.std.proofs.Common.{◌≡◌, ◌<◌, ◌≤◌, arith, length, ap, sym, ◌∙◌, subst, None, Some}
+use Rattle.std.proofs.Common.{◌≡◌, arith, ap, sym, ◌∙◌, None, Some}
 use Rattle.store_api.proofs.RunsOverPagesLemmas.{runs_exit, runs_then}
 use Rattle.entry_tree.proofs.ReadLeafLemmas.{breaks_still, gives_first, gives_none, gives_second, holds_still, tree_page_still}
 use Rattle.entry_tree.proofs.WayLemmas.{runs_broken}

@@ -11,6 +11,8 @@ use Rattle.extent_map.specs.declared.kind.Kind.TheVariants.{Index}
 use Rattle.extent_map.proofs.BitsLemmas.{lowest_unused_below}
 use Rattle.extent_map.proofs.ClaimsLemmas.{on_err, changes_count_after, changes_count_still}
 use Rattle.extent_map.proofs.DamagesLemmas.{breaks_space_same}
+use Rattle.extent_map.proofs.GrowthLemmas.{growth_same, growth_then}
+use Rattle.extent_map.proofs.MapFormLemmas.{forms_same, forms_then}
 use Rattle.extent_map.proofs.HoldsMapLemmas.{is_map_page, holds_map_along, holds_map_same}
 use Rattle.extent_map.proofs.IndexPagesLemmas.{are_kinds, taken_unused, taken_lowest, taken_list, taken_notes, begun_claimable, begun_lowest, begun_list, begun_notes, has_no_free, has_no_unused, full_notes, none_behind}
 use Rattle.extent_map.proofs.extents.Extents.claim_index_page.Goals as goal
@@ -168,3 +170,18 @@ returns-clause-runs g c =
     let start : RunsOverPages g.P.Pages (IsSpacePage ext) (IsSpacePage ext) (BreaksSpace g.P.Pages ext c.args.pages.now) c.args.pages.now c.find.new.pages None =
     runs_wider c.in_ok-found.ensures.runs (λ p there none. absurd none) (λ p on. inr on) (λ damage breaks. breaks) in
     runs_then start c.in_ok-e.ensures.runs (λ p there is. is) (λ p is. is) (λ damage breaks. breaks_space_same damage c.find.ensures.runs.works.steady.is_told c.find.ensures.same breaks)
+
+pub returns-in-Some-clause-forms : goal.returns-in-Some-clause-forms
+returns-in-Some-clause-forms g c = forms_then (forms_same c.find.ensures.runs.works.steady.is_told c.find.ensures.same) c.take_page.ensures.forms
+
+pub returns-in_default-2-clause-forms : goal.returns-in_default-2-clause-forms
+returns-in_default-2-clause-forms g c = forms_then (forms_same c.find.ensures.runs.works.steady.is_told c.find.ensures.same) c.claim_extent.ensures.forms
+
+pub returns-clause-stated : goal.returns-clause-stated
+returns-clause-stated g c =
+    let ext = c.args.self.now in
+    let claim = subst (λ f. IfSome f (λ e. ClaimsExtent g.P.Pages ext (Index 1) c.find.new.pages c.claim_extent.new.pages e)) c.in-Some-2.is c.in_ok-e.ensures.claims in
+    growth_then c.find.ensures.runs.works.no_shorter c.claim_extent.ensures.runs.works.no_shorter (growth_same c.find.ensures.runs.works.steady.is_told c.find.ensures.same) claim.stated
+
+pub returns-clause-forms : goal.returns-clause-forms
+returns-clause-forms g c = forms_then (forms_same c.find.ensures.runs.works.steady.is_told c.find.ensures.same) c.claim_extent.ensures.forms

@@ -6,6 +6,7 @@ use Rattle.extent_map.specs.Damages.{BreaksBlock}
 use Rattle.extent_map.specs.Kinds.{is_block_kind}
 use Rattle.extent_map.specs.Map.{map_page_of}
 use Rattle.extent_map.specs.declared.kind.Kind.TheVariants.{Free}
+use Rattle.extent_map.proofs.MapFormLemmas.{forms_same, forms_set, forms_then}
 use Rattle.extent_map.proofs.HoldsMapLemmas.{on_map, holds_map_along, holds_map_same, holds_map_set}
 use Rattle.extent_map.proofs.OwnersLemmas.{right_notes-free}
 use Rattle.extent_map.proofs.extents.Extents.give_back.Goals as goal
@@ -45,3 +46,8 @@ returns-clause-gives g c = λ owners is.
 
 pub returns-clause-notes : goal.returns-clause-notes
 returns-clause-notes g c = λ owners notes. right_notes-free c.args.self.now _ owners c.args.e refl (omega (arith, c.min-self.ensures)) (omega (arith, c.min-self.ensures)) (omega arith) notes
+
+pub returns-clause-forms : goal.returns-clause-forms
+returns-clause-forms g c =
+    forms_then (forms_same c.kind.ensures.runs.works.steady.is_told c.kind.ensures.same)
+    (forms_set c.args.e Free tt (λ owned. absurd (owned refl)) (omega (arith, c.set_kind.ensures.count)) c.in_ok-set_kind.ensures.sets c.set_kind.ensures.runs.touches)

@@ -3,12 +3,13 @@ use Rattle.store_api.specs.Frame.{OnlyPage, PatchesPage}
 use Rattle.store_api.specs.RunsOverPages.{RunsOverPages}
 use Rattle.store_api.proofs.RunsOverPagesLemmas.{runs_damage, runs_exit, runs_more, runs_wider}
 use Rattle.extent_map.specs.Damages.{BreaksUsedPage}
-use Rattle.extent_map.specs.Kinds.{is_used_place, without_place, kind_bytes}
+use Rattle.extent_map.specs.Kinds.{without_place, kind_bytes}
 use Rattle.extent_map.specs.Map.{HoldsMap, HoldsMapPage, map_page_of, entry_place}
 use Rattle.extent_map.specs.Owners.{extent_of}
 use Rattle.extent_map.proofs.BitsLemmas.{is_kind-without_place}
-use Rattle.extent_map.proofs.ExtentsLemmas.{extent_below, used_by_parts, without_page-parts}
-use Rattle.extent_map.proofs.HoldsMapLemmas.{on_map, holds_map_along, holds_map_same, holds_map_set}
+use Rattle.extent_map.proofs.ExtentsLemmas.{used_by_parts, without_page-parts}
+use Rattle.extent_map.proofs.MapFormLemmas.{forms_same, forms_set, forms_then}
+use Rattle.extent_map.proofs.HoldsMapLemmas.{holds_map_along, holds_map_same, holds_map_set}
 use Rattle.extent_map.proofs.extents.Extents.give_index_page.Goals as goal
 
 pub returns-then-not-is_used_place-clause-runs : goal.returns-then-not-is_used_place-clause-runs
@@ -19,10 +20,9 @@ returns-then-not-is_used_place-clause-runs g c =
     let start : RunsOverPages g.P.Pages (OnlyPage on) (OnlyPage on) (BreaksUsedPage g.P.Pages ext c.args.pages.now c.args.p) c.args.pages.now c.kind.new.pages None =
     runs_wider c.in_ok-kind.ensures.runs (λ p there none. absurd none) (λ p is. is ∙ at) (λ damage breaks. inl breaks) in
     runs_damage start (inr (record {
-      page = c.wrong_entry.ensures.0 ∙ at;
-      on_map = on_map ext.cap (extent_of ext c.args.p) (extent_below ext c.args.p c.requires.page);
-      rule = c.wrong_entry.ensures.1;
-      none_told = λ owners told used.
+      page = c.unused_page.ensures.0;
+      rule = c.unused_page.ensures.1;
+      not_used = λ owners told used.
           let here = subst (λ x. HoldsMapPage g.P.Pages ext c.args.pages.now owners (x / 512)) (sym c.extent_of-e.ensures.value) told in
           let yes = used_by_parts ext owners c.args.p c.extent_of-e.result c.place_of-place.result c.in_ok-kind.kind c.extent_of-e.ensures.value c.place_of-place.ensures.value (c.in_ok-kind.ensures.shown owners here) used in
           let no = c.if-not-is_used_place.true in
@@ -62,3 +62,15 @@ returns-clause-gives g c = λ owners is.
     holds_map_along (record { cap = refl; extent_pages = refl })
     (subst (λ list. HoldsMap g.P.Pages ext c.set_kind.new.pages list)
     (without_page-parts ext owners c.args.p e j kind c.extent_of-e.ensures.value c.place_of-place.ensures.value (c.in_ok-kind.ensures.value owners is)) held)
+
+pub returns-clause-forms : goal.returns-clause-forms
+returns-clause-forms g c =
+    let ext = c.args.self.now in
+    let e = c.extent_of-e.result in
+    let j = c.place_of-place.result in
+    let kind = c.in_ok-kind.kind in
+    let patches = subst (λ k. PatchesPage g.P.Pages (map_page_of e) (entry_place e) (kind_bytes k) c.kind.new.pages c.set_kind.new.pages) c.without_place.ensures c.in_ok-set_kind.ensures.sets in
+    forms_then (forms_same c.kind.ensures.runs.works.steady.is_told c.kind.ensures.same)
+    (forms_set e (without_place j kind) (is_kind-without_place ext.extent_pages j kind c.in_ok-kind.ensures.form)
+    (λ owned. omega (arith, c.in_ok-kind.ensures.there (λ free. owned (ap (without_place j) free)), c.set_kind.ensures.count, ap length c.kind.ensures.same))
+    (omega (arith, c.set_kind.ensures.count)) patches c.set_kind.ensures.runs.touches)

@@ -1,0 +1,202 @@
+// Thousands of changes of a tree, at the least width, at the greatest and at one between.
+ghost use Rattle.std.specs.Prelude.{◌≡◌, ◌≤◌, false, None, OnOk};
+
+use crate::changes::{add_some, remove_some, sweep};
+use crate::numbers::{NUMBERS, Order};
+use crate::reading::{expected, read_all, used_pages};
+use crate::stores::{extents_of, fresh_store, save};
+use entry_tree::Tree;
+use extent_map::Extents;
+use std::alloc::Global;
+use std::test::Fail;
+use store_api::{Pages, Store};
+
+// Many changes of one kind.
+#[derive(Clone, Copy, Debug)]
+enum Change {
+    Add(Order, usize),
+    Remove(Order, usize),
+    Sweep,
+}
+
+fn make_changes<P: Pages>(
+    alloc: Global,
+    tree: &Tree,
+    ext: &mut Extents,
+    pages: &mut P,
+    there: &mut [bool],
+    change: Change,
+) -> Result<(), Fail>
+    requires { (P.state pages.old).ended ≡ false }
+    ensures going { (P.state pages.new).ended ≡ false }
+    ensures marked { (P.state pages.new).marked ≡ (P.state pages.old).marked }
+{
+    match change {
+        Change::Add(order, many) => add_some(tree, ext, pages, there, order, many),
+        Change::Remove(order, many) => remove_some(tree, ext, pages, there, order, many),
+        Change::Sweep => sweep(alloc, tree, ext, pages, there),
+    }
+}
+
+// Whether a tree has the entries that should be there, in no more pages than its leaves and the nodes above them take, each
+// of which has two children at least.
+fn check<P: Pages>(
+    alloc: Global,
+    tree: &Tree,
+    ext: &Extents,
+    pages: &mut P,
+    there: &[bool],
+) -> Result<(), Fail>
+    requires { (P.state pages.old).ended ≡ false }
+    ensures going { (P.state pages.new).ended ≡ false }
+    ensures marked { (P.state pages.new).marked ≡ (P.state pages.old).marked }
+{
+    let found = read_all(alloc, tree, pages)?;
+    if found.bytes != expected(alloc, tree, there)? {
+        return Err("other entries")?;
+    }
+    let used = used_pages(ext, pages)?;
+    if used < found.leaves || used >= found.leaves.saturating_mul(2) {
+        return Err("another number of pages")?;
+    }
+    Ok(())
+}
+
+// Makes many changes, looks at what came of them, and commits.
+fn step<S: Store>(
+    alloc: Global,
+    tree: &Tree,
+    ext: &mut Extents,
+    store: &mut S,
+    there: &mut [bool],
+    change: Change,
+) -> Result<(), Fail>
+    requires going { (S.state store.old).ended ≡ false }
+    requires unmarked { (S.state store.old).marked ≡ None }
+    ensures going { OnOk result ((S.state store.new).ended ≡ false) }
+    ensures unmarked { OnOk result ((S.state store.new).marked ≡ None) }
+{
+    make_changes(alloc, tree, ext, store, there, change)?;
+    check(alloc, tree, ext, store, there)?;
+    save(store)
+}
+
+// Fills a tree and empties it, in several orders.
+fn fill_and_empty<S: Store>(
+    alloc: Global,
+    tree: &Tree,
+    ext: &mut Extents,
+    store: &mut S,
+) -> Result<(), Fail>
+    requires going { (S.state store.old).ended ≡ false }
+    requires unmarked { (S.state store.old).marked ≡ None }
+    ensures going { OnOk result ((S.state store.new).ended ≡ false) }
+{
+    let mut all = vec![in alloc; false; NUMBERS]?;
+    let there = all.as_mut_slice();
+    step(
+        alloc,
+        tree,
+        ext,
+        store,
+        there,
+        Change::Add(Order::Shuffled, 2500),
+    )?;
+    step(
+        alloc,
+        tree,
+        ext,
+        store,
+        there,
+        Change::Remove(Order::Falling, 1800),
+    )?;
+    step(alloc, tree, ext, store, there, Change::Sweep)?;
+    step(
+        alloc,
+        tree,
+        ext,
+        store,
+        there,
+        Change::Add(Order::Rising, NUMBERS),
+    )?;
+    step(
+        alloc,
+        tree,
+        ext,
+        store,
+        there,
+        Change::Remove(Order::Shuffled, 3900),
+    )?;
+    step(
+        alloc,
+        tree,
+        ext,
+        store,
+        there,
+        Change::Add(Order::Falling, 1000),
+    )?;
+    step(alloc, tree, ext, store, there, Change::Sweep)?;
+    step(
+        alloc,
+        tree,
+        ext,
+        store,
+        there,
+        Change::Remove(Order::Rising, NUMBERS),
+    )
+}
+
+// How many pages a tree of a width has in use once it was filled and emptied, and after it has given all back.
+fn used_at_last<S: Store>(
+    alloc: Global,
+    ext: &mut Extents,
+    store: &mut S,
+    width: u16,
+) -> Result<[u32; 2], Fail>
+    requires going { (S.state store.old).ended ≡ false }
+    requires unmarked { (S.state store.old).marked ≡ None }
+    requires wide { 5 ≤ width }
+    requires narrow { width ≤ 134 }
+{
+    let tree = Tree::make(alloc, ext, store, width)?;
+    fill_and_empty(alloc, &tree, ext, store)?;
+    let emptied = used_pages(ext, store)?;
+    tree.free_all(ext, store)?;
+    Ok([emptied, used_pages(ext, store)?])
+}
+
+#[test]
+fn a_tree_of_the_least_width_is_filled_and_emptied(rt: HostRuntime) -> Result<(), Fail> {
+    let used = used_at_last(
+        rt.alloc(),
+        &mut extents_of(512)?,
+        &mut fresh_store(rt.alloc())?,
+        5,
+    )?;
+    assert_eq!(rt; used, [1, 0]);
+    Ok(())
+}
+
+#[test]
+fn a_tree_of_width_eleven_is_filled_and_emptied(rt: HostRuntime) -> Result<(), Fail> {
+    let used = used_at_last(
+        rt.alloc(),
+        &mut extents_of(512)?,
+        &mut fresh_store(rt.alloc())?,
+        11,
+    )?;
+    assert_eq!(rt; used, [1, 0]);
+    Ok(())
+}
+
+#[test]
+fn a_tree_of_the_greatest_width_is_filled_and_emptied(rt: HostRuntime) -> Result<(), Fail> {
+    let used = used_at_last(
+        rt.alloc(),
+        &mut extents_of(512)?,
+        &mut fresh_store(rt.alloc())?,
+        134,
+    )?;
+    assert_eq!(rt; used, [1, 0]);
+    Ok(())
+}

@@ -1,0 +1,57 @@
+//! Work on trees of entries in a file in memory, to be run under a counter of instructions: `tree_bench WHAT SIZE TIMES`.
+//!
+//! Each run makes a file, and then does a piece of work of that size so many times. Two runs with other times differ by
+//! the work alone. `bench/trees` runs it, and prints what each piece of work takes, and how full it leaves the leaves.
+#![tactic(auto)]
+
+mod calls;
+mod entries;
+mod plan;
+mod setup;
+mod stop;
+mod work;
+
+use host_edge::FileHost;
+use mdc_outside::Host;
+use plan::{Plan, What, plan_of};
+use std::alloc::Global;
+use std::{env, io};
+use stop::Stop;
+
+fn main(rt: HostRuntime) -> Result<(), Stop> {
+    let words = words(&rt)?;
+    let Some(plan) = plan_of(&words) else {
+        println!(rt;
+            "usage: tree_bench add|rise|has|walk|remove|claim|fill|fill-rising SIZE TIMES"
+        )?;
+        return Ok(());
+    };
+    let host = FileHost::new(rt.alloc(), rt.clone()?, rt.stdout());
+    let number = carry_out(rt.alloc(), host, plan)?;
+    println!(rt; "{number}")?;
+    Ok(())
+}
+
+// Does the work, and answers a number that tells of it.
+fn carry_out<H: Host + Drop>(alloc: Global, host: H, plan: Plan) -> Result<u64, Stop> {
+    let Plan { what, size, times } = plan;
+    match what {
+        What::Add => work::add(alloc, host, size, times),
+        What::Rise => work::rise(alloc, host, size, times),
+        What::Has => work::has(alloc, host, size, times),
+        What::Walk => work::walk(alloc, host, size, times),
+        What::Remove => work::remove(alloc, host, size, times),
+        What::Claim => work::claim(alloc, host, size, times),
+        What::Fill => work::fill(alloc, host, size),
+        What::FillRising => work::fill_rising(alloc, host, size),
+    }
+}
+
+// The words after the program's name.
+fn words(rt: &HostRuntime) -> io::Result<Vec<String>> {
+    let mut words = Vec::new(rt.alloc());
+    for word in env::args(rt)?.skip(1) {
+        words.push(word)?;
+    }
+    Ok(words)
+}
