@@ -1,10 +1,10 @@
 -- The places of cuts among the keys of a column.
-use Rattle.std.proofs.Common.{◌≡◌, ℕ, zero, suc, ◌+◌, ◌-◌, ◌<◌, ◌≤◌, List, [], ◌∷◌, ◌++◌, length, take, drop, Bool, true, false, refl, sym, ap, ◌∙◌, arith, Ordering, add-one, inl, inr}
-use Rattle.std.specs.Prelude.{◌==◌, ◌≢◌, ℤ, pos, negsuc, min, not, ◌<ℤ◌, IsTrue, Option, Some, slice_index, slice_set, if◌then◌else◌, get_or}
+use Rattle.std.proofs.Common.{◌≡◌, ℕ, zero, suc, ◌+◌, ◌-◌, ◌<◌, ◌≤◌, List, [], ◌∷◌, ◌++◌, length, take, drop, Bool, true, false, refl, sym, ap, subst, ◌∙◌, arith, Ordering, add-one, inl, inr}
+use Rattle.std.specs.Prelude.{◌==◌, ◌≢◌, ℤ, pos, negsuc, min, not, ◌<ℤ◌, IsTrue, Option, Some, None, slice_index, slice_set, if◌then◌else◌, get_or}
 use Rattle.std.specs.declared.cmp.Ordering.TheVariants.{Less, Equal, Greater}
 use Rattle.std.specs.Ordering.{nat_cmp, int_cmp, ordering_reverse}
 use Rattle.std.specs.Cmp.Lexicographic.{slice_cmp}
-use Rattle.std.proofs.lemmas.Bool.{cases_lt}
+use Rattle.std.proofs.lemmas.Bool.{cases_eq, cases_lt}
 use Rattle.std.proofs.lemmas.Bool.Decides.{nat_tests}
 use Rattle.std.proofs.lemmas.List.{append-nil, get_or_default, get_or-take, drop_all, length-map, take_all, length-take}
 use Rattle.mdc_values.specs.declared.value.ColType.{ColType}
@@ -16,8 +16,8 @@ use Rattle.mdc_values.specs.Order.{order, padded, text_order}
 use Rattle.mdc_ast.specs.declared.span.Cut.{Cut}
 use Rattle.mdc_ast.specs.declared.span.Cut.TheVariants.{First, Last}
 use Rattle.key_codec.specs.Edges.{IsEdge, behind_front, front_order, is_past, put_before, side_of_blanks}
-use Rattle.key_codec.specs.Keys.{AreBytes, HasByteText, has_key, part_bytes, sort_bytes, turned}
-use Rattle.key_codec.specs.Spans.{IsBoundOf, is_above, reaches}
+use Rattle.key_codec.specs.Keys.{AreBytes, HasByteText, has_key, part_bytes, part_width, sort_bytes, turned}
+use Rattle.key_codec.specs.Spans.{IsBoundOf, IsShortBound, is_above, reaches}
 use Rattle.key_codec.proofs.OrderLemmas.{AreBytes-append, AreBytes-complement, AreBytes-cons, AreBytes-none, AreBytes-replicate, front_order-append, front_order-complement, front_order-none, front_order-whole, reaches-past}
 use Rattle.key_codec.proofs.PartLemmas.{AreBytes-part_bytes, length-part_bytes, slice_cmp-part}
 use Rattle.key_codec.proofs.TextLemmas.{is_past-longer, length-padded, slice_cmp-padded}
@@ -34,6 +34,31 @@ pub behind_front-room : (xs : List ℕ) (n : ℕ) → n < length xs → slice_in
 behind_front-room [] n lt h = absurd (omega (arith, lt))
 behind_front-room (x ∷ xs) zero lt h = let room : (x == 255) ≡ false = grind (arith, nat_tests, h) in rw (room, add-one) refl
 behind_front-room (x ∷ xs) (suc n) lt h = ap (put_before x) (behind_front-room xs n (omega (arith, lt)) h)
+
+pub behind_front-short : (front : List ℕ) → IsShortBound (length front) (behind_front front)
+behind_front-short [] = tt
+behind_front-short (b ∷ front) = go (behind_front front) (behind_front-short front)
+  where
+    go : (bound : Option (List ℕ)) → IsShortBound (length front) bound → IsShortBound (suc (length front)) (put_before b bound)
+    go (Some bytes) short = omega (arith, short)
+    go None short = elim (cases_eq b 255) [ inl e ↦ (let t : (b == 255) ≡ true = grind (arith, nat_tests, e) in rw t tt) | inr n ↦ (let f : (b == 255) ≡ false = grind (arith, nat_tests, n) in rw f (omega arith)) ]
+
+-- a bound that is short is so for more bytes too
+longer_bound : (n m : ℕ) (bound : Option (List ℕ)) → n ≤ m → IsShortBound n bound → IsShortBound m bound
+longer_bound n m None le short = tt
+longer_bound n m (Some bytes) le short = omega (arith, le, short)
+
+-- the bound of a place whose front is short is short
+pub short_bound : (ty : ColType) (front : List ℕ) (behind : Bool) (bound : Option (List ℕ)) → length front ≤ part_width ty
+    → bound ≡ (if behind then behind_front front else Some front) → IsShortBound (part_width ty) bound
+short_bound ty front true bound le is = subst (IsShortBound (part_width ty)) (sym is) (longer_bound (length front) (part_width ty) (behind_front front) le (behind_front-short front))
+short_bound ty front false bound le is = subst (IsShortBound (part_width ty)) (sym is) le
+
+-- and so is that of the place where all bytes are complemented
+pub short_turned_bound : (ty : ColType) (front other : List ℕ) (behind : Bool) (bound : Option (List ℕ)) → length front ≤ part_width ty → other ≡ turned true front
+    → bound ≡ (if behind then behind_front other else Some other) → IsShortBound (part_width ty) bound
+short_turned_bound ty front other behind bound le turn is =
+    short_bound ty other behind bound (omega (arith, le, ap length turn, length-map front (λ byte. 255 - byte))) is
 
 -- the last of the first n bytes that is 255 is passed over
 pub behind_front-less : (xs : List ℕ) (n b : ℕ) → 0 < n → n ≤ length xs → b ≡ get_or xs (n - 1) b → b ≡ 255 → behind_front (take n xs) ≡ behind_front xs

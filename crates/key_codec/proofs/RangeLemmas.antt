@@ -57,13 +57,18 @@ column_of_first columns (first ∷ parts) part e are =
     let lt : first.column < length columns = grind (arith, nat_tests, there) in
     subst (λ c. c < length columns) same lt
 
+-- the type of the first part's column
+pub type_of_first : (columns : List ColumnDef) (parts : List KeyPart) (part : KeyPart) (ty : ColType) → slice_get parts 0 ≡ Some part
+    → ty ≡ type_of_column columns part.column → ty ≡ type_of_column columns (first_column parts)
+type_of_first columns parts part ty e ty_is = ty_is ∙ ap (type_of_column columns) (sym (first_is parts part e).0)
+
 -- a range of the first part's type and direction, as it is said of the parts
 range_of_first : (columns : List ColumnDef) (parts : List KeyPart) (part : KeyPart) (ty : ColType) (descending : Bool) (span : Span) (from : Entry) (end : Option Entry)
     → slice_get parts 0 ≡ Some part → ty ≡ type_of_column columns part.column → part.descending ≡ descending
     → IsRangeOf ty descending span from end → IsRangeOf (type_of_column columns (first_column parts)) (is_first_descending parts) span from end
 range_of_first columns parts part ty descending span from end e ty_is turn range =
     let first = first_is parts part e in
-    let typed : ty ≡ type_of_column columns (first_column parts) = ty_is ∙ ap (type_of_column columns) (sym first.0) in
+    let typed : ty ≡ type_of_column columns (first_column parts) = type_of_first columns parts part ty e ty_is in
     subst (λ t. IsRangeOf t (is_first_descending parts) span from end) typed
     (subst (λ d. IsRangeOf ty d span from end) (sym (first.1 ∙ turn)) range)
 

@@ -1,5 +1,5 @@
 -- What the bytes of a part tell of the text that they were made of.
-use Rattle.std.proofs.Common.{◌≡◌, ℕ, suc, false, ◌-◌, ◌≤◌, List, ◌∷◌, ◌++◌, length, take, drop, sym, ap, subst, ◌∙◌, arith}
+use Rattle.std.proofs.Common.{◌≡◌, ℕ, suc, false, ◌-◌, ◌≤◌, List, ◌++◌, length, take, drop, sym, ap, subst, ◌∙◌, arith}
 use Rattle.std.specs.Prelude.{nat_le, IsTrue, get_or}
 use Rattle.std.proofs.lemmas.Bool.Decides.{nat_tests}
 use Rattle.std.proofs.lemmas.List.{take_at, take_rest}
@@ -7,7 +7,7 @@ use Rattle.std.proofs.lemmas.Slice.Eq.{bytes_eq-Decides}
 use Rattle.mdc_values.specs.declared.value.ColType.{ColType}
 use Rattle.mdc_values.specs.declared.value.ColType.TheVariants.{Char}
 use Rattle.mdc_values.specs.declared.value.Value.{Value}
-use Rattle.mdc_values.specs.declared.value.Value.TheVariants.{Null, Int, Text, Day}
+use Rattle.mdc_values.specs.declared.value.Value.TheVariants.{Null, Text}
 use Rattle.mdc_values.specs.Order.{padded}
 use Rattle.mdc_values.specs.Value.{trimmed}
 use Rattle.mdc_ast.specs.meaning.Database.{is_of_type, is_trimmed}

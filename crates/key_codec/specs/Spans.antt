@@ -1,5 +1,5 @@
 -- What lies in a span of values, and in a range of keys.
-use Rattle.std.specs.Prelude.{◌≡◌, ℕ, Bool, true, false, not, ◌&&◌, List, [], ◌∷◌, ◌++◌, Option, Some, None, IsTrue, if◌then◌else◌}
+use Rattle.std.specs.Prelude.{◌≡◌, ◌≤◌, ℕ, Bool, true, false, not, ◌&&◌, List, [], ◌∷◌, ◌++◌, length, Option, Some, None, IsTrue, if◌then◌else◌}
 use Rattle.std.specs.Ordering.{is_ge, is_gt}
 use Rattle.mdc_words.specs.ByteOrder.{Entry, below}
 use Rattle.mdc_values.specs.declared.value.ColType.{ColType}
@@ -69,6 +69,11 @@ abbrev pub IsRangeOf : ColType → Bool → Span → Entry → Option Entry → 
 IsRangeOf ty descending span low high =
     (value : Value) (rest : List ℕ) → IsTrue (has_key ty value) → HasByteText value
     → is_in_range low high (part_bytes ty descending value ++ rest) ≡ lies_in_span span value
+
+-- a bound, if there is one, is no longer than this
+abbrev pub IsShortBound : ℕ → Option Entry → Type 0
+IsShortBound n None = Unit {0}
+IsShortBound n (Some bound) = length bound ≤ n
 
 -- The keys of the values above a cut reach a bound, and in a descending part those of the values below it.
 abbrev pub IsBoundOf : ColType → Bool → Cut → Option Entry → Type 0

@@ -1,6 +1,7 @@
 // A cut in a column as a bound of keys.
 ghost use Rattle.std.specs.Prelude.{IfOk, IsTrue};
-ghost use Rattle.key_codec.specs.Spans.{IsBoundOf, cut_has_kind_of};
+ghost use Rattle.key_codec.specs.Keys.{part_width};
+ghost use Rattle.key_codec.specs.Spans.{IsBoundOf, IsShortBound, cut_has_kind_of};
 
 use crate::Key;
 use crate::edge::Edge;
@@ -17,7 +18,8 @@ pub(crate) fn bound_of(
     cut: &Cut,
 ) -> Result<Option<Key>, Memory>
     requires { IsTrue (cut_has_kind_of ty cut.now) }
-    ensures { IfOk result (IsBoundOf ty descending cut.now) }
+    ensures bound { IfOk result (IsBoundOf ty descending cut.now) }
+    ensures short { IfOk result (IsShortBound (part_width ty)) }
 {
     let edge = Edge::at(alloc, ty, cut)?;
     if descending {
