@@ -14,15 +14,16 @@ use Rattle.page_store.specs.Commit.{BothFiles, StandsStill, StandsEither, IsRead
 use Rattle.page_file.proofs.LeavesLemmas.{runs_leave, leaves_then, one_file, told_before}
 use Rattle.page_store.proofs.Crashes.{while_home, while_closed}
 use Rattle.page_store.proofs.Committing.{journaled_written, journaled_opened, stands_through, stands_same}
+use Rattle.page_file.specs.declared.layout.TheConstants.{GATE}
 
 -- after the gate was written, all is on the disk
-pub synced_gate : (told : Option File) (state : List ℕ) (new : Option File) (after : File) → new ≡ option_map (λ file. settled (written 512 state file)) told → new ≡ Some after → after.since ≡ all_synced after.bytes
+pub synced_gate : (told : Option File) (state : List ℕ) (new : Option File) (after : File) → new ≡ option_map (λ file. settled (written GATE state file)) told → new ≡ Some after → after.since ≡ all_synced after.bytes
 synced_gate None state new after is now = absurd (cc)
-synced_gate (Some told) state new after is now = let same : settled (written 512 state told) ≡ after = cc in subst (λ (f : File). f.since ≡ all_synced f.bytes) same refl
+synced_gate (Some told) state new after is now = let same : settled (written GATE state told) ≡ after = cc in subst (λ (f : File). f.since ≡ all_synced f.bytes) same refl
 
 -- after the gate was closed
 pub closed_at_rest : {T E : Type 0} (result : Result T E) (told new : Option File)
-    → OnOk result (new ≡ option_map (λ file. settled (written 512 (0 ∷ []) file)) told) → OnOk result (ForSome new (λ f. IsFalse (is_open f.bytes)))
+    → OnOk result (new ≡ option_map (λ file. settled (written GATE (0 ∷ []) file)) told) → OnOk result (ForSome new (λ f. IsFalse (is_open f.bytes)))
     → OnOk result (ForSome new IsClosed)
 closed_at_rest (Err e) told new written_gate gate = gate
 closed_at_rest (Ok done) told new written_gate gate = λ after now. record { synced = synced_gate told (0 ∷ []) new after written_gate now; closed = gate after now }
@@ -55,7 +56,7 @@ module _ {D : Type 0} {file : D → Option File} {aside : D → Beside} {attache
   pub gate_leaves : (start n : ℕ) (images : Numbered) {old middle : D} → ((f : File) → file middle ≡ Some f → IsImage f.since f.bytes) → AreRising images
       → ForSome (file old) (IsReadyFor start images)
       → Runs file aside attaches is_attached clock moment IsWithin (torn_journal start n) old middle → ForSome (file middle) (HoldsJournal start images)
-      → (before half : File) (image : List ℕ) → file old ≡ Some before → file middle ≡ Some half → IsImage (torn 512 1 half.since) image
+      → (before half : File) (image : List ℕ) → file old ≡ Some before → file middle ≡ Some half → IsImage (torn GATE 1 half.since) image
       → IsJournaled images before.bytes image
       × (IsTrue (is_open image) → (journal_of image ≡ images) × Stands before.bytes (pages_with images before.bytes) image)
   gate_leaves start n images as_read rising ready run holds before half image is is_half left =
@@ -66,7 +67,7 @@ module _ {D : Type 0} {file : D → Option File} {aside : D → Beside} {attache
   pub opened_leaves : (start n : ℕ) (images : Numbered) {old middle new : D} → ((f : File) → file middle ≡ Some f → IsImage f.since f.bytes) → ((f : File) → file new ≡ Some f → IsImage f.since f.bytes)
       → AreRising images → ForSome (file old) (IsReadyFor start images)
       → Runs file aside attaches is_attached clock moment IsWithin (torn_journal start n) old middle → ForSome (file middle) (HoldsJournal start images)
-      → Runs file aside attaches is_attached clock moment IsWithin (torn 512 1) middle new
+      → Runs file aside attaches is_attached clock moment IsWithin (torn GATE 1) middle new
       → Leaves file aside attaches is_attached clock moment (λ before. IsJournaled images before.bytes) old new
   opened_leaves start n images {old} {middle} {new} as_half as_read rising ready first holds second =
       let Gate : File → List ℕ → Type 0 = λ half image. (before : File) → file old ≡ Some before → IsJournaled images before.bytes image in
@@ -79,8 +80,8 @@ module _ {D : Type 0} {file : D → Option File} {aside : D → Beside} {attache
       → ((f : File) → file middle ≡ Some f → IsImage f.since f.bytes) → ((f : File) → file new ≡ Some f → IsImage f.since f.bytes)
       → AreRising images → ForSome (file old) (IsReadyFor start images)
       → Runs file aside attaches is_attached clock moment IsWithin (torn_journal start n) old middle → ForSome (file middle) (HoldsJournal start images)
-      → Runs file aside attaches is_attached clock moment IsWithin (torn 512 1) middle new
-      → OnOk result (file new ≡ option_map (λ file. settled (written 512 (79 ∷ []) file)) (file middle)) → OnOk result (ForSome (file new) (λ f. IsTrue (is_open f.bytes)))
+      → Runs file aside attaches is_attached clock moment IsWithin (torn GATE 1) middle new
+      → OnOk result (file new ≡ option_map (λ file. settled (written GATE (79 ∷ []) file)) (file middle)) → OnOk result (ForSome (file new) (λ f. IsTrue (is_open f.bytes)))
       → OnOk result (BothFiles (file old) (file new) (λ before after. IsCounting images after × Stands before.bytes (pages_with images before.bytes) after.bytes))
   opened_counts (Err e) start n images as_half as_read rising ready first holds second written_gate gate = gate
   opened_counts (Ok done) start n images {old} {middle} {new} as_half as_read rising ready first holds second written_gate gate = record {
@@ -109,7 +110,7 @@ module _ {D : Type 0} {file : D → Option File} {aside : D → Beside} {attache
   pub closed_leaves : (images : Numbered) {old middle new : D} → ((f : File) → file middle ≡ Some f → IsImage f.since f.bytes) → ((f : File) → file new ≡ Some f → IsImage f.since f.bytes)
       → ForSome (file old) (IsCounting images) → ForSome (file old) (λ f. IsFormed f.bytes)
       → Runs file aside attaches is_attached clock moment IsWithin (torn_home images) old middle → ForSome (file middle) (HoldsHome images)
-      → Runs file aside attaches is_attached clock moment IsWithin (torn 512 1) middle new
+      → Runs file aside attaches is_attached clock moment IsWithin (torn GATE 1) middle new
       → Leaves file aside attaches is_attached clock moment StandsStill old new
   closed_leaves images {old} {middle} {new} as_half as_read counts formed first holds second =
       let home = home_leaves images as_half counts formed first in
@@ -120,7 +121,7 @@ module _ {D : Type 0} {file : D → Option File} {aside : D → Beside} {attache
       let same : kept.0 ≡ half = one_file kept.1 is_half in
       let stands = subst (λ (f : File). IsTrue (is_open f.bytes) × (journal_of f.bytes ≡ images) × StandsStill before f.bytes) same kept.2 in
       let at_home = holds half is_half in
-      let torn_gate : IsImage (torn 512 1 (all_synced half.bytes)) image = subst (λ since. IsImage (torn 512 1 since) image) at_home.settled left in
+      let torn_gate : IsImage (torn GATE 1 (all_synced half.bytes)) image = subst (λ since. IsImage (torn GATE 1 since) image) at_home.settled left in
       let in_place : All (λ listed. home_page half.bytes listed.0 ≡ listed.1) (journal_of half.bytes) = subst (λ (xs : Numbered). All (λ listed. home_page half.bytes listed.0 ≡ listed.1) xs) (sym stands.1) at_home.home in
       stands_through before.bytes half.bytes image (pages_of before.bytes) stands.2.birth stands.2.front
       (stands_same half.bytes image (pages_of half.bytes) (pages_of before.bytes) stands.2.pages (while_closed half.bytes image stands.2.formed stands.0 in_place torn_gate))) in

@@ -5,7 +5,7 @@ use Rattle.std.specs.List.{All}
 use Rattle.store_api.specs.StoreState.{stated_in}
 use Rattle.mdc_outside.specs.Disk.{File, IsImage, all_synced, torn}
 use Rattle.redo_journal.specs.Images.{Numbered, AreRising}
-use Rattle.page_file.specs.Layout.{file_page, home_page, FrontStays}
+use Rattle.page_file.specs.Layout.{FrontStays, file_page, home_page, home_start, page_start}
 use Rattle.redo_journal.specs.Layout.{is_open, start_of, journal_of, torn_journal, HoldsJournal}
 use Rattle.page_file.proofs.FrontLemmas.{front_stays_then}
 use Rattle.mdc_words.specs.Listed.{listed}
@@ -15,13 +15,14 @@ use Rattle.mdc_words.proofs.ListedLemmas.{listed_same}
 use Rattle.page_file.proofs.BytesLemmas.{same_part}
 use Rattle.page_store.proofs.Kept.{journal_left, same_but_gate}
 use Rattle.page_store.proofs.Crashes.{while_written, while_opened}
+use Rattle.page_file.specs.declared.layout.TheConstants.{GATE}
 
 -- the home pages while a journal is written behind them
-pub home_written : (bytes image : List ℕ) (start n : ℕ) → 4096 * (66 + count_of bytes) ≤ length bytes → 66 + count_of bytes ≤ start
+pub home_written : (bytes image : List ℕ) (start n : ℕ) → home_start (count_of bytes) ≤ length bytes → 66 + count_of bytes ≤ start
     → IsImage (torn_journal start n (all_synced bytes)) image → HomeStays bytes image
 home_written bytes image start n whole behind left p named =
     let kept = journal_left bytes image start n left in
-    same_part (4096 * (66 + p)) 4096 image bytes (omega (arith, kept.0)) (λ i low high lt. kept.1 i lt (omega arith) (inr (omega arith)))
+    same_part (home_start p) 4096 image bytes (omega (arith, kept.0)) (λ i low high lt. kept.1 i lt (omega arith) (inr (omega arith)))
 
 -- an image takes the place of any page
 pub unwrap_or-some : (image : Option (List ℕ)) (x y : List ℕ) → IsSome image → unwrap_or image x ≡ unwrap_or image y
@@ -64,16 +65,16 @@ journaled_written start n images before image ready left =
 -- while its gate is opened
 pub journaled_opened : (start : ℕ) (images : Numbered) (before half : File) (image : List ℕ) → AreRising images → IsReadyFor start images before
     → IsFalse (is_open half.bytes) → IsJournaled images before.bytes half.bytes → Stands before.bytes (pages_of before.bytes) half.bytes
-    → HoldsJournal start images half → IsImage (torn 512 1 half.since) image
+    → HoldsJournal start images half → IsImage (torn GATE 1 half.since) image
     → IsJournaled images before.bytes image
     × (IsTrue (is_open image) → (journal_of image ≡ images) × Stands before.bytes (pages_with images before.bytes) image)
 journaled_opened start images before half image rising ready closed journaled stands holds left =
-    let torn_gate : IsImage (torn 512 1 (all_synced half.bytes)) image = subst (λ since. IsImage (torn 512 1 since) image) holds.settled left in
+    let torn_gate : IsImage (torn GATE 1 (all_synced half.bytes)) image = subst (λ since. IsImage (torn GATE 1 since) image) holds.settled left in
     let with_images = with_stays images before.bytes half.bytes ready.some journaled.stays ready.grown in
     let named : All (λ image. image.0 < count_with images half.bytes) images = subst (λ n. All (λ (image : ℕ × List ℕ). image.0 < n) images) (sym with_images.0) ready.named in
     let behind : 66 + count_with images half.bytes ≤ start = subst (λ n. 66 + n ≤ start) (sym with_images.0) ready.behind_new in
     let fitting : AreFitting start images half.bytes = record { behind = behind; within = holds.within; rising = rising; named = named } in
-    let long : 8192 ≤ length half.bytes = omega (arith, stands.formed.whole) in
+    let long : page_start 2 ≤ length half.bytes = omega (arith, stands.formed.whole) in
     let far : 66 ≤ start_of half.bytes = omega (arith, holds.starts, behind) in
     let same = same_but_gate half.bytes image long far torn_gate in
     let stays : HomeStays before.bytes image = λ p lt. same.home p ∙ journaled.stays p lt in

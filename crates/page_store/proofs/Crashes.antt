@@ -6,7 +6,7 @@ use Rattle.std.proofs.lemmas.List.{ext_get_or}
 use Rattle.store_api.specs.StoreState.{stated_in}
 use Rattle.mdc_outside.specs.Disk.{IsImage, all_synced, torn}
 use Rattle.redo_journal.specs.Images.{Numbered}
-use Rattle.page_file.specs.Layout.{file_page, home_page, FrontStays}
+use Rattle.page_file.specs.Layout.{FrontStays, file_page, home_page, home_start, page_start}
 use Rattle.redo_journal.specs.Layout.{is_open, start_of, number_of, journal_of, index_pages, torn_journal, torn_home}
 use Rattle.redo_journal.proofs.TornLemmas.{front_torn_journal, front_torn_home}
 use Rattle.page_store.specs.Standing.{image_of, page_of, count_of, pages_of, is_made, IsFormed, Stands}
@@ -14,6 +14,7 @@ use Rattle.page_store.specs.Commit.{AreFitting, count_with, pages_with}
 use Rattle.page_file.proofs.BytesLemmas.{same_part, same_behind, same_number}
 use Rattle.page_store.proofs.Kept.{same_journal, length-journal_of, home_left, journal_left, outside_home, IsSameButGate, same_but_gate}
 use Rattle.page_store.proofs.Pages.{page_of-closed, page_of-open, unwrap_or-same, image_of-none, image_of-home, fits, formed_again, pages_again}
+use Rattle.page_file.specs.declared.layout.TheConstants.{GATE}
 
 -- where all is on the disk, a crash leaves what the file holds
 pub only_itself : (bytes image : List ℕ) → IsImage (all_synced bytes) image → image ≡ bytes
@@ -26,7 +27,7 @@ pub while_written : (bytes image : List ℕ) (start n : ℕ) → IsFormed bytes 
     → IsFalse (is_open image) × Stands bytes (pages_of bytes) image
 while_written bytes image start n formed closed some behind left =
     let kept = journal_left bytes image start n left in
-    let whole : 4096 * (66 + count_of bytes) ≤ length bytes = formed.whole in
+    let whole : home_start (count_of bytes) ≤ length bytes = formed.whole in
     let gate : is_open image ≡ is_open bytes = ap (λ b. nat_eq b 79) (kept.1 512 (omega arith) (omega arith) (inl (omega arith))) in
     let shut : IsFalse (is_open image) = gate ∙ closed in
     let made : is_made image ≡ is_made bytes = ap (λ b. nat_eq b 77) (kept.1 0 (omega arith) (omega arith) (inl (omega arith))) in
@@ -34,7 +35,7 @@ while_written bytes image start n formed closed some behind left =
     same_part 4096 4096 image bytes (omega (arith, kept.0)) (λ i low high lt. kept.1 i lt (omega arith) (inr (omega arith))) in
     let home : (p : ℕ) → p < count_of bytes → page_of image p ≡ page_of bytes p = λ p named.
     page_of-closed image p shut
-    ∙ (same_part (4096 * (66 + p)) 4096 image bytes (omega (arith, kept.0)) (λ i low high lt. kept.1 i lt (omega arith) (inr (omega arith)))
+    ∙ (same_part (home_start p) 4096 image bytes (omega (arith, kept.0)) (λ i low high lt. kept.1 i lt (omega arith) (inr (omega arith)))
     ∙ sym (page_of-closed bytes p closed)) in
     let count : count_of image ≡ count_of bytes = ap stated_in (home 0 some) in (
       shut,
@@ -52,7 +53,7 @@ stays_closed : (bytes image : List ℕ) → IsFormed bytes → IsSameButGate byt
 stays_closed bytes image formed same closed shut =
     let home : (p : ℕ) → page_of image p ≡ page_of bytes p = λ p. page_of-closed image p shut ∙ (same.home p ∙ sym (page_of-closed bytes p closed)) in
     let count : count_of image ≡ count_of bytes = ap stated_in (home 0) in
-    let whole : 4096 * (66 + count_of bytes) ≤ length image = omega (arith, formed.whole, same.size) in
+    let whole : home_start (count_of bytes) ≤ length image = omega (arith, formed.whole, same.size) in
     record {
       formed = formed_again bytes image (page_of bytes) formed same.made same.birth count whole (λ opened. absurd (both_ways (is_open image) shut opened));
       pages = pages_again image (page_of bytes) count (λ p lt. home p);
@@ -72,7 +73,7 @@ stands_open bytes image start images formed same opened starts journal fitting =
     let count : count_of image ≡ count_with images bytes = ap stated_in (home 0) in
     let number : number_of image ≡ length images = sym (length-journal_of image) ∙ ap length listed_so in
     let within : 4096 * (start + index_pages (length images) + length images) ≤ length image = omega (arith, fitting.within, same.size) in
-    let whole : 4096 * (66 + count_with images bytes) ≤ length image = omega (arith, fitting.behind, within) in
+    let whole : (home_start (count_with images bytes)) ≤ length image = omega (arith, fitting.behind, within) in
     record {
       formed = formed_again bytes image (λ p. unwrap_or (image_of images p) (home_page bytes p)) formed same.made same.birth count whole
           (λ gate. fits image start (length images) (count_with images bytes) images (same.starts ∙ starts) number listed_so count fitting.behind within fitting.rising fitting.named);
@@ -84,11 +85,11 @@ stands_open bytes image start images formed same opened starts journal fitting =
 -- while its gate is opened
 pub while_opened : (bytes image : List ℕ) (start : ℕ) (images : Numbered) → IsFormed bytes → IsFalse (is_open bytes)
     → start_of bytes ≡ start → journal_of bytes ≡ images → AreFitting start images bytes
-    → IsImage (torn 512 1 (all_synced bytes)) image
+    → IsImage (torn GATE 1 (all_synced bytes)) image
     → (IsFalse (is_open image) × Stands bytes (pages_of bytes) image)
     ⊎ (IsTrue (is_open image) × (journal_of image ≡ images) × Stands bytes (pages_with images bytes) image)
 while_opened bytes image start images formed closed starts journal fitting left =
-    let long : 8192 ≤ length bytes = omega (arith, formed.whole) in
+    let long : page_start 2 ≤ length bytes = omega (arith, formed.whole) in
     let behind : 66 ≤ start_of bytes = omega (arith, fitting.behind, starts) in
     let same = same_but_gate bytes image long behind left in
     elim (cases_Bool (is_open image)) [
@@ -103,7 +104,7 @@ stands_again : (bytes image : List ℕ) → IsFormed bytes → is_made image ≡
 stands_again bytes image formed made birth size front starts numbers journal home gate =
     let fit = formed.journal gate in
     let count : count_of image ≡ count_of bytes = ap stated_in (home 0) in
-    let whole : 4096 * (66 + count_of bytes) ≤ length image = omega (arith, formed.whole, size) in
+    let whole : home_start (count_of bytes) ≤ length image = omega (arith, formed.whole, size) in
     let within : 4096 * (start_of bytes + index_pages (number_of bytes) + number_of bytes) ≤ length image = omega (arith, fit.journal.within, size) in
     record {
       formed = formed_again bytes image (page_of bytes) formed made birth count whole
@@ -119,11 +120,11 @@ pub while_home : (bytes image : List ℕ) → IsFormed bytes → IsTrue (is_open
     → IsTrue (is_open image) × (journal_of image ≡ journal_of bytes) × Stands bytes (pages_of bytes) image
 while_home bytes image formed gate left =
     let fit = formed.journal gate in
-    let whole : 4096 * (66 + count_of bytes) ≤ length bytes = formed.whole in
+    let whole : home_start (count_of bytes) ≤ length bytes = formed.whole in
     let kept = home_left bytes image (journal_of bytes) (count_of bytes) fit.named whole left in
     let size : length image ≡ length bytes = kept.0 in
     let before : (i : ℕ) → i < 270336 → get_or image i 0 ≡ get_or bytes i 0 = λ i lt. kept.1 i (omega arith) (λ k d less. inl (omega arith)) in
-    let behind : (i : ℕ) → 4096 * (66 + count_of bytes) ≤ i → i < length bytes → get_or image i 0 ≡ get_or bytes i 0 = λ i le lt.
+    let behind : (i : ℕ) → home_start (count_of bytes) ≤ i → i < length bytes → get_or image i 0 ≡ get_or bytes i 0 = λ i le lt.
     kept.1 i lt (λ k d less. inr (omega (arith, fit.named k d less))) in
     let opened : IsTrue (is_open image) = ap (λ b. nat_eq b 79) (before 512 (omega arith)) ∙ gate in
     let made : is_made image ≡ is_made bytes = ap (λ b. nat_eq b 77) (before 0 (omega arith)) in
@@ -138,7 +139,7 @@ while_home bytes image formed gate left =
     page_of-open image p opened
     ∙ (ap (λ images. unwrap_or (image_of images p) (home_page image p)) journal
     ∙ (unwrap_or-same (image_of (journal_of bytes) p) (home_page image p) (home_page bytes p) (λ none.
-    same_part (4096 * (66 + p)) 4096 image bytes (ap (λ n. min (4096 * (66 + p) + 4096) n) size) (λ i low high lt.
+    same_part (home_start p) 4096 image bytes (ap (λ n. min (home_start p + 4096) n) size) (λ i low high lt.
     kept.1 i lt (outside_home (journal_of bytes) p i (image_of-none (journal_of bytes) p none) low high)))
     ∙ sym (page_of-open bytes p gate))) in
     (opened, journal, stands_again bytes image formed made birth size (front_torn_home (journal_of bytes) bytes image left) starts numbers journal home gate)
@@ -157,10 +158,10 @@ same_pages bytes image same gate home p = elim (cases_Bool (is_open image)) [
 -- while the gate is closed, with all images in their home pages
 pub while_closed : (bytes image : List ℕ) → IsFormed bytes → IsTrue (is_open bytes)
     → All (λ listed. home_page bytes listed.0 ≡ listed.1) (journal_of bytes)
-    → IsImage (torn 512 1 (all_synced bytes)) image
+    → IsImage (torn GATE 1 (all_synced bytes)) image
     → Stands bytes (pages_of bytes) image
 while_closed bytes image formed gate home left =
     let fit = formed.journal gate in
-    let long : 8192 ≤ length bytes = omega (arith, formed.whole) in
+    let long : page_start 2 ≤ length bytes = omega (arith, formed.whole) in
     let same = same_but_gate bytes image long fit.journal.behind_gates left in
     stands_again bytes image formed same.made same.birth same.size same.front same.starts same.numbers same.journal (same_pages bytes image same gate home) gate

@@ -92,11 +92,11 @@ decided_fitting file =
 -- a formed file
 decided_formed : (file : List ℕ) → Decided (IsFormed file)
 decided_formed file =
-    decided_as {P = IsTrue (is_made file) × (IsBirth (file_page file 1) × ((IsTrue (is_open file) → IsFitting file) × (4096 * (66 + count_of file) ≤ length file)))}
+    decided_as {P = IsTrue (is_made file) × (IsBirth (file_page file 1) × ((IsTrue (is_open file) → IsFitting file) × (home_start (count_of file) ≤ length file)))}
     (λ all. record { made = all.0; birth = all.1.0; journal = all.1.1.0; whole = all.1.1.1 })
     (λ formed. (formed.made, (formed.birth, (formed.journal, formed.whole))))
     (decided_both (decided_test (is_made file)) (decided_both (decided_birth (file_page file 1))
-    (decided_both (decided_where (decided_test (is_open file)) (decided_fitting file)) (decided_le (4096 * (66 + count_of file)) (length file)))))
+    (decided_both (decided_where (decided_test (is_open file)) (decided_fitting file)) (decided_le (home_start (count_of file)) (length file)))))
 
 -- a formed file that states this shape
 decided_formed_as : (shape : Shape) (file : List ℕ) → Decided (IsFormedAs shape file)

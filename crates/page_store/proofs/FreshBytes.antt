@@ -5,6 +5,7 @@ use Rattle.store_api.specs.StoreState.{zero_page}
 use Rattle.store_api.specs.Extents.{map_pages}
 use Rattle.page_store.specs.Shape.{birth_page}
 use Rattle.page_store.specs.Fresh.{zero_pages, gates, root_page, front_with, file_with, fresh_len}
+use Rattle.page_file.specs.Layout.{page_start}
 
 -- a page of zeros has the length of a page
 pub length-zero_page : length zero_page ≡ 4096
@@ -46,7 +47,7 @@ abbrev pub up_to_root : ℕ → ℕ → ℕ → List ℕ
 up_to_root made extents extent_pages = front_with made extents extent_pages ++ root_page extents
 
 -- the first two pages have the length of two
-pub length-first_two : (made extents extent_pages : ℕ) → length (first_two made extents extent_pages) ≡ 8192
+pub length-first_two : (made extents extent_pages : ℕ) → length (first_two made extents extent_pages) ≡ page_start 2
 length-first_two made extents extent_pages =
     length-append (gates made) (birth_page extents extent_pages) ∙ omega (arith, length-gates made, length-birth_page extents extent_pages)
 

@@ -9,7 +9,7 @@ use Rattle.std.proofs.lemmas.List.FromFn.{length-map-range_with_len, get_or-map-
 use Rattle.byteorder.specs.Endian.{big_bytes, big_number}
 use Rattle.byteorder.specs.Numbers.{big_number-reads_back}
 use Rattle.store_api.specs.StoreState.{zero_page, stated_in}
-use Rattle.page_file.specs.Layout.{file_page, home_page}
+use Rattle.page_file.specs.Layout.{file_page, home_page, home_start}
 use Rattle.redo_journal.specs.Layout.{is_open, journal_of}
 use Rattle.store_api.specs.Extents.{is_shape, map_pages, first_count}
 use Rattle.page_store.specs.Shape.{IsBirth, birth_page, extents_in, extent_pages_in}
@@ -69,7 +69,7 @@ fresh_root extents extent_pages =
 pub fresh_other : (extents extent_pages p : ℕ) → p < 16 + map_pages extents → home_page (fresh_file extents extent_pages) (suc p) ≡ zero_page
 unfolding zero_pages
 fresh_other extents extent_pages p lt =
-    zeros_behind (up_to_root 77 extents extent_pages) (zero_pages (16 + map_pages extents)) 274432 4096 (4096 * (16 + map_pages extents)) (4096 * p) (4096 * (66 + suc p))
+    zeros_behind (up_to_root 77 extents extent_pages) (zero_pages (16 + map_pages extents)) 274432 4096 (4096 * (16 + map_pages extents)) (4096 * p) (home_start (suc p))
     refl (length-up_to_root 77 extents extent_pages) (omega arith) (omega arith) ∙ sym zero_page_is
 
 -- its gate is closed
@@ -130,7 +130,7 @@ fresh_is_empty extents extent_pages first second shape =
     let count : count_of (fresh_file extents extent_pages) ≡ first_count extents = ap stated_in root ∙ root_states extents (omega arith) in
     let size : length (fresh_file extents extent_pages) ≡ fresh_len extents = length-file_with 77 extents extent_pages in
     let birth = is_birth extents extent_pages (file_page (fresh_file extents extent_pages) 1) first second shape (fresh_birth extents extent_pages) in
-    let whole : 4096 * (66 + count_of (fresh_file extents extent_pages)) ≤ length (fresh_file extents extent_pages) = omega arith in
+    let whole : home_start (count_of (fresh_file extents extent_pages)) ≤ length (fresh_file extents extent_pages) = omega arith in
     let version : version_of (fresh_file extents extent_pages) ≡ 1 = ap (λ page. big_number 4 (drop 4 page)) root ∙ big_number-reads_back 4 1 (big_bytes 4 (first_count extents) ++ drop 12 zero_page) (lit< tt) in
     let pages : pages_of (fresh_file extents extent_pages) ≡ root_page extents ∷ replicate (16 + map_pages extents) zero_page = fresh_pages extents extent_pages (count_of (fresh_file extents extent_pages)) count in
     record {

@@ -5,7 +5,7 @@ use Rattle.byteorder.specs.Endian.{big_number}
 use Rattle.redo_journal.specs.Images.{Numbered}
 use Rattle.mdc_outside.specs.Disk.{File, all_synced}
 use Rattle.redo_journal.specs.Faults.{IsDamaged}
-use Rattle.page_file.specs.Layout.{file_page}
+use Rattle.page_file.specs.Layout.{file_page, home_start}
 use Rattle.redo_journal.specs.Layout.{is_open, IsJournal}
 use Rattle.redo_journal.specs.declared.replaying.ReplayFault.{ReplayFault}
 use Rattle.redo_journal.specs.declared.replaying.ReplayFault.TheVariants as replay
@@ -79,7 +79,7 @@ not_behind {bytes} {extents} {pages} {journal} {root} {file} count read counts n
 
 -- a page is missing
 pub page_missing : {bytes extents pages : ℕ} {journal : Option Journal} {root file : List ℕ} (count page : ℕ) → WasRead bytes extents pages journal root file
-    → IsRoot extents pages root → count ≡ stated_in root → IsBehind journal count → bytes < 4096 * (66 + count) → page ≡ bytes / 4096 - 66
+    → IsRoot extents pages root → count ≡ stated_in root → IsBehind journal count → bytes < home_start count → page ≡ bytes / 4096 - 66
     → Refuses (Damaged (record { page = page; rule = 1 })) file
 page_missing {bytes} {extents} {pages} {journal} {root} {file} count page read is counts behind short at =
     let same = count_is count read counts in
@@ -88,19 +88,19 @@ page_missing {bytes} {extents} {pages} {journal} {root} {file} count page read i
 
 -- no page is missing
 pub is_whole : {bytes extents pages : ℕ} {journal : Option Journal} {root file : List ℕ} (count : ℕ) → WasRead bytes extents pages journal root file
-    → count ≡ stated_in root → 4096 * (66 + count) ≤ bytes → IsWhole file
+    → count ≡ stated_in root → home_start count ≤ bytes → IsWhole file
 is_whole count read counts long = omega (arith, count_is count read counts, read.size)
 
 -- the file is of another version
 pub other_version : {bytes extents pages : ℕ} {journal : Option Journal} {root file : List ℕ} (count version : ℕ) → WasRead bytes extents pages journal root file
-    → IsRoot extents pages root → count ≡ stated_in root → IsBehind journal count → 4096 * (66 + count) ≤ bytes
+    → IsRoot extents pages root → count ≡ stated_in root → IsBehind journal count → home_start count ≤ bytes
     → version ≡ big_number 4 (drop 4 root) → version ≢ 1 → Refuses (Version version) file
 other_version count version read is counts behind long states other =
     (read.made, read.birth, is_read count read is counts behind, is_whole count read counts long, states ∙ ap (λ page. big_number 4 (drop 4 page)) read.root_is, other)
 
 -- the file can be served
 pub can_serve : {bytes extents pages : ℕ} {journal : Option Journal} {root file : List ℕ} (count version : ℕ) → WasRead bytes extents pages journal root file
-    → IsRoot extents pages root → count ≡ stated_in root → IsBehind journal count → 4096 * (66 + count) ≤ bytes
+    → IsRoot extents pages root → count ≡ stated_in root → IsBehind journal count → home_start count ≤ bytes
     → version ≡ big_number 4 (drop 4 root) → version ≡ 1 → IsServed file × (count_of file ≡ count)
 can_serve count version read is counts behind long states one =
     ((read.made, read.birth, is_read count read is counts behind, is_whole count read counts long, ap (λ page. big_number 4 (drop 4 page)) (sym read.root_is) ∙ (sym states ∙ one)), count_is count read counts)

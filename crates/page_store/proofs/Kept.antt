@@ -4,11 +4,12 @@ use Rattle.std.specs.List.{All}
 use Rattle.std.proofs.lemmas.Bool.{cases_order}
 use Rattle.mdc_outside.specs.Disk.{Since, IsImage, IsInNone, IsOutside, all_synced, torn}
 use Rattle.redo_journal.specs.Images.{Numbered}
-use Rattle.page_file.specs.Layout.{file_page, home_page, FrontStays}
+use Rattle.page_file.specs.Layout.{FrontStays, file_page, home_page, home_start, page_start}
 use Rattle.redo_journal.specs.Layout.{entries, start_of, number_of, journal_of, index_pages, torn_home, torn_journal}
 use Rattle.redo_journal.proofs.TornLemmas.{torn_home-synced, front_torn_gate}
 use Rattle.page_file.proofs.BytesLemmas.{same_part, same_behind, same_number}
 use Rattle.page_store.specs.Standing.{is_made}
+use Rattle.page_file.specs.declared.layout.TheConstants.{GATE}
 
 -- as many entries as were asked for
 length-entries : (n : ℕ) (index pages : List ℕ) → length (entries n index pages) ≡ n
@@ -30,7 +31,7 @@ same_journal a b starts numbers same =
     ∙ ap (λ xs. entries (number_of b) (drop (4096 * start_of b) b) xs) (same (4096 * (start_of b + index_pages (number_of b))) (omega arith))))
 
 -- what a torn gate leaves: the same length, and each other byte
-gate_left : (bytes image : List ℕ) → 8192 ≤ length bytes → IsImage (torn 512 1 (all_synced bytes)) image
+gate_left : (bytes image : List ℕ) → page_start 2 ≤ length bytes → IsImage (torn GATE 1 (all_synced bytes)) image
     → (length image ≡ length bytes) × ((i : ℕ) → i < length bytes → i ≢ 512 → get_or image i 0 ≡ get_or bytes i 0)
 gate_left bytes image long left = (
   omega (arith, left.no_shorter, left.no_longer),
@@ -42,24 +43,24 @@ gate_left bytes image long left = (
 
 -- home pages below the nth that are torn make the file no longer than they reach
 torn_home-longest : (images : Numbered) (since : Since) (n m : ℕ) → All (λ image. image.0 < n) images → since.longest ≤ m
-    → 4096 * (66 + n) ≤ m → (torn_home images since).longest ≤ m
+    → home_start n ≤ m → (torn_home images since).longest ≤ m
 torn_home-longest [] since n m below short reach = short
 torn_home-longest (image ∷ images) since n m below short reach =
     let first : image.0 < n = below 0 image (omega arith) in
-    torn_home-longest images (torn (4096 * (66 + image.0)) 4096 since) n m (λ k d lt. below (suc k) d (omega arith)) (omega arith) reach
+    torn_home-longest images (torn (home_start image.0) 4096 since) n m (λ k d lt. below (suc k) d (omega arith)) (omega arith) reach
 
 -- a place in no home page of these is in none that is torn
-none_of_home : (i : ℕ) (images : Numbered) (since : Since) → All (λ image. IsOutside i (record { at = 4096 * (66 + image.0); count = 4096 })) images
+none_of_home : (i : ℕ) (images : Numbered) (since : Since) → All (λ image. IsOutside i (record { at = home_start image.0; count = 4096 })) images
     → IsInNone i since.ranges → IsInNone i (torn_home images since).ranges
 none_of_home i [] since outside none = none
 none_of_home i (image ∷ images) since outside none =
-    none_of_home i images (torn (4096 * (66 + image.0)) 4096 since) (λ k d lt. outside (suc k) d (omega arith)) (outside 0 image (omega arith), none)
+    none_of_home i images (torn (home_start image.0) 4096 since) (λ k d lt. outside (suc k) d (omega arith)) (outside 0 image (omega arith), none)
 
 -- what torn home pages within the file leave: the same length, and each byte that is in none
-pub home_left : (bytes image : List ℕ) (images : Numbered) (n : ℕ) → All (λ image. image.0 < n) images → 4096 * (66 + n) ≤ length bytes
+pub home_left : (bytes image : List ℕ) (images : Numbered) (n : ℕ) → All (λ image. image.0 < n) images → home_start n ≤ length bytes
     → IsImage (torn_home images (all_synced bytes)) image
     → (length image ≡ length bytes)
-    × ((i : ℕ) → i < length bytes → All (λ image. IsOutside i (record { at = 4096 * (66 + image.0); count = 4096 })) images → get_or image i 0 ≡ get_or bytes i 0)
+    × ((i : ℕ) → i < length bytes → All (λ image. IsOutside i (record { at = home_start image.0; count = 4096 })) images → get_or image i 0 ≡ get_or bytes i 0)
 home_left bytes image images n below reach left =
     let synced : (torn_home images (all_synced bytes)).synced ≡ bytes = torn_home-synced images (all_synced bytes) in
     let same : length (torn_home images (all_synced bytes)).synced ≡ length bytes = ap length synced in
@@ -75,8 +76,8 @@ pub journal_left : (bytes image : List ℕ) (start n : ℕ) → IsImage (torn_jo
 journal_left bytes image start n left = (left.no_shorter, λ i lt before outside. left.kept i lt (inl before, (outside, tt)))
 
 -- a place in the home page of p is in no home page of an image with another number
-pub outside_home : (images : Numbered) (p i : ℕ) → All (λ image. image.0 ≢ p) images → 4096 * (66 + p) ≤ i → i < 4096 * (66 + p) + 4096
-    → All (λ image. IsOutside i (record { at = 4096 * (66 + image.0); count = 4096 })) images
+pub outside_home : (images : Numbered) (p i : ℕ) → All (λ image. image.0 ≢ p) images → home_start p ≤ i → i < home_start p + 4096
+    → All (λ image. IsOutside i (record { at = home_start image.0; count = 4096 })) images
 outside_home images p i others low high = λ k d lt. elim (cases_order (get_or images k d).0 p) [
   | inl same ↦ absurd (others k d lt same)
   | inr apart ↦ elim apart [ inl below ↦ inr (omega arith) | inr above ↦ inl (omega arith) ]
@@ -94,7 +95,7 @@ pub record IsSameButGate (bytes image : List ℕ) : Type 0 where
   pub home : (p : ℕ) → home_page image p ≡ home_page bytes p
 
 -- a torn gate leaves such an image, where the journal lies behind the gates
-pub same_but_gate : (bytes image : List ℕ) → 8192 ≤ length bytes → 66 ≤ start_of bytes → IsImage (torn 512 1 (all_synced bytes)) image → IsSameButGate bytes image
+pub same_but_gate : (bytes image : List ℕ) → page_start 2 ≤ length bytes → 66 ≤ start_of bytes → IsImage (torn GATE 1 (all_synced bytes)) image → IsSameButGate bytes image
 same_but_gate bytes image long behind left =
     let kept = gate_left bytes image long left in
     let size : length image ≡ length bytes = kept.0 in
@@ -110,5 +111,5 @@ same_but_gate bytes image long behind left =
       starts = starts;
       numbers = numbers;
       journal = same_journal image bytes starts numbers (λ at le. same_behind at image bytes size (λ i low lt. kept.1 i lt (λ same. omega arith)));
-      home = λ p. part (4096 * (66 + p)) 4096 (omega arith);
+      home = λ p. part (home_start p) 4096 (omega arith);
     }

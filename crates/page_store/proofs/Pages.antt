@@ -5,7 +5,7 @@ use Rattle.std.proofs.lemmas.Bool.{cases_eq, eq-eqb, ne_eqb}
 use Rattle.std.proofs.lemmas.List.Elements.{All-nil, All-cons}
 use Rattle.store_api.specs.StoreState.{stated_in}
 use Rattle.redo_journal.specs.Images.{Numbered, AreRising}
-use Rattle.page_file.specs.Layout.{file_page, home_page}
+use Rattle.page_file.specs.Layout.{file_page, home_page, home_start}
 use Rattle.redo_journal.specs.Layout.{is_open, start_of, number_of, journal_of, index_pages}
 use Rattle.mdc_words.specs.Listed.{listed}
 use Rattle.page_store.specs.Standing.{image_of, page_of, count_of, pages_of, is_made, IsFitting, IsFormed}
@@ -55,7 +55,7 @@ fits file start number n images is_start is_number is_journal is_count behind wi
 
 -- what is formed as a formed file is, but for its pages, which f gives
 pub formed_again : (bytes image : List ℕ) (f : ℕ → List ℕ) → IsFormed bytes → is_made image ≡ is_made bytes → file_page image 1 ≡ file_page bytes 1
-    → count_of image ≡ stated_in (f 0) → 4096 * (66 + stated_in (f 0)) ≤ length image → (IsTrue (is_open image) → IsFitting image) → IsFormed image
+    → count_of image ≡ stated_in (f 0) → home_start (stated_in (f 0)) ≤ length image → (IsTrue (is_open image) → IsFitting image) → IsFormed image
 formed_again bytes image f formed made birth count whole fitting = record {
   made = made ∙ formed.made;
   birth = rw birth formed.birth;

@@ -12,6 +12,7 @@ use Rattle.redo_journal.specs.Layout.{HoldsJournal, index_pages, journal_of, tor
 use Rattle.page_store.specs.Commit.{IsCounting, NoLonger, ReachesTo}
 use Rattle.page_store.specs.Standing.{IsFormed, count_of}
 use Rattle.page_store.proofs.Kept.{home_left}
+use Rattle.page_file.specs.declared.layout.TheConstants.{GATE}
 
 -- a journal that is torn ends no later than it would whole
 journal_reach : (start n : ℕ) (bytes image : List ℕ) → 66 ≤ start → IsImage (torn_journal start n (all_synced bytes)) image
@@ -32,10 +33,10 @@ module _ {D : Type 0} {file : D → Option File} {aside : D → Beside} {attache
 
   -- while the gate is set
   pub gate_reaches : {old new : D} → ((f : File) → file new ≡ Some f → IsImage f.since f.bytes) → ForSome (file old) IsReady
-      → Runs file aside attaches is_attached clock moment IsWithin (torn 512 1) old new
+      → Runs file aside attaches is_attached clock moment IsWithin (torn GATE 1) old new
       → Leaves file aside attaches is_attached clock moment NoLonger old new
   gate_reaches as_read ready run = runs_leave run as_read (λ before image is left.
-      let torn_gate : IsImage (torn 512 1 (all_synced before.bytes)) image = subst (λ since. IsImage (torn 512 1 since) image) (ready before is).synced left in
+      let torn_gate : IsImage (torn GATE 1 (all_synced before.bytes)) image = subst (λ since. IsImage (torn GATE 1 since) image) (ready before is).synced left in
       omega (arith, torn_gate.no_longer, (ready before is).long))
 
   -- while the images are written home
