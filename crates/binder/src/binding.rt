@@ -10,7 +10,6 @@ ghost use Rattle.binder.specs.Refusing.{IsRefusedFor};
 use crate::judging::judge;
 use crate::objection::refusal;
 use crate::statement_binding::bound;
-use crate::whole_rows::whole_rows;
 use catalog::Catalog;
 use mdc_ast::{Bound, Refusal, Stmt};
 use mdc_values::Memory;
@@ -43,19 +42,6 @@ pub fn bind(alloc: Global, stmt: &Stmt, catalog: &Catalog) -> Result<Bound, Bind
     ensures bound { IfOk result (λ bound. (in_order (judged_of catalog.now stmt.now) ≡ []) × (bound ≡ bound_of catalog.now stmt.now)) }
     ensures refused { IsRefusedFor (in_order (judged_of catalog.now stmt.now)) result }
 {
-    if let Stmt::Insert {
-        table,
-        columns,
-        rows,
-    } = stmt
-        && columns.is_none()
-        && let Some(whole) = whole_rows(alloc, table, rows.as_slice(), catalog)?
-    {
-        return Ok(Bound::Insert {
-            table: whole.table,
-            rows: whole.rows,
-        });
-    }
     match judge(alloc, stmt, catalog)? {
         Ok(()) => Ok(bound(alloc, stmt, catalog)?),
         Err(objection) => Err(BindFault::Refused(refusal(alloc, &objection)?)),

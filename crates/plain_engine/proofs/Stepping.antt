@@ -1,11 +1,14 @@
 -- From a bound statement to the step of its statement.
 use Rattle.std.proofs.Common.{◌≡◌, List, [], ◌∷◌, ◌++◌, ◌∙◌, sym, ap, subst}
-use Rattle.std.specs.Prelude.{true, Result, Ok, Err, IfOk, OnErr, if◌then◌else◌}
+use Rattle.std.specs.Prelude.{Bool, true, not, Option, None, is_some, Result, Ok, Err, IfOk, OnErr, if◌then◌else◌}
 use Rattle.mdc_ast.specs.declared.bound.Bound.{Bound}
+use Rattle.mdc_ast.specs.declared.name.Name.{Name}
 use Rattle.mdc_ast.specs.declared.refusal.Refusal.{Refusal}
 use Rattle.mdc_ast.specs.declared.reply.Outcome.{Outcome}
 use Rattle.mdc_ast.specs.declared.reply.Outcome.TheVariants as outcome
+use Rattle.mdc_ast.specs.declared.statement.InsertItem.{InsertItem}
 use Rattle.mdc_ast.specs.declared.statement.Stmt.{Stmt}
+use Rattle.mdc_ast.specs.declared.statement.Stmt.TheVariants as stmt
 use Rattle.mdc_ast.specs.meaning.Binding.{bound_of}
 use Rattle.mdc_ast.specs.declared.reply.Reply.{Reply}
 use Rattle.mdc_ast.specs.meaning.Cause.{Cause, NotBuilt}
@@ -17,7 +20,10 @@ use Rattle.mdc_ast.specs.meaning.Session.{SaysFor, Session, refused, replied, se
 use Rattle.mdc_ast.specs.meaning.Step.{Answer, Refused, is_built, step, step_by}
 use Rattle.mdc_ast.proofs.KeepingLemmas.{step_keeps}
 use Rattle.mdc_ast.proofs.SessionLemmas.{says_for-refused, turn_refused}
-use Rattle.plain_engine.specs.Executing.{answer_of, done}
+use Rattle.mdc_ast.specs.meaning.Definitions.{Definitions}
+use Rattle.binder.proofs.WholeRowsLemmas.{IsBoundTo, none_there}
+use Rattle.plain_engine.proofs.Ready.{ready}
+use Rattle.plain_engine.specs.Executing.{MayBeDone, answer_of, done}
 
 -- a statement that is bound is done as it is bound
 pub step_is_done : (db : Database) (statement : Stmt) → is_built statement ≡ true → in_order (judged_of (defs_of db) statement) ≡ [] → step db statement ≡ done db (bound_of (defs_of db) statement)
@@ -37,6 +43,19 @@ answered db new statement statement_bound (Ok outcome) built said is e = step_is
 pub valid_after : {E : Type 0} (db new : Database) (statement : Stmt) (result : Result Outcome E) → IsValid db → IfOk result (λ outcome. step db statement ≡ (new, answer_of outcome)) → OnErr result (IsValid new) → IsValid new
 valid_after db new statement (Ok outcome) valid e err = subst IsValid (ap (λ p. p.0) e) (step_keeps db statement valid)
 valid_after db new statement (Err fault) valid e err = err
+
+-- an INSERT whose columns turn out not to be named is bound so, on the definitions of a database
+pub bound_unnamed : (db : Database) (defs : Definitions) (statement : Stmt) (table : Name) (columns : Option (List Name)) (tuples lent : List (List InsertItem)) (empty : Bool) (result : Bound)
+    → defs ≡ defs_of db → statement ≡ stmt.Insert table columns tuples → is_some columns ≡ not empty → empty ≡ true → lent ≡ tuples
+    → IsBoundTo defs result (stmt.Insert table None lent) → IsBoundTo (defs_of db) result statement
+bound_unnamed db defs statement table columns tuples lent empty result at is named unnamed same h =
+    let whole : statement ≡ stmt.Insert table None lent =
+    is ∙ ap (λ listed. stmt.Insert table listed tuples) (none_there columns empty named unnamed) ∙ ap (stmt.Insert table None) (sym same) in
+    subst (IsBoundTo (defs_of db) result) (sym whole) (subst (λ d. IsBoundTo d result (stmt.Insert table None lent)) at h)
+
+-- so its bound statement may be done
+pub bound_ready : (db : Database) (statement : Stmt) (result : Bound) → IsValid db → IsBoundTo (defs_of db) result statement → MayBeDone db result
+bound_ready db statement result valid h = subst (MayBeDone db) (sym h.1) (ready db statement valid h.0)
 
 -- what an outcome says is its answer
 says_answer_of : (answer : Answer) (outcome : Outcome) → answer ≡ answer_of outcome → SaysFor answer outcome

@@ -11,7 +11,7 @@ use crate::querying::query;
 use crate::refusals::not_built;
 use crate::tables::Tables;
 use crate::updating::update;
-use binder::{BindFault, bind, built};
+use binder::{BindFault, bind, bind_whole, built};
 use mdc_ast::{Bound, Outcome, Reply, Stmt};
 use mdc_values::Memory;
 use std::alloc::Global;
@@ -19,6 +19,26 @@ use std::alloc::Global;
 /// Executes a statement on the tables of a valid database. Where it is refused they stay as they are. After `Memory` the
 /// table of the statement may have lost its rows.
 pub fn execute(alloc: Global, stmt: &Stmt, tables: &mut Tables) -> Result<Outcome, Memory>
+    requires { IsValid tables.old }
+    ensures done { IfOk result (λ outcome. step tables.old stmt.now ≡ (tables.new, answer_of outcome)) }
+    ensures valid { IsValid tables.new }
+{
+    // Most statements are INSERTs against which nothing is said.
+    if let Stmt::Insert {
+        table,
+        columns,
+        rows,
+    } = stmt
+        && columns.is_none()
+        && let Some(whole) = bind_whole(alloc, table, rows.as_slice(), tables.catalog())?
+    {
+        return insert(alloc, whole.table, whole.rows, tables);
+    }
+    execute_any(alloc, stmt, tables)
+}
+
+// Executes a statement of any form.
+fn execute_any(alloc: Global, stmt: &Stmt, tables: &mut Tables) -> Result<Outcome, Memory>
     requires { IsValid tables.old }
     ensures done { IfOk result (λ outcome. step tables.old stmt.now ≡ (tables.new, answer_of outcome)) }
     ensures valid { IsValid tables.new }

@@ -7,7 +7,8 @@ use Rattle.mdc_ast.specs.Cutting.{Passes, is_blank}
 use Rattle.mdc_ast.specs.Tokens.{Kind, Word, Number, Text, Symbol, Stray, Token, Tokens, Quoted, Unquoted, Stops, StandsAlone, is_letter, is_symbol, is_pair, is_word_byte, begins_token, upper, kept_number}
 use Rattle.mdc_values.specs.Calendar.{is_digit}
 use Rattle.mdc_ast.specs.Tokens as tokens
-use Rattle.sql_reader.specs.Front.{Found, after_line, class_at, closes_before, closing_at, next_quote, front_at, front_by, front_len, symbol_front, text_before, token_told}
+use Rattle.sql_reader.specs.declared.token.Token.{Token as Lexed}
+use Rattle.sql_reader.specs.Front.{Found, PutsFront, after_line, class_at, closes_before, closing_at, next_quote, front_at, front_by, front_len, symbol_front, text_before, token_told}
 use Rattle.sql_reader.specs.declared.lexer.Class.TheVariants as class
 use Rattle.sql_reader.specs.Digits.{EndsNumber, IsLongestFront}
 use Rattle.std.specs.Prelude.{IfSome}
@@ -360,7 +361,9 @@ next_within None i n b lt = by_test (b == 39)
     by_test true = lt
     by_test false = tt
 
--- the front of a digit
-pub digit_found : (bytes : List ℕ) (found : Found) (value : ℕ) (rest : List ℕ) → 1 ≤ length bytes → class_at (get_or bytes 0 0) ≡ class.Digit → EndsNumber 0 bytes value rest → found ≡ (Some (Number value), rest) → found ≡ front_at bytes
-digit_found [] found value rest some at ends e = absurd (omega arith)
-digit_found (b ∷ behind) found value rest some at ends e = e ∙ number_found (b ∷ behind) value rest ends ∙ sym (ap (λ c. front_by c b behind) at)
+-- what a digit begins is put last
+pub digit_put : (bytes : List ℕ) (value : ℕ) (rest : List ℕ) (old new : List Lexed) (behind : List ℕ) → 1 ≤ length bytes → class_at (get_or bytes 0 0) ≡ class.Digit → EndsNumber 0 bytes value rest
+    → PutsFront old new (length bytes) (Some (Number value), rest) behind → PutsFront old new (length bytes) (front_at bytes) behind
+digit_put [] value rest old new behind some at ends puts = absurd (omega arith)
+digit_put (b ∷ more) value rest old new behind some at ends puts =
+    subst (λ (f : Found). PutsFront old new (length (b ∷ more)) f behind) (number_found (b ∷ more) value rest ends ∙ sym (ap (λ c. front_by c b more) at)) puts

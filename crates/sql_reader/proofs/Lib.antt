@@ -1,4 +1,5 @@
 mod Answers
+mod ClassesLemmas
 mod Depth
 mod Exact
 mod Folding
@@ -12,6 +13,8 @@ mod Loops
 mod NumberLemmas
 mod Numbers
 mod Pieces
+mod PlainTokenLemmas
+mod QuietLemmas
 mod ReservedLemmas
 mod Rules
 mod Scanning

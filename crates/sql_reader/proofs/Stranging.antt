@@ -1,7 +1,6 @@
 -- The first strange byte is found so, and nothing else is.
 use Rattle.std.proofs.Common.{◌≡◌, ◌≢◌, ℕ, zero, suc, ◌<◌, ◌≤◌, List, [], ◌∷◌, ◌++◌, length, get_or, Bool, true, false, cond, Option, Some, None, refl, sym, ap, subst, ◌∙◌, inl, inr, arith}
 use Rattle.std.specs.Prelude.{IsTrue, not, ◌==◌, ◌&&◌}
-use Rattle.std.specs.List.{list_all}
 use Rattle.std.proofs.lemmas.Bool.{cases_Bool, cases_eq, ne_eqb}
 use Rattle.std.proofs.lemmas.Bool.Decides.{nat_tests}
 use Rattle.mdc_ast.specs.Cutting.{Lacks, BeginsNoComment}
@@ -133,23 +132,3 @@ no_bytes t bytes found (FirstStrange.open_comment d g lacks) e = cc
 
 pub no_empty : (bytes : List ℕ) → FirstStrange false bytes (Some []) → ⊥
 no_empty bytes h = no_bytes false bytes (Some []) h refl
-
-plain_nowhere : (bytes : List ℕ) (place : Within) → list_all is_plain bytes ≡ true → strange_from bytes place ≡ None
-plain_nowhere [] place plain = refl
-plain_nowhere (b ∷ bytes) place plain =
-    let both = plain_first (is_plain b) (list_all is_plain bytes) plain in
-    rw (not_strange place b both.0) (plain_nowhere bytes (within_after place b bytes) both.1)
-  where
-    plain_first : (p q : Bool) → (p && q) ≡ true → (p ≡ true) × (q ≡ true)
-    plain_first true true e = (refl, refl)
-    plain_first true false e = absurd (cc)
-    plain_first false q e = absurd (cc)
-
-    not_strange : (place : Within) (b : ℕ) → is_plain b ≡ true → is_strange place b ≡ false
-    not_strange within.Nothing b plain = rw plain refl
-    not_strange within.Text b plain = rw plain refl
-    not_strange within.Comment b plain = refl
-
--- where all bytes are plain, none is strange
-pub all_plain : (statement : List ℕ) → list_all is_plain statement ≡ true → IsFoundIn statement None
-all_plain statement plain = subst (FirstStrange false statement) (plain_nowhere statement within.Nothing plain) (strange_is statement)

@@ -1,31 +1,26 @@
 -- What bytes begin with, as it is found from left to right.
-use Rattle.std.specs.Prelude.{ℕ, ◌+◌, List, [], ◌∷◌, length, map, take, drop, Bool, false, not, ◌==◌, ◌&&◌, if◌then◌else◌, Option, Some, None, position, unwrap_or}
+use Rattle.std.specs.Prelude.{◌≡◌, ℕ, ◌+◌, ◌++◌, List, [], ◌∷◌, length, map, take, drop, Bool, false, not, ◌==◌, ◌&&◌, if◌then◌else◌, Option, Some, None, position, unwrap_or}
 use Rattle.mdc_ast.specs.Cutting.{is_blank}
 use Rattle.mdc_ast.specs.Tokens.{Kind, Word, Number, Text, Symbol, Stray, Token, is_letter, is_symbol, is_pair, is_word_byte, upper, kept_number}
 use Rattle.mdc_values.specs.Calendar.{is_digit}
-use Rattle.sql_reader.specs.Token.{bytes_of, undoubled, grammar_kind}
-use Rattle.sql_reader.specs.declared.token.Kind.{Kind as Lent}
+use Rattle.sql_reader.specs.Token.{bytes_of, tokens_of, undoubled}
 use Rattle.sql_reader.specs.declared.token.Symbol.{Symbol as Mark}
+use Rattle.sql_reader.specs.declared.token.Token.{Token as Lexed}
 use Rattle.sql_reader.specs.declared.lexer.Class.{Class}
 use Rattle.sql_reader.specs.declared.lexer.Class.TheVariants as class
-use Rattle.sql_reader.specs.declared.lexer.Front.{Front}
 
 -- what stands at the front, none for a blank or a comment, and the bytes behind it
 abbrev pub Found : Type 0
 Found = Option Kind × List ℕ
-
-abbrev pub shown_kind : Option Lent → Option Kind
-shown_kind None = None
-shown_kind (Some kind) = Some (grammar_kind kind)
 
 -- the token of this kind from the byte on that has so many from it on, if there is one
 abbrev pub token_told : Option Kind → ℕ → List Token
 token_told None left = []
 token_told (Some kind) left = record { kind = kind; left = left } ∷ []
 
--- what the code found
-abbrev pub found_in : Front → Found
-found_in front = (shown_kind front.kind, front.rest.now)
+-- what was found in bytes, of which there are so many, is put last, and the rest is what is behind it
+abbrev pub PutsFront : List Lexed → List Lexed → ℕ → Found → List ℕ → Type 0
+PutsFront old new left found rest = (tokens_of new ≡ tokens_of old ++ token_told found.0 left) × (rest ≡ found.1)
 
 abbrev pub shown_symbol : Option Mark → Option (List ℕ)
 shown_symbol None = None
@@ -76,6 +71,15 @@ class_at b =
     else (if is_digit b then class.Digit
     else (if b == 39 then class.Quote
     else (if is_symbol b then class.Symbol else class.Unknown))))
+
+-- the class that a mark of the table stands for
+abbrev pub class_marked : ℕ → Class
+class_marked mark =
+    if mark == 48 then class.Letter
+    else (if mark == 49 then class.Digit
+    else (if mark == 51 then class.Symbol
+    else (if mark == 52 then class.Quote
+    else (if mark == 53 then class.Blank else class.Unknown))))
 
 -- what a byte of this class and the bytes behind it begin with
 abbrev pub front_by : Class → ℕ → List ℕ → Found

@@ -1,9 +1,17 @@
 -- How the first byte that no statement has is found from left to right.
-use Rattle.std.specs.Prelude.{◌≡◌, ℕ, List, [], ◌∷◌, length, Bool, false, not, ◌==◌, ◌&&◌, if◌then◌else◌, Option, Some, None}
-use Rattle.mdc_ast.specs.Tokens.{FirstStrange, is_plain}
+use Rattle.std.specs.Prelude.{◌≡◌, ℕ, List, [], ◌∷◌, length, Bool, true, false, not, ◌==◌, ◌&&◌, if◌then◌else◌, Option, Some, None}
+use Rattle.mdc_ast.specs.Tokens.{FirstStrange, Kind, Word, Number, Text, Symbol, Stray, is_plain}
 use Rattle.sql_reader.specs.declared.strange.Within.{Within}
 use Rattle.sql_reader.specs.declared.strange.Within.TheVariants as within
 use Rattle.sql_reader.specs.declared.strange.Strange.{Strange}
+
+-- a token whose bytes may all stand anywhere in a statement
+abbrev pub is_plain_kind : Kind → Bool
+is_plain_kind (Word word) = true
+is_plain_kind (Number number) = true
+is_plain_kind (Text text) = false
+is_plain_kind (Symbol bytes) = true
+is_plain_kind Stray = false
 
 abbrev pub begins_dash : List ℕ → Bool
 begins_dash [] = false

@@ -2,15 +2,17 @@
 ghost use Rattle.std.specs.Prelude.{◌≡◌, ◌≤◌, [], length, IfOk, false, None};
 ghost use Rattle.mdc_ast.specs.Reading as reading;
 ghost use Rattle.mdc_ast.specs.Reading.{IsItemOf};
-ghost use Rattle.mdc_ast.specs.Tokens.{FirstStrange};
+ghost use Rattle.mdc_ast.specs.Tokens.{FirstStrange, Tokens};
 ghost use Rattle.sql_reader.specs.Item.{item_of};
 ghost use Rattle.sql_reader.specs.Items.{IsItemIn};
 ghost use Rattle.sql_reader.specs.Told.{item_told};
+ghost use Rattle.sql_reader.specs.Token.{tokens_of};
 
 use crate::lexer::lex;
 use crate::parser::{Parsed, parse};
 use crate::statements::Read;
 use crate::strange::first_strange;
+use crate::token::Token;
 use crate::trim::trim;
 use mdc_ast::{Name, Refusal};
 use mdc_values::{Chars, Memory};
@@ -41,23 +43,24 @@ fn item_of_bytes(alloc: Global, statement: &[u8]) -> Result<Read, Memory>
     if statement.len() > STATEMENT_LIMIT {
         return Ok(Read::Refused(too_long(alloc)));
     }
-    match first_strange(statement) {
+    let tokens = lex(alloc, statement)?;
+    match first_strange(statement, &tokens) {
         Some(strange) => {
             let place = place_of(statement, strange.left);
             Ok(Read::Refused(strange_at(alloc, strange.byte, place)))
         }
-        None => item_of_tokens(alloc, statement),
+        None => item_of_tokens(alloc, statement, &tokens),
     }
 }
 
-/// The item of bytes that a statement may have.
-fn item_of_tokens(alloc: Global, statement: &[u8]) -> Result<Read, Memory>
+/// The item of bytes that a statement may have, which are these tokens.
+fn item_of_tokens(alloc: Global, statement: &[u8], tokens: &[Token]) -> Result<Read, Memory>
     requires few { length statement.now ≤ STATEMENT_LIMIT }
     requires plain { FirstStrange false statement.now None }
+    requires lexed { Tokens statement.now (tokens_of tokens.now) }
     ensures { IfOk result (λ read. IsItemOf statement.now (item_of read)) }
 {
-    let tokens = lex(alloc, statement)?;
-    let parsed = parse(alloc, &tokens, NESTING_LIMIT)?;
+    let parsed = parse(alloc, tokens, NESTING_LIMIT)?;
     Ok(told(alloc, statement, parsed))
 }
 

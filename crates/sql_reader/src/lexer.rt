@@ -1,13 +1,13 @@
 // The tokens of a statement.
-ghost use Rattle.std.specs.Prelude.{◌≡◌, ◌<◌, [], ◌∷◌, None, Some, IfOk, IfSome, OnOk, ◌++◌, if◌then◌else◌, length, ◌==◌, true};
+ghost use Rattle.std.specs.Prelude.{◌≡◌, ◌<◌, [], ◌∷◌, None, Some, IfOk, IfSome, if◌then◌else◌, length, true, vec_len, vec_capacity};
+ghost use Rattle.mdc_ast.specs.Cutting.{is_blank};
 ghost use Rattle.mdc_ast.specs.Tokens.{Tokens, is_pair, is_symbol, is_word_byte};
 ghost use Rattle.sql_reader.specs.Digits.{EndsNumber};
-ghost use Rattle.sql_reader.specs.Front.{class_at, closes_before, closing_at, next_quote, front_at, front_len, found_in, shown_kind, shown_symbol, token_told, symbol_front, text_before};
+ghost use Rattle.sql_reader.specs.Front.{class_at, class_marked, closes_before, closing_at, next_quote, front_at, front_len, shown_symbol, symbol_front, text_before, PutsFront};
 ghost use Rattle.sql_reader.specs.Token.{bytes_of, tokens_of, grammar_kind};
 
 use crate::comment::after_line;
 use crate::token::{Kind, Symbol, Token};
-use crate::trim::is_blank;
 use mdc_values::Memory;
 use std::alloc::Global;
 
@@ -26,12 +26,16 @@ enum Class {
     Unknown,
 }
 
-/// What stands at the front of bytes, none for a blank or a comment, and the bytes behind it.
-#[derive(Clone, Copy)]
-struct Front<'s> {
-    kind: Option<Kind<'s>>,
-    rest: &'s [u8],
-}
+// For each byte: 0 a letter, 1 a digit, 2 the other byte of a word, 3 a symbol, 4 a quote, 5 a blank, 6 any other.
+static CLASSES: [u8; 256] = *b"\
+    66666666655665666666666666666666\
+    56666664333333631111111111663336\
+    60000000000000000000000000066662\
+    60000000000000000000000000066666\
+    66666666666666666666666666666666\
+    66666666666666666666666666666666\
+    66666666666666666666666666666666\
+    66666666666666666666666666666666";
 
 /// The tokens that the bytes of a statement are.
 pub fn lex<'s>(alloc: Global, statement: &'s [u8]) -> Result<Vec<Token<'s>>, Memory>
@@ -40,77 +44,74 @@ pub fn lex<'s>(alloc: Global, statement: &'s [u8]) -> Result<Vec<Token<'s>>, Mem
     let mut tokens = Vec::with_capacity(alloc, USUAL_TOKENS)?;
     let mut rest = statement;
     while let [byte, behind @ ..] = rest {
-        if is_blank(*byte) {
+        if is_gap(*byte) {
             rest = behind;
             continue;
         }
-        let front = front_of(rest);
-        keep(&mut tokens, front.kind, rest.len())?;
-        rest = front.rest;
+        tokens.reserve(1)?;
+        rest = take(&mut tokens, rest);
     }
     Ok(tokens)
 }
 
-/// Puts a token last, if there is one.
-fn keep<'s>(tokens: &mut Vec<Token<'s>>, kind: Option<Kind<'s>>, left: usize) -> Result<(), Memory>
-    ensures { OnOk result (tokens_of tokens.new.items ≡ tokens_of tokens.old.items ++ token_told (shown_kind kind.entry) left) }
+/// Puts the token that the bytes begin with last, none for a blank or a comment, and gives the bytes behind it.
+fn take<'s>(tokens: &mut Vec<Token<'s>>, bytes: &'s [u8]) -> &'s [u8]
+    requires some { 0 < length bytes.now }
+    requires room { vec_len tokens.old < vec_capacity tokens.old }
+    ensures { PutsFront tokens.old.items tokens.new.items (length bytes.now) (front_at bytes.now) result.now }
 {
-    if let Some(kind) = kind {
-        tokens.push(Token { kind, left })?;
-    }
-    Ok(())
-}
-
-/// What the bytes begin with.
-fn front_of(bytes: &[u8]) -> Front<'_>
-    requires { 0 < length bytes.now }
-    ensures { found_in result ≡ front_at bytes.now }
-{
+    let left = bytes.len();
     let behind = &bytes[1..];
     match class_of(bytes[0]) {
-        Class::Blank => gap(behind),
         Class::Letter => {
             let (word, rest) = bytes.split_at(word_len(bytes));
-            token(Kind::Word(word), rest)
+            put(tokens, Kind::Word(word), left, rest)
         }
         Class::Digit => {
             let (number, rest) = number_of(bytes);
-            token(Kind::Number(number), rest)
+            put(tokens, Kind::Number(number), left, rest)
         }
-        Class::Quote => text_front(behind),
-        Class::Symbol => symbol_front(bytes[0], behind),
-        Class::Unknown => token(Kind::Stray, behind),
+        Class::Symbol => take_symbol(tokens, left, bytes[0], behind),
+        Class::Quote => take_text(tokens, left, behind),
+        Class::Blank => behind,
+        Class::Unknown => put(tokens, Kind::Stray, left, behind),
     }
 }
 
-/// Nothing that is told, and then the rest.
-fn gap(rest: &[u8]) -> Front<'_>
-    ensures { found_in result ≡ (None, rest.now) }
+/// Puts a token last, and gives the bytes behind it.
+fn put<'s>(tokens: &mut Vec<Token<'s>>, kind: Kind<'s>, left: usize, rest: &'s [u8]) -> &'s [u8]
+    requires { vec_len tokens.old < vec_capacity tokens.old }
+    ensures { PutsFront tokens.old.items tokens.new.items left (Some (grammar_kind kind.entry), rest.now) result.now }
 {
-    Front { kind: None, rest }
-}
-
-/// A token, and then the rest.
-fn token<'s>(kind: Kind<'s>, rest: &'s [u8]) -> Front<'s>
-    ensures { found_in result ≡ (Some (grammar_kind kind.entry), rest.now) }
-{
-    Front {
-        kind: Some(kind),
-        rest,
-    }
+    tokens.push_reserved(Token { kind, left });
+    rest
 }
 
 fn class_of(byte: u8) -> Class
     ensures { result ≡ class_at byte }
 {
-    match byte {
-        b'\t' | b'\n' | b'\r' | b' ' => Class::Blank,
-        b'A'..=b'Z' | b'a'..=b'z' => Class::Letter,
-        b'0'..=b'9' => Class::Digit,
-        b'\'' => Class::Quote,
-        b'('..=b'-' | b'/' | b'<'..=b'>' => Class::Symbol,
+    class_marked(CLASSES[byte as usize])
+}
+
+/// The class that a mark of the table stands for.
+fn class_marked(mark: u8) -> Class
+    ensures { result ≡ class_marked mark }
+{
+    match mark {
+        b'0' => Class::Letter,
+        b'1' => Class::Digit,
+        b'3' => Class::Symbol,
+        b'4' => Class::Quote,
+        b'5' => Class::Blank,
         _ => Class::Unknown,
     }
+}
+
+/// Whether a byte is a blank.
+fn is_gap(byte: u8) -> bool
+    ensures { result ≡ is_blank byte }
+{
+    CLASSES[byte as usize] == b'5'
 }
 
 /// How many bytes at the front can stand in a word.
@@ -126,7 +127,7 @@ fn word_len(bytes: &[u8]) -> usize
 fn is_word_byte(byte: u8) -> bool
     ensures { result ≡ is_word_byte byte }
 {
-    byte.is_ascii_alphanumeric() || byte == b'_'
+    CLASSES[byte as usize] <= b'2'
 }
 
 /// The number that the digits at the front write, and the bytes behind them.
@@ -147,13 +148,19 @@ fn number_of(bytes: &[u8]) -> (u64, &[u8])
     (number, rest)
 }
 
-/// What a quote begins that stands before these bytes.
-fn text_front(behind: &[u8]) -> Front<'_>
-    ensures { found_in result ≡ text_before behind.now (closing_at None 0 behind.now) }
+/// Takes what a quote begins that stands before these bytes.
+fn take_text<'s>(tokens: &mut Vec<Token<'s>>, left: usize, behind: &'s [u8]) -> &'s [u8]
+    requires { vec_len tokens.old < vec_capacity tokens.old }
+    ensures { PutsFront tokens.old.items tokens.new.items left (text_before behind.now (closing_at None 0 behind.now)) result.now }
 {
     match closing_quote(behind) {
-        Some(place) => token(Kind::Text(&behind[..place]), &behind[place + 1..]),
-        None => token(Kind::Stray, &[]),
+        Some(place) => put(
+            tokens,
+            Kind::Text(&behind[..place]),
+            left,
+            &behind[place + 1..],
+        ),
+        None => put(tokens, Kind::Stray, left, &[]),
     }
 }
 
@@ -192,21 +199,22 @@ fn next_quote(quote: Option<usize>, place: usize, byte: u8) -> Option<usize>
     }
 }
 
-/// What the byte of a symbol begins, with these bytes behind it.
-fn symbol_front(byte: u8, behind: &[u8]) -> Front<'_>
-    requires { is_symbol byte ≡ true }
-    ensures { found_in result ≡ symbol_front byte behind.now }
+/// Takes what the byte of a symbol begins, with these bytes behind it.
+fn take_symbol<'s>(tokens: &mut Vec<Token<'s>>, left: usize, byte: u8, behind: &'s [u8]) -> &'s [u8]
+    requires symbol { is_symbol byte ≡ true }
+    requires room { vec_len tokens.old < vec_capacity tokens.old }
+    ensures { PutsFront tokens.old.items tokens.new.items left (symbol_front byte behind.now) result.now }
 {
     let [next, rest @ ..] = behind else {
-        return token(Kind::Symbol(symbol_of(byte)), behind);
+        return put(tokens, Kind::Symbol(symbol_of(byte)), left, behind);
     };
     if let Some(symbol) = pair_of(byte, *next) {
-        return token(Kind::Symbol(symbol), rest);
+        return put(tokens, Kind::Symbol(symbol), left, rest);
     }
     if byte == b'-' && *next == b'-' {
-        return gap(after_line(rest));
+        return after_line(rest);
     }
-    token(Kind::Symbol(symbol_of(byte)), behind)
+    put(tokens, Kind::Symbol(symbol_of(byte)), left, behind)
 }
 
 /// The symbol of two bytes.

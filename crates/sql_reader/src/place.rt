@@ -3,6 +3,8 @@ ghost use Rattle.std.specs.Prelude.{◌≡◌, ◌≤◌, ◌<◌, length, take,
 ghost use Rattle.sql_reader.specs.Scan.{behind_plain, place_after, place_behind};
 ghost use Rattle.sql_reader.specs.declared.place.Place.TheVariants.{Outside};
 
+use memchr::memchr3;
+
 /// Where in a script a byte stands.
 #[derive(Clone, Copy, Debug, PartialEq, Eq)]
 pub(crate) enum Place {
@@ -38,13 +40,6 @@ fn behind_plain(byte: u8, dashed: Place) -> Option<Place>
         b'-' => Some(dashed),
         _ => Some(Place::Outside),
     }
-}
-
-/// Whether a byte of no text and no comment leads nowhere else, as most bytes do.
-fn is_quiet(byte: u8) -> bool
-    ensures { result ≡ true → place_after Outside byte ≡ Some Outside }
-{
-    byte > b';' || !matches!(byte, b'\'' | b'-' | b';')
 }
 
 /// How many bytes a scan went over, and the place that it came to.
@@ -84,15 +79,10 @@ fn quiet_front(from: Place, bytes: &[u8]) -> usize
     }
 }
 
-/// How many bytes at the front are quiet.
+/// How many bytes at the front lead nowhere else, as most bytes do.
 fn quiet_len(bytes: &[u8]) -> usize
     ensures within { result ≤ length bytes.now }
     ensures stays { place_behind Outside (take result bytes.now) ≡ Some Outside }
 {
-    for (count, byte) in bytes.iter().enumerate() {
-        if !is_quiet(*byte) {
-            return count;
-        }
-    }
-    bytes.len()
+    memchr3(b';', b'\'', b'-', bytes).unwrap_or(bytes.len())
 }

@@ -1,8 +1,11 @@
 // Bytes that no statement has.
 ghost use Rattle.std.specs.Prelude.{◌≡◌, ◌∷◌, List, ℕ, false, length, MatchOption, Some, None, Bool, slice_index};
 ghost use Rattle.std.specs.List.{list_all};
-ghost use Rattle.mdc_ast.specs.Tokens.{FirstStrange, is_plain};
-ghost use Rattle.sql_reader.specs.Strange.{begins_dash, is_strange, within_after, IsFoundIn};
+ghost use Rattle.mdc_ast.specs.Tokens.{Tokens, is_plain};
+ghost use Rattle.sql_reader.specs.Strange.{begins_dash, is_plain_kind, is_strange, within_after, IsFoundIn};
+ghost use Rattle.sql_reader.specs.Token.{grammar_kind, tokens_of};
+
+use crate::token::Token;
 
 /// Where in a statement a byte stands.
 #[derive(Clone, Copy)]
@@ -19,22 +22,23 @@ pub(crate) struct Strange {
     pub(crate) left: usize,
 }
 
-/// The first byte that no statement has outside comments.
-pub(crate) fn first_strange(statement: &[u8]) -> Option<Strange>
+/// The first byte that no statement has outside comments, where the bytes are these tokens.
+pub(crate) fn first_strange(statement: &[u8], tokens: &[Token]) -> Option<Strange>
+    requires { Tokens statement.now (tokens_of tokens.now) }
     ensures { IsFoundIn statement.now result }
 {
-    // Most statements have no such byte at all, be it in a comment or not.
-    if are_plain(statement) {
+    // It can stand only in a text, and where nothing begins.
+    if are_plain(tokens) {
         return None;
     }
     strange_outside(statement)
 }
 
-/// Whether all bytes may stand anywhere in a statement.
-fn are_plain(bytes: &[u8]) -> bool
-    ensures { result ≡ list_all is_plain bytes.now }
+/// Whether the bytes of all tokens may stand anywhere in a statement.
+fn are_plain(tokens: &[Token]) -> bool
+    ensures { result ≡ list_all (λ token. is_plain_kind (grammar_kind token.kind)) tokens.now }
 {
-    bytes.iter().all(|byte| is_plain(*byte))
+    tokens.iter().all(|token| token.kind.is_plain())
 }
 
 /// The first byte that no statement has, outside comments, byte by byte.

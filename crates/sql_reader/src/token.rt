@@ -53,6 +53,7 @@ impl Symbol {
 }
 
 impl Kind<'_> {
+    ghost use Rattle.sql_reader.specs.Strange.{is_plain_kind};
     ghost use Rattle.sql_reader.specs.Token.{grammar_kind, bytes_of};
 
     /// Whether this is a word, given in upper case.
@@ -79,6 +80,13 @@ impl Kind<'_> {
             Kind::Symbol(symbol) => symbol.is(wanted),
             Kind::Stray => false,
         }
+    }
+
+    /// Whether all bytes of such a token may stand anywhere in a statement.
+    pub fn is_plain(&self) -> bool
+        ensures { result ≡ is_plain_kind (grammar_kind self.now) }
+    {
+        matches!(self, Kind::Word(_) | Kind::Number(_) | Kind::Symbol(_))
     }
 
     /// Whether this is a number.

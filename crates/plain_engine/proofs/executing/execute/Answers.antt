@@ -1,22 +1,25 @@
-use Rattle.std.proofs.Common.{◌≡◌, ◌∙◌, [], sym, ap, subst}
-use Rattle.mdc_ast.specs.meaning.Binding.{bound_of}
-use Rattle.mdc_ast.specs.meaning.Judged.{judged_of}
-use Rattle.mdc_ast.specs.meaning.Judging.{in_order}
-use Rattle.plain_engine.specs.Executing.{MayBeDone}
-use Rattle.plain_engine.proofs.Ready.{ready}
-use Rattle.plain_engine.proofs.Stepping.{answered, valid_after}
+use Rattle.std.proofs.Common.{ap}
+use Rattle.mdc_ast.specs.declared.bound.Bound.TheVariants as bound
+use Rattle.mdc_ast.specs.meaning.Step.{is_built}
+use Rattle.plain_engine.proofs.Stepping.{answered, bound_ready, bound_unnamed, valid_after}
 use Rattle.plain_engine.proofs.executing.execute.Goals as goal
 
-pub carry_out-requires-clause-ready : goal.carry_out-requires-clause-ready
-carry_out-requires-clause-ready c =
-    let said = subst (λ defs. in_order (judged_of defs c.args.stmt.now) ≡ []) c.catalog.ensures c.in-Ok.ensures.bound.0 in
-    let is = c.in-Ok.ensures.bound.1 ∙ ap (λ defs. bound_of defs c.args.stmt.now) c.catalog.ensures in
-    subst (MayBeDone c.args.tables.now) (sym is) (ready c.args.tables.now c.args.stmt.now c.requires said)
+pub insert-requires-clause-ready : goal.insert-requires-clause-ready
+insert-requires-clause-ready c =
+    let h = bound_unnamed c.args.tables.now c.catalog.result.now c.args.stmt.now c.in-Insert.table c.in-Insert.columns c.in-Insert.rows c.as_slice.result.now c.is_none.result
+    (bound.Insert c.in-Some.whole.table c.in-Some.whole.rows) c.catalog.ensures c.in-Insert.is c.is_none.ensures c.if-is_none.true c.as_slice.ensures (rw c.in-Some.is at c.in_ok-whole.ensures) in
+    bound_ready c.args.tables.now c.args.stmt.now (bound.Insert c.in-Some.whole.table c.in-Some.whole.rows) c.requires h
 
-pub returns-in-Ok-clause-valid : goal.returns-in-Ok-clause-valid
-returns-in-Ok-clause-valid c =
-    let said = subst (λ defs. in_order (judged_of defs c.args.stmt.now) ≡ []) c.catalog.ensures c.in-Ok.ensures.bound.0 in
-    let is = c.in-Ok.ensures.bound.1 ∙ ap (λ defs. bound_of defs c.args.stmt.now) c.catalog.ensures in
-    valid_after c.args.tables.now c.carry_out.new.tables c.args.stmt.now c.carry_out.result c.requires
-    (answered c.args.tables.now c.carry_out.new.tables c.args.stmt.now c.in-Ok.bound c.carry_out.result (sym c.built.ensures ∙ c.if-not-built.false) said is c.carry_out.ensures.done)
-    c.carry_out.ensures.valid
+pub returns-clause-done : goal.returns-clause-done
+returns-clause-done c =
+    let h = bound_unnamed c.args.tables.now c.catalog.result.now c.args.stmt.now c.in-Insert.table c.in-Insert.columns c.in-Insert.rows c.as_slice.result.now c.is_none.result
+    (bound.Insert c.in-Some.whole.table c.in-Some.whole.rows) c.catalog.ensures c.in-Insert.is c.is_none.ensures c.if-is_none.true c.as_slice.ensures (rw c.in-Some.is at c.in_ok-whole.ensures) in
+    answered c.args.tables.now c.insert.new.tables c.args.stmt.now (bound.Insert c.in-Some.whole.table c.in-Some.whole.rows) c.insert.result (ap is_built c.in-Insert.is) h.0 h.1 c.insert.ensures.done
+
+pub returns-clause-valid : goal.returns-clause-valid
+returns-clause-valid c =
+    let h = bound_unnamed c.args.tables.now c.catalog.result.now c.args.stmt.now c.in-Insert.table c.in-Insert.columns c.in-Insert.rows c.as_slice.result.now c.is_none.result
+    (bound.Insert c.in-Some.whole.table c.in-Some.whole.rows) c.catalog.ensures c.in-Insert.is c.is_none.ensures c.if-is_none.true c.as_slice.ensures (rw c.in-Some.is at c.in_ok-whole.ensures) in
+    valid_after c.args.tables.now c.insert.new.tables c.args.stmt.now c.insert.result c.requires
+    (answered c.args.tables.now c.insert.new.tables c.args.stmt.now (bound.Insert c.in-Some.whole.table c.in-Some.whole.rows) c.insert.result (ap is_built c.in-Insert.is) h.0 h.1 c.insert.ensures.done)
+    c.insert.ensures.valid

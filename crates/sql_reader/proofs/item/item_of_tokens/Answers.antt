@@ -3,4 +3,4 @@ use Rattle.sql_reader.proofs.Telling.{parsed_item}
 use Rattle.sql_reader.proofs.item.item_of_tokens.Goals as goal
 
 pub returns : goal.returns
-returns c = parsed_item c.args.statement.now (tokens_of c.in_ok-tokens.tokens.items) c.in_ok-parsed.parsed _ c.requires.few c.requires.plain c.in_ok-tokens.ensures (rw c.deref.ensures.value at c.in_ok-parsed.ensures) c.told.ensures
+returns c = parsed_item c.args.statement.now (tokens_of c.args.tokens.now) c.in_ok-parsed.parsed _ c.requires.few c.requires.plain c.requires.lexed c.in_ok-parsed.ensures c.told.ensures

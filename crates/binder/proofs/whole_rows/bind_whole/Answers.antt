@@ -1,7 +1,7 @@
 use Rattle.std.proofs.Common.{subst}
 use Rattle.binder.specs.WholeRows.{AreWhole}
 use Rattle.binder.proofs.WholeRowsLemmas.{bound-whole}
-use Rattle.binder.proofs.whole_rows.whole_rows.Goals as goal
+use Rattle.binder.proofs.whole_rows.bind_whole.Goals as goal
 
 pub returns-in-Some-2 : goal.returns-in-Some-2
 returns-in-Some-2 c =
