@@ -1,5 +1,4 @@
 pub mod EmptyDatabaseLemmas
-pub mod PartsLemmas
 pub mod SoundDatabaseLemmas
 pub mod StandsForLemmas
-pub mod TablePageLemmas
+pub mod ToldPagesLemmas

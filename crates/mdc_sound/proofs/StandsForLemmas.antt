@@ -12,11 +12,13 @@ use Rattle.entry_tree.specs.Forest.{Forest}
 use Rattle.entry_tree.specs.HeldTrees.{nodes_in}
 use Rattle.entry_tree.proofs.ForestLemmas.{same_forest}
 use Rattle.mdc_sound.specs.StandsForDatabase.{HoldsPlace, HoldsTable, PagesStandFor, rootless}
-use Rattle.mdc_sound.specs.TablePage.{IsTablePageOf, table_page_at}
+use Rattle.mdc_sound.specs.TablePages.{table_page_at}
+use Rattle.table_page.specs.TablePage.{IsTablePageOf}
 use Rattle.mdc_sound.specs.TableRows.{rows_in_table}
-use Rattle.mdc_sound.specs.TableTrees.{HasTree, TreePlace, map_place}
+use Rattle.table_trees.specs.TableTrees.{TreePlace, map_place}
+use Rattle.mdc_sound.specs.TableViews.{HasTree}
 use Rattle.mdc_sound.specs.ToldPages.{PageList, telling}
-use Rattle.mdc_sound.proofs.TablePageLemmas.{no_blank_table, one_definition}
+use Rattle.table_page.proofs.TablePageLemmas.{no_blank_table, one_definition}
 
 -- a place has one tree
 pub one_tree_at : (pages : PageList) (place : TreePlace) (t u : Forest) → HasTree pages place t → HasTree pages place u → t ≡ u

@@ -12,10 +12,13 @@ use Rattle.key_codec.specs.Keys.{width_of_parts}
 use Rattle.node_page.specs.Node.{number_within}
 use Rattle.row_page.specs.RowPage.{IsRowPage, rows_of}
 use Rattle.entry_tree.specs.Forest.{Forest, leaf_entries}
+use Rattle.mdc_sound.specs.Cells.{AreOfOneCell}
+use Rattle.block_map.specs.MapLines.{MapLine, map_lines, pending_blocks, used_blocks}
 use Rattle.mdc_sound.specs.FittingRows.{RowFits}
 use Rattle.mdc_sound.specs.SpaceRules.{DatabaseView, EachTable}
-use Rattle.mdc_sound.specs.TableRows.{MapLine, PlacedRow, block_page, map_lines, pending_blocks, rows_in_block, rows_in_table, used_blocks}
-use Rattle.mdc_sound.specs.TableTrees.{TableView, block_entry, cell_parts, record_entry, rising_parts}
+use Rattle.mdc_sound.specs.TableRows.{PlacedRow, block_page, rows_in_block, rows_in_table}
+use Rattle.table_trees.specs.TableTrees.{block_entry, cell_parts, record_entry, rising_parts}
+use Rattle.mdc_sound.specs.TableViews.{TableView}
 use Rattle.mdc_sound.specs.ToldPages.{PageList}
 
 -- P holds of each Used block of each table
@@ -59,13 +62,9 @@ AreIdleCountsSound view = EachTable view (λ table. AllByRecursion IsIdleCountSo
 
 -- ---- 9: one cell for each block
 
--- two rows are of one cell: they have the same values in all dimension columns
-abbrev pub AreOfOneCell : TableDef → PlacedRow → PlacedRow → Type 0
-AreOfOneCell def a b = AreSameAtParts (cell_parts def) a.row.values b.row.values
-
 -- all rows of a block are of one cell
 abbrev pub IsOfOneCell : Extents → PageList → TableDef → ℕ → Type 0
-IsOfOneCell ext pages def block = AllPairs (AreOfOneCell def) (rows_in_block ext pages def block)
+IsOfOneCell ext pages def block = AllPairs (λ a b. AreOfOneCell def a.row.values b.row.values) (rows_in_block ext pages def block)
 
 -- so is each Used block
 abbrev pub AreCellsSound : Extents → PageList → DatabaseView → Type 0

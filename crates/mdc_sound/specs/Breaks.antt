@@ -1,23 +1,30 @@
 -- Which page breaks which rule (docs/FORMAT.md, "Rules"). Each rule is judged by what it speaks of alone, so that damage can be
 -- named on pages that break other rules too.
-use Rattle.std.specs.Prelude.{◌≡◌, ◌≢◌, ◌≤◌, ◌<◌, ◌⊎◌, ℕ, ◌+◌, ◌/◌, List, slice_get, Some, Contains}
+use Rattle.std.specs.Prelude.{◌≡◌, ◌≢◌, ◌≤◌, ◌<◌, ◌⊎◌, ℕ, ◌+◌, ◌/◌, List, length, slice_get, Some, AllPairs, Contains}
 use Rattle.mdc_ast.specs.declared.definition.IndexDef.{IndexDef}
 use Rattle.mdc_ast.specs.declared.definition.TableDef.{TableDef}
 use Rattle.store_api.specs.Extents.{first_page_of, map_pages}
-use Rattle.store_api.specs.StoreState.{zero_page}
-use Rattle.extent_map.specs.Map.{HoldsMap, HoldsMapPage}
-use Rattle.extent_map.specs.Owners.{IsExtentPage, IsUsedPage, extent_of}
+use Rattle.store_api.specs.StoreState.{page_at, zero_page}
+use Rattle.extent_map.specs.Map.{HoldsMapPage}
+use Rattle.extent_map.specs.Owners.{IsExtentPage, IsUsedPage, extent_of, owner_of}
 use Rattle.extent_map.specs.declared.extents.Extents.{Extents}
 use Rattle.extent_map.specs.declared.kind.Kind.{Kind}
+use Rattle.extent_map.specs.declared.kind.Kind.TheVariants as kind
 use Rattle.row_page.specs.RowPage.{slot_count}
 use Rattle.entry_tree.specs.Forest.{Forest, times}
+use Rattle.block_map.specs.MapLines.{MapLine, map_lines, pending_blocks, used_blocks, mapped_blocks}
 use Rattle.mdc_sound.specs.BlockRules.{IsBlockPageSound, IsUsedCountSound, IsIdleCountSound, IsOfOneCell, IsBlockIndexSound, IsSoundIndex, AreRowNumbersSound, IsUniqueSound}
 use Rattle.mdc_sound.specs.FittingRows.{RowFits}
-use Rattle.mdc_sound.specs.SpaceRules.{IsRootSound, IsMapPageSound, IsIndexPage, IsBlockMapSound}
-use Rattle.mdc_sound.specs.TablePage.{DefinesTable, table_page_at}
-use Rattle.mdc_sound.specs.TableRows.{MapLine, PlacedRow, map_lines, pending_blocks, rows_in_block, rows_in_table, used_blocks}
-use Rattle.mdc_sound.specs.TableTrees.{HasTree, TreePlace, cell_parts, composite_place, dimension_place, map_place, record_place, rising_parts, tree_places}
+use Rattle.mdc_sound.specs.SpaceRules.{IsMapPageSound, IsIndexPage, stated_root, IsRootSound, IsBlockMapSound}
+use Rattle.mdc_sound.specs.TablePages.{DefinesTable, table_page_at}
+use Rattle.mdc_sound.specs.TableRows.{PlacedRow, rows_in_block, rows_in_table}
+use Rattle.table_trees.specs.TableTrees.{TreePlace, cell_parts, composite_place, dimension_place, map_place, record_place, rising_parts, tree_places}
+use Rattle.mdc_sound.specs.TableViews.{HasTree}
 use Rattle.mdc_sound.specs.ToldPages.{PageList, told_pages}
+
+-- so many pages are those before the extents and some number of whole extents
+abbrev pub IsWholeOf : Extents → ℕ → Type 0
+IsWholeOf ext n = (extents : ℕ) × (extents ≤ ext.cap) × (n ≡ first_page_of ext.cap ext.extent_pages extents)
 
 -- the extent map shows the extent of a page, with these owners
 abbrev pub ShowsExtentOf : Extents → PageList → List Kind → ℕ → Type 0
@@ -47,8 +54,11 @@ pub record HasIndex (pages : PageList) (t : ℕ) (index : IndexDef) : Type 0 whe
 
 -- a rule is broken at a page
 pub data BreaksRule (ext : Extents) (pages : PageList) : (rule page : ℕ) → Type 0 where
-  -- the root page, or the count
-  root : (IsRootSound ext pages → ⊥) → BreaksRule ext pages 1 0
+  -- the root page states no count of whole extents, or has another form; and a page that it counts and that isn't there
+  root : ((n : ℕ) → IsWholeOf ext n → length pages ≤ n → page_at pages 0 ≡ stated_root n → ⊥) → BreaksRule ext pages 1 0
+  missing : (n p : ℕ) → IsWholeOf ext n → page_at pages 0 ≡ stated_root n → length pages ≤ p → p < n → BreaksRule ext pages 1 p
+  -- a page that isn't 4,096 bytes
+  torn : (p : ℕ) → p < length pages → length (page_at pages p) ≢ 4096 → BreaksRule ext pages 1 p
   -- a page of the extent map, of which no owners can be said
   map_page : (i : ℕ) → i < map_pages ext.cap → ((owners : List Kind) → IsMapPageSound ext pages owners i → ⊥) → BreaksRule ext pages 2 (17 + i)
   -- a table page that is neither zeros alone nor that of a definition
@@ -72,9 +82,18 @@ pub data BreaksRule (ext : Extents) (pages : PageList) : (rule page : ℕ) → T
   outside : (t i p : ℕ) (tree : Forest) → ShowsTree pages t i tree → 0 < times p tree → (IsExtentPage ext p → ⊥) → BreaksRule ext pages 5 p
   not_used : (t i p : ℕ) (tree : Forest) (owners : List Kind) → ShowsTree pages t i tree → 0 < times p tree → ShowsExtentOf ext pages owners p
       → (IsUsedPage ext owners p → ⊥) → BreaksRule ext pages 5 p
-  -- a block map
-  block_map : (t : ℕ) (def : TableDef) (map_tree : Forest) (owners : List Kind) → ShowsTable pages t def map_tree → HoldsMap told_pages ext pages owners
-      → (IsBlockMapSound ext owners def map_tree → ⊥) → BreaksRule ext pages 6 def.roots.map
+  -- an entry of a block map that has no state, or names no extent; a block that is named twice; one that is no block of the
+  -- table, and one of the table that isn't named
+  map_line : (t : ℕ) (def : TableDef) (map_tree : Forest) (line : MapLine) → ShowsTable pages t def map_tree → Contains (map_lines map_tree) line
+      → (2 < line.state) ⊎ (ext.cap ≤ line.block) → BreaksRule ext pages 6 def.roots.map
+  map_twice : (t : ℕ) (def : TableDef) (map_tree : Forest) → ShowsTable pages t def map_tree → (AllPairs (λ a b. a ≢ b) (mapped_blocks map_tree) → ⊥)
+      → BreaksRule ext pages 6 def.roots.map
+  map_other : (t : ℕ) (def : TableDef) (map_tree : Forest) (line : MapLine) (owners : List Kind) → ShowsTable pages t def map_tree → Contains (map_lines map_tree) line
+      → line.block < ext.cap → HoldsMapPage told_pages ext pages owners (line.block / 512) → owner_of owners line.block ≢ kind.Block def.number
+      → BreaksRule ext pages 6 def.roots.map
+  map_lacks : (t e : ℕ) (def : TableDef) (map_tree : Forest) (owners : List Kind) → ShowsTable pages t def map_tree → e < ext.cap
+      → HoldsMapPage told_pages ext pages owners (e / 512) → owner_of owners e ≡ kind.Block def.number → (Contains (mapped_blocks map_tree) e → ⊥)
+      → BreaksRule ext pages 6 def.roots.map
   -- a page of a Used block that is no row page, and one with a row that doesn't fit
   row_page : (t : ℕ) (def : TableDef) (map_tree : Forest) (block j : ℕ) → ShowsTable pages t def map_tree → Contains (used_blocks map_tree) block
       → j < ext.extent_pages → (IsBlockPageSound ext pages def block j → ⊥) → BreaksRule ext pages 7 (first_page_of ext.cap ext.extent_pages block + j)

@@ -1,30 +1,53 @@
 -- Where a row goes, and what is left when it goes (docs/FORMAT.md, "Placing"). Pages don't occur here: what a table has is one
 -- spot for each extent.
-use Rattle.std.specs.Prelude.{◌≡◌, ◌<◌, ◌==◌, ◌*◌, ℕ, Bool, IsTrue, if◌then◌else◌, List, [], ◌∷◌, length, replicate, slice_index_or, slice_set, Option, Some, None, is_none, Contains}
+use Rattle.std.specs.Prelude.{◌≡◌, ◌<◌, ◌==◌, ◌+◌, ◌*◌, ℕ, Bool, IsTrue, if◌then◌else◌, List, [], ◌∷◌, ◌++◌, length, replicate, slice_index_or, slice_set, Option, Some, None, is_none, Contains}
 use Rattle.std.specs.List.{AllZip, list_all}
 use Rattle.mdc_words.specs.Listed.{listed}
 use Rattle.mdc_values.specs.declared.rid.Rid.{Rid}
 use Rattle.mdc_ast.specs.declared.definition.TableDef.{TableDef}
 use Rattle.mdc_ast.specs.declared.row.Row.{Row}
+use Rattle.mdc_ast.specs.declared.statement.RolloutMode.{RolloutMode}
+use Rattle.mdc_ast.specs.declared.statement.RolloutMode.TheVariants.{Deferred}
 use Rattle.extent_map.specs.Owners.{owner_of}
 use Rattle.extent_map.specs.declared.extents.Extents.{Extents}
 use Rattle.extent_map.specs.declared.kind.Kind.{Kind}
 use Rattle.extent_map.specs.declared.kind.Kind.TheVariants as kind
-use Rattle.key_codec.specs.KeyOrder.{AreSameAtParts}
 use Rattle.row_page.specs.RowPage.{slot_count}
 use Rattle.entry_tree.specs.Forest.{Forest}
-use Rattle.mdc_sound.specs.TableRows.{MapLine, block_slots, map_lines}
-use Rattle.mdc_sound.specs.TableTrees.{cell_parts}
+use Rattle.mdc_sound.specs.Cells.{AreOfOneCell}
+use Rattle.mdc_sound.specs.TableRows.{PlacedRow, block_slots, rows_from_slot}
+use Rattle.table_trees.specs.TableTrees.{cell_parts}
+use Rattle.block_map.specs.MapLines.{map_lines, mapped_state}
 use Rattle.mdc_sound.specs.ToldPages.{PageList}
 
--- What an extent is to a table: one that is free, one that isn't the table's, or a block of it, which is Free, Pending or
--- Used; a Used block has slots, each empty or with a row.
+-- What an extent is to a table: one that is free, one that has pages of trees, a block of another table, or a block of this
+-- one, which is Free, Pending or Used; a Used block has slots, each empty or with a row.
 pub data Spot : Type 0 where
   FreeExtent : Spot
-  NotMine : Spot
+  IndexExtent : Spot
+  OtherBlock : Spot
   FreeBlock : Spot
   PendingBlock : Spot
   UsedBlock : (slots : List (Option Row)) → Spot
+
+-- ---- what trees do to spots
+
+-- the same spot, but that trees may have taken a free extent
+abbrev pub AfterClaims : Spot → Spot → Type 0
+AfterClaims FreeExtent IndexExtent = Unit {0}
+AfterClaims a b = a ≡ b
+
+-- the same spot, but that trees may have given an extent back
+abbrev pub AfterReturns : Spot → Spot → Type 0
+AfterReturns IndexExtent FreeExtent = Unit {0}
+AfterReturns a b = a ≡ b
+
+-- so is each spot
+abbrev pub SpotsAfterClaims : List Spot → List Spot → Type 0
+SpotsAfterClaims = AllZip AfterClaims
+
+abbrev pub SpotsAfterReturns : List Spot → List Spot → Type 0
+SpotsAfterReturns = AllZip AfterReturns
 
 -- ---- the lowest that is so
 
@@ -41,13 +64,9 @@ HoldsNowhere {X} P xs = (k : ℕ) (d : X) → k < length xs → P (slice_index_o
 
 -- ---- a row is put
 
--- two rows have the same values in all dimension columns
-abbrev pub AreOfOneCellOf : TableDef → Row → Row → Type 0
-AreOfOneCellOf def a b = AreSameAtParts (cell_parts def) a.values b.values
-
 -- a Used block of the row's cell that has an empty slot
 abbrev pub HasRoomFor : TableDef → Row → Spot → Type 0
-HasRoomFor def row (UsedBlock slots) = ((other : Row) × Contains slots (Some other) × AreOfOneCellOf def other row) × Contains slots None
+HasRoomFor def row (UsedBlock slots) = ((other : Row) × Contains slots (Some other) × AreOfOneCell def other.values row.values) × Contains slots None
 HasRoomFor def row spot = ⊥
 
 -- a Free block of the table
@@ -88,7 +107,7 @@ abbrev pub left_with : List (Option Row) → Spot
 left_with slots = if list_all is_none slots then FreeBlock else UsedBlock slots
 
 -- a row lies there, in a Used block of these slots
-pub record LiesAt (spots : List Spot) (rid : Rid) (row : Row) (slots : List (Option Row)) : Type 0 where
+pub record IsRowAt (spots : List Spot) (rid : Rid) (row : Row) (slots : List (Option Row)) : Type 0 where
   pub within : rid.block < length spots
   pub block : (d : Spot) → slice_index_or spots rid.block d ≡ UsedBlock slots
   pub slot : slice_index_or slots rid.slot None ≡ Some row
@@ -96,15 +115,16 @@ pub record LiesAt (spots : List Spot) (rid : Rid) (row : Row) (slots : List (Opt
 -- the row that lies there is taken out: its slot is empty, and a block without rows is Free
 pub record TakesRow (old : List Spot) (rid : Rid) (row : Row) (new : List Spot) : Type 0 where
   pub slots : List (Option Row)
-  pub lies : LiesAt old rid row slots
+  pub lies : IsRowAt old rid row slots
   pub is_left : new ≡ slice_set old rid.block (left_with (slice_set slots rid.slot None))
 
--- a row becomes another: it keeps its slot where it keeps its cell, and else it is taken out and then put
+-- A row becomes another: it keeps its slot where it keeps its cell, and else it is taken out and then put. Trees may give an
+-- extent back when the old row leaves, which the put may then take.
 pub data ChangesRow (def : TableDef) (n : ℕ) (old : List Spot) (rid : Rid) (row other : Row) (new : List Spot) : Rid → Type 0 where
-  stays : (slots : List (Option Row)) → AreOfOneCellOf def row other → LiesAt old rid row slots
-      → new ≡ slice_set old rid.block (UsedBlock (slice_set slots rid.slot (Some other))) → ChangesRow def n old rid row other new rid
-  moves : (mid : List Spot) (to : Rid) → (AreOfOneCellOf def row other → ⊥) → TakesRow old rid row mid → PutsRow def n mid other new to
-      → ChangesRow def n old rid row other new to
+  stays : (slots : List (Option Row)) → AreOfOneCell def row.values other.values → IsRowAt old rid row slots
+      → SpotsAfterReturns (slice_set old rid.block (UsedBlock (slice_set slots rid.slot (Some other)))) new → ChangesRow def n old rid row other new rid
+  moves : (left free : List Spot) (to : Rid) → (AreOfOneCell def row.values other.values → ⊥) → TakesRow old rid row left
+      → SpotsAfterReturns left free → PutsRow def n free other new to → ChangesRow def n old rid row other new to
 
 -- ---- blocks as a whole
 
@@ -126,27 +146,23 @@ reclaimed_spot spot = spot
 
 -- and when all its blocks are
 abbrev pub dropped_spot : Spot → Spot
-dropped_spot NotMine = NotMine
+dropped_spot IndexExtent = IndexExtent
+dropped_spot OtherBlock = OtherBlock
 dropped_spot spot = FreeExtent
 
 -- ---- the spots that pages show
 
--- the state that a block map gives a block, and 3 for one that it doesn't name
-abbrev pub mapped_state : ℕ → List MapLine → ℕ
-mapped_state block [] = 3
-mapped_state block (line ∷ lines) = if line.block == block then line.state else mapped_state block lines
-
 -- a block of the table in a state, with these slots
 abbrev pub spot_of_state : ℕ → List (Option Row) → Spot
 spot_of_state state slots =
-    if state == 0 then FreeBlock else (if state == 1 then UsedBlock slots else (if state == 2 then PendingBlock else NotMine))
+    if state == 0 then FreeBlock else (if state == 1 then UsedBlock slots else (if state == 2 then PendingBlock else OtherBlock))
 
 -- an extent of this kind
 abbrev pub spot_of_kind : Extents → PageList → TableDef → Forest → ℕ → Kind → Spot
 spot_of_kind ext pages def map_tree e kind.Free = FreeExtent
-spot_of_kind ext pages def map_tree e (kind.Index used) = NotMine
+spot_of_kind ext pages def map_tree e (kind.Index used) = IndexExtent
 spot_of_kind ext pages def map_tree e (kind.Block t) =
-    if t == def.number then spot_of_state (mapped_state e (map_lines map_tree)) (block_slots ext pages def e) else NotMine
+    if t == def.number then spot_of_state (mapped_state e (map_lines map_tree)) (block_slots ext pages def e) else OtherBlock
 
 -- what each extent is to the table, where these are the owners and its block map
 abbrev pub table_spots : Extents → PageList → TableDef → List Kind → Forest → List Spot
@@ -156,18 +172,54 @@ table_spots ext pages def owners map_tree = listed ext.cap (λ e. spot_of_kind e
 abbrev pub block_slot_count : Extents → TableDef → ℕ
 block_slot_count ext def = ext.extent_pages * slot_count def.columns
 
--- the same spot, but that trees may take free extents and give theirs back
-abbrev pub IsSameSpot : Spot → Spot → Type 0
-IsSameSpot FreeExtent NotMine = Unit {0}
-IsSameSpot NotMine FreeExtent = Unit {0}
-IsSameSpot a b = a ≡ b
+-- ---- the rows of spots
 
--- the spots that pages show are these, index extents aside
-abbrev pub ShowsSpots : Extents → PageList → TableDef → List Kind → Forest → List Spot → Type 0
-ShowsSpots ext pages def owners map_tree spots = AllZip IsSameSpot spots (table_spots ext pages def owners map_tree)
+-- the rows of a spot, by rising slot
+abbrev pub rows_in_spot : ℕ → Spot → List PlacedRow
+rows_in_spot block (UsedBlock slots) = rows_from_slot block 0 slots
+rows_in_spot block spot = []
 
--- rows are put one after the other, and in between trees may take free extents
+-- the rows of these spots, which are those of extents from one on
+abbrev pub rows_from_spot : ℕ → List Spot → List PlacedRow
+rows_from_spot block [] = []
+rows_from_spot block (spot ∷ spots) = rows_in_spot block spot ++ rows_from_spot (block + 1) spots
+
+-- the row that lies in a place, if any
+abbrev pub slots_of_spot : Spot → List (Option Row)
+slots_of_spot (UsedBlock slots) = slots
+slots_of_spot spot = []
+
+abbrev pub row_at_spot : List Spot → Rid → Option Row
+row_at_spot spots rid = slice_index_or (slots_of_spot (slice_index_or spots rid.block OtherBlock)) rid.slot None
+
+-- ---- the rows of statements
+
+-- rows are put one after the other, and after each trees may have taken free extents
 pub data PutsRows (def : TableDef) (n : ℕ) : List Spot → List Row → List Spot → Type 0 where
   none : {spots : List Spot} → PutsRows def n spots [] spots
   one : {old mid next new : List Spot} {row : Row} {rows : List Row} (rid : Rid)
-      → PutsRow def n old row mid rid → AllZip IsSameSpot mid next → PutsRows def n next rows new → PutsRows def n old (row ∷ rows) new
+      → PutsRow def n old row mid rid → SpotsAfterClaims mid next → PutsRows def n next rows new → PutsRows def n old (row ∷ rows) new
+
+-- rows are taken out one after the other, and after each trees may have given extents back
+pub data TakesRows : List Spot → List PlacedRow → List Spot → Type 0 where
+  none : {spots : List Spot} → TakesRows spots [] spots
+  one : {old mid next new : List Spot} {placed : PlacedRow} {rows : List PlacedRow}
+      → TakesRow old placed.rid placed.row mid → SpotsAfterReturns mid next → TakesRows next rows new → TakesRows old (placed ∷ rows) new
+
+-- rows become others one after the other, and after each trees may have taken free extents
+pub data ChangesRows (def : TableDef) (n : ℕ) : List Spot → List (PlacedRow × Row) → List Spot → Type 0 where
+  none : {spots : List Spot} → ChangesRows def n spots [] spots
+  one : {old mid next new : List Spot} {placed : PlacedRow} {other : Row} {rows : List (PlacedRow × Row)} (to : Rid)
+      → ChangesRow def n old placed.rid placed.row other mid to → SpotsAfterClaims mid next → ChangesRows def n next rows new
+      → ChangesRows def n old ((placed, other) ∷ rows) new
+
+-- blocks are rolled out: Pending where the mode is DEFERRED and the table has record indexes, and else Free
+abbrev pub rolled_spot : RolloutMode → TableDef → Spot
+rolled_spot Deferred def = if length def.indexes == 0 then FreeBlock else PendingBlock
+rolled_spot mode def = FreeBlock
+
+-- each chosen block is rolled out, and trees may have given extents back
+pub record RollsOut (def : TableDef) (mode : RolloutMode) (chosen : Row → Bool) (old new : List Spot) : Type 0 where
+  pub rolled : List Spot
+  pub each : AllZip (RollsOutSpot chosen (rolled_spot mode def)) old rolled
+  pub returned : SpotsAfterReturns rolled new

@@ -1,11 +1,13 @@
 -- When a statement runs full: the changes of space that it makes, what each asks for, and where no room is left for the next
 -- (docs/FORMAT.md, "Running full"). Rows in slots don't occur here.
-use Rattle.std.specs.Prelude.{◌≡◌, ◌≢◌, ◌≤◌, ◌<◌, ◌↔◌, ℕ, ◌+◌, ◌-◌, ◌/◌, ◌==◌, if◌then◌else◌, is_some, slice_index_or, zip, List, [], ◌∷◌, ◌++◌, map, count_by, sum_by, Option}
-use Rattle.std.specs.List.{AllZip, FoldsTo, range_with_len}
+use Rattle.std.specs.Prelude.{◌≡◌, ◌≢◌, ◌≤◌, ◌<◌, ◌⊎◌, ◌↔◌, ℕ, ◌+◌, ◌-◌, ◌/◌, ◌==◌, if◌then◌else◌, slice_index_or, zip, List, [], ◌∷◌, ◌++◌, map, filter, not, count_by, sum_by, Option, AllPairs, IsPermutation, is_some}
+use Rattle.std.specs.List.{FoldsTo, range_with_len, AllZip}
+use Rattle.std.specs.Str.{bytes_eq}
 use Rattle.byteorder.specs.Endian.{big_bytes}
 use Rattle.mdc_words.specs.ByteOrder.{Entry}
 use Rattle.mdc_values.specs.declared.rid.Rid.{Rid}
 use Rattle.mdc_ast.specs.declared.definition.IndexDef.{IndexDef}
+use Rattle.mdc_ast.specs.declared.definition.Roots.{Roots}
 use Rattle.mdc_ast.specs.declared.definition.TableDef.{TableDef}
 use Rattle.mdc_ast.specs.declared.row.Row.{Row}
 use Rattle.store_api.specs.StoreState.{page_at}
@@ -15,14 +17,20 @@ use Rattle.extent_map.specs.Owners.{IsLowestFree, IsUsedPage, owner_of}
 use Rattle.extent_map.specs.declared.extents.Extents.{Extents}
 use Rattle.extent_map.specs.declared.kind.Kind.{Kind}
 use Rattle.extent_map.specs.declared.kind.Kind.TheVariants as kind
-use Rattle.key_codec.specs.Keys.{width_of_parts}
-use Rattle.entry_tree.specs.EntryBounds.{with_entry}
-use Rattle.entry_tree.specs.Forest.{Forest, leaf_entries, times}
+use Rattle.key_codec.specs.Keys.{key_bytes}
+use Rattle.row_page.specs.RowPage.{count_rows}
+use Rattle.entry_tree.specs.EntryBounds.{IsEntryOf, with_entry}
+use Rattle.entry_tree.specs.Forest.{EachNode, Forest, leaf_entries, times}
 use Rattle.entry_tree.specs.HeldTrees.{nodes_in}
 use Rattle.entry_tree.specs.Standing.{AsksPages}
-use Rattle.mdc_sound.specs.Placing.{Spot, PutsRow, IsSameSpot, HoldsNowhere, HasRoomFor, IsFreeBlock, IsFreeExtent}
-use Rattle.mdc_sound.specs.Placing.Spot.{FreeExtent, FreeBlock, UsedBlock, NotMine}
-use Rattle.mdc_sound.specs.TableTrees.{HasTree, TreePlace, block_entry, cell_parts, composite_place, dimension_place, map_place, record_entry, record_place, rising_parts}
+use Rattle.entry_tree.specs.TreeChanges.{KeepsLeaf}
+use Rattle.mdc_sound.specs.Cells.{AreOfOneCell}
+use Rattle.mdc_sound.specs.Placing.{Spot, ChangesRow, IsRowAt, PutsRow, TakesRow, SpotsAfterClaims, SpotsAfterReturns, HoldsNowhere, HasRoomFor, IsFreeBlock, IsFreeExtent, block_slot_count, rows_from_spot, table_spots}
+use Rattle.mdc_sound.specs.Placing.Spot.{FreeExtent, FreeBlock, UsedBlock, OtherBlock}
+use Rattle.mdc_sound.specs.TableRows.{PlacedRow}
+use Rattle.mdc_sound.specs.TableViews.{HasTree}
+use Rattle.table_trees.specs.TableTrees.{TreePlace, block_entry, cell_parts, composite_place, dimension_place, dimension_places, map_place, record_entry, record_place, rising_parts}
+use Rattle.block_map.specs.MapLines.{map_entry}
 use Rattle.mdc_sound.specs.ToldPages.{PageList, telling, told_pages}
 
 -- ---- what there is
@@ -45,27 +53,26 @@ extents_for ext owners n = (n - unused_index_pages ext owners + ext.extent_pages
 -- ---- changes
 
 -- One change of space: a free extent becomes a block of a table; an entry is added to a tree, taken out, or changed in place;
--- a tree of a width is made, or given back with all its pages; a block is given back.
+-- a tree is made. What gives pages back as a whole, as DROP TABLE does, asks for nothing and stands in no list.
 pub data SpaceChange : Type 0 where
   ClaimBlock : (table block : ℕ) → SpaceChange
   AddEntry : (place : TreePlace) (entry : Entry) → SpaceChange
   RemoveEntry : (place : TreePlace) (entry : Entry) → SpaceChange
   AmendEntry : (place : TreePlace) (before after : Entry) → SpaceChange
-  MakeTree : (width : ℕ) → SpaceChange
-  FreeTree : (place : TreePlace) → SpaceChange
-  GiveBlock : (block : ℕ) → SpaceChange
+  MakeTree : (place : TreePlace) → SpaceChange
 
--- the pages hold a tree in this place, in which the entry asks for n pages
+-- the pages hold a tree in this place, in which the entry isn't, and where it asks for n pages
 pub record AsksInTree (pages : PageList) (place : TreePlace) (entry : Entry) (n : ℕ) : Type 0 where
   pub tree : Forest
   pub has : HasTree pages place tree
+  pub absent : IsEntryOf entry (leaf_entries tree) → ⊥
   pub asks : AsksPages place.width (nodes_in place.width (telling pages)) tree entry n
 
 -- a change asks for so many extents as blocks, and so many index pages; what is taken out asks for none
 abbrev pub AsksSpace : PageList → SpaceChange → ℕ → ℕ → Type 0
 AsksSpace pages (ClaimBlock t block) blocks n = (blocks ≡ 1) × (n ≡ 0)
 AsksSpace pages (AddEntry place entry) blocks n = (blocks ≡ 0) × AsksInTree pages place entry n
-AsksSpace pages (MakeTree width) blocks n = (blocks ≡ 0) × (n ≡ 1)
+AsksSpace pages (MakeTree place) blocks n = (blocks ≡ 0) × (n ≡ 1)
 AsksSpace pages change blocks n = (blocks ≡ 0) × (n ≡ 0)
 
 -- each used index page that isn't one of this tree stays as it is, and in use
@@ -81,10 +88,13 @@ KeepsBlocks old new = (t e : ℕ) → (owner_of old e ≡ kind.Block t) ↔ (own
 abbrev pub KeepsOtherExtents : List Kind → List Kind → ℕ → Type 0
 KeepsOtherExtents old new e = (other : ℕ) → other ≢ e → owner_of new other ≡ owner_of old other
 
--- a tree becomes another in its place, and the pages of all other trees and all blocks stay
+-- A tree becomes another in its place, and the pages of all other trees and all blocks stay. Its pages are in use afterwards,
+-- those that it no longer has aren't, and those that are new to it weren't.
 pub record TurnsTree (ext : Extents) (old_owners new_owners : List Kind) (old new : PageList) (place : TreePlace) (before after : Forest) : Type 0 where
   pub had : HasTree old place before
   pub has : HasTree new place after
+  pub used : (p : ℕ) → IsUsedPage ext new_owners p ↔ ((0 < times p after) ⊎ (IsUsedPage ext old_owners p × (times p before ≡ 0)))
+  pub fresh : (p : ℕ) → 0 < times p after → times p before ≡ 0 → IsUsedPage ext old_owners p → ⊥
   pub others : KeepsIndexPages ext old_owners new_owners old new before
   pub blocks : KeepsBlocks old_owners new_owners
 
@@ -96,20 +106,16 @@ ChangesSpace ext (ClaimBlock t block) old_owners new_owners old new =
 ChangesSpace ext (AddEntry place entry) old_owners new_owners old new =
     (before : Forest) × (after : Forest) × TurnsTree ext old_owners new_owners old new place before after
     × (leaf_entries after ≡ with_entry entry (leaf_entries before))
+    × EachNode (KeepsLeaf place.width (nodes_in place.width (telling old)) before) after
 ChangesSpace ext (RemoveEntry place entry) old_owners new_owners old new =
     (before : Forest) × (after : Forest) × TurnsTree ext old_owners new_owners old new place before after
     × (leaf_entries before ≡ with_entry entry (leaf_entries after))
 ChangesSpace ext (AmendEntry place was is) old_owners new_owners old new =
     (before : Forest) × (after : Forest) × (rest : List Entry) × TurnsTree ext old_owners new_owners old new place before after
     × (leaf_entries before ≡ with_entry was rest) × (leaf_entries after ≡ with_entry is rest)
-ChangesSpace ext (MakeTree width) old_owners new_owners old new =
-    (root : ℕ) × HasTree new (record { root = root; width = width }) (Forest.Leaf root [] Forest.Nil)
+ChangesSpace ext (MakeTree place) old_owners new_owners old new =
+    HasTree new place (Forest.Leaf place.root [] Forest.Nil) × (IsUsedPage ext old_owners place.root → ⊥) × IsUsedPage ext new_owners place.root
     × KeepsIndexPages ext old_owners new_owners old new Forest.Nil × KeepsBlocks old_owners new_owners
-ChangesSpace ext (FreeTree place) old_owners new_owners old new =
-    (before : Forest) × HasTree old place before × KeepsIndexPages ext old_owners new_owners old new before × KeepsBlocks old_owners new_owners
-ChangesSpace ext (GiveBlock block) old_owners new_owners old new =
-    (t : ℕ) × (owner_of old_owners block ≡ kind.Block t) × (owner_of new_owners block ≡ kind.Free) × KeepsOtherExtents old_owners new_owners block
-    × KeepsIndexPages ext old_owners new_owners old new Forest.Nil
 
 -- a change is made, and takes no more extents and index pages than it asks for
 pub record MakesChange (ext : Extents) (old : PageList) (change : SpaceChange) (new : PageList) : Type 0 where
@@ -146,19 +152,24 @@ pub record RunsFull (ext : Extents) (work : PageList) (changes : List SpaceChang
 
 -- ---- the changes of a row that is put or taken
 
--- the entry of a block map: the block, its state, and how many rows it has
-abbrev pub map_entry : ℕ → ℕ → ℕ → Entry
-map_entry block state rows = big_bytes 4 block ++ state ∷ big_bytes 2 rows
-
 -- the composite index and the index of each dimension, each with the entry of a block under the values of a row
 abbrev pub block_listings : TableDef → Row → ℕ → List (TreePlace × Entry)
 block_listings def row block =
     (composite_place def, block_entry def.columns (cell_parts def) row.values block)
     ∷ map (λ pair. (dimension_place def pair.0 pair.1, block_entry def.columns (rising_parts pair.0) row.values block)) (zip def.dims def.roots.dims)
 
--- the record indexes, each with the entry of a row
+-- these record indexes, each with the entry of a row
+abbrev pub listings_in : TableDef → List IndexDef → Row → Rid → List (TreePlace × Entry)
+listings_in def indexes row rid = map (λ index. (record_place def index, record_entry def.columns index.parts row.values rid)) indexes
+
+-- all record indexes, each with the entry of a row
 abbrev pub row_listings : TableDef → Row → Rid → List (TreePlace × Entry)
-row_listings def row rid = map (λ index. (record_place def index, record_entry def.columns index.parts row.values rid)) def.indexes
+row_listings def row rid = listings_in def def.indexes row rid
+
+-- the record indexes in which two rows have different keys
+abbrev pub differing_indexes : TableDef → Row → Row → List IndexDef
+differing_indexes def a b =
+    filter (λ index. not (bytes_eq (key_bytes def.columns index.parts a.values) (key_bytes def.columns index.parts b.values))) def.indexes
 
 -- each of these entries is added, or removed
 abbrev pub added_entries : List (TreePlace × Entry) → List SpaceChange
@@ -166,10 +177,6 @@ added_entries listings = map (λ listing. AddEntry listing.0 listing.1) listings
 
 abbrev pub removed_entries : List (TreePlace × Entry) → List SpaceChange
 removed_entries listings = map (λ listing. RemoveEntry listing.0 listing.1) listings
-
--- how many rows are in slots
-abbrev pub rows_in_slots : List (Option Row) → ℕ
-rows_in_slots slots = count_by is_some slots
 
 -- what the block of a row that is put needs, by what it was: first the block, then its entry in the block map, and then those
 -- in the composite and dimension indexes
@@ -179,7 +186,7 @@ block_changes def row block FreeExtent =
 block_changes def row block FreeBlock =
     AmendEntry (map_place def) (map_entry block 0 0) (map_entry block 1 1) ∷ added_entries (block_listings def row block)
 block_changes def row block (UsedBlock slots) =
-    AmendEntry (map_place def) (map_entry block 1 (rows_in_slots slots)) (map_entry block 1 (rows_in_slots slots + 1)) ∷ []
+    AmendEntry (map_place def) (map_entry block 1 (count_rows slots)) (map_entry block 1 (count_rows slots + 1)) ∷ []
 block_changes def row block spot = []
 
 -- the changes of a row that is put there: what its block needs, and then its entries in the record indexes
@@ -203,24 +210,84 @@ taking_changes def row rid rows = removed_entries (row_listings def row rid) ++ 
 abbrev pub HasNoSpot : TableDef → List Spot → Row → Type 0
 HasNoSpot def spots row = HoldsNowhere (HasRoomFor def row) spots × HoldsNowhere IsFreeBlock spots × HoldsNowhere IsFreeExtent spots
 
--- The changes of an INSERT of these rows, each put where placing says, up to a row for which there is no spot. Blocks have n
--- slots, and between two rows trees may have taken free extents.
+-- The changes of an INSERT of these rows, each put where placing says, or of the first of them, up to a row for which there is
+-- no spot. Blocks have n slots, and after each row trees may have taken free extents.
 pub data InsertingChanges (def : TableDef) (n : ℕ) : List Spot → List Row → List SpaceChange → Type 0 where
-  none : {spots : List Spot} → InsertingChanges def n spots [] []
+  none : {spots : List Spot} {rows : List Row} → InsertingChanges def n spots rows []
   one : {old mid next : List Spot} {row : Row} {rows : List Row} {changes : List SpaceChange} (rid : Rid)
-      → PutsRow def n old row mid rid → AllZip IsSameSpot mid next → InsertingChanges def n next rows changes
-      → InsertingChanges def n old (row ∷ rows) (putting_changes def row rid (slice_index_or old rid.block NotMine) ++ changes)
+      → PutsRow def n old row mid rid → SpotsAfterClaims mid next → InsertingChanges def n next rows changes
+      → InsertingChanges def n old (row ∷ rows) (putting_changes def row rid (slice_index_or old rid.block OtherBlock) ++ changes)
   stuck : {spots : List Spot} {row : Row} {rows : List Row} → HasNoSpot def spots row
       → InsertingChanges def n spots (row ∷ rows) (ClaimBlock def.number 0 ∷ [])
 
+-- The changes of an UPDATE that makes these rows others, by rising row number, or of the first of them. All that is taken out
+-- for a row goes before what is put for it. A row that keeps its cell changes the record indexes in which its keys differ.
+pub data UpdatingChanges (def : TableDef) (n : ℕ) : List Spot → List (PlacedRow × Row) → List SpaceChange → Type 0 where
+  none : {spots : List Spot} {rows : List (PlacedRow × Row)} → UpdatingChanges def n spots rows []
+  stays : {old mid next : List Spot} {row other : Row} {rid : Rid} {rows : List (PlacedRow × Row)} {changes : List SpaceChange}
+      → AreOfOneCell def row.values other.values → ChangesRow def n old rid row other mid rid → SpotsAfterClaims mid next
+      → UpdatingChanges def n next rows changes
+      → UpdatingChanges def n old ((record { rid = rid; row = row }, other) ∷ rows)
+      (removed_entries (listings_in def (differing_indexes def row other) row rid)
+      ++ added_entries (listings_in def (differing_indexes def row other) other rid) ++ changes)
+  moves : {old left mid next : List Spot} (free : List Spot) {row other : Row} {rid to : Rid} {slots : List (Option Row)} {rows : List (PlacedRow × Row)}
+      {changes : List SpaceChange} → (AreOfOneCell def row.values other.values → ⊥) → IsRowAt old rid row slots → TakesRow old rid row left
+      → SpotsAfterReturns left free → PutsRow def n free other mid to → SpotsAfterClaims mid next → UpdatingChanges def n next rows changes
+      → UpdatingChanges def n old ((record { rid = rid; row = row }, other) ∷ rows)
+      (taking_changes def row rid (count_rows slots)
+      ++ putting_changes def other to (slice_index_or free to.block OtherBlock) ++ changes)
+  stuck : {old left : List Spot} (free : List Spot) {row other : Row} {rid : Rid} {slots : List (Option Row)} {rows : List (PlacedRow × Row)}
+      → (AreOfOneCell def row.values other.values → ⊥) → IsRowAt old rid row slots → TakesRow old rid row left
+      → SpotsAfterReturns left free → HasNoSpot def free other
+      → UpdatingChanges def n old ((record { rid = rid; row = row }, other) ∷ rows)
+      (taking_changes def row rid (count_rows slots) ++ ClaimBlock def.number 0 ∷ [])
+
 -- the changes of a CREATE TABLE: its block map, its composite index and its dimension indexes are made
 abbrev pub creating_changes : TableDef → List SpaceChange
-creating_changes def =
-    MakeTree 7 ∷ MakeTree (width_of_parts def.columns (cell_parts def) + 4)
-    ∷ map (λ dim. MakeTree (width_of_parts def.columns (rising_parts dim) + 4)) def.dims
+creating_changes def = MakeTree (map_place def) ∷ MakeTree (composite_place def) ∷ map MakeTree (dimension_places def)
 
--- the changes of a CREATE INDEX: its tree is made, and has the entry of each row, by rising row number
-abbrev pub indexing_changes : TableDef → IndexDef → List (Rid × Row) → List SpaceChange
+-- the changes of a CREATE INDEX: its tree is made, and has the entry of each of these rows, in order
+abbrev pub indexing_changes : TableDef → IndexDef → List PlacedRow → List SpaceChange
 indexing_changes def index rows =
-    MakeTree (width_of_parts def.columns index.parts + 6)
-    ∷ map (λ placed. AddEntry (record_place def index) (record_entry def.columns index.parts placed.1.values placed.0)) rows
+    MakeTree (record_place def index)
+    ∷ map (λ placed. AddEntry (record_place def index) (record_entry def.columns index.parts placed.row.values placed.rid)) rows
+
+-- ---- statements that run full
+
+-- the pages show a table with this definition, and its spots
+pub record ShowsTableSpots (ext : Extents) (pages : PageList) (def : TableDef) (spots : List Spot) : Type 0 where
+  pub owners : List Kind
+  pub map_tree : Forest
+  pub has_extents : HoldsMap told_pages ext pages owners
+  pub has_map : HasTree pages (map_place def) map_tree
+  pub spots_are : spots ≡ table_spots ext pages def owners map_tree
+
+-- an INSERT of these rows into a table runs full
+pub record InsertRunsFull (ext : Extents) (work : PageList) (def : TableDef) (rows : List Row) : Type 0 where
+  pub spots : List Spot
+  pub changes : List SpaceChange
+  pub shows : ShowsTableSpots ext work def spots
+  pub inserting : InsertingChanges def (block_slot_count ext def) spots rows changes
+  pub full : RunsFull ext work changes
+
+-- an UPDATE of these rows of a table, each to another, runs full
+pub record UpdateRunsFull (ext : Extents) (work : PageList) (def : TableDef) (rows : List (PlacedRow × Row)) : Type 0 where
+  pub spots : List Spot
+  pub changes : List SpaceChange
+  pub shows : ShowsTableSpots ext work def spots
+  pub updating : UpdatingChanges def (block_slot_count ext def) spots rows changes
+  pub full : RunsFull ext work changes
+
+-- a CREATE TABLE runs full, whatever roots its trees would have had
+abbrev pub CreateRunsFull : Extents → PageList → TableDef → Type 0
+CreateRunsFull ext work def = (roots : Roots) × RunsFull ext work (creating_changes (record def { roots = roots }))
+
+-- a CREATE INDEX on a table runs full: the rows of its Used blocks are entered by rising row number
+pub record IndexRunsFull (ext : Extents) (work : PageList) (def : TableDef) (index : IndexDef) : Type 0 where
+  pub root : ℕ
+  pub spots : List Spot
+  pub rows : List PlacedRow
+  pub shows : ShowsTableSpots ext work def spots
+  pub same_rows : IsPermutation rows (rows_from_spot 0 spots)
+  pub rising : AllPairs (λ a b. a.row.number < b.row.number) rows
+  pub full : RunsFull ext work (indexing_changes def (record index { root = root }) rows)

@@ -1,10 +1,11 @@
 -- When the pages of a database are sound: the twelve rules, and what they make up (docs/FORMAT.md, "Rules").
-use Rattle.std.specs.Prelude.{◌+◌, slice_set}
+use Rattle.std.specs.Prelude.{◌≡◌, ◌+◌, Some, slice_get, slice_set}
 use Rattle.mdc_ast.specs.declared.definition.TableDef.{TableDef}
 use Rattle.extent_map.specs.declared.extents.Extents.{Extents}
 use Rattle.mdc_sound.specs.BlockRules.{AreRowPagesSound, AreUsedCountsSound, AreIdleCountsSound, AreCellsSound, AreBlockIndexesSound, AreSoundIndexes, AreNumbersSound, AreUniqueKeysSound}
 use Rattle.mdc_sound.specs.SpaceRules.{DatabaseView, IsRootSound, IsMapSound, AreTablePagesSound, AreTreesSound, AreTreePagesSound, AreBlockMapsSound}
-use Rattle.mdc_sound.specs.TablePage.{table_page}
+use Rattle.table_page.specs.TablePage.{table_page}
+use Rattle.mdc_sound.specs.TableViews.{TableView}
 use Rattle.mdc_sound.specs.ToldPages.{PageList}
 
 -- ---- the twelve rules
@@ -76,20 +77,17 @@ pub record IsSoundInParts (ext : Extents) (pages : PageList) (view : DatabaseVie
 abbrev pub with_table_page : TableDef → PageList → PageList
 with_table_page def pages = slice_set pages (1 + def.number) (table_page def)
 
--- sound between two changes of rows: UNIQUE indexes may have two rows of equal key
+-- The first ten rules hold with a definition in hand, which is that of a table of the view. Record indexes, row numbers and
+-- unique keys may be behind.
+pub record IsSoundWith (ext : Extents) (def : TableDef) (pages : PageList) : Type 0 where
+  pub view : DatabaseView
+  pub table : TableView
+  pub first : KeepFirstRules ext (with_table_page def pages) view
+  pub there : slice_get view.places def.number ≡ Some (Some table)
+  pub same : table.def ≡ def
+
+-- sound between two changes of rows: UNIQUE indexes alone may have two rows of equal key
 pub record IsSoundBetweenChanges (ext : Extents) (def : TableDef) (pages : PageList) : Type 0 where
-  pub view : DatabaseView
-  pub first : KeepFirstRules ext (with_table_page def pages) view
-  pub rule11 : AreSoundIndexes ext (with_table_page def pages) view
-  pub numbers : AreNumbersSound ext (with_table_page def pages) view
-
--- sound before a row is put or taken: record indexes may be behind, too
-pub record IsSoundBeforePlacing (ext : Extents) (def : TableDef) (pages : PageList) : Type 0 where
-  pub view : DatabaseView
-  pub first : KeepFirstRules ext (with_table_page def pages) view
-  pub numbers : AreNumbersSound ext (with_table_page def pages) view
-
--- sound after a row was put or taken: the next row number may be behind, too
-pub record IsSoundAfterPlacing (ext : Extents) (def : TableDef) (pages : PageList) : Type 0 where
-  pub view : DatabaseView
-  pub first : KeepFirstRules ext (with_table_page def pages) view
+  pub sound : IsSoundWith ext def pages
+  pub rule11 : AreSoundIndexes ext (with_table_page def pages) sound.view
+  pub numbers : AreNumbersSound ext (with_table_page def pages) sound.view

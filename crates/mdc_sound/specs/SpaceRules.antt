@@ -13,9 +13,10 @@ use Rattle.extent_map.specs.declared.kind.Kind.{Kind}
 use Rattle.extent_map.specs.declared.kind.Kind.TheVariants.{Free, Block, Index}
 use Rattle.node_page.specs.Node.{filled_page}
 use Rattle.entry_tree.specs.Forest.{Forest, times}
-use Rattle.mdc_sound.specs.TablePage.{DefinesTable, IsTableThere, table_page_at}
-use Rattle.mdc_sound.specs.TableRows.{MapLine, map_lines, mapped_blocks}
-use Rattle.mdc_sound.specs.TableTrees.{HasTree, TableView, tree_places, trees_of_table}
+use Rattle.mdc_sound.specs.TablePages.{DefinesTable, IsTableThere, table_page_at}
+use Rattle.block_map.specs.MapLines.{MapLine, map_lines, mapped_blocks}
+use Rattle.table_trees.specs.TableTrees.{tree_places}
+use Rattle.mdc_sound.specs.TableViews.{HasTree, TableView, trees_of_table}
 use Rattle.mdc_sound.specs.ToldPages.{PageList, told_pages}
 
 -- What the pages of a database show: who owns each extent, and the table with its trees in each of the 16 places.

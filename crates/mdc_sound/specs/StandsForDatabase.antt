@@ -7,9 +7,10 @@ use Rattle.mdc_ast.specs.meaning.Database.{Database, PlainTable}
 use Rattle.store_api.specs.StoreState.{zero_page}
 use Rattle.extent_map.specs.declared.extents.Extents.{Extents}
 use Rattle.entry_tree.specs.Forest.{Forest}
-use Rattle.mdc_sound.specs.TablePage.{DefinesTable, table_page_at}
+use Rattle.mdc_sound.specs.TablePages.{DefinesTable, table_page_at}
 use Rattle.mdc_sound.specs.TableRows.{rows_in_table}
-use Rattle.mdc_sound.specs.TableTrees.{HasTree, map_place}
+use Rattle.table_trees.specs.TableTrees.{map_place}
+use Rattle.mdc_sound.specs.TableViews.{HasTree}
 use Rattle.mdc_sound.specs.ToldPages.{PageList}
 
 -- a record index without its root

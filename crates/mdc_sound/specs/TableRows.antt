@@ -1,55 +1,16 @@
 -- The blocks of a table and the rows in them.
-use Rattle.std.specs.Prelude.{ℕ, ◌+◌, ◌==◌, List, [], ◌∷◌, map, flat_map, filter, Option, Some, None}
+use Rattle.std.specs.Prelude.{ℕ, ◌+◌, List, [], ◌∷◌, flat_map, Option, Some, None}
 use Rattle.std.specs.List.{range_with_len}
-use Rattle.mdc_words.specs.ByteOrder.{Entry}
 use Rattle.mdc_values.specs.declared.rid.Rid.{Rid}
 use Rattle.mdc_ast.specs.declared.definition.TableDef.{TableDef}
 use Rattle.mdc_ast.specs.declared.row.Row.{Row}
 use Rattle.store_api.specs.Extents.{first_page_of}
 use Rattle.store_api.specs.StoreState.{page_at}
 use Rattle.extent_map.specs.declared.extents.Extents.{Extents}
-use Rattle.node_page.specs.Node.{number_within}
 use Rattle.row_page.specs.RowPage.{rows_of}
-use Rattle.entry_tree.specs.Forest.{Forest, leaf_entries}
+use Rattle.entry_tree.specs.Forest.{Forest}
+use Rattle.block_map.specs.MapLines.{used_blocks}
 use Rattle.mdc_sound.specs.ToldPages.{PageList}
-
--- ---- the block map
-
--- an entry of a block map: a block, its state, which is 0 for Free, 1 for Used and 2 for Pending, and how many rows it has
-pub record MapLine : Type 0 where
-  pub block : ℕ
-  pub state : ℕ
-  pub rows : ℕ
-
--- what the bytes of an entry say
-abbrev pub map_line : Entry → MapLine
-map_line entry = record { block = number_within 0 4 entry; state = number_within 4 1 entry; rows = number_within 5 2 entry }
-
--- the entries of a block map
-abbrev pub map_lines : Forest → List MapLine
-map_lines map_tree = map map_line (leaf_entries map_tree)
-
--- the blocks that a block map names
-abbrev pub mapped_blocks : Forest → List ℕ
-mapped_blocks map_tree = map (λ line. line.block) (map_lines map_tree)
-
--- those of a state
-abbrev pub blocks_of_state : ℕ → Forest → List ℕ
-blocks_of_state state map_tree = map (λ line. line.block) (filter (λ line. line.state == state) (map_lines map_tree))
-
--- the blocks that are empty, and may be used by any cell
-abbrev pub free_blocks : Forest → List ℕ
-free_blocks = blocks_of_state 0
-
--- the blocks that have rows
-abbrev pub used_blocks : Forest → List ℕ
-used_blocks = blocks_of_state 1
-
--- the blocks that were rolled out, and whose entries in record indexes may be left
-abbrev pub pending_blocks : Forest → List ℕ
-pending_blocks = blocks_of_state 2
-
--- ---- the rows
 
 -- a row and where it lies
 pub record PlacedRow : Type 0 where

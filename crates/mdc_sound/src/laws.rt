@@ -1,14 +1,20 @@
 // What holds of every list of pages, and of two databases that were worked out by hand.
-ghost use Rattle.std.specs.Prelude.{◌≡◌, ◌↔◌, ℕ, List};
+ghost use Rattle.std.specs.Prelude.{◌≡◌, ◌↔◌, IsTrue, List};
+ghost use Rattle.extent_map.specs.Map.{HoldsMap};
 ghost use Rattle.extent_map.specs.declared.extents.Extents.{Extents};
-ghost use Rattle.mdc_ast.specs.declared.definition.TableDef.{TableDef};
+ghost use Rattle.extent_map.specs.declared.kind.Kind.{Kind};
+ghost use Rattle.entry_tree.specs.Forest.{Forest};
+ghost use Rattle.table_trees.specs.TableTrees.{TreePlace};
+ghost use Rattle.table_trees.specs.TreesBeside.{HoldsTreeAt};
 ghost use Rattle.mdc_ast.specs.meaning.Database.{Database, empty_database};
 ghost use Rattle.mdc_sound.specs.EmptyDatabase.{few_extents, empty_pages};
 ghost use Rattle.mdc_sound.specs.SoundDatabase.{KeepAllRules, IsSoundInParts, IsSoundDatabase};
 ghost use Rattle.mdc_sound.specs.SpaceRules.{DatabaseView};
 ghost use Rattle.mdc_sound.specs.StandsForDatabase.{PagesStandFor};
-ghost use Rattle.mdc_sound.specs.TablePage.{IsTablePageOf};
-ghost use Rattle.mdc_sound.specs.ToldPages.{PageList};
+ghost use Rattle.mdc_sound.specs.TableViews.{HasTree};
+ghost use Rattle.mdc_sound.specs.ToldPages.{PageList, told_pages};
+
+use store_api::Pages;
 
 /// The twelve rules are sound space, sound blocks and sound record indexes: the first is rules 1 to 6 and what rule 8 says of
 /// blocks that aren't Used, the second rules 7, 9, 10 and 12 and what it says of Used ones, the third rule 11.
@@ -22,8 +28,16 @@ pub fn empty_database_is_sound()
     ensures stands { PagesStandFor few_extents empty_pages empty_database }
 {}
 
-/// Pages stand for one database at most, and a table page is that of one definition at most.
+/// Pages stand for one database at most.
 pub fn pages_stand_for_one()
-    ensures database { (ext : Extents) (pages : PageList) (a b : Database) → PagesStandFor ext pages a → PagesStandFor ext pages b → a ≡ b }
-    ensures definition { (t : ℕ) (a b : TableDef) (page : List ℕ) → IsTablePageOf t a page → IsTablePageOf t b page → a ≡ b }
+    ensures { (ext : Extents) (pages : PageList) (a b : Database) → PagesStandFor ext pages a → PagesStandFor ext pages b → a ≡ b }
+{}
+
+/// A store that tells its pages holds the same trees and the same extent map as the list of its pages, so that what is said of
+/// page lists is said of stores.
+pub fn told_stores_hold_their_pages<P: Pages>(pages: &P)
+    ensures trees { IsTrue (P.state pages.now).is_told → (place : TreePlace) (t : Forest)
+        → HoldsTreeAt P.Pages pages.now place t ↔ HasTree (P.state pages.now).work place t }
+    ensures map { IsTrue (P.state pages.now).is_told → (ext : Extents) (owners : List Kind)
+        → HoldsMap P.Pages ext pages.now owners ↔ HoldsMap told_pages ext (P.state pages.now).work owners }
 {}

@@ -1,11 +1,13 @@
 //! What the pages of a database stand for, and when they are sound.
 //!
-//! `specs/` has the words that the layers above promise by: the table page of a definition, the plain database that pages
-//! stand for, the twelve rules of a sound database with the page that breaks each, where rows are put, and when a statement
-//! runs full. The laws here say what holds of these words whatever calls are made. It stands on the words of the extent map,
-//! of trees, of keys and of row pages, and makes no call of a store.
+//! `specs/` has the words that the layers above promise by: the plain database that pages stand for, the twelve rules of a
+//! sound database with the page that breaks each, where rows are put, and when a statement runs full. The laws here say what
+//! holds of these words whatever calls are made. It stands on the words of the extent map, of trees, of keys, of row pages and
+//! of table pages, and makes no call of a store.
 #![tactic(auto)]
 
 mod laws;
 
-pub use laws::{empty_database_is_sound, pages_stand_for_one, rules_make_parts};
+pub use laws::{
+    empty_database_is_sound, pages_stand_for_one, rules_make_parts, told_stores_hold_their_pages,
+};

@@ -1,0 +1,60 @@
+// The values of a cell as bytes of a key.
+ghost use Rattle.std.specs.Prelude.{◌≡◌, ◌+◌, ◌≤◌, ◌++◌, drop, false, length, IsTrue, IfErr, IfOk, OnOk};
+ghost use Rattle.mdc_ast.specs.meaning.Database.{is_of_type};
+ghost use Rattle.key_codec.specs.Keys.{ArePartsOf, part_bytes, width_of_parts};
+ghost use Rattle.table_trees.specs.TableTrees.{cell_parts, rising_parts};
+ghost use Rattle.block_index.specs.Cells.{FitPlaces, FitsCell, cell_places, key_of_values};
+
+use key_codec::{part_width, put_part};
+use mdc_ast::{Cell, ColumnDef, TableDef};
+use mdc_values::{ColType, List, Value};
+use std::alloc::Global;
+use store_api::StoreFault;
+
+/// The key of a cell: that of all dimension columns.
+pub(crate) fn cell_key(alloc: Global, def: &TableDef, cell: &Cell) -> Result<Vec<u8>, StoreFault>
+    requires parts { ArePartsOf def.now.columns (cell_parts def.now) }
+    requires cell { FitsCell def.now cell.now.values }
+    ensures key { IfOk result (λ key. key.items ≡ key_of_values def.now.columns (cell_places def.now) cell.now.values) }
+    ensures memory { IfErr result (λ fault. fault ≡ StoreFault.Memory) }
+{
+    let mut key = Vec::new(alloc);
+    let mut values = cell.values.as_slice();
+    for dim in def.dims.as_slice() {
+        values = push_key(&mut key, &def.columns, dim, values)?;
+    }
+    Ok(key)
+}
+
+/// Puts the key of the columns in some places last, whose values are the first of these. Lends the values behind them.
+pub(crate) fn push_key<'v>(
+    key: &mut Vec<u8>,
+    columns: &List<ColumnDef>,
+    places: &List<u8>,
+    values: &'v [Value],
+) -> Result<&'v [Value], StoreFault>
+    requires parts { ArePartsOf columns.now (rising_parts places.now) }
+    requires enough { length places.now ≤ length values.now }
+    requires values { FitPlaces columns.now places.now values.now }
+    ensures key { OnOk result (key.new.items ≡ key.old.items ++ key_of_values columns.now places.now values.now) }
+    ensures rest { IfOk result (λ rest. rest.now ≡ drop (length places.now) values.now) }
+    ensures memory { IfErr result (λ fault. fault ≡ StoreFault.Memory) }
+{
+    for i in 0..places.len() {
+        let ty = columns.at(*places.at(i) as usize).ty;
+        push_part(key, ty, &values[i])?;
+    }
+    Ok(&values[places.len()..])
+}
+
+/// Puts a value as a part of a key last.
+fn push_part(key: &mut Vec<u8>, ty: ColType, value: &Value) -> Result<(), StoreFault>
+    requires { IsTrue (is_of_type ty value.now) }
+    ensures part { OnOk result (key.new.items ≡ key.old.items ++ part_bytes ty false value.now) }
+    ensures memory { IfErr result (λ fault. fault ≡ StoreFault.Memory) }
+{
+    let at = key.len();
+    key.resize(at + part_width(ty) as usize, 0)?;
+    put_part(&mut key[at..], ty, false, value);
+    Ok(())
+}

@@ -1,0 +1,86 @@
+// A block comes into the block indexes.
+ghost use Rattle.std.specs.Prelude.{◌≡◌, ℕ, List, false, length, IfErr, OnOk};
+ghost use Rattle.store_api.specs.Causes.{store_fault_in};
+ghost use Rattle.store_api.specs.RunsOverPages.{RunsOverPages};
+ghost use Rattle.extent_map.specs.Damages.{IfFull, store_part_of};
+ghost use Rattle.extent_map.specs.Owners.{IsSameShape};
+ghost use Rattle.extent_map.specs.declared.kind.Kind.{Kind};
+ghost use Rattle.entry_tree.specs.Forest.{Forest};
+ghost use Rattle.entry_tree.specs.Standing.{AddsEntry, FindsFull, IsTreeSpace, StandsTree};
+ghost use Rattle.table_trees.specs.TableTrees.{HasBlockIndexes, block_index_places};
+ghost use Rattle.table_trees.specs.TreesBeside.{IsSpaceOfTrees, StandTrees};
+ghost use Rattle.block_index.specs.Cells.{FitsCell};
+ghost use Rattle.block_index.specs.Listing.{BreaksEntering, BreaksListing, FillsListing, ListsBlock};
+
+use crate::entries::cell_entries;
+use entry_tree::Tree;
+use extent_map::{Extents, SpaceFault};
+use mdc_ast::{Cell, TableDef};
+use std::alloc::Global;
+use store_api::{Damage, Pages, StoreFault};
+use table_trees::block_index_tree;
+
+/// The rule that damage of a block index names: it is exactly the blocks under their cells' values.
+const INDEX_RULE: u16 = 10;
+
+/// Lists a block under the values of its cell: in the composite index, and then in that of each dimension. Where an index has
+/// the entry already, its root is damaged by rule 10. After a fault `undo` goes back, and the notes of the extents are to be
+/// forgotten.
+pub fn list_block<P: Pages>(
+    alloc: Global,
+    def: &TableDef,
+    ext: &mut Extents,
+    pages: &mut P,
+    cell: &Cell,
+    block: u32,
+) -> Result<(), SpaceFault>
+    requires indexes { HasBlockIndexes def.now }
+    requires cell { FitsCell def.now cell.now.values }
+    requires going { (P.state pages.old).ended ≡ false }
+    ensures lists { OnOk result ((owners : List Kind) (trees : List Forest) → StandTrees P.Pages ext.old pages.old owners (block_index_places def.now) trees
+        → ListsBlock P.Pages ext.old ext.new pages.new def.now cell.now.values block owners trees) }
+    ensures full { IfErr result (λ fault. IfFull fault (λ cap. (cap ≡ ext.old.cap) × FillsListing P.Pages ext.old ext.new pages.old pages.new def.now cell.now.values block)) }
+    ensures shape { IsSameShape ext.old ext.new }
+    ensures runs { RunsOverPages P.Pages (IsSpaceOfTrees P.Pages ext.old pages.old (block_index_places def.now)) (IsSpaceOfTrees P.Pages ext.old pages.old (block_index_places def.now))
+        (BreaksListing P.Pages ext.old pages.old def.now cell.now.values block) pages.old pages.new (store_fault_in store_part_of result) }
+{
+    let entries = cell_entries(alloc, def, cell, block)?;
+    for i in 0..entries.len() {
+        let tree = block_index_tree(alloc, def, i);
+        enter(&tree, ext, pages, entries[i].bytes())?;
+    }
+    Ok(())
+}
+
+/// Enters an entry in an index.
+fn enter<P: Pages>(
+    tree: &Tree,
+    ext: &mut Extents,
+    pages: &mut P,
+    entry: &[u8],
+) -> Result<(), SpaceFault>
+    requires width { length entry.now ≡ tree.now.width }
+    requires going { (P.state pages.old).ended ≡ false }
+    ensures adds { OnOk result ((owners : List Kind) (t : Forest) → StandsTree P.Pages ext.old pages.old tree.now owners t → AddsEntry P.Pages ext.old ext.new pages.old pages.new tree.now entry.now owners t) }
+    ensures full { IfErr result (λ fault. IfFull fault (λ cap. (cap ≡ ext.old.cap)
+        × ((owners : List Kind) (t : Forest) → StandsTree P.Pages ext.old pages.old tree.now owners t → FindsFull P.Pages ext.old ext.new pages.old pages.new tree.now entry.now owners t))) }
+    ensures shape { IsSameShape ext.old ext.new }
+    ensures runs { RunsOverPages P.Pages (IsTreeSpace P.Pages ext.old pages.old tree.now) (IsTreeSpace P.Pages ext.old pages.old tree.now)
+        (BreaksEntering P.Pages ext.old pages.old tree.now entry.now) pages.old pages.new (store_fault_in store_part_of result) }
+{
+    let added = tree.add(ext, pages, entry)?;
+    if !added {
+        return Err(SpaceFault::Store(misplaced(tree)));
+    }
+    Ok(())
+}
+
+/// The fault of a block index that has an entry which it shouldn't have, or hasn't one which it should.
+pub(crate) fn misplaced(tree: &Tree) -> StoreFault
+    ensures { result ≡ StoreFault.Damaged (record { page = tree.now.root; rule = 10 }) }
+{
+    StoreFault::Damaged(Damage {
+        page: tree.root,
+        rule: INDEX_RULE,
+    })
+}

@@ -1,0 +1,72 @@
+// A block leaves the block indexes.
+ghost use Rattle.std.specs.Prelude.{◌≡◌, ℕ, List, false, length, OnOk};
+ghost use Rattle.store_api.specs.Causes.{fault_of};
+ghost use Rattle.store_api.specs.RunsOverPages.{RunsOverPages};
+ghost use Rattle.extent_map.specs.Owners.{IsSameShape};
+ghost use Rattle.extent_map.specs.declared.kind.Kind.{Kind};
+ghost use Rattle.entry_tree.specs.Forest.{Forest};
+ghost use Rattle.entry_tree.specs.Pruning.{IsTreeOrMapPage, RemovesEntry};
+ghost use Rattle.entry_tree.specs.Standing.{StandsTree};
+ghost use Rattle.table_trees.specs.TableTrees.{HasBlockIndexes, block_index_places};
+ghost use Rattle.table_trees.specs.TreesBeside.{IsSpaceOfTrees, StandTrees};
+ghost use Rattle.block_index.specs.Cells.{FitsCell};
+ghost use Rattle.block_index.specs.Listing.{BreaksLeaving, BreaksUnlisting, UnlistsBlock};
+
+use crate::entries::cell_entries;
+use crate::listing::misplaced;
+use entry_tree::Tree;
+use extent_map::Extents;
+use mdc_ast::{Cell, TableDef};
+use std::alloc::Global;
+use store_api::{Pages, StoreFault};
+use table_trees::block_index_tree;
+
+/// Takes a block out that is listed under the values of its cell: of the composite index, and then of that of each dimension.
+/// It claims no page. Where an index hasn't the entry, its root is damaged by rule 10.
+pub fn unlist_block<P: Pages>(
+    alloc: Global,
+    def: &TableDef,
+    ext: &mut Extents,
+    pages: &mut P,
+    cell: &Cell,
+    block: u32,
+) -> Result<(), StoreFault>
+    requires indexes { HasBlockIndexes def.now }
+    requires cell { FitsCell def.now cell.now.values }
+    requires going { (P.state pages.old).ended ≡ false }
+    ensures unlists { OnOk result ((owners : List Kind) (trees : List Forest) → StandTrees P.Pages ext.old pages.old owners (block_index_places def.now) trees
+        → UnlistsBlock P.Pages ext.old ext.new pages.new def.now cell.now.values block owners trees) }
+    ensures count { length (P.state pages.new).work ≡ length (P.state pages.old).work }
+    ensures shape { IsSameShape ext.old ext.new }
+    ensures runs { RunsOverPages P.Pages (IsSpaceOfTrees P.Pages ext.old pages.old (block_index_places def.now)) (IsSpaceOfTrees P.Pages ext.old pages.old (block_index_places def.now))
+        (BreaksUnlisting P.Pages ext.old pages.old def.now cell.now.values block) pages.old pages.new (fault_of result) }
+{
+    let entries = cell_entries(alloc, def, cell, block)?;
+    for i in 0..entries.len() {
+        let tree = block_index_tree(alloc, def, i);
+        leave(&tree, ext, pages, entries[i].bytes())?;
+    }
+    Ok(())
+}
+
+/// Takes an entry out of an index.
+fn leave<P: Pages>(
+    tree: &Tree,
+    ext: &mut Extents,
+    pages: &mut P,
+    entry: &[u8],
+) -> Result<(), StoreFault>
+    requires width { length entry.now ≡ tree.now.width }
+    requires going { (P.state pages.old).ended ≡ false }
+    ensures removes { OnOk result ((owners : List Kind) (t : Forest) → StandsTree P.Pages ext.old pages.old tree.now owners t → RemovesEntry P.Pages ext.old ext.new pages.new tree.now entry.now owners t) }
+    ensures count { length (P.state pages.new).work ≡ length (P.state pages.old).work }
+    ensures shape { IsSameShape ext.old ext.new }
+    ensures runs { RunsOverPages P.Pages (IsTreeOrMapPage P.Pages ext.old pages.old tree.now) (IsTreeOrMapPage P.Pages ext.old pages.old tree.now)
+        (BreaksLeaving P.Pages ext.old pages.old tree.now entry.now) pages.old pages.new (fault_of result) }
+{
+    let was_there = tree.remove(ext, pages, entry)?;
+    if !was_there {
+        return Err(misplaced(tree));
+    }
+    Ok(())
+}

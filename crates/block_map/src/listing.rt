@@ -1,0 +1,81 @@
+// The blocks of a state, and the lowest of the Free ones.
+ghost use Rattle.std.specs.Prelude.{◌≡◌, ◌++◌, ◌∷◌, [], false, IfOk, IfErr, OnOk};
+ghost use Rattle.mdc_values.specs.Rising.{IsLower, LastIsBefore};
+ghost use Rattle.store_api.specs.Causes.{fault_of};
+ghost use Rattle.store_api.specs.Frame.{NoPage};
+ghost use Rattle.store_api.specs.RunsOverPages.{RunsOverPages};
+ghost use Rattle.entry_tree.specs.Forest.{Forest};
+ghost use Rattle.entry_tree.specs.HeldTrees.{HoldsTree, IsTreePage};
+ghost use Rattle.block_map.specs.BlockMaps.{AnyMap, BreaksMapTree, FindsFree};
+ghost use Rattle.block_map.specs.MapLines.{AreMapEntries, blocks_of_state};
+ghost use Rattle.block_map.specs.MapRows.{state_number};
+
+use crate::walk::Walk;
+use crate::{BlockMap, BlockState};
+use mdc_values::Blocks;
+use store_api::{Pages, StoreFault};
+
+impl BlockMap {
+    /// The blocks of a state, by rising number.
+    pub fn list<P: Pages>(&self, pages: &mut P, state: BlockState) -> Result<Blocks, StoreFault>
+        requires going { (P.state pages.old).ended ≡ false }
+        ensures listed { IfOk result (λ blocks. (t : Forest) → HoldsTree P.Pages pages.old self.now.tree t → blocks ≡ blocks_of_state (state_number state) t) }
+        ensures same { (P.state pages.new).work ≡ (P.state pages.old).work }
+        ensures runs { RunsOverPages P.Pages NoPage (IsTreePage P.Pages pages.old self.now.tree) (BreaksMapTree P.Pages pages.old self.now.tree AnyMap) pages.old pages.new (fault_of result) }
+    {
+        let mut blocks = Blocks::new(self.alloc);
+        let mut walk = Walk::from(self.alloc, 0);
+        'rows: loop {
+            let Some(row) = walk.next(self, pages)? else {
+                return Ok(blocks);
+            };
+            if row.state == state {
+                push_block(&mut blocks, row.block)?;
+            }
+        }
+    }
+
+    /// The lowest Free block from a number on, if there is one.
+    pub fn first_free_from<P: Pages>(
+        &self,
+        pages: &mut P,
+        from: u32,
+    ) -> Result<Option<u32>, StoreFault>
+        requires going { (P.state pages.old).ended ≡ false }
+        ensures found { IfOk result (λ block. (t : Forest) → HoldsTree P.Pages pages.old self.now.tree t → AreMapEntries t → FindsFree t from block) }
+        ensures same { (P.state pages.new).work ≡ (P.state pages.old).work }
+        ensures runs { RunsOverPages P.Pages NoPage (IsTreePage P.Pages pages.old self.now.tree) (BreaksMapTree P.Pages pages.old self.now.tree AnyMap) pages.old pages.new (fault_of result) }
+    {
+        let mut walk = Walk::from(self.alloc, from);
+        'rows: loop {
+            let Some(row) = walk.next(self, pages)? else {
+                return Ok(None);
+            };
+            if row.state == BlockState::Free {
+                return Ok(Some(row.block));
+            }
+        }
+    }
+
+    /// The lowest Free block, if there is one.
+    pub fn first_free<P: Pages>(&self, pages: &mut P) -> Result<Option<u32>, StoreFault>
+        requires going { (P.state pages.old).ended ≡ false }
+        ensures found { IfOk result (λ block. (t : Forest) → HoldsTree P.Pages pages.old self.now.tree t → AreMapEntries t → FindsFree t 0 block) }
+        ensures same { (P.state pages.new).work ≡ (P.state pages.old).work }
+        ensures runs { RunsOverPages P.Pages NoPage (IsTreePage P.Pages pages.old self.now.tree) (BreaksMapTree P.Pages pages.old self.now.tree AnyMap) pages.old pages.new (fault_of result) }
+    {
+        self.first_free_from(pages, 0)
+    }
+}
+
+// Puts a block last.
+fn push_block(blocks: &mut Blocks, block: u32) -> Result<(), StoreFault>
+    requires { LastIsBefore IsLower block blocks.old }
+    ensures pushed { OnOk result (blocks.new ≡ blocks.old ++ block ∷ []) }
+    ensures fault { IfErr result (λ fault. fault ≡ StoreFault.Memory) }
+{
+    match blocks.push(block) {
+        Ok(()) => Ok(()),
+        Err(_) => Err(StoreFault::Memory),
+    }
+}

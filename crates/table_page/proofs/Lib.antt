@@ -1,0 +1,10 @@
+pub mod DifferingLemmas
+pub mod EntriesLemmas
+pub mod LimitsLemmas
+pub mod NamesLemmas
+pub mod PageAnswersLemmas
+pub mod PartsLemmas
+pub mod PrintingLemmas
+pub mod ReadingLemmas
+pub mod TablePageLemmas
+pub mod WidthLemmas

@@ -1,0 +1,9 @@
+use Rattle.std.proofs.Common.{◌≡◌, ◌*◌}
+use Rattle.table_page.specs.ReadingBack.{column_in_page}
+use Rattle.mdc_words.specs.Listed.{listed}
+use Rattle.node_page.specs.Node.{bytes_in}
+use Rattle.table_page.proofs.definition_reading.read_columns.Given as goal
+
+-- the first ones are read
+abbrev pub invariant-loop-i : goal.invariant-loop-i
+invariant-loop-i l = l.columns ≡ listed l.i (λ k. column_in_page (bytes_in (31 * k) 31 l.bytes))

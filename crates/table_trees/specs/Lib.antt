@@ -1,0 +1,2 @@
+pub mod TableTrees
+pub mod TreesBeside

@@ -1,0 +1,65 @@
+-- Several trees side by side in the extents: at each place of a list stands one, each page of theirs is a used index page, and
+-- no page is in two of them.
+use Rattle.std.specs.Prelude.{◌≡◌, ◌⊎◌, ◌<◌, ◌≤◌, ℕ, List, sum_by, Option, Some, None}
+use Rattle.std.specs.List.{AllZip}
+use Rattle.store_api.specs.declared.pages.Pages.{Ghosts}
+use Rattle.extent_map.specs.Map.{HoldsMap, IsSpacePage}
+use Rattle.extent_map.specs.Owners.{AreRightNotes, IsSameShape, IsUsedPage, owner_of}
+use Rattle.extent_map.specs.declared.extents.Extents.{Extents}
+use Rattle.extent_map.specs.declared.kind.Kind.{Kind}
+use Rattle.extent_map.specs.declared.kind.Kind.TheVariants.{Free, Block, Index}
+use Rattle.entry_tree.specs.Forest.{Forest, times, IsTree, IsTrimTree}
+use Rattle.entry_tree.specs.HeldTrees.{nodes_in}
+use Rattle.entry_tree.specs.Standing.{IsIdlePage}
+use Rattle.table_trees.specs.TableTrees.{TreePlace}
+
+-- ---- trees that stand
+
+-- the pages are told to hold this tree at a place, where each leaf but an empty root holds an entry
+pub record HoldsTreeAt {S : Type 0} (g : Ghosts S) (s : S) (place : TreePlace) (t : Forest) : Type 0 where
+  pub is_tree : IsTree (nodes_in place.width (g.state s)) place.root t
+  pub trim : IsTrimTree t
+
+-- the extent map is told, and at each of these places a tree; each page of theirs is a used index page, and in one of them alone
+pub record StandTrees {S : Type 0} (g : Ghosts S) (ext : Extents) (s : S) (owners : List Kind) (places : List TreePlace) (trees : List Forest) : Type 0 where
+  pub map : HoldsMap g ext s owners
+  pub held : AllZip (HoldsTreeAt g s) places trees
+  pub used : (p : ℕ) → 0 < sum_by (times p) trees → IsUsedPage ext owners p
+  pub apart : (p : ℕ) → sum_by (times p) trees ≤ 1
+
+-- the pages that calls on these trees may change: those of the trees, those of the extent map with page 0, and idle ones; where
+-- the map and the trees were told to have their form
+abbrev pub IsSpaceOfTrees : {S : Type 0} → Ghosts S → Extents → S → List TreePlace → ℕ → Type 0
+IsSpaceOfTrees g ext s places p =
+    (owners : List Kind) (trees : List Forest) → StandTrees g ext s owners places trees
+    → 0 < sum_by (times p) trees ⊎ (IsSpacePage ext p ⊎ IsIdlePage ext owners p)
+
+-- the pages that calls on these trees bring to hand: the same ones, without page 0 and idle ones where nothing is claimed
+abbrev pub IsPageOfTrees : {S : Type 0} → Ghosts S → Extents → S → List TreePlace → ℕ → Type 0
+IsPageOfTrees g ext s places p =
+    (owners : List Kind) (trees : List Forest) → StandTrees g ext s owners places trees → 0 < sum_by (times p) trees
+
+-- ---- what calls on them change
+
+-- the table of a block
+abbrev pub table_of_block : Kind → Option ℕ
+table_of_block Free = None
+table_of_block (Block table) = Some table
+table_of_block (Index used) = None
+
+-- The owners after claims and returns of index pages: the blocks are the same, a used page that isn't one of these forests is
+-- still used, and a page that is used was so, or is one of the forests that there are now.
+pub record KeepsOwners (ext : Extents) (owners : List Kind) (trees : List Forest) (owners_now : List Kind) (trees_now : List Forest) : Type 0 where
+  pub blocks : (e : ℕ) → table_of_block (owner_of owners_now e) ≡ table_of_block (owner_of owners e)
+  pub others : (p : ℕ) → IsUsedPage ext owners p → sum_by (times p) trees ≡ 0 → IsUsedPage ext owners_now p
+  pub used : (p : ℕ) → IsUsedPage ext owners_now p → 0 < sum_by (times p) trees_now ⊎ (IsUsedPage ext owners p × (sum_by (times p) trees ≡ 0))
+
+-- Calls on trees made these forests of those: they stand, and each page of theirs was one of the trees or idle. The blocks and
+-- the pages of all other trees are as they were.
+pub record ChangesTrees {S : Type 0} (g : Ghosts S) (before ext : Extents) (new : S) (places : List TreePlace)
+    (owners : List Kind) (trees : List Forest) (owners_now : List Kind) (trees_now : List Forest) : Type 0 where
+  pub stand : StandTrees g ext new owners_now places trees_now
+  pub shape : IsSameShape before ext
+  pub pages : (p : ℕ) → 0 < sum_by (times p) trees_now → 0 < sum_by (times p) trees ⊎ IsIdlePage before owners p
+  pub kept : KeepsOwners before owners trees owners_now trees_now
+  pub notes : AreRightNotes before owners → AreRightNotes ext owners_now
