@@ -31,6 +31,7 @@ pub fn fill<S: Store>(
     store: &mut S,
 ) -> Result<BlockMap, SpaceFault>
     requires going { (S.state store.old).ended ≡ false }
+    ensures going { (S.state store.new).ended ≡ false }
 {
     let tree = Tree::make(alloc, ext, store, WIDTH)?;
     let map = BlockMap::at(alloc, tree.root);
@@ -41,7 +42,9 @@ pub fn fill<S: Store>(
 }
 
 /// A row of a block map.
-pub fn row(block: u32, state: BlockState, rows: u16) -> BlockRow {
+pub fn row(block: u32, state: BlockState, rows: u16) -> BlockRow
+    ensures { result.block ≡ block }
+{
     BlockRow { block, state, rows }
 }
 

@@ -1,31 +1,72 @@
-use crate::{Seen, fill, look_round, row};
-use block_map::{BlockMap, BlockState};
-use extent_map::Extents;
-use std::alloc::{AllocError, Global};
-use std::test::Fail;
-use store_api::{MemStore, Page};
+// What a block map answers on a store in memory.
+ghost use Rattle.std.specs.Prelude.{◌≡◌, false, IfOk};
 
-// A store of pages of zeros up to the extents.
-fn empty_store(alloc: Global) -> Result<MemStore, AllocError> {
-    let mut pages = Vec::new(alloc);
-    for _ in 0..18 {
-        let page: Page = [0; 4096];
-        pages.push(page)?;
+use crate::{Seen, fill, look_round, row};
+use block_map::BlockState;
+use extent_map::Extents;
+use std::alloc::Global;
+use std::test::Fail;
+use store_api::{MemStore, Page, Pages, Store};
+
+// A store of these pages.
+fn store_of(alloc: Global, pages: Vec<Page>) -> Result<MemStore, Fail>
+    ensures going { IfOk result (λ store. (⟦<MemStore as Pages>⟧.state store).ended ≡ false) }
+{
+    if pages.len() > 1000 {
+        return Err("more pages than a test has")?;
     }
     Ok(MemStore::new(alloc, pages))
 }
 
+// A store of pages of zeros up to the extents.
+fn empty_store(alloc: Global) -> Result<MemStore, Fail>
+    ensures going { IfOk result (λ store. (⟦<MemStore as Pages>⟧.state store).ended ≡ false) }
+{
+    let mut pages = Vec::new(alloc);
+    for _ in 0..18 {
+        pages.push([0; 4096])?;
+    }
+    store_of(alloc, pages)
+}
+
+fn extents() -> Result<Extents, Fail> {
+    match Extents::new(16, 2) {
+        Some(ext) => Ok(ext),
+        None => Err("no shape of a database")?,
+    }
+}
+
+// A map that was filled, seen at block 5.
+fn filled<S: Store>(alloc: Global, ext: &mut Extents, store: &mut S) -> Result<Seen, Fail>
+    requires going { (S.state store.old).ended ≡ false }
+{
+    let map = fill(alloc, ext, store)?;
+    Ok(look_round(&map, store, 5, BlockState::Free)?)
+}
+
+// The same once block 5 is Pending, block 3 has a row more and block 9 has left, seen at block 3.
+fn changed<S: Store>(alloc: Global, ext: &mut Extents, store: &mut S) -> Result<Seen, Fail>
+    requires going { (S.state store.old).ended ≡ false }
+{
+    let map = fill(alloc, ext, store)?;
+    map.set(store, row(5, BlockState::Pending, 0))?;
+    map.replace(
+        store,
+        row(3, BlockState::Used, 2),
+        row(3, BlockState::Used, 3),
+    )?;
+    map.leave(ext, store, 9)?;
+    Ok(look_round(&map, store, 3, BlockState::Pending)?)
+}
+
 #[test]
 fn blocks_are_found_and_listed(rt: HostRuntime) -> Result<(), Fail> {
-    let mut store = empty_store(rt.alloc())?;
-    let mut ext = Extents::new(16, 2).ok_or("the shape")?;
-    let map = fill(rt.alloc(), &mut ext, &mut store)?;
     let Seen {
         row: found,
         listed,
         first_free,
         free_behind,
-    } = look_round(&map, &mut store, 5, BlockState::Free)?;
+    } = filled(rt.alloc(), &mut extents()?, &mut empty_store(rt.alloc())?)?;
     assert_eq!(rt; found, Some(row(5, BlockState::Free, 0)));
     assert_eq!(rt; listed.as_slice(), [5, 9].as_slice());
     assert_eq!(rt; first_free, Some(5));
@@ -35,22 +76,12 @@ fn blocks_are_found_and_listed(rt: HostRuntime) -> Result<(), Fail> {
 
 #[test]
 fn rows_change_in_place_and_leave(rt: HostRuntime) -> Result<(), Fail> {
-    let mut store = empty_store(rt.alloc())?;
-    let mut ext = Extents::new(16, 2).ok_or("the shape")?;
-    let map = fill(rt.alloc(), &mut ext, &mut store)?;
-    map.set(&mut store, row(5, BlockState::Pending, 0))?;
-    map.replace(
-        &mut store,
-        row(3, BlockState::Used, 2),
-        row(3, BlockState::Used, 3),
-    )?;
-    map.leave(&mut ext, &mut store, 9)?;
     let Seen {
         row: found,
         listed,
         first_free,
         free_behind,
-    } = look_round(&map, &mut store, 3, BlockState::Pending)?;
+    } = changed(rt.alloc(), &mut extents()?, &mut empty_store(rt.alloc())?)?;
     assert_eq!(rt; found, Some(row(3, BlockState::Used, 3)));
     assert_eq!(rt; listed.as_slice(), [5].as_slice());
     assert_eq!(rt; first_free, None);
