@@ -1,3 +1,4 @@
+pub mod DefinitionTreesLemmas
 pub mod EmptyDatabaseLemmas
 pub mod SoundDatabaseLemmas
 pub mod StandsForLemmas

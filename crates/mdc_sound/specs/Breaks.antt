@@ -1,5 +1,5 @@
 -- Which page breaks which rule (docs/FORMAT.md, "Rules"). Each rule is judged by what it speaks of alone, so that damage can be
--- named on pages that break other rules too.
+-- named on pages that break other rules too: where the trees that a rule speaks of don't stand, it may be named besides rule 4.
 use Rattle.std.specs.Prelude.{◌≡◌, ◌≢◌, ◌≤◌, ◌<◌, ◌⊎◌, ℕ, ◌+◌, ◌/◌, List, length, slice_get, Some, AllPairs, Contains}
 use Rattle.mdc_ast.specs.declared.definition.IndexDef.{IndexDef}
 use Rattle.mdc_ast.specs.declared.definition.TableDef.{TableDef}
@@ -12,10 +12,11 @@ use Rattle.extent_map.specs.declared.kind.Kind.{Kind}
 use Rattle.extent_map.specs.declared.kind.Kind.TheVariants as kind
 use Rattle.row_page.specs.RowPage.{slot_count}
 use Rattle.entry_tree.specs.Forest.{Forest, times}
+use Rattle.block_map.specs.BlockMaps.{IsMapForm}
 use Rattle.block_map.specs.MapLines.{MapLine, map_lines, pending_blocks, used_blocks, mapped_blocks}
 use Rattle.mdc_sound.specs.BlockRules.{IsBlockPageSound, IsUsedCountSound, IsIdleCountSound, IsOfOneCell, IsBlockIndexSound, IsSoundIndex, AreRowNumbersSound, IsUniqueSound}
 use Rattle.mdc_sound.specs.FittingRows.{RowFits}
-use Rattle.mdc_sound.specs.SpaceRules.{IsMapPageSound, IsIndexPage, stated_root, IsRootSound, IsBlockMapSound}
+use Rattle.mdc_sound.specs.SpaceRules.{IsMapPageSound, IsIndexPage, stated_root, IsPageBytes}
 use Rattle.mdc_sound.specs.TablePages.{DefinesTable, table_page_at}
 use Rattle.mdc_sound.specs.TableRows.{PlacedRow, rows_in_block, rows_in_table}
 use Rattle.table_trees.specs.TableTrees.{TreePlace, cell_parts, composite_place, dimension_place, map_place, record_place, rising_parts, tree_places}
@@ -58,7 +59,7 @@ pub data BreaksRule (ext : Extents) (pages : PageList) : (rule page : ℕ) → T
   root : ((n : ℕ) → IsWholeOf ext n → length pages ≤ n → page_at pages 0 ≡ stated_root n → ⊥) → BreaksRule ext pages 1 0
   missing : (n p : ℕ) → IsWholeOf ext n → page_at pages 0 ≡ stated_root n → length pages ≤ p → p < n → BreaksRule ext pages 1 p
   -- a page that isn't 4,096 bytes
-  torn : (p : ℕ) → p < length pages → length (page_at pages p) ≢ 4096 → BreaksRule ext pages 1 p
+  torn : (p : ℕ) → p < length pages → (IsPageBytes (page_at pages p) → ⊥) → BreaksRule ext pages 1 p
   -- a page of the extent map, of which no owners can be said
   map_page : (i : ℕ) → i < map_pages ext.cap → ((owners : List Kind) → IsMapPageSound ext pages owners i → ⊥) → BreaksRule ext pages 2 (17 + i)
   -- a table page that is neither zeros alone nor that of a definition
@@ -82,12 +83,12 @@ pub data BreaksRule (ext : Extents) (pages : PageList) : (rule page : ℕ) → T
   outside : (t i p : ℕ) (tree : Forest) → ShowsTree pages t i tree → 0 < times p tree → (IsExtentPage ext p → ⊥) → BreaksRule ext pages 5 p
   not_used : (t i p : ℕ) (tree : Forest) (owners : List Kind) → ShowsTree pages t i tree → 0 < times p tree → ShowsExtentOf ext pages owners p
       → (IsUsedPage ext owners p → ⊥) → BreaksRule ext pages 5 p
-  -- an entry of a block map that has no state, or names no extent; a block that is named twice; one that is no block of the
-  -- table, and one of the table that isn't named
-  map_line : (t : ℕ) (def : TableDef) (map_tree : Forest) (line : MapLine) → ShowsTable pages t def map_tree → Contains (map_lines map_tree) line
-      → (2 < line.state) ⊎ (ext.cap ≤ line.block) → BreaksRule ext pages 6 def.roots.map
-  map_twice : (t : ℕ) (def : TableDef) (map_tree : Forest) → ShowsTable pages t def map_tree → (AllPairs (λ a b. a ≢ b) (mapped_blocks map_tree) → ⊥)
+  -- a block map with a state above 2, or that names a block twice; an entry of one that names no extent; one that names what is
+  -- no block of the table, and a block of the table that isn't named
+  map_form : (t : ℕ) (def : TableDef) → t < 16 → DefinesTable pages t def → ((map_tree : Forest) → HasTree pages (map_place def) map_tree → IsMapForm map_tree → ⊥)
       → BreaksRule ext pages 6 def.roots.map
+  map_past : (t : ℕ) (def : TableDef) (map_tree : Forest) (line : MapLine) → ShowsTable pages t def map_tree → Contains (map_lines map_tree) line
+      → ext.cap ≤ line.block → BreaksRule ext pages 6 def.roots.map
   map_other : (t : ℕ) (def : TableDef) (map_tree : Forest) (line : MapLine) (owners : List Kind) → ShowsTable pages t def map_tree → Contains (map_lines map_tree) line
       → line.block < ext.cap → HoldsMapPage told_pages ext pages owners (line.block / 512) → owner_of owners line.block ≢ kind.Block def.number
       → BreaksRule ext pages 6 def.roots.map
@@ -109,11 +110,13 @@ pub data BreaksRule (ext : Extents) (pages : PageList) : (rule page : ℕ) → T
   cell : (t : ℕ) (def : TableDef) (map_tree : Forest) (block : ℕ) → ShowsTable pages t def map_tree → Contains (used_blocks map_tree) block
       → (IsOfOneCell ext pages def block → ⊥) → BreaksRule ext pages 9 (first_page_of ext.cap ext.extent_pages block)
   -- the root of a block index, and of a record index
-  composite : (t : ℕ) (def : TableDef) (map_tree index : Forest) → ShowsTable pages t def map_tree → HasTree pages (composite_place def) index
-      → (IsBlockIndexSound def (rows_in_table ext pages def map_tree) (cell_parts def) index → ⊥) → BreaksRule ext pages 10 def.roots.composite
-  dimension : (t i root : ℕ) (def : TableDef) (map_tree index : Forest) (dim : List ℕ) → ShowsTable pages t def map_tree
-      → slice_get def.dims i ≡ Some dim → slice_get def.roots.dims i ≡ Some root → HasTree pages (dimension_place def dim root) index
-      → (IsBlockIndexSound def (rows_in_table ext pages def map_tree) (rising_parts dim) index → ⊥) → BreaksRule ext pages 10 root
+  composite : (t : ℕ) (def : TableDef) → t < 16 → DefinesTable pages t def
+      → ((map_tree index : Forest) → HasTree pages (map_place def) map_tree → HasTree pages (composite_place def) index
+      → IsBlockIndexSound def (rows_in_table ext pages def map_tree) (cell_parts def) index → ⊥) → BreaksRule ext pages 10 def.roots.composite
+  dimension : (t i root : ℕ) (def : TableDef) (dim : List ℕ) → t < 16 → DefinesTable pages t def
+      → slice_get def.dims i ≡ Some dim → slice_get def.roots.dims i ≡ Some root
+      → ((map_tree index : Forest) → HasTree pages (map_place def) map_tree → HasTree pages (dimension_place def dim root) index
+      → IsBlockIndexSound def (rows_in_table ext pages def map_tree) (rising_parts dim) index → ⊥) → BreaksRule ext pages 10 root
   record_index : (t : ℕ) (def : TableDef) (map_tree tree : Forest) (index : IndexDef) → ShowsTable pages t def map_tree → Contains def.indexes index
       → HasTree pages (record_place def index) tree
       → (IsSoundIndex def (rows_in_table ext pages def map_tree) (pending_blocks map_tree) index tree → ⊥) → BreaksRule ext pages 11 index.root

@@ -11,6 +11,7 @@ use Rattle.extent_map.specs.Owners.{IsExtentPage, IsUsedPage, extent_of, owner_o
 use Rattle.extent_map.specs.declared.extents.Extents.{Extents}
 use Rattle.extent_map.specs.declared.kind.Kind.{Kind}
 use Rattle.extent_map.specs.declared.kind.Kind.TheVariants.{Free, Block, Index}
+use Rattle.key_codec.specs.Keys.{AreBytes}
 use Rattle.node_page.specs.Node.{filled_page}
 use Rattle.entry_tree.specs.Forest.{Forest, times}
 use Rattle.mdc_sound.specs.TablePages.{DefinesTable, IsTableThere, table_page_at}
@@ -40,11 +41,16 @@ EachTable view P = AllByRecursion P (tables_there view.places)
 abbrev pub stated_root : ℕ → List ℕ
 stated_root count = filled_page ((82 ∷ 79 ∷ 79 ∷ 84 ∷ []) ++ big_bytes 4 1 ++ big_bytes 4 count)
 
+-- a page: 4,096 bytes
+pub record IsPageBytes (page : List ℕ) : Type 0 where
+  pub size : length page ≡ 4096
+  pub bytes : AreBytes page
+
 -- The root page states how many pages there are, which some number of whole extents make, and each has 4,096 bytes.
 pub record IsRootSound (ext : Extents) (pages : PageList) : Type 0 where
   pub count : IsWholeCount told_pages ext pages
   pub root : page_at pages 0 ≡ stated_root (length pages)
-  pub whole : AllByRecursion (λ page. length page ≡ 4096) pages
+  pub whole : AllByRecursion IsPageBytes pages
 
 -- ---- 2: the extent map
 

@@ -1,11 +1,14 @@
 // What holds of every list of pages, and of two databases that were worked out by hand.
-ghost use Rattle.std.specs.Prelude.{◌≡◌, ◌↔◌, IsTrue, List};
+ghost use Rattle.std.specs.Prelude.{◌≡◌, ◌↔◌, ℕ, IsTrue, List};
+ghost use Rattle.std.specs.List.{AllByRecursion};
 ghost use Rattle.extent_map.specs.Map.{HoldsMap};
 ghost use Rattle.extent_map.specs.declared.extents.Extents.{Extents};
 ghost use Rattle.extent_map.specs.declared.kind.Kind.{Kind};
 ghost use Rattle.entry_tree.specs.Forest.{Forest};
-ghost use Rattle.table_trees.specs.TableTrees.{TreePlace};
+ghost use Rattle.table_page.specs.TableLimits.{IsTableDef};
+ghost use Rattle.table_trees.specs.TableTrees.{AreIndexParts, HasBlockIndexes, TreePlace};
 ghost use Rattle.table_trees.specs.TreesBeside.{HoldsTreeAt};
+ghost use Rattle.mdc_ast.specs.declared.definition.TableDef.{TableDef};
 ghost use Rattle.mdc_ast.specs.meaning.Database.{Database, empty_database};
 ghost use Rattle.mdc_sound.specs.EmptyDatabase.{few_extents, empty_pages};
 ghost use Rattle.mdc_sound.specs.SoundDatabase.{KeepAllRules, IsSoundInParts, IsSoundDatabase};
@@ -40,4 +43,11 @@ pub fn told_stores_hold_their_pages<P: Pages>(pages: &P)
         → HoldsTreeAt P.Pages pages.now place t ↔ HasTree (P.state pages.now).work place t }
     ensures map { IsTrue (P.state pages.now).is_told → (ext : Extents) (owners : List Kind)
         → HoldsMap P.Pages ext pages.now owners ↔ HoldsMap told_pages ext (P.state pages.now).work owners }
+{}
+
+/// A definition within the limits has its trees: the columns of its block indexes and of its record indexes are there, and their
+/// keys are short.
+pub fn definitions_have_their_trees()
+    ensures blocks { (t : ℕ) (def : TableDef) → IsTableDef t def → HasBlockIndexes def }
+    ensures records { (t : ℕ) (def : TableDef) → IsTableDef t def → AllByRecursion (λ index. AreIndexParts def.columns index.parts) def.indexes }
 {}

@@ -9,5 +9,6 @@
 mod laws;
 
 pub use laws::{
-    empty_database_is_sound, pages_stand_for_one, rules_make_parts, told_stores_hold_their_pages,
+    definitions_have_their_trees, empty_database_is_sound, pages_stand_for_one, rules_make_parts,
+    told_stores_hold_their_pages,
 };
