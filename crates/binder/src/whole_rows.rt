@@ -22,7 +22,7 @@ pub struct WholeRows {
 }
 
 /// The rows of an INSERT that names no columns, where nothing is said against it. Each literal is fitted once. Where
-/// something is said, or columns are named, it answers `None`, and the statement is judged class by class.
+/// something is said it answers `None`, and `bind` judges the statement class by class.
 pub fn bind_whole(
     alloc: Global,
     table: &Name,
