@@ -1,6 +1,6 @@
 -- The trees of a definition within the limits: its indexes have columns that are there, and short keys.
-use Rattle.std.proofs.Common.{◌≡◌, ℕ, zero, suc, ◌<◌, ◌≤◌, ◌+◌, List, [], ◌∷◌, ◌++◌, length, refl, sym, ap, subst, arith, Bool, true, false}
-use Rattle.std.specs.Prelude.{◌&&◌, nat_le, nat_lt, IsTrue, flat_map, map}
+use Rattle.std.proofs.Common.{◌≡◌, ℕ, suc, ◌<◌, ◌≤◌, List, [], ◌∷◌, ◌++◌, length, refl, sym, ap, subst, arith}
+use Rattle.std.specs.Prelude.{◌&&◌, nat_le, nat_lt, IsTrue, flat_map}
 use Rattle.std.specs.List.{AllByRecursion, list_all}
 use Rattle.std.proofs.lemmas.Bool.Decides.{nat_tests}
 use Rattle.mdc_ast.specs.declared.definition.ColumnDef.{ColumnDef}

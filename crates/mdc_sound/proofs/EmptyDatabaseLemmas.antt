@@ -1,5 +1,5 @@
 -- The empty database of 16 extents of 2 pages keeps all rules, and stands for no table.
-use Rattle.std.specs.Prelude.{◌≡◌, ◌<◌, ◌+◌, ℕ, zero, suc, false, IsTrue, List, [], ◌∷◌, ◌++◌, drop, length, replicate}
+use Rattle.std.specs.Prelude.{◌≡◌, ◌<◌, ◌+◌, ℕ, zero, suc, IsTrue, List, [], ◌∷◌, ◌++◌, drop, length, replicate}
 use Rattle.std.specs.List.{AllByRecursion}
 use Rattle.std.proofs.lemmas.List.{get_or-drop}
 use Rattle.byteorder.specs.Endian.{big_bytes}
@@ -9,13 +9,13 @@ use Rattle.store_api.specs.Frame.{HoldsPage}
 use Rattle.mdc_ast.specs.meaning.Database.{empty_database}
 use Rattle.extent_map.specs.Kinds.{is_used_place}
 use Rattle.extent_map.specs.Map.{HoldsMap}
-use Rattle.extent_map.specs.Owners.{IsUsedPage, extent_of, owner_of, place_in_extent}
+use Rattle.extent_map.specs.Owners.{IsUsedPage, extent_of, place_in_extent}
 use Rattle.extent_map.specs.declared.kind.Kind.TheVariants.{Free}
 use Rattle.extent_map.proofs.LawsOfTheMap.{fresh_map, owner_of-fresh}
 use Rattle.key_codec.specs.Keys.{AreBytes}
 use Rattle.key_codec.proofs.OrderLemmas.{AreBytes-append, AreBytes-big_bytes, AreBytes-cons, AreBytes-none, AreBytes-replicate}
 use Rattle.mdc_sound.specs.EmptyDatabase.{few_extents, empty_pages, empty_view}
-use Rattle.mdc_sound.specs.SoundDatabase.{IsSoundDatabase, KeepFirstRules, KeepAllRules}
+use Rattle.mdc_sound.specs.SoundDatabase.{IsSoundDatabase, KeepAllRules}
 use Rattle.mdc_sound.specs.SpaceRules.{IsPageBytes, IsRootSound, IsMapSound, AreTablePagesSound, IsTreePageSound, IsOwnerThere, stated_root}
 use Rattle.mdc_sound.specs.StandsForDatabase.{PagesStandFor}
 use Rattle.mdc_sound.specs.ToldPages.{told_pages}

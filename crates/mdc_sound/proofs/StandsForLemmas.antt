@@ -1,12 +1,11 @@
 -- Pages stand for one database at most.
-use Rattle.std.specs.Prelude.{◌≡◌, ◌<◌, ℕ, zero, suc, List, [], ◌∷◌, length, map, slice_index_or, Option, Some, None, IsPermutation, AllPairs, Contains}
+use Rattle.std.specs.Prelude.{◌≡◌, ◌<◌, ℕ, zero, suc, List, [], ◌∷◌, map, slice_index_or, Option, Some, None, IsPermutation, AllPairs, Contains}
 use Rattle.std.specs.List.{AllZip, range_with_len}
 use Rattle.std.proofs.Common.{refl, sym, ap, ◌∙◌, subst, arith, inl, inr, ◌⊎◌}
 use Rattle.std.proofs.lemmas.List.Sorted.{Contains-permutation, IsPermutation-sym}
 use Rattle.mdc_ast.specs.declared.definition.TableDef.{TableDef}
 use Rattle.mdc_ast.specs.declared.row.Row.{Row}
 use Rattle.mdc_ast.specs.meaning.Database.{Database, PlainTable}
-use Rattle.store_api.specs.StoreState.{zero_page}
 use Rattle.extent_map.specs.declared.extents.Extents.{Extents}
 use Rattle.entry_tree.specs.Forest.{Forest}
 use Rattle.entry_tree.specs.HeldTrees.{nodes_in}

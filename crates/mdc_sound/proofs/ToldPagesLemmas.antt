@@ -1,6 +1,5 @@
 -- A store that tells its pages holds what their list does.
-use Rattle.std.proofs.Common.{◌≡◌, ◌<◌, ℕ, List, true, refl, sym, subst}
-use Rattle.std.specs.Prelude.{IsTrue}
+use Rattle.std.proofs.Common.{◌≡◌, ℕ, List, true, refl, sym}
 use Rattle.store_api.specs.Frame.{HoldsPage}
 use Rattle.store_api.specs.StoreState.{StoreState}
 use Rattle.store_api.specs.declared.pages.Pages.{Ghosts}

@@ -1,6 +1,6 @@
 -- Which page breaks which rule (docs/FORMAT.md, "Rules"). Each rule is judged by what it speaks of alone, so that damage can be
 -- named on pages that break other rules too: where the trees that a rule speaks of don't stand, it may be named besides rule 4.
-use Rattle.std.specs.Prelude.{◌≡◌, ◌≢◌, ◌≤◌, ◌<◌, ◌⊎◌, ℕ, ◌+◌, ◌/◌, List, length, slice_get, Some, AllPairs, Contains}
+use Rattle.std.specs.Prelude.{◌≡◌, ◌≢◌, ◌≤◌, ◌<◌, ◌⊎◌, ℕ, ◌+◌, ◌/◌, List, length, slice_get, Some, Contains}
 use Rattle.mdc_ast.specs.declared.definition.IndexDef.{IndexDef}
 use Rattle.mdc_ast.specs.declared.definition.TableDef.{TableDef}
 use Rattle.store_api.specs.Extents.{first_page_of, map_pages}

@@ -1,9 +1,8 @@
 -- When a statement runs full: the changes of space that it makes, what each asks for, and where no room is left for the next
 -- (docs/FORMAT.md, "Running full"). Rows in slots don't occur here.
-use Rattle.std.specs.Prelude.{◌≡◌, ◌≢◌, ◌≤◌, ◌<◌, ◌⊎◌, ◌↔◌, ℕ, ◌+◌, ◌-◌, ◌/◌, ◌==◌, if◌then◌else◌, slice_index_or, zip, List, [], ◌∷◌, ◌++◌, map, filter, not, count_by, sum_by, Option, AllPairs, IsPermutation, is_some}
-use Rattle.std.specs.List.{FoldsTo, range_with_len, AllZip}
+use Rattle.std.specs.Prelude.{◌≡◌, ◌≢◌, ◌≤◌, ◌<◌, ◌⊎◌, ◌↔◌, ℕ, ◌+◌, ◌-◌, ◌/◌, ◌==◌, if◌then◌else◌, slice_index_or, zip, List, [], ◌∷◌, ◌++◌, map, filter, not, count_by, sum_by, Option, AllPairs, IsPermutation}
+use Rattle.std.specs.List.{FoldsTo, range_with_len}
 use Rattle.std.specs.Str.{bytes_eq}
-use Rattle.byteorder.specs.Endian.{big_bytes}
 use Rattle.mdc_words.specs.ByteOrder.{Entry}
 use Rattle.mdc_values.specs.declared.rid.Rid.{Rid}
 use Rattle.mdc_ast.specs.declared.definition.IndexDef.{IndexDef}

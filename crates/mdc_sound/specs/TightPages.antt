@@ -1,5 +1,5 @@
 -- When pages are tight, and how many extents a database needs at least (docs/FORMAT.md, "Running full").
-use Rattle.std.specs.Prelude.{◌≡◌, ◌≤◌, ◌<◌, ℕ, ◌+◌, ◌-◌, ◌*◌, ◌/◌, max, not, List, [], ◌∷◌, length, filter, count_by, sum_by, Option, Some, None, slice_index_or}
+use Rattle.std.specs.Prelude.{◌≡◌, ◌≤◌, ◌<◌, ℕ, ◌+◌, ◌-◌, ◌*◌, ◌/◌, max, not, List, [], ◌∷◌, length, filter, count_by, sum_by, Some, None, slice_index_or}
 use Rattle.std.specs.Int.{div_ceil}
 use Rattle.std.specs.List.{AllZip}
 use Rattle.std.specs.Str.{bytes_eq}
