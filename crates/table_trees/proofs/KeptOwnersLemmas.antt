@@ -157,12 +157,17 @@ idle_if ext owners p page no_block unused = record { page = page; idle = go (own
       }))
     ]
 
+pub used_no_block : (j : ℕ) (kind : Kind) → IsTrue (is_used_place j kind) → table_of_block kind ≡ None
+used_no_block j Free is = refl
+used_no_block j (Block table) is = absurd cc
+used_no_block j (Index used) is = refl
+
 unused_no_block : (j : ℕ) (kind : Kind) → IsTrue (is_unused_place j kind) → table_of_block kind ≡ None
 unused_no_block j Free is = refl
 unused_no_block j (Block table) is = absurd cc
 unused_no_block j (Index used) is = refl
 
-idle_no_block : (ext : Extents) (owners : List Kind) (p : ℕ) → IsIdlePage ext owners p → table_of_block (owner_of owners (extent_of ext p)) ≡ None
+pub idle_no_block : (ext : Extents) (owners : List Kind) (p : ℕ) → IsIdlePage ext owners p → table_of_block (owner_of owners (extent_of ext p)) ≡ None
 idle_no_block ext owners p idle = elim idle.idle [
   | inl unused ↦ unused_no_block (place_in_extent ext p) (owner_of owners (extent_of ext p)) unused.unused
   | inr free ↦ ap table_of_block free

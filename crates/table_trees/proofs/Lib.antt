@@ -1,4 +1,5 @@
 pub mod KeptOwnersLemmas
+pub mod PageCountLemmas
 pub mod SideBySideLemmas
 pub mod TableTreesLemmas
 pub mod TreeListsLemmas

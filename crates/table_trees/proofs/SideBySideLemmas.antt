@@ -1,18 +1,20 @@
 -- Trees side by side: what stays where other pages are touched, and what a change of some of them is to all.
-use Rattle.std.proofs.Common.{◌≡◌, ◌<◌, ◌≤◌, ◌+◌, ℕ, suc, List, [], ◌∷◌, ◌++◌, length, length-append, length-drop, length-take, set, take, drop, sum_by, refl, ap, arith, sym, ◌∙◌, subst, inl, inr}
+use Rattle.std.proofs.Common.{◌≡◌, ◌<◌, ◌≤◌, ◌+◌, ℕ, suc, List, [], ◌∷◌, ◌++◌, length, length-append, length-drop, length-take, set, take, drop, sum_by, refl, ap, arith, sym, ◌∙◌, subst, ◌⊎◌, inl, inr}
 use Rattle.std.specs.Prelude.{Some, slice_get}
 use Rattle.std.specs.List.{AllZip}
 use Rattle.std.proofs.lemmas.Bool.{cases_eq, cases_lt}
 use Rattle.std.proofs.lemmas.List.{take-append-drop}
 use Rattle.std.proofs.lemmas.List.Sums.{sum_by-cons}
 use Rattle.std.proofs.lemmas.Slice.Zip.{AllZip-long}
+use Rattle.store_api.specs.Extents.{first_count}
 use Rattle.store_api.specs.Frame.{Touches}
 use Rattle.store_api.specs.declared.pages.Pages.{Ghosts}
 use Rattle.store_api.proofs.FrameLemmas.{touches_same}
-use Rattle.extent_map.specs.Map.{HoldsMap, IsMapPage}
-use Rattle.extent_map.specs.Owners.{IsSameShape, IsUsedPage, extent_of, owner_of}
+use Rattle.extent_map.specs.Map.{HoldsMap, IsMapPage, IsSpacePage}
+use Rattle.extent_map.specs.Owners.{IsExtentPage, IsSameShape, IsUsedPage, extent_of, owner_of, place_in_extent}
 use Rattle.extent_map.specs.declared.extents.Extents.{Extents}
 use Rattle.extent_map.specs.declared.kind.Kind.{Kind}
+use Rattle.extent_map.specs.declared.kind.Kind.TheVariants.{Block}
 use Rattle.extent_map.proofs.HoldsMapLemmas.{holds_map_along}
 use Rattle.extent_map.proofs.UsedPagesLemmas.{no_space_page}
 use Rattle.entry_tree.specs.Forest.{EachNode, Forest, IsPageBelow, times}
@@ -26,8 +28,8 @@ use Rattle.entry_tree.proofs.HeldTreesLemmas.{HoldsForest-below, nodes_kept}
 use Rattle.entry_tree.proofs.StandingLemmas.{map_stays}
 use Rattle.entry_tree.proofs.UsedPagesLemmas.{extent_page_same, shape_back, unused_same, used_not_idle, used_same}
 use Rattle.table_trees.specs.TableTrees.{TreePlace, place_of_tree}
-use Rattle.table_trees.specs.TreesBeside.{ChangesTrees, HoldsTreeAt, IsSpaceOfTrees, StandTrees}
-use Rattle.table_trees.proofs.KeptOwnersLemmas.{idle_back, keeps_all}
+use Rattle.table_trees.specs.TreesBeside.{ChangesTrees, HoldsTreeAt, IsSpaceOfTrees, IsTreesOrMapPage, StandTrees, table_of_block}
+use Rattle.table_trees.proofs.KeptOwnersLemmas.{idle_back, idle_no_block, keeps_all, used_no_block}
 use Rattle.table_trees.proofs.TreeListsLemmas.{AllZip-back, AllZip-both, AllZip-front, beside_at, cut_at, same_cut, set_at_cut, times-one, times-parts}
 
 -- what holds of each page of a tree, whatever the node
@@ -57,6 +59,20 @@ idle_same one other owners p s idle = record {
 
 times-at : (p : ℕ) (trees : List Forest) (i : ℕ) (t : Forest) → slice_get trees i ≡ Some t → times p t ≤ sum_by (times p) trees
 times-at p trees i t is = omega (arith, ap (sum_by (times p)) (cut_at trees i t is), times-parts p (take i trees) (t ∷ []) (drop (suc i) trees), times-one p t)
+
+-- no page stands more often in the trees where none stands more often in one that changed
+pub sum_no_more : (trees : List Forest) (i : ℕ) (t t_now : Forest) → slice_get trees i ≡ Some t → ((q : ℕ) → times q t_now ≤ times q t) → (q : ℕ) → sum_by (times q) (set trees i t_now) ≤ sum_by (times q) trees
+sum_no_more trees i t t_now is fewer q =
+    omega (
+      arith,
+      ap (sum_by (times q)) (cut_at trees i t is),
+      ap (sum_by (times q)) (set_at_cut trees i t t_now is),
+      times-parts q (take i trees) (t ∷ []) (drop (suc i) trees),
+      times-parts q (take i trees) (t_now ∷ []) (drop (suc i) trees),
+      times-one q t,
+      times-one q t_now,
+      fewer q,
+    )
 
 module _ {S : Type 0} {g : Ghosts S} where
   -- ---- what stays
@@ -282,9 +298,26 @@ module _ {S : Type 0} {g : Ghosts S} where
         ]
       ]
 
-  -- the pages of some trees are pages of all
-  pub part_space : (ext : Extents) (s : S) (front mine back : List TreePlace) (p : ℕ) → IsSpaceOfTrees g ext s mine p → IsSpaceOfTrees g ext s (front ++ (mine ++ back)) p
-  part_space ext s front mine back p is owners trees st = elim (is owners part (part_stands ext s owners front mine back fronts part backs (omega (arith, long, length-take (length front) trees)) (omega (arith, long, length-take (length mine) rest, length-drop (length front) trees)) cut)) [
+  -- ---- the pages that a later call may change, which claims nothing
+
+  pub trees_or_map_back : (before now : Extents) (old mid : S) (places : List TreePlace) (p : ℕ) → IsSameShape before now
+      → ((owners : List Kind) (trees : List Forest) → StandTrees g before old owners places trees
+      → (owners_mid : List Kind) × (trees_mid : List Forest) × StandTrees g now mid owners_mid places trees_mid × ((q : ℕ) → sum_by (times q) trees_mid ≤ sum_by (times q) trees))
+      → IsTreesOrMapPage g now mid places p → IsTreesOrMapPage g before old places p
+  trees_or_map_back before now old mid places p shape leads mine owners trees st =
+      let c = leads owners trees st in
+      elim (mine c.0 c.1 c.2) [
+        | inl here ↦ inl (omega (arith, here, c.3 p))
+        | inr map ↦ inr (map.0, subst (λ (n : ℕ). p < first_count n) shape.cap map.1)
+      ]
+
+  -- ---- a part and all
+
+  -- what is a page of some trees, or else something that the owners say, is a page of all, or that
+  part_or_else : (Else : List Kind → Type 0) (ext : Extents) (s : S) (front mine back : List TreePlace) (p : ℕ)
+      → ((owners : List Kind) (trees : List Forest) → StandTrees g ext s owners mine trees → 0 < sum_by (times p) trees ⊎ Else owners)
+      → (owners : List Kind) (trees : List Forest) → StandTrees g ext s owners (front ++ (mine ++ back)) trees → 0 < sum_by (times p) trees ⊎ Else owners
+  part_or_else Else ext s front mine back p is owners trees st = elim (is owners part (part_stands ext s owners front mine back fronts part backs (omega (arith, long, length-take (length front) trees)) (omega (arith, long, length-take (length mine) rest, length-drop (length front) trees)) cut)) [
     | inl here ↦ inl (omega (arith, here, ap (sum_by (times p)) whole, times-parts p fronts part backs))
     | inr other ↦ inr other
   ]
@@ -310,7 +343,34 @@ module _ {S : Type 0} {g : Ghosts S} where
       cut : StandTrees g ext s owners (front ++ (mine ++ back)) (fronts ++ (part ++ backs))
       cut = subst (λ (ts : List Forest). StandTrees g ext s owners (front ++ (mine ++ back)) ts) whole st
 
+  -- the pages of some trees are pages of all
+  pub part_space : (ext : Extents) (s : S) (front mine back : List TreePlace) (p : ℕ) → IsSpaceOfTrees g ext s mine p → IsSpaceOfTrees g ext s (front ++ (mine ++ back)) p
+  part_space ext s front mine back p = part_or_else (λ owners. IsSpacePage ext p ⊎ IsIdlePage ext owners p) ext s front mine back p
+
+  pub part_trees_or_map : (ext : Extents) (s : S) (front mine back : List TreePlace) (p : ℕ) → IsTreesOrMapPage g ext s mine p → IsTreesOrMapPage g ext s (front ++ (mine ++ back)) p
+  part_trees_or_map ext s front mine back p = part_or_else (λ owners. IsMapPage ext p) ext s front mine back p
+
   -- and so are those of one
   pub place_space : (ext : Extents) (s : S) (places : List TreePlace) (i : ℕ) (place : TreePlace) (p : ℕ) → slice_get places i ≡ Some place → IsSpaceOfTrees g ext s (place ∷ []) p → IsSpaceOfTrees g ext s places p
   place_space ext s places i place p at is =
       subst (λ (ps : List TreePlace). IsSpaceOfTrees g ext s ps p) (sym (cut_at places i place at)) (part_space ext s (take i places) (place ∷ []) (drop (suc i) places) p is)
+
+  pub place_trees_or_map : (ext : Extents) (s : S) (places : List TreePlace) (i : ℕ) (place : TreePlace) (p : ℕ) → slice_get places i ≡ Some place → IsTreesOrMapPage g ext s (place ∷ []) p → IsTreesOrMapPage g ext s places p
+  place_trees_or_map ext s places i place p at is =
+      subst (λ (ps : List TreePlace). IsTreesOrMapPage g ext s ps p) (sym (cut_at places i place at)) (part_trees_or_map ext s (take i places) (place ∷ []) (drop (suc i) places) p is)
+
+  -- what may change where nothing is claimed may change where something is
+  pub space_of_trees_or_map : (ext : Extents) (s : S) (places : List TreePlace) (p : ℕ) → IsTreesOrMapPage g ext s places p → IsSpaceOfTrees g ext s places p
+  space_of_trees_or_map ext s places p is owners trees st = elim (is owners trees st) [ inl here ↦ inl here | inr map ↦ inr (inl (inr map)) ]
+
+  -- ---- the pages of blocks
+
+  -- a page of a block isn't one that calls on trees may change, or bring to hand
+  pub block_page_apart : (ext : Extents) (s : S) (owners : List Kind) (places : List TreePlace) (trees : List Forest) (p table : ℕ) → StandTrees g ext s owners places trees → IsExtentPage ext p
+      → owner_of owners (extent_of ext p) ≡ Block table → IsSpaceOfTrees g ext s places p → ⊥
+  block_page_apart ext s owners places trees p table st page is mine =
+      let has_table : table_of_block (owner_of owners (extent_of ext p)) ≡ Some table = ap table_of_block is in
+      elim (mine owners trees st) [
+        | inl here ↦ let none = used_no_block (place_in_extent ext p) (owner_of owners (extent_of ext p)) (let used = st.used p here in used.used) in absurd cc
+        | inr rest ↦ elim rest [ inl space ↦ no_space_page ext p page space | inr idle ↦ (let none = idle_no_block ext owners p idle in absurd cc) ]
+      ]

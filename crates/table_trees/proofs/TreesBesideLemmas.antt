@@ -1,12 +1,15 @@
 -- What a call on one tree is to all trees beside it.
-use Rattle.std.proofs.Common.{◌≡◌, ◌<◌, ◌≤◌, ◌+◌, ℕ, List, [], ◌∷◌, length, set, sum_by, refl, arith, subst, inl, inr}
-use Rattle.std.specs.Prelude.{Some, slice_get}
+use Rattle.std.proofs.Common.{◌≡◌, ◌<◌, ◌≤◌, ◌+◌, ℕ, List, [], ◌∷◌, length, set, sum_by, refl, arith, sym, subst, inl, inr}
+use Rattle.std.specs.Prelude.{Option, Some, slice_get}
 use Rattle.std.proofs.lemmas.Bool.{cases_eq, cases_lt}
 use Rattle.std.proofs.lemmas.List.Sums.{sum_by-cons}
 use Rattle.mdc_words.specs.ByteOrder.{Entry}
-use Rattle.store_api.specs.Frame.{Touches}
+use Rattle.store_api.specs.Frame.{NoPage, Touches}
+use Rattle.store_api.specs.RunsOverPages.{RunsOverPages}
+use Rattle.store_api.specs.declared.fault.StoreFault.{StoreFault}
 use Rattle.store_api.specs.declared.pages.Pages.{Ghosts}
 use Rattle.store_api.proofs.FrameLemmas.{touches_wider}
+use Rattle.store_api.proofs.RunsOverPagesLemmas.{runs_wider}
 use Rattle.extent_map.specs.Owners.{IsSameShape, IsUsedPage, with_used_page}
 use Rattle.extent_map.specs.declared.extents.Extents.{Extents}
 use Rattle.extent_map.specs.declared.kind.Kind.{Kind}
@@ -14,7 +17,7 @@ use Rattle.extent_map.proofs.UsedPagesLemmas.{claimable-not_used, no_space_page}
 use Rattle.entry_tree.specs.Amending.{AmendsEntry}
 use Rattle.entry_tree.specs.Forest.{Forest, times}
 use Rattle.entry_tree.specs.Forest.Forest.{Leaf, Nil}
-use Rattle.entry_tree.specs.HeldTrees.{IsTreePage}
+use Rattle.entry_tree.specs.HeldTrees.{BreaksTree, HoldsTree, IsTreePage}
 use Rattle.entry_tree.specs.Pruning.{IsTreeOrMapPage, RemovesEntry, without_pages}
 use Rattle.entry_tree.specs.Standing.{AddsEntry, IsClaimed, IsMapSpace, IsTreeSpace, MakesTree, StandsTree, with_pages}
 use Rattle.entry_tree.specs.TreeChanges.{times_among}
@@ -23,7 +26,7 @@ use Rattle.entry_tree.proofs.ForestLemmas.{once_least, once_other}
 use Rattle.entry_tree.proofs.StandingLemmas.{map_stays}
 use Rattle.entry_tree.proofs.UsedPagesLemmas.{claims_idle, shape_back, used_after, used_not_idle, used_same}
 use Rattle.table_trees.specs.TableTrees.{TreePlace, place_of_tree}
-use Rattle.table_trees.specs.TreesBeside.{ChangesTrees, IsSpaceOfTrees, KeepsOwners, StandTrees}
+use Rattle.table_trees.specs.TreesBeside.{BreaksTreeAt, ChangesTrees, HoldsTreeAt, IsSpaceOfTrees, IsTreePageAt, IsTreesOrMapPage, KeepsOwners, StandTrees}
 use Rattle.table_trees.proofs.KeptOwnersLemmas.{keeps_claims, keeps_returns}
 use Rattle.table_trees.proofs.SideBySideLemmas.{changes_at, trees_still}
 use Rattle.table_trees.proofs.TreeListsLemmas.{times-one}
@@ -69,6 +72,10 @@ module _ {S : Type 0} {g : Ghosts S} where
   pub space_of_removal : (ext : Extents) (s : S) (tree : Tree) (p : ℕ) → IsTreeOrMapPage g ext s tree p → IsSpaceOfTrees g ext s (place_of_tree tree ∷ []) p
   space_of_removal ext s tree p is =
       each_one ext s tree _ (λ owners t st. elim (is owners t st) [ inl here ↦ inl (omega (arith, here, times-one p t)) | inr map ↦ inr (inl (inr map)) ])
+
+  pub trees_or_map_of_removal : (ext : Extents) (s : S) (tree : Tree) (p : ℕ) → IsTreeOrMapPage g ext s tree p → IsTreesOrMapPage g ext s (place_of_tree tree ∷ []) p
+  trees_or_map_of_removal ext s tree p is =
+      each_one ext s tree _ (λ owners t st. elim (is owners t st) [ inl here ↦ inl (omega (arith, here, times-one p t)) | inr map ↦ inr map ])
 
   pub space_of_amending : (ext : Extents) (s : S) (tree : Tree) (p : ℕ) → IsTreePage g s tree p → IsSpaceOfTrees g ext s (place_of_tree tree ∷ []) p
   space_of_amending ext s tree p is = each_one ext s tree _ (λ owners t st. inl (omega (arith, is t st.held, times-one p t)))
@@ -180,3 +187,16 @@ module _ {S : Type 0} {g : Ghosts S} where
       → MakesTree g before ext old new tree owners → KeepsOwners before owners trees (with_used_page before owners tree.root) (Leaf tree.root [] Nil ∷ trees)
   makes_keep before ext old new places trees tree owners st m =
       keeps_claims before owners (tree.root ∷ []) trees (Leaf tree.root [] Nil ∷ trees) st.map.count (m.claimable, tt) (λ p. omega (arith, sum_by-cons (times p) (Leaf tree.root [] Nil) trees))
+
+  -- ---- a call that reads one tree
+
+  pub holds_at : (s : S) (tree : Tree) (place : TreePlace) (t : Forest) → place_of_tree tree ≡ place → HoldsTreeAt g s place t → HoldsTree g s tree t
+  holds_at s tree place t is held = let own = subst (λ (q : TreePlace). HoldsTreeAt g s q t) (sym is) held in record { is_tree = own.is_tree; trim = own.trim }
+
+  -- its run in words of the tree's place
+  pub runs_at : {old new : S} {fault : Option StoreFault} (tree : Tree) (place : TreePlace) → place_of_tree tree ≡ place → RunsOverPages g NoPage (IsTreePage g old tree) (BreaksTree g old tree) old new fault
+      → RunsOverPages g NoPage (IsTreePageAt g old place) (BreaksTreeAt g old place) old new fault
+  runs_at {old = old} {new = new} {fault = fault} tree place is run =
+      subst (λ (q : TreePlace). RunsOverPages g NoPage (IsTreePageAt g old q) (BreaksTreeAt g old q) old new fault) is
+      (runs_wider run (λ p there none. none) (λ p mine t held. mine t (holds_at old tree (place_of_tree tree) t refl held))
+      (λ damage b. record { page = b.page; rule = b.rule; broken = λ t held. b.broken t (holds_at old tree (place_of_tree tree) t refl held) }))

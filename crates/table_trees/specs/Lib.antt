@@ -1,2 +1,3 @@
+pub mod RowCells
 pub mod TableTrees
 pub mod TreesBeside

@@ -1,5 +1,5 @@
 -- The trees of a table: its block map, a block index for each dimension and one for all of them, and its record indexes.
-use Rattle.std.specs.Prelude.{◌≡◌, ◌<◌, ℕ, ◌+◌, false, List, ◌∷◌, ◌++◌, length, map, flat_map, zip}
+use Rattle.std.specs.Prelude.{◌≡◌, ◌<◌, ℕ, ◌+◌, false, List, [], ◌∷◌, ◌++◌, length, map, flat_map, slice_index_or, zip}
 use Rattle.std.specs.List.{AllByRecursion}
 use Rattle.byteorder.specs.Endian.{big_bytes}
 use Rattle.mdc_words.specs.ByteOrder.{Entry}
@@ -48,6 +48,14 @@ composite_place def = record { root = def.roots.composite; width = width_of_part
 -- the index of a dimension, which has this root
 abbrev pub dimension_place : TableDef → List ℕ → ℕ → TreePlace
 dimension_place def dim root = record { root = root; width = width_of_parts def.columns (rising_parts dim) + 4 }
+
+-- the places of the columns of a dimension, by its number
+abbrev pub places_of_dimension : TableDef → ℕ → List ℕ
+places_of_dimension def dim = slice_index_or def.dims dim []
+
+-- the index of that dimension
+abbrev pub place_of_dimension : TableDef → ℕ → TreePlace
+place_of_dimension def dim = dimension_place def (places_of_dimension def dim) (slice_index_or def.roots.dims dim 0)
 
 -- the indexes of all dimensions
 abbrev pub dimension_places : TableDef → List TreePlace

@@ -2,8 +2,9 @@
 -- no page is in two of them.
 use Rattle.std.specs.Prelude.{◌≡◌, ◌⊎◌, ◌<◌, ◌≤◌, ℕ, List, sum_by, Option, Some, None}
 use Rattle.std.specs.List.{AllZip}
+use Rattle.store_api.specs.declared.fault.Damage.{Damage}
 use Rattle.store_api.specs.declared.pages.Pages.{Ghosts}
-use Rattle.extent_map.specs.Map.{HoldsMap, IsSpacePage}
+use Rattle.extent_map.specs.Map.{HoldsMap, IsMapPage, IsSpacePage, IsWholeCount, StatesGrowth}
 use Rattle.extent_map.specs.Owners.{AreRightNotes, IsSameShape, IsUsedPage, owner_of}
 use Rattle.extent_map.specs.declared.extents.Extents.{Extents}
 use Rattle.extent_map.specs.declared.kind.Kind.{Kind}
@@ -20,6 +21,16 @@ pub record HoldsTreeAt {S : Type 0} (g : Ghosts S) (s : S) (place : TreePlace) (
   pub is_tree : IsTree (nodes_in place.width (g.state s)) place.root t
   pub trim : IsTrimTree t
 
+-- the pages of the tree at a place, where it is told to have its form
+abbrev pub IsTreePageAt : {S : Type 0} → Ghosts S → S → TreePlace → ℕ → Type 0
+IsTreePageAt g s place p = (t : Forest) → HoldsTreeAt g s place t → 0 < times p t
+
+-- the damage of the tree at a place names its root and rule 4, and never where it is told to have its form
+pub record BreaksTreeAt {S : Type 0} (g : Ghosts S) (s : S) (place : TreePlace) (damage : Damage) : Type 0 where
+  pub page : damage.page ≡ place.root
+  pub rule : damage.rule ≡ 4
+  pub broken : (t : Forest) → HoldsTreeAt g s place t → ⊥
+
 -- the extent map is told, and at each of these places a tree; each page of theirs is a used index page, and in one of them alone
 pub record StandTrees {S : Type 0} (g : Ghosts S) (ext : Extents) (s : S) (owners : List Kind) (places : List TreePlace) (trees : List Forest) : Type 0 where
   pub map : HoldsMap g ext s owners
@@ -33,6 +44,12 @@ abbrev pub IsSpaceOfTrees : {S : Type 0} → Ghosts S → Extents → S → List
 IsSpaceOfTrees g ext s places p =
     (owners : List Kind) (trees : List Forest) → StandTrees g ext s owners places trees
     → 0 < sum_by (times p) trees ⊎ (IsSpacePage ext p ⊎ IsIdlePage ext owners p)
+
+-- the pages that calls on these trees may change where they claim nothing: those of the trees and of the extent map; where both
+-- were told to have their form
+abbrev pub IsTreesOrMapPage : {S : Type 0} → Ghosts S → Extents → S → List TreePlace → ℕ → Type 0
+IsTreesOrMapPage g ext s places p =
+    (owners : List Kind) (trees : List Forest) → StandTrees g ext s owners places trees → 0 < sum_by (times p) trees ⊎ IsMapPage ext p
 
 -- the pages that calls on these trees bring to hand: the same ones, without page 0 and idle ones where nothing is claimed
 abbrev pub IsPageOfTrees : {S : Type 0} → Ghosts S → Extents → S → List TreePlace → ℕ → Type 0
@@ -63,3 +80,11 @@ pub record ChangesTrees {S : Type 0} (g : Ghosts S) (before ext : Extents) (new 
   pub pages : (p : ℕ) → 0 < sum_by (times p) trees_now → 0 < sum_by (times p) trees ⊎ IsIdlePage before owners p
   pub kept : KeepsOwners before owners trees owners_now trees_now
   pub notes : AreRightNotes before owners → AreRightNotes ext owners_now
+
+-- ---- what becomes of the page count
+
+-- The page count after calls that may claim pages: page 0 states it where pages came, and else is as it was; and where there
+-- were as many pages as some number of whole extents make, there still are.
+pub record GrowsPages {S : Type 0} (g : Ghosts S) (ext : Extents) (old new : S) : Type 0 where
+  pub stated : StatesGrowth g old new
+  pub whole : IsWholeCount g ext old → IsWholeCount g ext new
