@@ -1,28 +1,41 @@
 -- Keys of cells, and how wide their entries are.
-use Rattle.std.proofs.Common.{◌≡◌, ◌≢◌, ℕ, zero, suc, ◌+◌, ◌<◌, ◌≤◌, List, [], ◌∷◌, ◌++◌, length, get_or, refl, sym, ap, subst, ◌∙◌, arith, add-one, append_assoc, drop, drop-cons, length-append, inl, inr, true, false}
-use Rattle.std.specs.Prelude.{nat_lt, IsTrue, Some, flat_map, map, slice_get, zip}
+use Rattle.std.proofs.Common.{◌≡◌, ℕ, zero, suc, ◌+◌, ◌<◌, ◌≤◌, List, [], ◌∷◌, ◌++◌, length, get_or, refl, sym, ap, subst, ◌∙◌, arith, add-one, append_assoc, take, drop, drop-cons, length-append, inl, inr, true, false}
+use Rattle.std.specs.Prelude.{Bool, ◌&&◌, nat_lt, IsTrue, Some, map, slice_get, unwrap_or, zip}
 use Rattle.std.specs.List.{AllByRecursion}
 use Rattle.std.proofs.lemmas.Bool.{cases_lt}
 use Rattle.std.proofs.lemmas.Bool.Decides.{nat_tests}
-use Rattle.std.proofs.lemmas.List.{drop_all}
+use Rattle.std.proofs.Math.Seq.{drop-append_seam, take-append_seam}
+use Rattle.std.proofs.lemmas.List.{drop_all, length-map, map-append}
 use Rattle.std.proofs.lemmas.Option.{get_or_from_slice_get, same_Some, slice_get_read, slice_get_within}
 use Rattle.byteorder.specs.Endian.{big_bytes}
 use Rattle.mdc_words.specs.ByteOrder.{Entry}
-use Rattle.mdc_values.specs.declared.value.ColType.{ColType}
 use Rattle.mdc_values.specs.declared.value.Value.{Value}
+use Rattle.mdc_values.specs.declared.value.Value.TheVariants.{Null}
+use Rattle.mdc_ast.specs.Truth.{value_at}
 use Rattle.mdc_ast.specs.declared.definition.ColumnDef.{ColumnDef}
 use Rattle.mdc_ast.specs.declared.definition.TableDef.{TableDef}
-use Rattle.mdc_ast.specs.meaning.Database.{is_of_type}
-use Rattle.key_codec.specs.Keys.{ArePartsOf, part_bytes, part_width, type_of_column, type_or_none, width_of_parts}
-use Rattle.key_codec.proofs.KeyLemmas.{first_there, width_of_parts-cons}
+use Rattle.mdc_ast.specs.declared.row.Cell.{Cell}
+use Rattle.mdc_ast.specs.meaning.Database.{fits, fits_all}
+use Rattle.key_codec.specs.Keys.{ArePartsOf, has_key, key_bytes, part_bytes, type_of_column, type_or_none, width_of_parts}
+use Rattle.key_codec.proofs.KeyLemmas.{first_there, type_at_part, width_of_parts-cons}
 use Rattle.key_codec.proofs.PartLemmas.{has_key-is_of_type, length-part_bytes}
-use Rattle.table_trees.specs.TableTrees.{AreIndexParts, HasBlockIndexes, TreePlace, block_index_places, cell_parts, composite_place, dimension_place, rising_parts}
+use Rattle.table_trees.specs.TableTrees.{AreIndexParts, HasBlockIndexes, TreePlace, block_entry, block_index_places, cell_parts, composite_place, dimension_place, rising_parts}
 use Rattle.table_trees.proofs.TableTreesLemmas.{AreColumns, narrow_enough, places_in}
-use Rattle.block_index.specs.Cells.{FitPlaces, FitsCell, cell_entries, cell_places, dimension_entries, entry_under, key_of_values}
+use Rattle.table_trees.specs.RowCells.{IsCellOf, cell_places, cell_values}
+use Rattle.block_index.specs.Cells.{FitPlaces, FitsCell, HaveKeys, cell_entries, dimension_entries, entry_under, key_of_values}
 
 -- an entry has the bytes of the key and four more
 under : (key : List ℕ) (w block : ℕ) → length key ≡ w → length (entry_under key block) ≡ w + 4
 under key w block wide = length-append key (big_bytes 4 block) ∙ ap (λ n. n + 4) wide
+
+-- a key and a block that are written in front of other bytes
+pub entry_in_front : (key front buf more post : List ℕ) (block : ℕ) → front ≡ key → buf ≡ big_bytes 4 block ++ more → take (length key + 4) (front ++ (buf ++ post)) ≡ entry_under key block
+entry_in_front key front buf more post block front_is buf_is =
+    let n = length key + 4 in
+    let whole : key ++ ((big_bytes 4 block ++ more) ++ post) ≡ entry_under key block ++ (more ++ post) = simp append_assoc in
+    ap (λ f. take n (f ++ (buf ++ post))) front_is
+    ∙ (ap (λ b. take n (key ++ (b ++ post))) buf_is
+    ∙ (ap (take n) whole ∙ (ap (λ k. take k (entry_under key block ++ (more ++ post))) (sym (under key (length key) block refl)) ∙ take-append_seam (entry_under key block) (more ++ post))))
 
 -- ---- lists of values, cut
 
@@ -57,7 +70,7 @@ length-key_of_values columns (place ∷ places) [] there fit = absurd fit
 length-key_of_values columns (place ∷ places) (value ∷ values) there fit =
     let split = first_there columns (record { column = place; descending = false }) (rising_parts places) there in
     let ty = type_of_column columns place in
-    let first = length-part_bytes ty false value (has_key-is_of_type ty value fit.0) in
+    let first = length-part_bytes ty false value fit.0 in
     omega (arith, length-append (part_bytes ty false value) (key_of_values columns places values), first, length-key_of_values columns places values split.1 fit.1, width_of_parts-cons columns (record { column = place; descending = false }) (rising_parts places) split.0)
 
 -- ---- a loop that puts one value after another
@@ -107,8 +120,8 @@ module _ (columns : List ColumnDef) (whole : List ℕ) (all : List ℕ) (values 
           subst (λ q. q < length columns) (same_Some p place e) (grind (arith, nat_tests, first))
       go (p ∷ ps) (suc k) h e = go ps k (first_there columns (record { column = p; descending = false }) (rising_parts ps) h).1 e
 
-  pub value_fits : (value : Value) (column : ColumnDef) → slice_get values i ≡ Some value → slice_get columns place ≡ Some column → IsTrue (is_of_type column.ty value)
-  value_fits value column e found = subst (λ ty. IsTrue (is_of_type ty value)) (ap type_or_none found) (fits_both value e).0
+  pub value_fits : (value : Value) (column : ColumnDef) → slice_get values i ≡ Some value → slice_get columns place ≡ Some column → IsTrue (has_key column.ty value)
+  value_fits value column e found = subst (λ ty. IsTrue (has_key ty value)) (ap type_or_none found) (fits_both value e).0
 
   pub keyed_next : (value : Value) (column : ColumnDef) (key_now : List ℕ) → slice_get values i ≡ Some value → slice_get columns place ≡ Some column → key_now ≡ key ++ part_bytes column.ty false value
       → IsKeyedSo columns whole (drop (i + 1) all) (drop (i + 1) values) key_now
@@ -205,3 +218,141 @@ length-dimension_entries columns (dim ∷ dims) values block = ap suc (length-di
 -- an entry that is lent from a list of them
 pub entry_at : (items entries : List Entry) (i : ℕ) (lent x : Entry) → items ≡ entries → i < length items → lent ≡ get_or items i lent → x ≡ lent → slice_get entries i ≡ Some x
 entry_at items entries i lent x same within at is = ap (λ xs. slice_get xs i) (sym same) ∙ (slice_get_read items (length items) i lent refl within at ∙ ap Some (sym is))
+
+-- ---- the key of a row
+
+pub key_bytes-places : (columns : List ColumnDef) (first second : List ℕ) (values : List Value)
+    → key_bytes columns (rising_parts (first ++ second)) values ≡ key_bytes columns (rising_parts first) values ++ key_bytes columns (rising_parts second) values
+key_bytes-places columns [] second values = refl
+key_bytes-places columns (place ∷ first) second values =
+    let part = part_bytes (type_of_column columns place) false (value_at values place) in
+    ap (λ rest. part ++ rest) (key_bytes-places columns first second values) ∙ sym (append_assoc part (key_bytes columns (rising_parts first) values) (key_bytes columns (rising_parts second) values))
+
+keys_front : (columns : List ColumnDef) (first second : List ℕ) (values : List Value) → HaveKeys columns (first ++ second) values → HaveKeys columns first values
+keys_front columns [] second values keys = tt
+keys_front columns (place ∷ first) second values keys = (keys.0, keys_front columns first second values keys.1)
+
+keys_behind : (columns : List ColumnDef) (first second : List ℕ) (values : List Value) → HaveKeys columns (first ++ second) values → HaveKeys columns second values
+keys_behind columns [] second values keys = keys
+keys_behind columns (place ∷ first) second values keys = keys_behind columns first second values keys.1
+
+-- the places that are left, and what the key becomes with them
+pub record IsRowKeyedSo (columns : List ColumnDef) (values : List Value) (whole : List ℕ) (places : List ℕ) (key : List ℕ) : Type 0 where
+  pub keys : HaveKeys columns places values
+  pub bytes : key ++ key_bytes columns (rising_parts places) values ≡ whole
+
+module _ (columns : List ColumnDef) (values : List Value) (whole : List ℕ) (items : List ℕ) (i : ℕ) (key : List ℕ) (is : IsRowKeyedSo columns values whole (drop i items) key) (within : i < length items) where
+  row_place : ℕ
+  row_place = get_or items i 0
+
+  row_left : drop i items ≡ get_or items i 0 ∷ drop (i + 1) items
+  row_left = rw (add-one i) (drop-cons items i 0 within)
+
+  row_keys : HaveKeys columns (get_or items i 0 ∷ drop (i + 1) items) values
+  row_keys = subst (λ ps. HaveKeys columns ps values) row_left is.keys
+
+  pub row_value_within : get_or items i 0 < length values
+  row_value_within = row_keys.0.0
+
+  module _ (column : ColumnDef) (value : Value) (found : slice_get columns (get_or items i 0) ≡ Some column) (there : slice_get values (get_or items i 0) ≡ Some value) where
+    is_value : value_at values (get_or items i 0) ≡ value
+    is_value = ap (λ o. unwrap_or o Null) there
+
+    pub row_value_fits : IsTrue (has_key column.ty value)
+    row_value_fits = subst (λ v. IsTrue (has_key column.ty v)) is_value (subst (λ ty. IsTrue (has_key ty (value_at values (get_or items i 0)))) (ap type_or_none found) row_keys.0.1)
+
+    pub row_keyed_next : (key_now : List ℕ) → key_now ≡ key ++ part_bytes column.ty false value → IsRowKeyedSo columns values whole (drop (i + 1) items) key_now
+    row_keyed_next key_now now = record {
+      keys = row_keys.1;
+      bytes =
+          let rest = key_bytes columns (rising_parts (drop (i + 1) items)) values in
+          let part = part_bytes (type_of_column columns (get_or items i 0)) false (value_at values (get_or items i 0)) in
+          let part_is : part_bytes column.ty false value ≡ part = ap (λ ty. part_bytes ty false value) (sym (ap type_or_none found)) ∙ ap (part_bytes (type_of_column columns (get_or items i 0)) false) (sym is_value) in
+          let step : key_bytes columns (rising_parts (drop i items)) values ≡ part ++ rest = ap (λ ps. key_bytes columns (rising_parts ps) values) row_left in
+          ap (λ k. k ++ rest) (now ∙ ap (λ b. key ++ b) part_is) ∙ (append_assoc key part rest ∙ (ap (λ b. key ++ b) (sym step) ∙ is.bytes));
+    }
+
+module _ (columns : List ColumnDef) (values : List Value) (whole : List ℕ) (items : List (List ℕ)) (i : ℕ) (dim : List ℕ) (here : dim ≡ get_or items i dim) (within : i < length items) (key : List ℕ)
+    (is : IsRowKeyedSo columns values whole (places_in (drop i items)) key) where
+  row_dims_left : places_in (drop i items) ≡ dim ++ places_in (drop (i + 1) items)
+  row_dims_left =
+      let left : drop i items ≡ dim ∷ drop (i + 1) items = rw (add-one i) (drop-cons items i dim within) ∙ ap (λ d. d ∷ drop (i + 1) items) (sym here) in
+      ap places_in left
+
+  row_dims_keys : HaveKeys columns (dim ++ places_in (drop (i + 1) items)) values
+  row_dims_keys = subst (λ ps. HaveKeys columns ps values) row_dims_left is.keys
+
+  pub dim_row_keys : HaveKeys columns dim values
+  dim_row_keys = keys_front columns dim (places_in (drop (i + 1) items)) values row_dims_keys
+
+  pub dim_row_keyed : (key_now : List ℕ) → key_now ≡ key ++ key_bytes columns (rising_parts dim) values → IsRowKeyedSo columns values whole (places_in (drop (i + 1) items)) key_now
+  dim_row_keyed key_now now = record {
+    keys = keys_behind columns dim (places_in (drop (i + 1) items)) values row_dims_keys;
+    bytes =
+        let rest = key_bytes columns (rising_parts (places_in (drop (i + 1) items))) values in
+        let part = key_bytes columns (rising_parts dim) values in
+        let step : key_bytes columns (rising_parts (places_in (drop i items))) values ≡ part ++ rest =
+        ap (λ ps. key_bytes columns (rising_parts ps) values) row_dims_left ∙ key_bytes-places columns dim (places_in (drop (i + 1) items)) values in
+        ap (λ k. k ++ rest) now ∙ (append_assoc key part rest ∙ (ap (λ b. key ++ b) (sym step) ∙ is.bytes));
+  }
+
+-- ---- cells of rows
+
+-- the key of the values that a row has in some places is that of the row
+pub key_of_values-row : (columns : List ColumnDef) (places : List ℕ) (values : List Value) → key_of_values columns places (map (value_at values) places) ≡ key_bytes columns (rising_parts places) values
+key_of_values-row columns [] values = refl
+key_of_values-row columns (place ∷ places) values = ap (λ rest. part_bytes (type_of_column columns place) false (value_at values place) ++ rest) (key_of_values-row columns places values)
+
+-- values behind the last one that is needed change no key
+key_of_values-front : (columns : List ColumnDef) (places : List ℕ) (values more : List Value) → length values ≡ length places → key_of_values columns places (values ++ more) ≡ key_of_values columns places values
+key_of_values-front columns [] values more same = refl
+key_of_values-front columns (place ∷ places) [] more same = absurd cc
+key_of_values-front columns (place ∷ places) (value ∷ values) more same = ap (λ rest. part_bytes (type_of_column columns place) false value ++ rest) (key_of_values-front columns places values more (omega (arith, same)))
+
+-- a row with keys in some places has values there that fit
+pub fit_row : (columns : List ColumnDef) (places : List ℕ) (values : List Value) → HaveKeys columns places values → FitPlaces columns places (map (value_at values) places)
+fit_row columns [] values keys = tt
+fit_row columns (place ∷ places) values keys = (keys.0.1, fit_row columns places values keys.1)
+
+-- so has a row that fits its columns, in places that are there
+pub keys_of_fitting : (columns : List ColumnDef) (places : List ℕ) (values : List Value) → AreColumns columns (rising_parts places) → IsTrue (fits_all columns values) → HaveKeys columns places values
+keys_of_fitting columns [] values there fitting = tt
+keys_of_fitting columns (place ∷ places) values there fitting =
+    let split = first_there columns (record { column = place; descending = false }) (rising_parts places) there in
+    let within : place < length columns = grind (arith, nat_tests, split.0) in (
+      (omega (arith, within, as_many columns values fitting), has_key-is_of_type (type_of_column columns place) (value_at values place) (type_at_part columns values place split.0 fitting)),
+      keys_of_fitting columns places values split.1 fitting,
+    )
+  where
+    as_many : (columns : List ColumnDef) (values : List Value) → IsTrue (fits_all columns values) → length values ≡ length columns
+    as_many [] [] h = refl
+    as_many [] (value ∷ values) h = cc
+    as_many (column ∷ columns) [] h = cc
+    as_many (column ∷ columns) (value ∷ values) h = ap suc (as_many columns values (second (fits column value) (fits_all columns values) h))
+      where
+        second : (a b : Bool) → IsTrue (a && b) → IsTrue b
+        second true b h = h
+        second false b h = absurd cc
+
+-- the entries of a block under the cell of a row are those under the row
+pub dimension_entries-row : (columns : List ColumnDef) (dims : List (List ℕ)) (values : List Value) (block : ℕ)
+    → dimension_entries columns dims (map (value_at values) (places_in dims)) block ≡ map (λ dim. block_entry columns (rising_parts dim) values block) dims
+dimension_entries-row columns [] values block = refl
+dimension_entries-row columns (dim ∷ dims) values block =
+    let front = map (value_at values) dim in
+    let behind = map (value_at values) (places_in dims) in
+    let cut : map (value_at values) (places_in (dim ∷ dims)) ≡ front ++ behind = map-append (value_at values) dim (places_in dims) in
+    let rest : drop (length dim) (front ++ behind) ≡ behind = ap (λ n. drop n (front ++ behind)) (sym (length-map dim (value_at values))) ∙ drop-append_seam front behind in
+    ap (λ vs. dimension_entries columns (dim ∷ dims) vs block) cut
+    ∙ (ap (λ key. entry_under key block ∷ dimension_entries columns dims (drop (length dim) (front ++ behind)) block) (key_of_values-front columns dim front behind (length-map dim (value_at values)) ∙ key_of_values-row columns dim values)
+    ∙ ap (λ es. block_entry columns (rising_parts dim) values block ∷ es) (ap (λ vs. dimension_entries columns dims vs block) rest ∙ dimension_entries-row columns dims values block))
+
+pub cell_entries-row : (def : TableDef) (cell : Cell) (values : List Value) (block : ℕ) → IsCellOf def cell values
+    → cell_entries def cell.values block ≡ block_entry def.columns (cell_parts def) values block ∷ map (λ dim. block_entry def.columns (rising_parts dim) values block) def.dims
+cell_entries-row def cell values block is =
+    ap (λ vs. cell_entries def vs block) is
+    ∙ (ap (λ key. entry_under key block ∷ dimension_entries def.columns def.dims (cell_values def values) block) (key_of_values-row def.columns (cell_places def) values)
+    ∙ ap (λ es. block_entry def.columns (cell_parts def) values block ∷ es) (dimension_entries-row def.columns def.dims values block))
+
+pub fits_cell-row : (def : TableDef) (cell : Cell) (values : List Value) → IsCellOf def cell values → HaveKeys def.columns (cell_places def) values → FitsCell def cell.values
+fits_cell-row def cell values is keys = subst (FitsCell def) (sym is) (record { each = fit_row def.columns (cell_places def) values keys; many = length-map (cell_places def) (value_at values) })

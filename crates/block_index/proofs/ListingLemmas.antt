@@ -1,5 +1,5 @@
 -- Listing a block index by index: what one entry more or less makes of what was done so far.
-use Rattle.std.proofs.Common.{◌≡◌, ◌+◌, arith, ℕ, zero, suc, List, [], ◌∷◌, length, set, refl, ap, sym, ◌∙◌, subst, inl, inr}
+use Rattle.std.proofs.Common.{◌≡◌, ◌≤◌, ◌+◌, arith, ℕ, zero, suc, List, [], ◌∷◌, length, take, drop, set, sum_by, refl, ap, sym, ◌∙◌, subst}
 use Rattle.std.specs.Prelude.{Bool, true, false, MatchBool, Option, Some, None, slice_get}
 use Rattle.std.proofs.lemmas.Option.{same_Some}
 use Rattle.mdc_words.specs.ByteOrder.{Entry}
@@ -7,7 +7,6 @@ use Rattle.mdc_values.specs.declared.value.Value.{Value}
 use Rattle.mdc_ast.specs.declared.definition.TableDef.{TableDef}
 use Rattle.store_api.specs.Frame.{Touches}
 use Rattle.store_api.specs.RunsOverPages.{RunsOverPages}
-use Rattle.store_api.specs.declared.fault.Damage.{Damage}
 use Rattle.store_api.specs.declared.fault.StoreFault.{StoreFault}
 use Rattle.store_api.specs.declared.pages.Pages.{Ghosts}
 use Rattle.store_api.proofs.RunsOverPagesLemmas.{runs_none, runs_then}
@@ -17,16 +16,18 @@ use Rattle.extent_map.specs.declared.extents.Extents.{Extents}
 use Rattle.extent_map.specs.declared.fault.SpaceFault.{SpaceFault}
 use Rattle.extent_map.specs.declared.fault.SpaceFault.TheVariants.{Full, Store}
 use Rattle.extent_map.specs.declared.kind.Kind.{Kind}
-use Rattle.entry_tree.specs.Forest.{Forest}
+use Rattle.entry_tree.specs.Forest.{Forest, times}
 use Rattle.entry_tree.specs.Pruning.{IsTreeOrMapPage, RemovesEntry, without_pages}
 use Rattle.entry_tree.specs.Standing.{AddsEntry, FindsFull, IsTreeSpace, StandsTree, with_pages}
 use Rattle.entry_tree.specs.declared.tree.Tree.{Tree}
 use Rattle.table_trees.specs.TableTrees.{block_index_places, place_of_tree}
-use Rattle.table_trees.specs.TreesBeside.{IsSpaceOfTrees, StandTrees}
-use Rattle.table_trees.proofs.SideBySideLemmas.{changes_none, changes_then, place_space, space_back, tree_among}
-use Rattle.table_trees.proofs.TreesBesideLemmas.{adds_beside, removes_beside, space_of_removal, space_of_tree}
+use Rattle.table_trees.specs.TreesBeside.{GrowsPages, IsSpaceOfTrees, IsTreesOrMapPage, StandTrees}
+use Rattle.table_trees.proofs.PageCountLemmas.{grows_pages_none, grows_pages_then, grows_pages_with}
+use Rattle.table_trees.proofs.SideBySideLemmas.{changes_none, changes_then, place_space, place_trees_or_map, space_back, sum_no_more, tree_among, trees_or_map_back}
+use Rattle.table_trees.proofs.TreeListsLemmas.{cut_at, set_at_cut, times-one, times-parts}
+use Rattle.table_trees.proofs.TreesBesideLemmas.{adds_beside, removes_beside, space_of_tree, trees_or_map_of_removal}
 use Rattle.block_index.specs.Cells.{cell_entries}
-use Rattle.block_index.specs.Listing.{BreaksEntering, BreaksLeaving, BreaksListing, BreaksUnlisting, ChangesFirst, ComesTo, FillsListing, GainsEntry, LosesEntry, MoveFirst}
+use Rattle.block_index.specs.Listing.{BreaksEntering, BreaksLeaving, BreaksListing, BreaksUnlisting, ChangesFirst, ComesTo, FillsListing, GainsEntry, GainsFirst, LosesEntry, LosesFirst, ListsBlock, MoveFirst, UnlistsBlock}
 
 -- an answer of a call that is a truth value
 pub if_false : {B : Type 0} (A : Type 0) (b : Bool) → b ≡ false → MatchBool b A B → B
@@ -45,42 +46,71 @@ move_next Moves (suc n) (y ∷ entries) [] after x t u at is moves first = absur
 move_next Moves (suc n) (y ∷ entries) (b ∷ trees) [] x t u at is moves first = absurd first
 move_next Moves (suc n) (y ∷ entries) (b ∷ trees) (a ∷ after) x t u at is moves first = (first.0, move_next Moves n entries trees after x t u at is moves first.1)
 
+-- no page stands less often in the trees where none stands less often in one that changed
+sum_no_less : (trees : List Forest) (i : ℕ) (t t_now : Forest) → slice_get trees i ≡ Some t → ((q : ℕ) → times q t ≤ times q t_now) → (q : ℕ) → sum_by (times q) trees ≤ sum_by (times q) (set trees i t_now)
+sum_no_less trees i t t_now is more q =
+    omega (
+      arith,
+      ap (sum_by (times q)) (cut_at trees i t is),
+      ap (sum_by (times q)) (set_at_cut trees i t t_now is),
+      times-parts q (take i trees) (t ∷ []) (drop (suc i) trees),
+      times-parts q (take i trees) (t_now ∷ []) (drop (suc i) trees),
+      times-one q t,
+      times-one q t_now,
+      more q,
+    )
+
 module _ {S : Type 0} (g : Ghosts S) (before : Extents) (old : S) (def : TableDef) (values : List Value) (block : ℕ) where
   -- the first n indexes were changed, whatever stood before
   abbrev pub HaveChanged : (Entry → Forest → Forest → Type 0) → Extents → S → ℕ → Type 0
   HaveChanged Moves now mid n = (owners : List Kind) (trees : List Forest) → StandTrees g before old owners (block_index_places def) trees → ChangesFirst g Moves before now mid def values block n owners trees
 
-  pub changed_none : (Moves : Entry → Forest → Forest → Type 0) → HaveChanged Moves before old zero
-  changed_none Moves owners trees st = record { owners_now = owners; trees_now = trees; changes = changes_none before old (block_index_places def) owners trees st; moves = refl }
+  abbrev pub HaveGained : Extents → S → ℕ → Type 0
+  HaveGained now mid n = (owners : List Kind) (trees : List Forest) → StandTrees g before old owners (block_index_places def) trees → GainsFirst g before now mid def values block n owners trees
+
+  abbrev pub HaveLost : Extents → S → ℕ → Type 0
+  HaveLost now mid n = (owners : List Kind) (trees : List Forest) → StandTrees g before old owners (block_index_places def) trees → LosesFirst g before now mid def values block n owners trees
+
+  gained_changed : (now : Extents) (mid : S) (n : ℕ) → HaveGained now mid n → HaveChanged GainsEntry now mid n
+  gained_changed now mid n gained owners trees st = (gained owners trees st).first
+
+  lost_changed : (now : Extents) (mid : S) (n : ℕ) → HaveLost now mid n → HaveChanged LosesEntry now mid n
+  lost_changed now mid n lost owners trees st = (lost owners trees st).first
 
   module _ (now ext : Extents) (mid new : S) (n : ℕ) (tree : Tree) (x : Entry) (at : slice_get (block_index_places def) n ≡ Some (place_of_tree tree)) (is : slice_get (cell_entries def values block) n ≡ Some x)
       (shape : IsSameShape now ext) (told : (g.state new).is_told ≡ (g.state mid).is_told) where
-    pub gained_next : HaveChanged GainsEntry now mid n → Touches g (IsTreeSpace g now mid tree) mid new → ((owners : List Kind) (t : Forest) → StandsTree g now mid tree owners t → AddsEntry g now ext mid new tree x owners t)
-        → HaveChanged GainsEntry ext new (suc n)
+    pub gained_next : HaveGained now mid n → Touches g (IsTreeSpace g now mid tree) mid new → ((owners : List Kind) (t : Forest) → StandsTree g now mid tree owners t → AddsEntry g now ext mid new tree x owners t)
+        → HaveGained ext new (suc n)
     gained_next done touched adds owners trees st =
-        let d = done owners trees st in
+        let d = (done owners trees st).first in
         let one = tree_among now mid d.owners_now (block_index_places def) d.trees_now tree n d.changes.stand at in
         let a = adds d.owners_now one.0 one.2 in
         record {
-          owners_now = with_pages now d.owners_now a.claimed;
-          trees_now = set d.trees_now n a.after;
-          changes = changes_then before now ext mid new (block_index_places def) owners d.owners_now (with_pages now d.owners_now a.claimed) trees d.trees_now (set d.trees_now n a.after) d.changes
-              (adds_beside now ext mid new (block_index_places def) d.trees_now tree n x d.owners_now one.0 at one.1 d.changes.stand shape touched told one.2 a);
-          moves = move_next GainsEntry n (cell_entries def values block) trees d.trees_now x one.0 a.after is one.1 (record { is = a.adds; absent = a.absent }) d.moves;
+          first = record {
+            owners_now = with_pages now d.owners_now a.claimed;
+            trees_now = set d.trees_now n a.after;
+            changes = changes_then before now ext mid new (block_index_places def) owners d.owners_now (with_pages now d.owners_now a.claimed) trees d.trees_now (set d.trees_now n a.after) d.changes
+                (adds_beside now ext mid new (block_index_places def) d.trees_now tree n x d.owners_now one.0 at one.1 d.changes.stand shape touched told one.2 a);
+            moves = move_next GainsEntry n (cell_entries def values block) trees d.trees_now x one.0 a.after is one.1 (record { is = a.adds; absent = a.absent }) d.moves;
+          };
+          pages = λ q. omega (arith, (done owners trees st).pages q, sum_no_less d.trees_now n one.0 a.after one.1 (λ p. omega (arith, a.pages p)) q);
         }
 
-    pub lost_next : HaveChanged LosesEntry now mid n → Touches g (IsTreeOrMapPage g now mid tree) mid new → ((owners : List Kind) (t : Forest) → StandsTree g now mid tree owners t → RemovesEntry g now ext new tree x owners t)
-        → HaveChanged LosesEntry ext new (suc n)
+    pub lost_next : HaveLost now mid n → Touches g (IsTreeOrMapPage g now mid tree) mid new → ((owners : List Kind) (t : Forest) → StandsTree g now mid tree owners t → RemovesEntry g now ext new tree x owners t)
+        → HaveLost ext new (suc n)
     lost_next done touched removes owners trees st =
-        let d = done owners trees st in
+        let d = (done owners trees st).first in
         let one = tree_among now mid d.owners_now (block_index_places def) d.trees_now tree n d.changes.stand at in
         let r = removes d.owners_now one.0 one.2 in
         record {
-          owners_now = without_pages now d.owners_now r.gone;
-          trees_now = set d.trees_now n r.after;
-          changes = changes_then before now ext mid new (block_index_places def) owners d.owners_now (without_pages now d.owners_now r.gone) trees d.trees_now (set d.trees_now n r.after) d.changes
-              (removes_beside now ext mid new (block_index_places def) d.trees_now tree n x d.owners_now one.0 at one.1 d.changes.stand shape touched told one.2 r);
-          moves = move_next LosesEntry n (cell_entries def values block) trees d.trees_now x one.0 r.after is one.1 (record { was = r.takes; absent = r.absent }) d.moves;
+          first = record {
+            owners_now = without_pages now d.owners_now r.gone;
+            trees_now = set d.trees_now n r.after;
+            changes = changes_then before now ext mid new (block_index_places def) owners d.owners_now (without_pages now d.owners_now r.gone) trees d.trees_now (set d.trees_now n r.after) d.changes
+                (removes_beside now ext mid new (block_index_places def) d.trees_now tree n x d.owners_now one.0 at one.1 d.changes.stand shape touched told one.2 r);
+            moves = move_next LosesEntry n (cell_entries def values block) trees d.trees_now x one.0 r.after is one.1 (record { was = r.takes; absent = r.absent }) d.moves;
+          };
+          pages = λ q. omega (arith, (done owners trees st).pages q, sum_no_more d.trees_now n one.0 r.after one.1 (λ p. omega (arith, r.pages p)) q);
         }
 
   -- ---- the whole so far, and one call more
@@ -88,71 +118,114 @@ module _ {S : Type 0} (g : Ghosts S) (before : Extents) (old : S) (def : TableDe
   abbrev Space : ℕ → Type 0
   Space = IsSpaceOfTrees g before old (block_index_places def)
 
-  module _ (Moves : Entry → Forest → Forest → Type 0) (now : Extents) (mid : S) (n : ℕ) (tree : Tree) (x : Entry) (at : slice_get (block_index_places def) n ≡ Some (place_of_tree tree)) (is : slice_get (cell_entries def values block) n ≡ Some x)
-      (done : HaveChanged Moves now mid n) where
-    pub comes_to : ComesTo g Moves before old def values block now mid tree x
-    comes_to = record { n = n; place = at; entry = is; done = done }
+  abbrev TreesAndMap : ℕ → Type 0
+  TreesAndMap = IsTreesOrMapPage g before old (block_index_places def)
 
-    space_so_far : (p : ℕ) → IsSpaceOfTrees g now mid (place_of_tree tree ∷ []) p → Space p
-    space_so_far p mine =
-        space_back before now old mid (block_index_places def) p (λ owners trees st. let d = done owners trees st in (d.owners_now, d.trees_now, d.changes)) (place_space now mid (block_index_places def) n (place_of_tree tree) p at mine)
+  module _ (now : Extents) (mid : S) (n : ℕ) (tree : Tree) (x : Entry) (at : slice_get (block_index_places def) n ≡ Some (place_of_tree tree)) (is : slice_get (cell_entries def values block) n ≡ Some x) where
+    pub comes_to : (Moves : Entry → Forest → Forest → Type 0) → IsSameShape before now → HaveChanged Moves now mid n → ComesTo g Moves before old def values block now mid tree x
+    comes_to Moves shape done = record { n = n; place = at; entry = is; done = done; shape = shape }
 
-  module _ (now : Extents) (mid new : S) (n : ℕ) (tree : Tree) (x : Entry) (fault : Option StoreFault) (at : slice_get (block_index_places def) n ≡ Some (place_of_tree tree)) (is : slice_get (cell_entries def values block) n ≡ Some x) where
-    pub entering_runs : HaveChanged GainsEntry now mid n → RunsOverPages g Space Space (BreaksListing g before old def values block) old mid None
-        → RunsOverPages g (IsTreeSpace g now mid tree) (IsTreeSpace g now mid tree) (BreaksEntering g now mid tree x) mid new fault → RunsOverPages g Space Space (BreaksListing g before old def values block) old new fault
-    entering_runs done run more =
-        runs_then run more (λ p there mine. space_so_far GainsEntry now mid n tree x at is done p (space_of_tree now mid tree p mine)) (λ p mine. space_so_far GainsEntry now mid n tree x at is done p (space_of_tree now mid tree p mine))
-        (λ damage breaks. record { now = now; mid = mid; tree = tree; x = x; comes = comes_to GainsEntry now mid n tree x at is done; breaks = breaks })
+    space_so_far : HaveGained now mid n → (p : ℕ) → IsSpaceOfTrees g now mid (place_of_tree tree ∷ []) p → Space p
+    space_so_far done p mine =
+        space_back before now old mid (block_index_places def) p (λ owners trees st. let d = (done owners trees st).first in (d.owners_now, d.trees_now, d.changes)) (place_space now mid (block_index_places def) n (place_of_tree tree) p at mine)
 
-    pub leaving_runs : HaveChanged LosesEntry now mid n → RunsOverPages g Space Space (BreaksUnlisting g before old def values block) old mid None
-        → RunsOverPages g (IsTreeOrMapPage g now mid tree) (IsTreeOrMapPage g now mid tree) (BreaksLeaving g now mid tree x) mid new fault → RunsOverPages g Space Space (BreaksUnlisting g before old def values block) old new fault
-    leaving_runs done run more =
-        runs_then run more (λ p there mine. space_so_far LosesEntry now mid n tree x at is done p (space_of_removal now mid tree p mine)) (λ p mine. space_so_far LosesEntry now mid n tree x at is done p (space_of_removal now mid tree p mine))
-        (λ damage breaks. record { now = now; mid = mid; tree = tree; x = x; comes = comes_to LosesEntry now mid n tree x at is done; breaks = breaks })
+    trees_and_map_so_far : IsSameShape before now → HaveLost now mid n → (p : ℕ) → IsTreesOrMapPage g now mid (place_of_tree tree ∷ []) p → TreesAndMap p
+    trees_and_map_so_far shape done p mine =
+        trees_or_map_back before now old mid (block_index_places def) p shape (λ owners trees st. let d = done owners trees st in (d.first.owners_now, d.first.trees_now, d.first.changes.stand, d.pages))
+        (place_trees_or_map now mid (block_index_places def) n (place_of_tree tree) p at mine)
 
--- the loop over the indexes: the first n were changed
-pub record IsListing {S : Type 0} (g : Ghosts S) (Moves : Entry → Forest → Forest → Type 0) (Breaks : Damage → Type 0) (before now : Extents) (old mid : S) (def : TableDef) (values : List Value) (block n : ℕ) : Type 0 where
-  pub done : HaveChanged g before old def values block Moves now mid n
+    module _ (new : S) (fault : Option StoreFault) where
+      pub entering_runs : IsSameShape before now → HaveGained now mid n → RunsOverPages g Space Space (BreaksListing g before old def values block) old mid None
+          → RunsOverPages g (IsTreeSpace g now mid tree) (IsTreeSpace g now mid tree) (BreaksEntering g now mid tree x) mid new fault → RunsOverPages g Space Space (BreaksListing g before old def values block) old new fault
+      entering_runs shape done run more =
+          runs_then run more (λ p there mine. space_so_far done p (space_of_tree now mid tree p mine)) (λ p mine. space_so_far done p (space_of_tree now mid tree p mine))
+          (λ damage breaks. record { now = now; mid = mid; tree = tree; x = x; comes = comes_to GainsEntry shape (gained_changed now mid n done); breaks = breaks })
+
+      pub leaving_runs : IsSameShape before now → HaveLost now mid n → RunsOverPages g TreesAndMap TreesAndMap (BreaksUnlisting g before old def values block) old mid None
+          → RunsOverPages g (IsTreeOrMapPage g now mid tree) (IsTreeOrMapPage g now mid tree) (BreaksLeaving g now mid tree x) mid new fault
+          → RunsOverPages g TreesAndMap TreesAndMap (BreaksUnlisting g before old def values block) old new fault
+      leaving_runs shape done run more =
+          runs_then run more (λ p there mine. trees_and_map_so_far shape done p (trees_or_map_of_removal now mid tree p mine)) (λ p mine. trees_and_map_so_far shape done p (trees_or_map_of_removal now mid tree p mine))
+          (λ damage breaks. record { now = now; mid = mid; tree = tree; x = x; comes = comes_to LosesEntry shape (lost_changed now mid n done); breaks = breaks })
+
+-- the loop over the indexes that enters: the first n gained an entry each
+pub record IsListing {S : Type 0} (g : Ghosts S) (before now : Extents) (old mid : S) (def : TableDef) (values : List Value) (block n : ℕ) : Type 0 where
+  pub done : HaveGained g before old def values block now mid n
+  pub grows : (owners : List Kind) (trees : List Forest) → StandTrees g before old owners (block_index_places def) trees → GrowsPages g before old mid
   pub shape : IsSameShape before now
-  pub runs : RunsOverPages g (IsSpaceOfTrees g before old (block_index_places def)) (IsSpaceOfTrees g before old (block_index_places def)) Breaks old mid None
+  pub runs : RunsOverPages g (IsSpaceOfTrees g before old (block_index_places def)) (IsSpaceOfTrees g before old (block_index_places def)) (BreaksListing g before old def values block) old mid None
 
-pub listing_none : {S : Type 0} (g : Ghosts S) {Moves : Entry → Forest → Forest → Type 0} {Breaks : Damage → Type 0} (before : Extents) (old : S) (def : TableDef) (values : List Value) (block : ℕ)
-    → IsListing g Moves Breaks before before old old def values block zero
-listing_none g {Moves = Moves} before old def values block = record { done = changed_none g before old def values block Moves; shape = record { cap = refl; extent_pages = refl }; runs = runs_none }
+-- the loop that takes out: the first n lost an entry each
+pub record IsUnlisting {S : Type 0} (g : Ghosts S) (before now : Extents) (old mid : S) (def : TableDef) (values : List Value) (block n : ℕ) : Type 0 where
+  pub done : HaveLost g before old def values block now mid n
+  pub count : length (g.state mid).work ≡ length (g.state old).work
+  pub shape : IsSameShape before now
+  pub runs : RunsOverPages g (IsTreesOrMapPage g before old (block_index_places def)) (IsTreesOrMapPage g before old (block_index_places def)) (BreaksUnlisting g before old def values block) old mid None
+
+pub listing_none : {S : Type 0} (g : Ghosts S) (before : Extents) (old : S) (def : TableDef) (values : List Value) (block : ℕ) → IsListing g before before old old def values block zero
+listing_none g before old def values block = record {
+  done = λ owners trees st. record {
+    first = record { owners_now = owners; trees_now = trees; changes = changes_none before old (block_index_places def) owners trees st; moves = refl };
+    pages = λ q. omega arith;
+  };
+  grows = λ owners trees st. grows_pages_none before old;
+  shape = record { cap = refl; extent_pages = refl };
+  runs = runs_none;
+}
+
+pub unlisting_none : {S : Type 0} (g : Ghosts S) (before : Extents) (old : S) (def : TableDef) (values : List Value) (block : ℕ) → IsUnlisting g before before old old def values block zero
+unlisting_none g before old def values block = record {
+  done = λ owners trees st. record {
+    first = record { owners_now = owners; trees_now = trees; changes = changes_none before old (block_index_places def) owners trees st; moves = refl };
+    pages = λ q. omega arith;
+  };
+  count = refl;
+  shape = record { cap = refl; extent_pages = refl };
+  runs = runs_none;
+}
 
 module _ {S : Type 0} {g : Ghosts S} (before now ext : Extents) (old mid new : S) (def : TableDef) (values : List Value) (block n : ℕ) (tree : Tree) (x : Entry) (at : slice_get (block_index_places def) n ≡ Some (place_of_tree tree))
     (is : slice_get (cell_entries def values block) n ≡ Some x) where
   -- one index more
-  pub enters_next : IsListing g GainsEntry (BreaksListing g before old def values block) before now old mid def values block n → IsSameShape now ext
+  pub enters_next : IsListing g before now old mid def values block n → IsSameShape now ext
       → ((owners : List Kind) (t : Forest) → StandsTree g now mid tree owners t → AddsEntry g now ext mid new tree x owners t)
       → RunsOverPages g (IsTreeSpace g now mid tree) (IsTreeSpace g now mid tree) (BreaksEntering g now mid tree x) mid new None
-      → IsListing g GainsEntry (BreaksListing g before old def values block) before ext old new def values block (n + 1)
+      → IsListing g before ext old new def values block (n + 1)
   enters_next so shape adds more = record {
-    done = subst (HaveChanged g before old def values block GainsEntry ext new) (omega arith)
+    done = subst (HaveGained g before old def values block ext new) (omega arith)
         (gained_next g before old def values block now ext mid new n tree x at is shape more.works.steady.is_told so.done more.touches adds);
+    grows = λ owners trees st.
+        let d = (so.done owners trees st).first in
+        let one = tree_among now mid d.owners_now (block_index_places def) d.trees_now tree n d.changes.stand at in
+        let a = adds d.owners_now one.0 one.2 in
+        grows_pages_then before now old mid new so.shape so.runs.works.no_shorter more.works.no_shorter (so.grows owners trees st) (grows_pages_with now mid new d.owners_now a.claimed a.claims a.grows);
     shape = record { cap = shape.cap ∙ so.shape.cap; extent_pages = shape.extent_pages ∙ so.shape.extent_pages };
-    runs = entering_runs g before old def values block now mid new n tree x None at is so.done so.runs more;
+    runs = entering_runs g before old def values block now mid n tree x at is new None so.shape so.done so.runs more;
   }
 
-  pub leaves_next : IsListing g LosesEntry (BreaksUnlisting g before old def values block) before now old mid def values block n → IsSameShape now ext
+  pub leaves_next : IsUnlisting g before now old mid def values block n → IsSameShape now ext → length (g.state new).work ≡ length (g.state mid).work
       → ((owners : List Kind) (t : Forest) → StandsTree g now mid tree owners t → RemovesEntry g now ext new tree x owners t)
       → RunsOverPages g (IsTreeOrMapPage g now mid tree) (IsTreeOrMapPage g now mid tree) (BreaksLeaving g now mid tree x) mid new None
-      → IsListing g LosesEntry (BreaksUnlisting g before old def values block) before ext old new def values block (n + 1)
-  leaves_next so shape removes more = record {
-    done = subst (HaveChanged g before old def values block LosesEntry ext new) (omega arith)
+      → IsUnlisting g before ext old new def values block (n + 1)
+  leaves_next so shape count removes more = record {
+    done = subst (HaveLost g before old def values block ext new) (omega arith)
         (lost_next g before old def values block now ext mid new n tree x at is shape more.works.steady.is_told so.done more.touches removes);
+    count = count ∙ so.count;
     shape = record { cap = shape.cap ∙ so.shape.cap; extent_pages = shape.extent_pages ∙ so.shape.extent_pages };
-    runs = leaving_runs g before old def values block now mid new n tree x None at is so.done so.runs more;
+    runs = leaving_runs g before old def values block now mid n tree x at is new None so.shape so.done so.runs more;
   }
 
   -- an index at which the extents were full
-  pub fills_there : (fault : SpaceFault) → IsListing g GainsEntry (BreaksListing g before old def values block) before now old mid def values block n
+  pub fills_there : (fault : SpaceFault) → IsListing g before now old mid def values block n
       → IfFull fault (λ cap. (cap ≡ now.cap) × ((owners : List Kind) (t : Forest) → StandsTree g now mid tree owners t → FindsFull g now ext mid new tree x owners t))
       → IfFull fault (λ cap. (cap ≡ before.cap) × FillsListing g before ext old new def values block)
-  fills_there (Full cap) so full = (full.0 ∙ so.shape.cap, record { now = now; mid = mid; tree = tree; x = x; comes = comes_to g before old def values block GainsEntry now mid n tree x at is so.done; full = full.1 })
+  fills_there (Full cap) so full = (full.0 ∙ so.shape.cap, record { now = now; mid = mid; tree = tree; x = x; comes = comes_to g before old def values block now mid n tree x at is GainsEntry so.shape (gained_changed g before old def values block now mid n so.done); full = full.1 })
   fills_there (Store fault) so full = tt
 
 -- all indexes were changed
-pub all_changed : {S : Type 0} {g : Ghosts S} {Moves : Entry → Forest → Forest → Type 0} {Breaks : Damage → Type 0} (before now : Extents) (old mid : S) (def : TableDef) (values : List Value) (block n : ℕ) → n ≡ length (cell_entries def values block)
-    → IsListing g Moves Breaks before now old mid def values block n → HaveChanged g before old def values block Moves now mid (length (cell_entries def values block))
-all_changed {g = g} {Moves = Moves} before now old mid def values block n all so = subst (HaveChanged g before old def values block Moves now mid) all so.done
+module _ {S : Type 0} {g : Ghosts S} (before now : Extents) (old mid : S) (def : TableDef) (values : List Value) (block n : ℕ) (all : n ≡ length (cell_entries def values block)) where
+  pub all_listed : IsListing g before now old mid def values block n → (owners : List Kind) (trees : List Forest) → StandTrees g before old owners (block_index_places def) trees → ListsBlock g before now mid def values block owners trees
+  all_listed so = subst (HaveGained g before old def values block now mid) all so.done
+
+  pub all_unlisted : IsUnlisting g before now old mid def values block n → (owners : List Kind) (trees : List Forest) → StandTrees g before old owners (block_index_places def) trees → UnlistsBlock g before now mid def values block owners trees
+  all_unlisted so = subst (HaveLost g before old def values block now mid) all so.done

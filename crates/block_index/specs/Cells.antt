@@ -1,27 +1,29 @@
 -- Cells: the values of the dimension columns, and the entries of a block in the block indexes under them.
-use Rattle.std.specs.Prelude.{◌≡◌, ℕ, false, List, [], ◌∷◌, ◌++◌, length, drop, flat_map, IsTrue}
+use Rattle.std.specs.Prelude.{◌≡◌, ◌<◌, ℕ, false, List, [], ◌∷◌, ◌++◌, length, drop, IsTrue}
+use Rattle.std.specs.List.{AllByRecursion}
 use Rattle.byteorder.specs.Endian.{big_bytes}
 use Rattle.mdc_words.specs.ByteOrder.{Entry}
 use Rattle.mdc_values.specs.declared.value.Value.{Value}
+use Rattle.mdc_ast.specs.Truth.{value_at}
 use Rattle.mdc_ast.specs.declared.definition.ColumnDef.{ColumnDef}
 use Rattle.mdc_ast.specs.declared.definition.TableDef.{TableDef}
-use Rattle.mdc_ast.specs.meaning.Database.{is_of_type}
-use Rattle.key_codec.specs.Keys.{part_bytes, type_of_column}
+use Rattle.key_codec.specs.Keys.{has_key, part_bytes, type_of_column}
+use Rattle.table_trees.specs.RowCells.{cell_places}
 
--- the places of all dimension columns, in the order of the dimensions
-abbrev pub cell_places : TableDef → List ℕ
-cell_places def = flat_map (λ dim. dim) def.dims
-
--- the first values are those of columns in these places, each of its column's type
+-- the first values have keys in the columns in these places
 abbrev pub FitPlaces : List ColumnDef → List ℕ → List Value → Type 0
 FitPlaces columns [] values = Unit {0}
 FitPlaces columns (place ∷ places) [] = ⊥
-FitPlaces columns (place ∷ places) (value ∷ values) = IsTrue (is_of_type (type_of_column columns place) value) × FitPlaces columns places values
+FitPlaces columns (place ∷ places) (value ∷ values) = IsTrue (has_key (type_of_column columns place) value) × FitPlaces columns places values
 
--- the values of a cell: one for each dimension column, of its type
+-- the values of a cell: one for each dimension column, with a key in it
 pub record FitsCell (def : TableDef) (values : List Value) : Type 0 where
   pub each : FitPlaces def.columns (cell_places def) values
   pub many : length values ≡ length (cell_places def)
+
+-- the values of a row are there in the columns in these places, and have keys in them
+abbrev pub HaveKeys : List ColumnDef → List ℕ → List Value → Type 0
+HaveKeys columns places values = AllByRecursion (λ place. (place < length values) × IsTrue (has_key (type_of_column columns place) (value_at values place))) places
 
 -- the key of the first values, as those of columns in these places
 abbrev pub key_of_values : List ColumnDef → List ℕ → List Value → List ℕ

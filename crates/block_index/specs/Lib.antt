@@ -1,2 +1,4 @@
 pub mod Cells
 pub mod Listing
+pub mod PartRanges
+pub mod Reading

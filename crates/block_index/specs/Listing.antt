@@ -1,14 +1,15 @@
 -- What listing a block in the block indexes does, and taking it out of them.
-use Rattle.std.specs.Prelude.{◌≡◌, ◌⊎◌, ℕ, zero, suc, List, [], ◌∷◌, length, Some, slice_get}
+use Rattle.std.specs.Prelude.{◌≡◌, ◌⊎◌, ◌≤◌, ℕ, zero, suc, List, [], ◌∷◌, length, sum_by, Some, slice_get}
 use Rattle.mdc_words.specs.ByteOrder.{Entry}
 use Rattle.mdc_values.specs.declared.value.Value.{Value}
 use Rattle.mdc_ast.specs.declared.definition.TableDef.{TableDef}
 use Rattle.store_api.specs.declared.fault.Damage.{Damage}
 use Rattle.store_api.specs.declared.pages.Pages.{Ghosts}
+use Rattle.extent_map.specs.Owners.{IsSameShape}
 use Rattle.extent_map.specs.declared.extents.Extents.{Extents}
 use Rattle.extent_map.specs.declared.kind.Kind.{Kind}
 use Rattle.entry_tree.specs.EntryBounds.{IsEntryOf, with_entry}
-use Rattle.entry_tree.specs.Forest.{Forest, leaf_entries}
+use Rattle.entry_tree.specs.Forest.{Forest, leaf_entries, times}
 use Rattle.entry_tree.specs.Pruning.{BreaksTreeOrReturn}
 use Rattle.entry_tree.specs.Standing.{BreaksTreeOrMap, FindsFull, StandsTree}
 use Rattle.entry_tree.specs.declared.tree.Tree.{Tree}
@@ -44,24 +45,37 @@ pub record ChangesFirst {S : Type 0} (g : Ghosts S) (Moves : Entry → Forest �
   pub changes : ChangesTrees g before ext new (block_index_places def) owners trees owners_now trees_now
   pub moves : MoveFirst Moves n (cell_entries def values block) trees trees_now
 
--- The block is listed under the values of its cell in each block index, where it wasn't, and nothing else changed in them.
-abbrev pub ListsBlock : {S : Type 0} → Ghosts S → Extents → Extents → S → TableDef → List Value → ℕ → List Kind → List Forest → Type 0
-ListsBlock g before ext new def values block = ChangesFirst g GainsEntry before ext new def values block (length (cell_entries def values block))
+-- the first n block indexes gained the entry of a block, and no page left them
+pub record GainsFirst {S : Type 0} (g : Ghosts S) (before ext : Extents) (new : S) (def : TableDef) (values : List Value) (block n : ℕ) (owners : List Kind) (trees : List Forest) : Type 0 where
+  pub first : ChangesFirst g GainsEntry before ext new def values block n owners trees
+  pub pages : (p : ℕ) → sum_by (times p) trees ≤ sum_by (times p) first.trees_now
 
--- The block was listed under these values in each block index, and no longer is; nothing else changed in them.
+-- the first n block indexes lost the entry of a block, and no page came to them
+pub record LosesFirst {S : Type 0} (g : Ghosts S) (before ext : Extents) (new : S) (def : TableDef) (values : List Value) (block n : ℕ) (owners : List Kind) (trees : List Forest) : Type 0 where
+  pub first : ChangesFirst g LosesEntry before ext new def values block n owners trees
+  pub pages : (p : ℕ) → sum_by (times p) first.trees_now ≤ sum_by (times p) trees
+
+-- The block is listed under the values of its cell in each block index, where it wasn't; no page left the indexes, and nothing
+-- else changed in them.
+abbrev pub ListsBlock : {S : Type 0} → Ghosts S → Extents → Extents → S → TableDef → List Value → ℕ → List Kind → List Forest → Type 0
+ListsBlock g before ext new def values block = GainsFirst g before ext new def values block (length (cell_entries def values block))
+
+-- The block was listed under these values in each block index, and no longer is; no page came to the indexes, and nothing else
+-- changed in them.
 abbrev pub UnlistsBlock : {S : Type 0} → Ghosts S → Extents → Extents → S → TableDef → List Value → ℕ → List Kind → List Forest → Type 0
-UnlistsBlock g before ext new def values block = ChangesFirst g LosesEntry before ext new def values block (length (cell_entries def values block))
+UnlistsBlock g before ext new def values block = LosesFirst g before ext new def values block (length (cell_entries def values block))
 
 -- ---- midway
 
 -- The call had changed the first n block indexes, as it was to, and had come to the next one, which has this tree and is to
--- gain or lose this entry.
+-- gain or lose this entry. The extents have the shape that they had.
 pub record ComesTo {S : Type 0} (g : Ghosts S) (Moves : Entry → Forest → Forest → Type 0) (before : Extents) (old : S) (def : TableDef) (values : List Value) (block : ℕ)
     (now : Extents) (mid : S) (tree : Tree) (x : Entry) : Type 0 where
   pub n : ℕ
   pub place : slice_get (block_index_places def) n ≡ Some (place_of_tree tree)
   pub entry : slice_get (cell_entries def values block) n ≡ Some x
   pub done : (owners : List Kind) (trees : List Forest) → StandTrees g before old owners (block_index_places def) trees → ChangesFirst g Moves before now mid def values block n owners trees
+  pub shape : IsSameShape before now
 
 -- the damage of a block index names its root and rule 10: it has an entry that it shouldn't have, or hasn't one that it should
 pub record BreaksIndex {S : Type 0} (g : Ghosts S) (ext : Extents) (s : S) (tree : Tree) (Wrong : List Entry → Type 0) (damage : Damage) : Type 0 where

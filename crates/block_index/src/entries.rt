@@ -1,11 +1,11 @@
 // The entries of a block in the block indexes.
-ghost use Rattle.std.specs.Prelude.{◌≡◌, ◌≤◌, vec_len, IfErr, IfOk};
+ghost use Rattle.std.specs.Prelude.{◌≡◌, ◌+◌, ◌≤◌, length, take, IfErr, IfOk};
 ghost use Rattle.table_trees.specs.TableTrees.{HasBlockIndexes};
 ghost use Rattle.block_index.specs.Cells.{FitsCell, cell_entries, entry_under};
 
-use crate::keys::{cell_key, push_key};
+use crate::keys::{key_of_cell, push_key};
 use byteorder::{BigEndian, ByteOrder};
-use entry_tree::Entry;
+use entry_tree::{Entry, MAX_WIDTH};
 use mdc_ast::{Cell, TableDef};
 use std::alloc::Global;
 use store_api::StoreFault;
@@ -23,25 +23,33 @@ pub(crate) fn cell_entries(
     ensures memory { IfErr result (λ fault. fault ≡ StoreFault.Memory) }
 {
     let mut entries = Vec::new(alloc);
-    let key = cell_key(alloc, def, cell)?;
-    entries.push(entry_under(key, block)?)?;
+    let key = key_of_cell(alloc, def, cell)?;
+    entries.push(entry_under(&key, block))?;
     let mut values = cell.values.as_slice();
     for dim in def.dims.as_slice() {
         let mut key = Vec::new(alloc);
         values = push_key(&mut key, &def.columns, dim, values)?;
-        entries.push(entry_under(key, block)?)?;
+        entries.push(entry_under(&key, block))?;
     }
     Ok(entries)
 }
 
-/// A key, and the block behind it.
-fn entry_under(mut key: Vec<u8>, block: u32) -> Result<Entry, StoreFault>
-    requires { vec_len key ≤ 128 }
-    ensures entry { IfOk result (λ entry. entry ≡ entry_under key.items block) }
-    ensures memory { IfErr result (λ fault. fault ≡ StoreFault.Memory) }
+/// A key, and the block behind it. It takes no memory.
+pub(crate) fn entry_under(key: &[u8], block: u32) -> Entry
+    requires { length key.now ≤ 130 }
+    ensures { result ≡ entry_under key.now block }
 {
-    let mut bytes = [0; 4];
-    BigEndian::write_u32(&mut bytes, block);
-    key.extend_from_slice(&bytes)?;
-    Ok(Entry::of(&key))
+    let mut bytes = [0; MAX_WIDTH];
+    put_entry(&mut bytes, key, block);
+    Entry::of(&bytes[..key.len() + 4])
+}
+
+/// Writes a key and the block behind it to the front of `out`.
+fn put_entry(out: &mut [u8], key: &[u8], block: u32)
+    requires { length key.now + 4 ≤ length out.old }
+    ensures { take (length key.now + 4) out.new ≡ entry_under key.now block }
+{
+    let end = key.len();
+    out[..end].copy_from_slice(key);
+    BigEndian::write_u32(&mut out[end..], block);
 }

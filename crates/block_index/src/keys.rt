@@ -1,18 +1,52 @@
 // The values of a cell as bytes of a key.
 ghost use Rattle.std.specs.Prelude.{◌≡◌, ◌+◌, ◌≤◌, ◌++◌, drop, false, length, IsTrue, IfErr, IfOk, OnOk};
-ghost use Rattle.mdc_ast.specs.meaning.Database.{is_of_type};
-ghost use Rattle.key_codec.specs.Keys.{ArePartsOf, part_bytes, width_of_parts};
+ghost use Rattle.key_codec.specs.Keys.{ArePartsOf, has_key, key_bytes, part_bytes, width_of_parts};
+ghost use Rattle.table_trees.specs.RowCells.{cell_places};
 ghost use Rattle.table_trees.specs.TableTrees.{cell_parts, rising_parts};
-ghost use Rattle.block_index.specs.Cells.{FitPlaces, FitsCell, cell_places, key_of_values};
+ghost use Rattle.block_index.specs.Cells.{FitPlaces, FitsCell, HaveKeys, key_of_values};
 
 use key_codec::{part_width, put_part};
 use mdc_ast::{Cell, ColumnDef, TableDef};
 use mdc_values::{ColType, List, Value};
 use std::alloc::Global;
 use store_api::StoreFault;
+use table_trees::cell_width;
+
+/// The key of the cell of a row: that of its values in all dimension columns. It makes no list of these values.
+pub fn cell_key(alloc: Global, def: &TableDef, values: &List<Value>) -> Result<Vec<u8>, StoreFault>
+    requires parts { ArePartsOf def.now.columns (cell_parts def.now) }
+    requires values { HaveKeys def.now.columns (cell_places def.now) values.now }
+    ensures key { IfOk result (λ key. key.items ≡ key_bytes def.now.columns (cell_parts def.now) values.now) }
+    ensures memory { IfErr result (λ fault. fault ≡ StoreFault.Memory) }
+{
+    let mut key = Vec::with_capacity(alloc, usize::from(cell_width(def)))?;
+    for dim in def.dims.as_slice() {
+        push_row_key(&mut key, &def.columns, dim, values)?;
+    }
+    Ok(key)
+}
+
+/// Puts the key of a row in the columns in some places last.
+fn push_row_key(
+    key: &mut Vec<u8>,
+    columns: &List<ColumnDef>,
+    places: &List<u8>,
+    values: &List<Value>,
+) -> Result<(), StoreFault>
+    requires parts { ArePartsOf columns.now (rising_parts places.now) }
+    requires values { HaveKeys columns.now places.now values.now }
+    ensures key { OnOk result (key.new.items ≡ key.old.items ++ key_bytes columns.now (rising_parts places.now) values.now) }
+    ensures memory { IfErr result (λ fault. fault ≡ StoreFault.Memory) }
+{
+    for place in places.as_slice() {
+        let place = usize::from(*place);
+        push_part(key, columns.at(place).ty, values.at(place))?;
+    }
+    Ok(())
+}
 
 /// The key of a cell: that of all dimension columns.
-pub(crate) fn cell_key(alloc: Global, def: &TableDef, cell: &Cell) -> Result<Vec<u8>, StoreFault>
+pub(crate) fn key_of_cell(alloc: Global, def: &TableDef, cell: &Cell) -> Result<Vec<u8>, StoreFault>
     requires parts { ArePartsOf def.now.columns (cell_parts def.now) }
     requires cell { FitsCell def.now cell.now.values }
     ensures key { IfOk result (λ key. key.items ≡ key_of_values def.now.columns (cell_places def.now) cell.now.values) }
@@ -49,7 +83,7 @@ pub(crate) fn push_key<'v>(
 
 /// Puts a value as a part of a key last.
 fn push_part(key: &mut Vec<u8>, ty: ColType, value: &Value) -> Result<(), StoreFault>
-    requires { IsTrue (is_of_type ty value.now) }
+    requires { IsTrue (has_key ty value.now) }
     ensures part { OnOk result (key.new.items ≡ key.old.items ++ part_bytes ty false value.now) }
     ensures memory { IfErr result (λ fault. fault ≡ StoreFault.Memory) }
 {

@@ -2,14 +2,25 @@
 //!
 //! A table has a block index of all dimension columns, and one for each dimension. An entry is the key of a cell's values and
 //! a block. `list_block` enters a block in all of them under the values of its cell, and `unlist_block` takes it out; each
-//! touches these trees, the extent map and unclaimed pages alone. Where an entry is there already, or isn't there, the root of
-//! that index is named by rule 10.
+//! touches these trees, the extent map and, where pages are claimed, unclaimed ones alone. Where an entry is there already,
+//! or isn't there, the root of that index is named by rule 10.
+//!
+//! `first_block_from`, `blocks_of` and `blocks_in` read them: they answer exactly for whatever tree an index is told to hold,
+//! bring pages of that index alone to hand, and name its root by rule 4 only where it hasn't the form of a tree. It stands on
+//! `table_trees` and `key_codec`, and on `mdc_steps` for how many entries a search goes over.
 #![tactic(auto)]
 
 mod entries;
+mod in_span;
 mod keys;
+mod leaves;
 mod listing;
+mod part_range;
+mod under_key;
 mod unlisting;
 
+pub use in_span::blocks_in;
+pub use keys::cell_key;
 pub use listing::list_block;
+pub use under_key::{blocks_of, first_block_from};
 pub use unlisting::unlist_block;

@@ -8,7 +8,7 @@ ghost use Rattle.extent_map.specs.declared.kind.Kind.{Kind};
 ghost use Rattle.entry_tree.specs.Forest.{Forest};
 ghost use Rattle.entry_tree.specs.Standing.{AddsEntry, FindsFull, IsTreeSpace, StandsTree};
 ghost use Rattle.table_trees.specs.TableTrees.{HasBlockIndexes, block_index_places};
-ghost use Rattle.table_trees.specs.TreesBeside.{IsSpaceOfTrees, StandTrees};
+ghost use Rattle.table_trees.specs.TreesBeside.{GrowsPages, IsSpaceOfTrees, StandTrees};
 ghost use Rattle.block_index.specs.Cells.{FitsCell};
 ghost use Rattle.block_index.specs.Listing.{BreaksEntering, BreaksListing, FillsListing, ListsBlock};
 
@@ -40,6 +40,8 @@ pub fn list_block<P: Pages>(
     ensures lists { OnOk result ((owners : List Kind) (trees : List Forest) → StandTrees P.Pages ext.old pages.old owners (block_index_places def.now) trees
         → ListsBlock P.Pages ext.old ext.new pages.new def.now cell.now.values block owners trees) }
     ensures full { IfErr result (λ fault. IfFull fault (λ cap. (cap ≡ ext.old.cap) × FillsListing P.Pages ext.old ext.new pages.old pages.new def.now cell.now.values block)) }
+    ensures grows { OnOk result ((owners : List Kind) (trees : List Forest) → StandTrees P.Pages ext.old pages.old owners (block_index_places def.now) trees
+        → GrowsPages P.Pages ext.old pages.old pages.new) }
     ensures shape { IsSameShape ext.old ext.new }
     ensures runs { RunsOverPages P.Pages (IsSpaceOfTrees P.Pages ext.old pages.old (block_index_places def.now)) (IsSpaceOfTrees P.Pages ext.old pages.old (block_index_places def.now))
         (BreaksListing P.Pages ext.old pages.old def.now cell.now.values block) pages.old pages.new (store_fault_in store_part_of result) }

@@ -8,7 +8,7 @@ ghost use Rattle.entry_tree.specs.Forest.{Forest};
 ghost use Rattle.entry_tree.specs.Pruning.{IsTreeOrMapPage, RemovesEntry};
 ghost use Rattle.entry_tree.specs.Standing.{StandsTree};
 ghost use Rattle.table_trees.specs.TableTrees.{HasBlockIndexes, block_index_places};
-ghost use Rattle.table_trees.specs.TreesBeside.{IsSpaceOfTrees, StandTrees};
+ghost use Rattle.table_trees.specs.TreesBeside.{IsTreesOrMapPage, StandTrees};
 ghost use Rattle.block_index.specs.Cells.{FitsCell};
 ghost use Rattle.block_index.specs.Listing.{BreaksLeaving, BreaksUnlisting, UnlistsBlock};
 
@@ -22,7 +22,7 @@ use store_api::{Pages, StoreFault};
 use table_trees::block_index_tree;
 
 /// Takes a block out that is listed under the values of its cell: of the composite index, and then of that of each dimension.
-/// It claims no page. Where an index hasn't the entry, its root is damaged by rule 10.
+/// It claims no page, and touches neither page 0 nor an idle page. Where an index hasn't the entry, its root is damaged by rule 10.
 pub fn unlist_block<P: Pages>(
     alloc: Global,
     def: &TableDef,
@@ -38,7 +38,7 @@ pub fn unlist_block<P: Pages>(
         → UnlistsBlock P.Pages ext.old ext.new pages.new def.now cell.now.values block owners trees) }
     ensures count { length (P.state pages.new).work ≡ length (P.state pages.old).work }
     ensures shape { IsSameShape ext.old ext.new }
-    ensures runs { RunsOverPages P.Pages (IsSpaceOfTrees P.Pages ext.old pages.old (block_index_places def.now)) (IsSpaceOfTrees P.Pages ext.old pages.old (block_index_places def.now))
+    ensures runs { RunsOverPages P.Pages (IsTreesOrMapPage P.Pages ext.old pages.old (block_index_places def.now)) (IsTreesOrMapPage P.Pages ext.old pages.old (block_index_places def.now))
         (BreaksUnlisting P.Pages ext.old pages.old def.now cell.now.values block) pages.old pages.new (fault_of result) }
 {
     let entries = cell_entries(alloc, def, cell, block)?;

@@ -2,14 +2,14 @@ use Rattle.std.proofs.Common.{ap, arith, length, subst, sym}
 use Rattle.std.specs.Prelude.{Some}
 use Rattle.store_api.specs.RunsOverPages.{RunsOverPages}
 use Rattle.store_api.proofs.RunsOverPagesLemmas.{runs_exit_as, runs_memory, runs_none}
-use Rattle.extent_map.specs.Damages.{IfFull, store_part_of}
+use Rattle.extent_map.specs.Damages.{store_part_of}
 use Rattle.entry_tree.proofs.ClaimsLemmas.{if_err_by}
 use Rattle.table_trees.specs.TableTrees.{block_index_places, place_of_tree}
 use Rattle.table_trees.specs.TreesBeside.{IsSpaceOfTrees}
 use Rattle.block_index.specs.Cells.{cell_entries}
 use Rattle.block_index.specs.Listing.{BreaksListing}
 use Rattle.block_index.proofs.CellsLemmas.{entry_at, entry_width, length-dimension_entries}
-use Rattle.block_index.proofs.ListingLemmas.{all_changed, entering_runs, enters_next, fills_there}
+use Rattle.block_index.proofs.ListingLemmas.{all_listed, entering_runs, enters_next, fills_there, listing_none}
 use Rattle.block_index.proofs.listing.list_block.Goals as goal
 
 pub returns-in_err-entries-clause-runs : goal.returns-in_err-entries-clause-runs
@@ -35,8 +35,8 @@ returns-in_err-enter-clause-full g c =
 pub returns-in_err-enter-clause-runs : goal.returns-in_err-enter-clause-runs
 returns-in_err-enter-clause-runs g c =
     runs_exit_as store_part_of c.from_residual-in_err-enter.result c.from_residual-in_err-enter.ensures.1
-    (entering_runs g.P.Pages c.args.ext.now c.args.pages.now c.args.def.now c.args.cell.now.values c.args.block c.loop-i.ext c.loop-i.pages c.enter.new.pages c.loop-i.i c.block_index_tree-tree.result c.bytes.result.now (store_part_of c.in_err-enter.field-0.0) c.block_index_tree-tree.ensures (entry_at c.in_ok-entries.entries.items (cell_entries c.args.def.now c.args.cell.now.values c.args.block) c.loop-i.i c.index.result.now c.bytes.result.now c.in_ok-entries.ensures.entries (omega (arith, c.loop-i-test.true, c.len-i-end.ensures)) c.index.ensures c.bytes.ensures)
-    c.loop-i.invariant.done c.loop-i.invariant.runs c.in_err-enter.ensures.runs)
+    (entering_runs g.P.Pages c.args.ext.now c.args.pages.now c.args.def.now c.args.cell.now.values c.args.block c.loop-i.ext c.loop-i.pages c.loop-i.i c.block_index_tree-tree.result c.bytes.result.now c.block_index_tree-tree.ensures (entry_at c.in_ok-entries.entries.items (cell_entries c.args.def.now c.args.cell.now.values c.args.block) c.loop-i.i c.index.result.now c.bytes.result.now c.in_ok-entries.ensures.entries (omega (arith, c.loop-i-test.true, c.len-i-end.ensures)) c.index.ensures c.bytes.ensures)
+    c.enter.new.pages (store_part_of c.in_err-enter.field-0.0) c.loop-i.invariant.shape c.loop-i.invariant.done c.loop-i.invariant.runs c.in_err-enter.ensures.runs)
 
 pub loop-i-preserved : goal.loop-i-preserved
 loop-i-preserved g c =
@@ -45,5 +45,8 @@ loop-i-preserved g c =
 
 pub returns-clause-lists : goal.returns-clause-lists
 returns-clause-lists g c =
-    all_changed c.args.ext.now c.loop-i.ext c.args.pages.now c.loop-i.pages c.args.def.now c.args.cell.now.values c.args.block c.loop-i.i
+    all_listed c.args.ext.now c.loop-i.ext c.args.pages.now c.loop-i.pages c.args.def.now c.args.cell.now.values c.args.block c.loop-i.i
     (omega (arith, c.loop-i-test.false, c.loop-i.auto.i-end, c.len-i-end.ensures, ap length c.in_ok-entries.ensures.entries)) c.loop-i.invariant
+
+pub loop-i-init : goal.loop-i-init
+loop-i-init g c = listing_none g.P.Pages c.args.ext.now c.args.pages.now c.args.def.now c.args.cell.now.values c.args.block

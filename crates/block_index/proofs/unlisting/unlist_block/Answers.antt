@@ -1,18 +1,18 @@
-use Rattle.std.proofs.Common.{◌∙◌, ap, arith, length, subst, sym}
+use Rattle.std.proofs.Common.{ap, arith, length, subst, sym}
 use Rattle.std.specs.Prelude.{Some}
 use Rattle.store_api.specs.RunsOverPages.{RunsOverPages}
 use Rattle.store_api.proofs.RunsOverPagesLemmas.{runs_exit, runs_memory, runs_none}
 use Rattle.table_trees.specs.TableTrees.{block_index_places, place_of_tree}
-use Rattle.table_trees.specs.TreesBeside.{IsSpaceOfTrees}
+use Rattle.table_trees.specs.TreesBeside.{IsTreesOrMapPage}
 use Rattle.block_index.specs.Cells.{cell_entries}
 use Rattle.block_index.specs.Listing.{BreaksUnlisting}
 use Rattle.block_index.proofs.CellsLemmas.{entry_at, entry_width, length-dimension_entries}
-use Rattle.block_index.proofs.ListingLemmas.{all_changed, leaves_next, leaving_runs}
+use Rattle.block_index.proofs.ListingLemmas.{all_unlisted, leaves_next, leaving_runs, unlisting_none}
 use Rattle.block_index.proofs.unlisting.unlist_block.Goals as goal
 
 pub returns-in_err-entries-clause-runs : goal.returns-in_err-entries-clause-runs
 returns-in_err-entries-clause-runs g c =
-    runs_exit c.from_residual.result c.from_residual.ensures.1 (subst (λ fault. RunsOverPages g.P.Pages (IsSpaceOfTrees g.P.Pages c.args.ext.now c.args.pages.now (block_index_places c.args.def.now)) (IsSpaceOfTrees g.P.Pages c.args.ext.now c.args.pages.now (block_index_places c.args.def.now))
+    runs_exit c.from_residual.result c.from_residual.ensures.1 (subst (λ fault. RunsOverPages g.P.Pages (IsTreesOrMapPage g.P.Pages c.args.ext.now c.args.pages.now (block_index_places c.args.def.now)) (IsTreesOrMapPage g.P.Pages c.args.ext.now c.args.pages.now (block_index_places c.args.def.now))
     (BreaksUnlisting g.P.Pages c.args.ext.now c.args.pages.now c.args.def.now c.args.cell.now.values c.args.block) c.args.pages.now c.args.pages.now (Some fault)) (sym c.in_err-entries.ensures.memory) (runs_memory runs_none))
 
 pub block_index_tree-tree-requires-clause-there : goal.block_index_tree-tree-requires-clause-there
@@ -27,17 +27,18 @@ leave-requires-clause-width g c =
 pub returns-in_err-leave-clause-runs : goal.returns-in_err-leave-clause-runs
 returns-in_err-leave-clause-runs g c =
     runs_exit c.from_residual-in_err-leave.result c.from_residual-in_err-leave.ensures.1
-    (leaving_runs g.P.Pages c.args.ext.now c.args.pages.now c.args.def.now c.args.cell.now.values c.args.block c.loop-i.ext c.loop-i.pages c.leave.new.pages c.loop-i.i c.block_index_tree-tree.result c.bytes.result.now (Some c.in_err-leave.field-0.0) c.block_index_tree-tree.ensures (entry_at c.in_ok-entries.entries.items (cell_entries c.args.def.now c.args.cell.now.values c.args.block) c.loop-i.i c.index.result.now c.bytes.result.now c.in_ok-entries.ensures.entries (omega (arith, c.loop-i-test.true, c.len-i-end.ensures)) c.index.ensures c.bytes.ensures)
-    c.loop-i.invariant.0.done c.loop-i.invariant.0.runs c.in_err-leave.ensures.runs)
+    (leaving_runs g.P.Pages c.args.ext.now c.args.pages.now c.args.def.now c.args.cell.now.values c.args.block c.loop-i.ext c.loop-i.pages c.loop-i.i c.block_index_tree-tree.result c.bytes.result.now c.block_index_tree-tree.ensures (entry_at c.in_ok-entries.entries.items (cell_entries c.args.def.now c.args.cell.now.values c.args.block) c.loop-i.i c.index.result.now c.bytes.result.now c.in_ok-entries.ensures.entries (omega (arith, c.loop-i-test.true, c.len-i-end.ensures)) c.index.ensures c.bytes.ensures)
+    c.leave.new.pages (Some c.in_err-leave.field-0.0) c.loop-i.invariant.shape c.loop-i.invariant.done c.loop-i.invariant.runs c.in_err-leave.ensures.runs)
 
 pub loop-i-preserved : goal.loop-i-preserved
-loop-i-preserved g c = (
-  leaves_next c.args.ext.now c.loop-i.ext c.leave.new.ext c.args.pages.now c.loop-i.pages c.leave.new.pages c.args.def.now c.args.cell.now.values c.args.block c.loop-i.i c.block_index_tree-tree.result c.bytes.result.now c.block_index_tree-tree.ensures (entry_at c.in_ok-entries.entries.items (cell_entries c.args.def.now c.args.cell.now.values c.args.block) c.loop-i.i c.index.result.now c.bytes.result.now c.in_ok-entries.ensures.entries (omega (arith, c.loop-i-test.true, c.len-i-end.ensures)) c.index.ensures c.bytes.ensures)
-      c.loop-i.invariant.0 c.in_ok-leave.ensures.shape c.in_ok-leave.ensures.removes c.in_ok-leave.ensures.runs,
-  c.in_ok-leave.ensures.count ∙ c.loop-i.invariant.1,
-)
+loop-i-preserved g c =
+    leaves_next c.args.ext.now c.loop-i.ext c.leave.new.ext c.args.pages.now c.loop-i.pages c.leave.new.pages c.args.def.now c.args.cell.now.values c.args.block c.loop-i.i c.block_index_tree-tree.result c.bytes.result.now c.block_index_tree-tree.ensures (entry_at c.in_ok-entries.entries.items (cell_entries c.args.def.now c.args.cell.now.values c.args.block) c.loop-i.i c.index.result.now c.bytes.result.now c.in_ok-entries.ensures.entries (omega (arith, c.loop-i-test.true, c.len-i-end.ensures)) c.index.ensures c.bytes.ensures)
+    c.loop-i.invariant c.in_ok-leave.ensures.shape c.in_ok-leave.ensures.count c.in_ok-leave.ensures.removes c.in_ok-leave.ensures.runs
 
 pub returns-clause-unlists : goal.returns-clause-unlists
 returns-clause-unlists g c =
-    all_changed c.args.ext.now c.loop-i.ext c.args.pages.now c.loop-i.pages c.args.def.now c.args.cell.now.values c.args.block c.loop-i.i
-    (omega (arith, c.loop-i-test.false, c.loop-i.auto.i-end, c.len-i-end.ensures, ap length c.in_ok-entries.ensures.entries)) c.loop-i.invariant.0
+    all_unlisted c.args.ext.now c.loop-i.ext c.args.pages.now c.loop-i.pages c.args.def.now c.args.cell.now.values c.args.block c.loop-i.i
+    (omega (arith, c.loop-i-test.false, c.loop-i.auto.i-end, c.len-i-end.ensures, ap length c.in_ok-entries.ensures.entries)) c.loop-i.invariant
+
+pub loop-i-init : goal.loop-i-init
+loop-i-init g c = unlisting_none g.P.Pages c.args.ext.now c.args.pages.now c.args.def.now c.args.cell.now.values c.args.block

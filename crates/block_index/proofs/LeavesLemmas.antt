@@ -1,0 +1,65 @@
+-- A walk over the entries of an index, leaf by leaf.
+use Rattle.std.proofs.Common.{◌≡◌, ◌<◌, ◌≤◌, ◌+◌, ◌*◌, ◌^◌, ℕ, suc, List, [], ◌∷◌, ◌++◌, refl, ap, arith, sym, ◌∙◌, subst, append-nil, length, take}
+use Rattle.std.specs.Prelude.{Bool, true, false, Some, None, nat_lt, if◌then◌else◌}
+use Rattle.std.specs.Slice.Scan.{big_endian}
+use Rattle.std.proofs.Math.Nat.{mul_assoc, mul-le-mul_right, pow-succ'}
+use Rattle.std.proofs.Math.Seq.{take-length}
+use Rattle.std.proofs.lemmas.Bool.Decides.{nat_tests}
+use Rattle.mdc_words.specs.ByteOrder.{Entry, below}
+use Rattle.node_page.proofs.NodeLemmas.{AreBytes}
+use Rattle.node_page.proofs.WordsLemmas.{below_at_end}
+use Rattle.entry_tree.specs.EntryBounds.{Bound}
+use Rattle.entry_tree.specs.Reading.{IsLeafFrom, RestBegins, entries_from}
+use Rattle.entry_tree.proofs.EntryBoundsLemmas.{from_below}
+use Rattle.entry_tree.proofs.WalksLemmas.{leaf_alone, leaf_and_rest}
+use Rattle.block_index.specs.Reading.{entries_left, room_above}
+
+-- a leaf that was read, and what lies behind it
+pub leaf_then_left : (all : List Entry) (bound : Entry) (given : List Entry) (next : Bound) → IsLeafFrom all bound given next → entries_from bound all ≡ given ++ entries_left all next
+leaf_then_left all bound given None l = leaf_alone all bound given l ∙ sym (append-nil given)
+leaf_then_left all bound given (Some next) l = leaf_and_rest all bound next given l
+
+-- the first of the entries from a bound on isn't below it
+first_not_below : (bound x : Entry) (all more : List Entry) → entries_from bound all ≡ x ∷ more → below x bound ≡ false
+first_not_below bound x [] more e = cc
+first_not_below bound x (y ∷ ys) more e = go (below y bound) refl e (first_not_below bound x ys more)
+  where
+    go : (b : Bool) → below y bound ≡ b → (if b then entries_from bound ys else y ∷ entries_from bound ys) ≡ x ∷ more → (entries_from bound ys ≡ x ∷ more → below x bound ≡ false) → below x bound ≡ false
+    go true p q f = f q
+    go false p q f = let same : y ≡ x = cc in subst (λ (v : Entry). below v bound ≡ false) same p
+
+-- the bound at which the rest begins lies above the one that was looked from
+pub rest_above : (all : List Entry) (bound next : Entry) (given : List Entry) → IsLeafFrom all bound given (Some next) → below bound next ≡ true
+rest_above all bound next [] l = absurd (subst (RestBegins [] (Some next)) (l.some refl) l.begins)
+rest_above all bound next (x ∷ given) l = go l.rest l.whole l.begins
+  where
+    go : (rest : List Entry) → entries_from bound all ≡ (x ∷ given) ++ rest → RestBegins (x ∷ given) (Some next) rest → below bound next ≡ true
+    go [] whole b = absurd b
+    go (y ∷ ys) whole b = from_below bound x next (first_not_below bound x all (given ++ y ∷ ys) whole) b.0.0
+
+-- ---- an end of each walk
+
+small_number : (n : ℕ) (xs : List ℕ) → AreBytes xs → big_endian n xs < (n + 1) * 256 ^ length xs
+small_number n [] are = omega arith
+small_number n (x ∷ xs) are =
+    let here : x < 256 = are 0 in
+    let rest : big_endian (n * 256 + x) xs < (n * 256 + x + 1) * 256 ^ length xs = small_number (n * 256 + x) xs (λ k. are (suc k)) in
+    let wider : (n * 256 + x + 1) * 256 ^ length xs ≤ ((n + 1) * 256) * 256 ^ length xs = mul-le-mul_right (256 ^ length xs) (omega (arith, here)) in
+    let more : ((n + 1) * 256) * 256 ^ length xs ≡ (n + 1) * 256 ^ suc (length xs) = mul_assoc (n + 1) 256 (256 ^ length xs) ∙ ap (λ k. (n + 1) * k) (sym (pow-succ' 256 (length xs))) in
+    omega (arith, rest, wider, more)
+
+number_fits : (xs : Entry) → AreBytes xs → big_endian 0 xs < 256 ^ length xs
+number_fits xs are = omega (arith, small_number 0 xs are)
+
+pub some_room : (xs : Entry) → AreBytes xs → 0 < room_above (length xs) (Some xs)
+some_room xs are = omega (arith, number_fits xs are)
+
+pub room_falls : (low high : Entry) → AreBytes low → AreBytes high → length high ≡ length low → below low high ≡ true → room_above (length low) (Some high) < room_above (length low) (Some low)
+room_falls low high are too same above =
+    let w = length low in
+    let number_of = λ (xs : Entry) (e : length xs ≡ w). ap (big_endian 0) (sym (ap (λ n. take n xs) (sym e) ∙ take-length xs)) in
+    let tells : nat_lt (big_endian 0 low) (big_endian 0 high) ≡ below low high =
+    below_at_end w low high are too 0 (big_endian 0 low) (big_endian 0 high) (omega arith) (sym same) refl (number_of low refl) (number_of high same) in
+    let less : big_endian 0 low < big_endian 0 high = grind (arith, nat_tests, tells, above) in
+    let most : big_endian 0 high < 256 ^ w = subst (λ n. big_endian 0 high < 256 ^ n) same (number_fits high too) in
+    omega (arith, less, most)

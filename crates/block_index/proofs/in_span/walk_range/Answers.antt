@@ -1,0 +1,85 @@
+use Rattle.std.proofs.Common.{◌≡◌, ◌+◌, ◌++◌, ap, arith, length, subst, sym, ◌∙◌, None, Some}
+use Rattle.store_api.specs.declared.fault.StoreFault.{StoreFault}
+use Rattle.store_api.proofs.RunsOverPagesLemmas.{runs_exit, runs_memory}
+use Rattle.entry_tree.specs.EntryBounds.{Bound}
+use Rattle.entry_tree.specs.Forest.{leaf_entries}
+use Rattle.entry_tree.specs.Reading.{entries_from}
+use Rattle.entry_tree.proofs.ReadLeafLemmas.{holds_still}
+use Rattle.block_index.specs.PartRanges.{blocks_in_range, entries_until}
+use Rattle.block_index.specs.Reading.{entries_left}
+use Rattle.block_index.proofs.PartRangesLemmas.{leaf_counted, leaf_ended, leaf_ended_counted, leaf_walked, long_entries, walked}
+use Rattle.block_index.proofs.ReadingRunsLemmas.{ReadsTree, reads_more}
+use Rattle.block_index.proofs.in_span.walk_range.Goals as goal
+
+pub returns-in_err-bound-clause-runs : goal.returns-in_err-bound-clause-runs
+returns-in_err-bound-clause-runs g c =
+    let inv = c.leaves.invariant in
+    runs_exit c.from_residual.result c.from_residual.ensures.1 (reads_more g.P.Pages c.args.tree.now c.args.pages.now c.leaves.pages c.read_leaf.new.pages _ inv.runs inv.same c.in_err-bound.ensures.runs)
+
+pub take_blocks-requires : goal.take_blocks-requires
+take_blocks-requires g c = record { long = long_entries (c.args.range.now.at + 4) c.args.tree.now.width c.read_leaf.new.leaf.entries (omega (arith, c.requires.within)) c.in_ok-bound.ensures.width }
+
+pub returns-in_err-take_blocks-clause-runs : goal.returns-in_err-take_blocks-clause-runs
+returns-in_err-take_blocks-clause-runs g c =
+    let inv = c.leaves.invariant in
+    let run = reads_more g.P.Pages c.args.tree.now c.args.pages.now c.leaves.pages c.read_leaf.new.pages None inv.runs inv.same c.in_ok-bound.ensures.runs in
+    runs_exit c.from_residual-in_err-take_blocks.result c.from_residual-in_err-take_blocks.ensures.1
+    (subst (λ (f : StoreFault). ReadsTree g.P.Pages c.args.tree.now c.args.pages.now c.read_leaf.new.pages (Some f)) (sym c.in_err-take_blocks.ensures.memory) (runs_memory run))
+
+pub returns-then-branch-clause-blocks : goal.returns-then-branch-clause-blocks
+returns-then-branch-clause-blocks g c t h =
+    let inv = c.leaves.invariant in
+    let all = leaf_entries t in
+    let range = c.args.range.now in
+    let given = c.read_leaf.new.leaf.entries in
+    let whole = c.in_ok-bound.ensures.read t (holds_still inv.runs.works.steady inv.same h) in
+    let before : blocks_in_range range (walked c.args.tree.now.width range all) ≡ c.leaves.blocks.items ++ blocks_in_range range (entries_until range (entries_from c.bytes.result.now all)) =
+    inv.taken t h ∙ ap (λ (b : Bound). c.leaves.blocks.items ++ blocks_in_range range (entries_until range (entries_left all b))) (c.in-Some.is ∙ ap Some (sym c.bytes.ensures)) in
+    leaf_ended range all given c.bytes.result.now c.in_ok-bound.bound c.leaves.blocks.items c.take_blocks.new.blocks.items whole c.in_ok-take_blocks.ensures.blocks (c.in_ok-take_blocks.ensures.ended c.if-branch.true (entries_left all c.in_ok-bound.bound)) ∙ sym before
+
+pub returns-then-branch-clause-counted : goal.returns-then-branch-clause-counted
+returns-then-branch-clause-counted g c t h =
+    let inv = c.leaves.invariant in
+    let all = leaf_entries t in
+    let range = c.args.range.now in
+    let given = c.read_leaf.new.leaf.entries in
+    let whole = c.in_ok-bound.ensures.read t (holds_still inv.runs.works.steady inv.same h) in
+    omega (
+      arith,
+      inv.counted t h,
+      ap (λ (b : Bound). length (entries_until range (entries_left all b))) (c.in-Some.is ∙ ap Some (sym c.bytes.ensures)),
+      c.in_ok-take_blocks.ensures.counted,
+      leaf_ended_counted range all given c.bytes.result.now c.in_ok-bound.bound c.leaves.blocks.items c.take_blocks.new.blocks.items whole c.in_ok-take_blocks.ensures.blocks (c.in_ok-take_blocks.ensures.ended c.if-branch.true (entries_left all c.in_ok-bound.bound)),
+    )
+
+pub returns-then-branch-clause-runs : goal.returns-then-branch-clause-runs
+returns-then-branch-clause-runs g c =
+    let inv = c.leaves.invariant in
+    reads_more g.P.Pages c.args.tree.now c.args.pages.now c.leaves.pages c.read_leaf.new.pages None inv.runs inv.same c.in_ok-bound.ensures.runs
+
+pub leaves-preserved : goal.leaves-preserved
+leaves-preserved g c =
+    let inv = c.leaves.invariant in
+    let range = c.args.range.now in
+    let given = c.read_leaf.new.leaf.entries in
+    record {
+      same = c.in_ok-bound.ensures.same ∙ inv.same;
+      going = c.in_ok-bound.ensures.runs.works.steady.ended ∙ inv.going;
+      runs = reads_more g.P.Pages c.args.tree.now c.args.pages.now c.leaves.pages c.read_leaf.new.pages None inv.runs inv.same c.in_ok-bound.ensures.runs;
+      fits = c.in_ok-bound.ensures.next;
+      taken = λ t h.
+          let all = leaf_entries t in
+          let whole = c.in_ok-bound.ensures.read t (holds_still inv.runs.works.steady inv.same h) in
+          inv.taken t h ∙ (ap (λ (b : Bound). c.leaves.blocks.items ++ blocks_in_range range (entries_until range (entries_left all b))) (c.in-Some.is ∙ ap Some (sym c.bytes.ensures))
+          ∙ leaf_walked range all given c.bytes.result.now c.in_ok-bound.bound c.leaves.blocks.items c.take_blocks.new.blocks.items whole c.in_ok-take_blocks.ensures.blocks (c.in_ok-take_blocks.ensures.goes_on c.if-branch.false (entries_left all c.in_ok-bound.bound)));
+      counted = λ t h.
+          let all = leaf_entries t in
+          let whole = c.in_ok-bound.ensures.read t (holds_still inv.runs.works.steady inv.same h) in
+          omega (
+            arith,
+            inv.counted t h,
+            ap (λ (b : Bound). length (entries_until range (entries_left all b))) (c.in-Some.is ∙ ap Some (sym c.bytes.ensures)),
+            c.in_ok-take_blocks.ensures.counted,
+            leaf_counted range all given c.bytes.result.now c.in_ok-bound.bound c.leaves.blocks.items c.take_blocks.new.blocks.items whole c.in_ok-take_blocks.ensures.blocks (c.in_ok-take_blocks.ensures.goes_on c.if-branch.false (entries_left all c.in_ok-bound.bound)),
+          );
+    }

@@ -1,0 +1,24 @@
+use Rattle.std.proofs.Common.{◌≡◌, ◌+◌, ◌++◌, None, false, length}
+use Rattle.entry_tree.specs.Forest.{Forest, leaf_entries}
+use Rattle.entry_tree.specs.HeldTrees.{HoldsTree}
+use Rattle.entry_tree.specs.Reading.{BoundFits}
+use Rattle.block_index.specs.PartRanges.{blocks_in_range, entries_until}
+use Rattle.block_index.specs.Reading.{entries_left, room_above}
+use Rattle.block_index.proofs.PartRangesLemmas.{walked}
+use Rattle.block_index.proofs.ReadingRunsLemmas.{ReadsTree}
+use Rattle.block_index.proofs.in_span.walk_range.Given as goal
+
+-- what was taken so far, and what is left from the bound on, make up the walk
+abbrev pub invariant-leaves : goal.invariant-leaves
+invariant-leaves g l = record {
+  same : (g.P.Pages.state l.pages).work ≡ (g.P.Pages.state l.fn.pages).work;
+  going : (g.P.Pages.state l.pages).ended ≡ false;
+  runs : ReadsTree g.P.Pages l.tree l.fn.pages l.pages None;
+  fits : BoundFits l.tree.width l.bound;
+  taken : (t : Forest) → HoldsTree g.P.Pages l.fn.pages l.tree t → blocks_in_range l.range (walked l.tree.width l.range (leaf_entries t)) ≡ l.blocks.items ++ blocks_in_range l.range (entries_until l.range (entries_left (leaf_entries t) l.bound));
+  counted : (t : Forest) → HoldsTree g.P.Pages l.fn.pages l.tree t → l.fn.entries + length (walked l.tree.width l.range (leaf_entries t)) ≡ l.entries + length (entries_until l.range (entries_left (leaf_entries t) l.bound));
+}
+
+-- how much room there is above the bound
+abbrev pub decreases-leaves : goal.decreases-leaves
+decreases-leaves g l = room_above l.tree.width l.bound
