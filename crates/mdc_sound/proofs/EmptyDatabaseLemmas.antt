@@ -1,8 +1,5 @@
 -- The empty database of 16 extents of 2 pages keeps all rules, and stands for no table.
-use Rattle.std.specs.Prelude.{◌≡◌, ◌<◌, ◌+◌, ℕ, zero, suc, IsTrue, List, [], ◌∷◌, ◌++◌, drop, length, replicate}
-use Rattle.std.specs.List.{AllByRecursion}
-use Rattle.std.proofs.lemmas.List.{get_or-drop}
-use Rattle.byteorder.specs.Endian.{big_bytes}
+use Rattle.std.specs.Prelude.{◌≡◌, ◌<◌, ◌+◌, ℕ, zero, suc, IsTrue, length, replicate}
 use Rattle.std.proofs.Common.{refl, arith, subst, sym}
 use Rattle.store_api.specs.StoreState.{page_at, zero_page}
 use Rattle.store_api.specs.Frame.{HoldsPage}
@@ -12,55 +9,19 @@ use Rattle.extent_map.specs.Map.{HoldsMap}
 use Rattle.extent_map.specs.Owners.{IsUsedPage, extent_of, place_in_extent}
 use Rattle.extent_map.specs.declared.kind.Kind.TheVariants.{Free}
 use Rattle.extent_map.proofs.LawsOfTheMap.{fresh_map, owner_of-fresh}
-use Rattle.key_codec.specs.Keys.{AreBytes}
-use Rattle.key_codec.proofs.OrderLemmas.{AreBytes-append, AreBytes-big_bytes, AreBytes-cons, AreBytes-none, AreBytes-replicate}
 use Rattle.mdc_sound.specs.EmptyDatabase.{few_extents, empty_pages, empty_view}
 use Rattle.mdc_sound.specs.SoundDatabase.{IsSoundDatabase, KeepAllRules}
-use Rattle.mdc_sound.specs.SpaceRules.{IsPageBytes, IsRootSound, IsMapSound, AreTablePagesSound, IsTreePageSound, IsOwnerThere, stated_root}
+use Rattle.mdc_sound.specs.SpaceRules.{IsRootSound, IsMapSound, AreTablePagesSound, IsTreePageSound, IsOwnerThere, stated_root}
 use Rattle.mdc_sound.specs.StandsForDatabase.{PagesStandFor}
 use Rattle.mdc_sound.specs.ToldPages.{told_pages}
 
-AreBytes-drop : (n : ℕ) (xs : List ℕ) → AreBytes xs → AreBytes (drop n xs)
-AreBytes-drop n xs h = λ k. subst (λ v. v < 256) (sym (get_or-drop n xs k 0)) (h (n + k))
-
-bytes_of_zeros : AreBytes zero_page
-unfolding zero_page
-bytes_of_zeros = AreBytes-replicate 4096 0 (omega arith)
-
-size_of_zeros : length zero_page ≡ 4096
-unfolding zero_page
-size_of_zeros = refl
-
-size_of_root : length (stated_root 18) ≡ 4096
-unfolding zero_page
-size_of_root = refl
-
-zeros : IsPageBytes zero_page
-zeros = record { size = size_of_zeros; bytes = bytes_of_zeros }
-
-AreBytes-root : AreBytes (stated_root 18)
-AreBytes-root =
-    AreBytes-append ((82 ∷ 79 ∷ 79 ∷ 84 ∷ []) ++ big_bytes 4 1 ++ big_bytes 4 18) (drop 12 zero_page)
-    (AreBytes-append (82 ∷ 79 ∷ 79 ∷ 84 ∷ []) (big_bytes 4 1 ++ big_bytes 4 18)
-    (AreBytes-cons 82 (79 ∷ 79 ∷ 84 ∷ []) (omega arith) (AreBytes-cons 79 (79 ∷ 84 ∷ []) (omega arith)
-    (AreBytes-cons 79 (84 ∷ []) (omega arith) (AreBytes-cons 84 [] (omega arith) AreBytes-none))))
-    (AreBytes-append (big_bytes 4 1) (big_bytes 4 18) (AreBytes-big_bytes 4 1) (AreBytes-big_bytes 4 18)))
-    (AreBytes-drop 12 zero_page bytes_of_zeros)
-
-root_page : IsPageBytes (stated_root 18)
-root_page = record { size = size_of_root; bytes = AreBytes-root }
-
 root_is : page_at empty_pages 0 ≡ stated_root (length empty_pages)
 root_is = refl
-
-all_pages : AllByRecursion IsPageBytes empty_pages
-all_pages = (root_page, (zeros, (zeros, (zeros, (zeros, (zeros, (zeros, (zeros, (zeros, (zeros, (zeros, (zeros, (zeros, (zeros, (zeros, (zeros, (zeros, (zeros, tt))))))))))))))))))
 
 root_sound : IsRootSound few_extents empty_pages
 root_sound = record {
   count = record { extents = 0; within = omega arith; count = refl };
   root = root_is;
-  whole = all_pages;
 }
 
 map_is_blank : (i : ℕ) → i < 1 → HoldsPage told_pages empty_pages (17 + i) zero_page

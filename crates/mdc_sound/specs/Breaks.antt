@@ -16,7 +16,7 @@ use Rattle.block_map.specs.BlockMaps.{IsMapForm}
 use Rattle.block_map.specs.MapLines.{MapLine, map_lines, pending_blocks, used_blocks, mapped_blocks}
 use Rattle.mdc_sound.specs.BlockRules.{IsBlockPageSound, IsUsedCountSound, IsIdleCountSound, IsOfOneCell, IsBlockIndexSound, IsSoundIndex, AreRowNumbersSound, IsUniqueSound}
 use Rattle.mdc_sound.specs.FittingRows.{RowFits}
-use Rattle.mdc_sound.specs.SpaceRules.{IsMapPageSound, IsIndexPage, stated_root, IsPageBytes}
+use Rattle.mdc_sound.specs.SpaceRules.{IsMapPageSound, IsIndexPage, stated_root}
 use Rattle.mdc_sound.specs.TablePages.{DefinesTable, table_page_at}
 use Rattle.mdc_sound.specs.TableRows.{PlacedRow, rows_in_block, rows_in_table}
 use Rattle.table_trees.specs.TableTrees.{TreePlace, cell_parts, composite_place, dimension_place, map_place, record_place, rising_parts, tree_places}
@@ -31,20 +31,24 @@ IsWholeOf ext n = (extents : ℕ) × (extents ≤ ext.cap) × (n ≡ first_page_
 abbrev pub ShowsExtentOf : Extents → PageList → List Kind → ℕ → Type 0
 ShowsExtentOf ext pages owners p = IsExtentPage ext p × HoldsMapPage told_pages ext pages owners (extent_of ext p / 512)
 
--- table t, its block map and its rows
-pub record ShowsTable (pages : PageList) (t : ℕ) (def : TableDef) (map_tree : Forest) : Type 0 where
+-- table t is defined so, and P holds of its block map, where that stands
+pub record ShowsTable (pages : PageList) (t : ℕ) (def : TableDef) (P : Forest → Type 0) : Type 0 where
   pub within : t < 16
   pub defines : DefinesTable pages t def
-  pub has_map : HasTree pages (map_place def) map_tree
+  pub map : (map_tree : Forest) → HasTree pages (map_place def) map_tree → P map_tree
 
--- tree i of table t
-pub record ShowsTree (pages : PageList) (t i : ℕ) (tree : Forest) : Type 0 where
+-- a place of tree i of table t
+pub record IsTreePlace (pages : PageList) (t i : ℕ) (place : TreePlace) : Type 0 where
   pub within : t < 16
   pub def : TableDef
-  pub place : TreePlace
   pub defines : DefinesTable pages t def
   pub is_its : slice_get (tree_places def) i ≡ Some place
-  pub has : HasTree pages place tree
+
+-- P holds of tree i of table t, where that stands
+pub record ShowsTree (pages : PageList) (t i : ℕ) (P : Forest → Type 0) : Type 0 where
+  pub place : TreePlace
+  pub is_place : IsTreePlace pages t i place
+  pub tree : (tree : Forest) → HasTree pages place tree → P tree
 
 -- a table has a record index
 pub record HasIndex (pages : PageList) (t : ℕ) (index : IndexDef) : Type 0 where
@@ -58,8 +62,6 @@ pub data BreaksRule (ext : Extents) (pages : PageList) : (rule page : ℕ) → T
   -- the root page states no count of whole extents, or has another form; and a page that it counts and that isn't there
   root : ((n : ℕ) → IsWholeOf ext n → length pages ≤ n → page_at pages 0 ≡ stated_root n → ⊥) → BreaksRule ext pages 1 0
   missing : (n p : ℕ) → IsWholeOf ext n → page_at pages 0 ≡ stated_root n → length pages ≤ p → p < n → BreaksRule ext pages 1 p
-  -- a page that isn't 4,096 bytes
-  torn : (p : ℕ) → p < length pages → (IsPageBytes (page_at pages p) → ⊥) → BreaksRule ext pages 1 p
   -- a page of the extent map, of which no owners can be said
   map_page : (i : ℕ) → i < map_pages ext.cap → ((owners : List Kind) → IsMapPageSound ext pages owners i → ⊥) → BreaksRule ext pages 2 (17 + i)
   -- a table page that is neither zeros alone nor that of a definition
@@ -76,38 +78,37 @@ pub data BreaksRule (ext : Extents) (pages : PageList) : (rule page : ℕ) → T
   tree : (t : ℕ) (def : TableDef) (place : TreePlace) → t < 16 → DefinesTable pages t def → Contains (tree_places def) place
       → ((t : Forest) → HasTree pages place t → ⊥) → BreaksRule ext pages 4 place.root
   -- a page in two trees, a used index page in none, and a page of a tree that isn't a used index page
-  shared : (t u i j p : ℕ) (a b : Forest) → ShowsTree pages t i a → ShowsTree pages u j b → (t ≢ u) ⊎ (i ≢ j)
-      → 0 < times p a → 0 < times p b → BreaksRule ext pages 5 p
+  shared : (t u i j p : ℕ) → ShowsTree pages t i (λ a. 0 < times p a) → ShowsTree pages u j (λ b. 0 < times p b) → (t ≢ u) ⊎ (i ≢ j)
+      → BreaksRule ext pages 5 p
   in_none : (p : ℕ) (owners : List Kind) → ShowsExtentOf ext pages owners p → IsUsedPage ext owners p
-      → ((t i : ℕ) (tree : Forest) → ShowsTree pages t i tree → times p tree ≡ 0) → BreaksRule ext pages 5 p
-  outside : (t i p : ℕ) (tree : Forest) → ShowsTree pages t i tree → 0 < times p tree → (IsExtentPage ext p → ⊥) → BreaksRule ext pages 5 p
-  not_used : (t i p : ℕ) (tree : Forest) (owners : List Kind) → ShowsTree pages t i tree → 0 < times p tree → ShowsExtentOf ext pages owners p
+      → ((t i : ℕ) (place : TreePlace) (tree : Forest) → IsTreePlace pages t i place → HasTree pages place tree → times p tree ≡ 0) → BreaksRule ext pages 5 p
+  outside : (t i p : ℕ) → ShowsTree pages t i (λ tree. 0 < times p tree) → (IsExtentPage ext p → ⊥) → BreaksRule ext pages 5 p
+  not_used : (t i p : ℕ) (owners : List Kind) → ShowsTree pages t i (λ tree. 0 < times p tree) → ShowsExtentOf ext pages owners p
       → (IsUsedPage ext owners p → ⊥) → BreaksRule ext pages 5 p
   -- a block map with a state above 2, or that names a block twice; an entry of one that names no extent; one that names what is
   -- no block of the table, and a block of the table that isn't named
   map_form : (t : ℕ) (def : TableDef) → t < 16 → DefinesTable pages t def → ((map_tree : Forest) → HasTree pages (map_place def) map_tree → IsMapForm map_tree → ⊥)
       → BreaksRule ext pages 6 def.roots.map
-  map_past : (t : ℕ) (def : TableDef) (map_tree : Forest) (line : MapLine) → ShowsTable pages t def map_tree → Contains (map_lines map_tree) line
+  map_past : (t : ℕ) (def : TableDef) (line : MapLine) → ShowsTable pages t def (λ map_tree. Contains (map_lines map_tree) line)
       → ext.cap ≤ line.block → BreaksRule ext pages 6 def.roots.map
-  map_other : (t : ℕ) (def : TableDef) (map_tree : Forest) (line : MapLine) (owners : List Kind) → ShowsTable pages t def map_tree → Contains (map_lines map_tree) line
+  map_other : (t : ℕ) (def : TableDef) (line : MapLine) (owners : List Kind) → ShowsTable pages t def (λ map_tree. Contains (map_lines map_tree) line)
       → line.block < ext.cap → HoldsMapPage told_pages ext pages owners (line.block / 512) → owner_of owners line.block ≢ kind.Block def.number
       → BreaksRule ext pages 6 def.roots.map
-  map_lacks : (t e : ℕ) (def : TableDef) (map_tree : Forest) (owners : List Kind) → ShowsTable pages t def map_tree → e < ext.cap
-      → HoldsMapPage told_pages ext pages owners (e / 512) → owner_of owners e ≡ kind.Block def.number → (Contains (mapped_blocks map_tree) e → ⊥)
-      → BreaksRule ext pages 6 def.roots.map
+  map_lacks : (t e : ℕ) (def : TableDef) (owners : List Kind) → ShowsTable pages t def (λ map_tree. Contains (mapped_blocks map_tree) e → ⊥) → e < ext.cap
+      → HoldsMapPage told_pages ext pages owners (e / 512) → owner_of owners e ≡ kind.Block def.number → BreaksRule ext pages 6 def.roots.map
   -- a page of a Used block that is no row page, and one with a row that doesn't fit
-  row_page : (t : ℕ) (def : TableDef) (map_tree : Forest) (block j : ℕ) → ShowsTable pages t def map_tree → Contains (used_blocks map_tree) block
+  row_page : (t : ℕ) (def : TableDef) (block j : ℕ) → ShowsTable pages t def (λ map_tree. Contains (used_blocks map_tree) block)
       → j < ext.extent_pages → (IsBlockPageSound ext pages def block j → ⊥) → BreaksRule ext pages 7 (first_page_of ext.cap ext.extent_pages block + j)
-  row : (t : ℕ) (def : TableDef) (map_tree : Forest) (block : ℕ) (placed : PlacedRow) → ShowsTable pages t def map_tree → Contains (used_blocks map_tree) block
+  row : (t : ℕ) (def : TableDef) (block : ℕ) (placed : PlacedRow) → ShowsTable pages t def (λ map_tree. Contains (used_blocks map_tree) block)
       → Contains (rows_in_block ext pages def block) placed → (RowFits def placed.row → ⊥)
       → BreaksRule ext pages 7 (first_page_of ext.cap ext.extent_pages block + placed.rid.slot / slot_count def.columns)
   -- the first page of a block whose count isn't right
-  used_count : (t : ℕ) (def : TableDef) (map_tree : Forest) (line : MapLine) → ShowsTable pages t def map_tree → Contains (map_lines map_tree) line
+  used_count : (t : ℕ) (def : TableDef) (line : MapLine) → ShowsTable pages t def (λ map_tree. Contains (map_lines map_tree) line)
       → (IsUsedCountSound ext pages def line → ⊥) → BreaksRule ext pages 8 (first_page_of ext.cap ext.extent_pages line.block)
-  idle_count : (t : ℕ) (def : TableDef) (map_tree : Forest) (line : MapLine) → ShowsTable pages t def map_tree → Contains (map_lines map_tree) line
+  idle_count : (t : ℕ) (def : TableDef) (line : MapLine) → ShowsTable pages t def (λ map_tree. Contains (map_lines map_tree) line)
       → (IsIdleCountSound line → ⊥) → BreaksRule ext pages 8 (first_page_of ext.cap ext.extent_pages line.block)
   -- the first page of a block whose rows are of two cells
-  cell : (t : ℕ) (def : TableDef) (map_tree : Forest) (block : ℕ) → ShowsTable pages t def map_tree → Contains (used_blocks map_tree) block
+  cell : (t : ℕ) (def : TableDef) (block : ℕ) → ShowsTable pages t def (λ map_tree. Contains (used_blocks map_tree) block)
       → (IsOfOneCell ext pages def block → ⊥) → BreaksRule ext pages 9 (first_page_of ext.cap ext.extent_pages block)
   -- the root of a block index, and of a record index
   composite : (t : ℕ) (def : TableDef) → t < 16 → DefinesTable pages t def
@@ -117,14 +118,14 @@ pub data BreaksRule (ext : Extents) (pages : PageList) : (rule page : ℕ) → T
       → slice_get def.dims i ≡ Some dim → slice_get def.roots.dims i ≡ Some root
       → ((map_tree index : Forest) → HasTree pages (map_place def) map_tree → HasTree pages (dimension_place def dim root) index
       → IsBlockIndexSound def (rows_in_table ext pages def map_tree) (rising_parts dim) index → ⊥) → BreaksRule ext pages 10 root
-  record_index : (t : ℕ) (def : TableDef) (map_tree tree : Forest) (index : IndexDef) → ShowsTable pages t def map_tree → Contains def.indexes index
-      → HasTree pages (record_place def index) tree
-      → (IsSoundIndex def (rows_in_table ext pages def map_tree) (pending_blocks map_tree) index tree → ⊥) → BreaksRule ext pages 11 index.root
+  record_index : (t : ℕ) (def : TableDef) (index : IndexDef) → t < 16 → DefinesTable pages t def → Contains def.indexes index
+      → ((map_tree tree : Forest) → HasTree pages (map_place def) map_tree → HasTree pages (record_place def index) tree
+      → IsSoundIndex def (rows_in_table ext pages def map_tree) (pending_blocks map_tree) index tree → ⊥) → BreaksRule ext pages 11 index.root
   -- the table page, for row numbers and for UNIQUE indexes
-  numbers : (t : ℕ) (def : TableDef) (map_tree : Forest) → ShowsTable pages t def map_tree
-      → (AreRowNumbersSound def (rows_in_table ext pages def map_tree) → ⊥) → BreaksRule ext pages 12 (1 + t)
-  unique : (t : ℕ) (def : TableDef) (map_tree : Forest) (index : IndexDef) → ShowsTable pages t def map_tree → Contains def.indexes index
-      → (IsUniqueSound (rows_in_table ext pages def map_tree) index → ⊥) → BreaksRule ext pages 12 (1 + t)
+  numbers : (t : ℕ) (def : TableDef) → ShowsTable pages t def (λ map_tree. AreRowNumbersSound def (rows_in_table ext pages def map_tree) → ⊥)
+      → BreaksRule ext pages 12 (1 + t)
+  unique : (t : ℕ) (def : TableDef) (index : IndexDef) → Contains def.indexes index
+      → ShowsTable pages t def (λ map_tree. IsUniqueSound (rows_in_table ext pages def map_tree) index → ⊥) → BreaksRule ext pages 12 (1 + t)
 
 -- of a database that isn't sound: the first rule that is broken, and the lowest page that breaks it
 pub record IsFirstBreak (ext : Extents) (pages : PageList) (rule page : ℕ) : Type 0 where

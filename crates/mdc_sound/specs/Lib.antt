@@ -5,8 +5,10 @@ pub mod EmptyDatabase
 pub mod FittingRows
 pub mod Placing
 pub mod RunningFull
+pub mod SmallDatabase
 pub mod SoundDatabase
 pub mod SpaceRules
+pub mod StandingTable
 pub mod StandsForDatabase
 pub mod TablePages
 pub mod TableRows

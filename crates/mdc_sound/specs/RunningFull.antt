@@ -1,6 +1,6 @@
 -- When a statement runs full: the changes of space that it makes, what each asks for, and where no room is left for the next
 -- (docs/FORMAT.md, "Running full"). Rows in slots don't occur here.
-use Rattle.std.specs.Prelude.{◌≡◌, ◌≢◌, ◌≤◌, ◌<◌, ◌⊎◌, ◌↔◌, ℕ, ◌+◌, ◌-◌, ◌/◌, ◌==◌, if◌then◌else◌, slice_index_or, zip, List, [], ◌∷◌, ◌++◌, map, filter, not, count_by, sum_by, Option, AllPairs, IsPermutation}
+use Rattle.std.specs.Prelude.{◌≡◌, ◌≢◌, ◌≤◌, ◌<◌, ◌⊎◌, ◌↔◌, ℕ, ◌+◌, ◌-◌, ◌/◌, ◌==◌, if◌then◌else◌, slice_index_or, zip, List, [], ◌∷◌, ◌++◌, length, map, filter, not, count_by, sum_by, Option, AllPairs, IsPermutation}
 use Rattle.std.specs.List.{FoldsTo, range_with_len}
 use Rattle.std.specs.Str.{bytes_eq}
 use Rattle.mdc_words.specs.ByteOrder.{Entry}
@@ -17,6 +17,8 @@ use Rattle.extent_map.specs.declared.extents.Extents.{Extents}
 use Rattle.extent_map.specs.declared.kind.Kind.{Kind}
 use Rattle.extent_map.specs.declared.kind.Kind.TheVariants as kind
 use Rattle.key_codec.specs.Keys.{key_bytes}
+use Rattle.node_page.specs.Node.{Node}
+use Rattle.node_page.specs.Node.Node.{LeafNode, InnerNode, NoNode}
 use Rattle.row_page.specs.RowPage.{count_rows}
 use Rattle.entry_tree.specs.EntryBounds.{IsEntryOf, with_entry}
 use Rattle.entry_tree.specs.Forest.{EachNode, Forest, leaf_entries, times}
@@ -97,6 +99,12 @@ pub record TurnsTree (ext : Extents) (old_owners new_owners : List Kind) (old ne
   pub others : KeepsIndexPages ext old_owners new_owners old new before
   pub blocks : KeepsBlocks old_owners new_owners
 
+-- a leaf has as many entries as it had
+abbrev pub KeepsLeafCount : (ℕ → Node) → ℕ → Node → Type 0
+KeepsLeafCount was page (LeafNode items) = (were : List Entry) × (was page ≡ LeafNode were) × (length were ≡ length items)
+KeepsLeafCount was page (InnerNode separators children) = Unit {0}
+KeepsLeafCount was page NoNode = Unit {0}
+
 -- what a change does to the extents and the trees
 abbrev pub ChangesSpace : Extents → SpaceChange → List Kind → List Kind → PageList → PageList → Type 0
 ChangesSpace ext (ClaimBlock t block) old_owners new_owners old new =
@@ -112,6 +120,7 @@ ChangesSpace ext (RemoveEntry place entry) old_owners new_owners old new =
 ChangesSpace ext (AmendEntry place was is) old_owners new_owners old new =
     (before : Forest) × (after : Forest) × (rest : List Entry) × TurnsTree ext old_owners new_owners old new place before after
     × (leaf_entries before ≡ with_entry was rest) × (leaf_entries after ≡ with_entry is rest)
+    × EachNode (KeepsLeafCount (nodes_in place.width (telling old))) after
 ChangesSpace ext (MakeTree place) old_owners new_owners old new =
     HasTree new place (Forest.Leaf place.root [] Forest.Nil) × (IsUsedPage ext old_owners place.root → ⊥) × IsUsedPage ext new_owners place.root
     × KeepsIndexPages ext old_owners new_owners old new Forest.Nil × KeepsBlocks old_owners new_owners
@@ -269,11 +278,12 @@ pub record InsertRunsFull (ext : Extents) (work : PageList) (def : TableDef) (ro
   pub inserting : InsertingChanges def (block_slot_count ext def) spots rows changes
   pub full : RunsFull ext work changes
 
--- an UPDATE of these rows of a table, each to another, runs full
+-- an UPDATE of these rows of a table, by rising row number, each to another, runs full
 pub record UpdateRunsFull (ext : Extents) (work : PageList) (def : TableDef) (rows : List (PlacedRow × Row)) : Type 0 where
   pub spots : List Spot
   pub changes : List SpaceChange
   pub shows : ShowsTableSpots ext work def spots
+  pub rising : AllPairs (λ a b. a.0.row.number < b.0.row.number) rows
   pub updating : UpdatingChanges def (block_slot_count ext def) spots rows changes
   pub full : RunsFull ext work changes
 

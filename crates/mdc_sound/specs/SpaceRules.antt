@@ -11,11 +11,10 @@ use Rattle.extent_map.specs.Owners.{IsExtentPage, IsUsedPage, extent_of, owner_o
 use Rattle.extent_map.specs.declared.extents.Extents.{Extents}
 use Rattle.extent_map.specs.declared.kind.Kind.{Kind}
 use Rattle.extent_map.specs.declared.kind.Kind.TheVariants.{Free, Block, Index}
-use Rattle.key_codec.specs.Keys.{AreBytes}
 use Rattle.node_page.specs.Node.{filled_page}
 use Rattle.entry_tree.specs.Forest.{Forest, times}
 use Rattle.mdc_sound.specs.TablePages.{DefinesTable, IsTableThere, table_page_at}
-use Rattle.block_map.specs.MapLines.{MapLine, map_lines, mapped_blocks}
+use Rattle.block_map.specs.MapLines.{AreMapEntries, MapLine, map_lines, mapped_blocks}
 use Rattle.table_trees.specs.TableTrees.{tree_places}
 use Rattle.mdc_sound.specs.TableViews.{HasTree, TableView, trees_of_table}
 use Rattle.mdc_sound.specs.ToldPages.{PageList, told_pages}
@@ -41,16 +40,10 @@ EachTable view P = AllByRecursion P (tables_there view.places)
 abbrev pub stated_root : ℕ → List ℕ
 stated_root count = filled_page ((82 ∷ 79 ∷ 79 ∷ 84 ∷ []) ++ big_bytes 4 1 ++ big_bytes 4 count)
 
--- a page: 4,096 bytes
-pub record IsPageBytes (page : List ℕ) : Type 0 where
-  pub size : length page ≡ 4096
-  pub bytes : AreBytes page
-
--- The root page states how many pages there are, which some number of whole extents make, and each has 4,096 bytes.
+-- The root page states how many pages there are, which some number of whole extents make.
 pub record IsRootSound (ext : Extents) (pages : PageList) : Type 0 where
   pub count : IsWholeCount told_pages ext pages
   pub root : page_at pages 0 ≡ stated_root (length pages)
-  pub whole : AllByRecursion IsPageBytes pages
 
 -- ---- 2: the extent map
 
@@ -136,8 +129,9 @@ pub record IsMapLineSound (ext : Extents) (owners : List Kind) (def : TableDef) 
   pub within : line.block < ext.cap
   pub owned : owner_of owners line.block ≡ Block def.number
 
--- the block map names each block of the table, once, and nothing else
+-- The block map names each block of the table, once, and nothing else. Its entries are bytes, as those of any page are.
 pub record IsBlockMapSound (ext : Extents) (owners : List Kind) (def : TableDef) (map_tree : Forest) : Type 0 where
+  pub entries : AreMapEntries map_tree
   pub lines : AllByRecursion (IsMapLineSound ext owners def) (map_lines map_tree)
   pub once_each : AllPairs (λ a b. a ≢ b) (mapped_blocks map_tree)
   pub all_named : (e : ℕ) → e < ext.cap → owner_of owners e ≡ Block def.number → Contains (mapped_blocks map_tree) e

@@ -1,6 +1,7 @@
-// What holds of every list of pages, and of two databases that were worked out by hand.
-ghost use Rattle.std.specs.Prelude.{◌≡◌, ◌↔◌, ℕ, IsTrue, List};
+// What holds of every list of pages and of every store that tells its pages, and of databases that were worked out by hand.
+ghost use Rattle.std.specs.Prelude.{◌≡◌, ◌↔◌, ◌<◌, ◌≤◌, ◌^◌, ℕ, IsTrue, List, [], length};
 ghost use Rattle.std.specs.List.{AllByRecursion};
+ghost use Rattle.store_api.specs.Frame.{Touches};
 ghost use Rattle.extent_map.specs.Map.{HoldsMap};
 ghost use Rattle.extent_map.specs.declared.extents.Extents.{Extents};
 ghost use Rattle.extent_map.specs.declared.kind.Kind.{Kind};
@@ -10,10 +11,14 @@ ghost use Rattle.table_trees.specs.TableTrees.{AreIndexParts, HasBlockIndexes, T
 ghost use Rattle.table_trees.specs.TreesBeside.{HoldsTreeAt};
 ghost use Rattle.mdc_ast.specs.declared.definition.TableDef.{TableDef};
 ghost use Rattle.mdc_ast.specs.meaning.Database.{Database, empty_database};
+ghost use Rattle.mdc_sound.specs.BlockRules.{AreRowNumbersSound};
 ghost use Rattle.mdc_sound.specs.EmptyDatabase.{few_extents, empty_pages};
-ghost use Rattle.mdc_sound.specs.SoundDatabase.{KeepAllRules, IsSoundInParts, IsSoundDatabase};
+ghost use Rattle.mdc_sound.specs.SmallDatabase.{small_database, small_pages};
+ghost use Rattle.mdc_sound.specs.SoundDatabase.{KeepAllRules, IsSoundBetweenChanges, IsSoundInParts, IsSoundDatabase, IsSoundWith};
 ghost use Rattle.mdc_sound.specs.SpaceRules.{DatabaseView};
+ghost use Rattle.mdc_sound.specs.StandingTable.{ChangesTable, IsTableSpace, StandsTable, TableForests, pages_of};
 ghost use Rattle.mdc_sound.specs.StandsForDatabase.{PagesStandFor};
+ghost use Rattle.mdc_sound.specs.TableRows.{rows_in_table};
 ghost use Rattle.mdc_sound.specs.TableViews.{HasTree};
 ghost use Rattle.mdc_sound.specs.ToldPages.{PageList, told_pages};
 
@@ -29,6 +34,12 @@ pub fn rules_make_parts()
 pub fn empty_database_is_sound()
     ensures sound { IsSoundDatabase few_extents empty_pages }
     ensures stands { PagesStandFor few_extents empty_pages empty_database }
+{}
+
+/// A database of two tables with three cells and two nulls, on 32 pages, is sound, and stands for its rows.
+pub fn small_database_is_sound()
+    ensures sound { IsSoundDatabase few_extents small_pages }
+    ensures stands { PagesStandFor few_extents small_pages small_database }
 {}
 
 /// Pages stand for one database at most.
@@ -50,4 +61,33 @@ pub fn told_stores_hold_their_pages<P: Pages>(pages: &P)
 pub fn definitions_have_their_trees()
     ensures blocks { (t : ℕ) (def : TableDef) → IsTableDef t def → HasBlockIndexes def }
     ensures records { (t : ℕ) (def : TableDef) → IsTableDef t def → AllByRecursion (λ index. AreIndexParts def.columns index.parts) def.indexes }
+{}
+
+/// Where a store tells pages that are sound with a definition in hand, the table of this definition stands.
+pub fn sound_tables_stand<P: Pages>(pages: &P)
+    ensures { IsTrue (P.state pages.now).is_told → (ext : Extents) (def : TableDef) → IsSoundWith ext def (pages_of P.Pages pages.now)
+        → (owners : List Kind) × (forests : TableForests) × StandsTable P.Pages ext pages.now def owners forests }
+{}
+
+/// Calls that change one table, and touch no page but its own, keep all pages sound with its definition in hand, and with the same
+/// definition but for its next row number. The same holds between two changes of a table without record indexes, where the numbers
+/// of its rows differ and lie below the next one.
+pub fn changed_tables_stay_sound<P: Pages>(old: &P, new: &P)
+    ensures same_definition { (before ext : Extents) (def : TableDef) (owners owners_now : List Kind) (forests forests_now : TableForests)
+        → IsSoundWith before def (pages_of P.Pages old.now) → StandsTable P.Pages before old.now def owners forests
+        → ChangesTable P.Pages before ext old.now new.now def owners forests owners_now forests_now
+        → Touches P.Pages (IsTableSpace P.Pages before old.now def) old.now new.now → length (pages_of P.Pages old.now) ≤ length (pages_of P.Pages new.now)
+        → IsSoundWith ext def (pages_of P.Pages new.now) }
+    ensures next_number { (before ext : Extents) (def : TableDef) (owners owners_now : List Kind) (forests forests_now : TableForests) (next : ℕ)
+        → IsSoundWith before def (pages_of P.Pages old.now) → StandsTable P.Pages before old.now def owners forests
+        → ChangesTable P.Pages before ext old.now new.now def owners forests owners_now forests_now
+        → Touches P.Pages (IsTableSpace P.Pages before old.now def) old.now new.now → length (pages_of P.Pages old.now) ≤ length (pages_of P.Pages new.now)
+        → next < 2 ^ 64 → IsSoundWith ext (record def { next = next }) (pages_of P.Pages new.now) }
+    ensures between_changes { (before ext : Extents) (def : TableDef) (owners owners_now : List Kind) (forests forests_now : TableForests) (next : ℕ)
+        → IsSoundBetweenChanges before def (pages_of P.Pages old.now) → StandsTable P.Pages before old.now def owners forests
+        → ChangesTable P.Pages before ext old.now new.now def owners forests owners_now forests_now
+        → Touches P.Pages (IsTableSpace P.Pages before old.now def) old.now new.now → length (pages_of P.Pages old.now) ≤ length (pages_of P.Pages new.now)
+        → def.indexes ≡ [] → next < 2 ^ 64
+        → AreRowNumbersSound (record def { next = next }) (rows_in_table ext (pages_of P.Pages new.now) def forests_now.map)
+        → IsSoundBetweenChanges ext (record def { next = next }) (pages_of P.Pages new.now) }
 {}

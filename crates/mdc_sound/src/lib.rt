@@ -9,6 +9,7 @@
 mod laws;
 
 pub use laws::{
-    definitions_have_their_trees, empty_database_is_sound, pages_stand_for_one, rules_make_parts,
+    changed_tables_stay_sound, definitions_have_their_trees, empty_database_is_sound,
+    pages_stand_for_one, rules_make_parts, small_database_is_sound, sound_tables_stand,
     told_stores_hold_their_pages,
 };

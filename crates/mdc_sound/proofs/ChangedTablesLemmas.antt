@@ -1,0 +1,268 @@
+-- Where a store that tells its pages was sound with a definition in hand, and calls on the table's rows changed the table, it is
+-- sound with the definition that is in hand then.
+use Rattle.std.proofs.Common.{◌≡◌, ◌≢◌, ◌<◌, ◌≤◌, ◌+◌, ℕ, suc, List, [], ◌∷◌, Some, length, sum_by, refl, ap, arith, sym, ◌∙◌, subst, inl, inr}
+use Rattle.std.specs.Prelude.{slice_get, slice_set, zip}
+use Rattle.std.specs.List.{AllByRecursion, AllZip}
+use Rattle.std.proofs.lemmas.Bool.{cases_lt}
+use Rattle.std.proofs.lemmas.List.{get_or-set_same, length-append, length-map}
+use Rattle.mdc_words.proofs.PlacesLemmas.{slice_get-set_same}
+use Rattle.mdc_ast.specs.declared.definition.IndexDef.{IndexDef}
+use Rattle.mdc_ast.specs.declared.definition.TableDef.{TableDef}
+use Rattle.store_api.specs.Extents.{first_page_of}
+use Rattle.store_api.specs.Frame.{HoldsPage, OnlyPage, Touches}
+use Rattle.store_api.specs.StoreState.{page_at}
+use Rattle.store_api.specs.declared.pages.Pages.{Ghosts}
+use Rattle.extent_map.specs.Map.{IsWholeCount, root_stating}
+use Rattle.extent_map.specs.declared.extents.Extents.{Extents}
+use Rattle.extent_map.specs.declared.kind.Kind.{Kind}
+use Rattle.entry_tree.specs.Forest.{Forest, times}
+use Rattle.table_page.specs.TableLimits.{IsTableDef}
+use Rattle.table_page.specs.TablePage.{table_page}
+use Rattle.table_trees.specs.TableTrees.{dimension_place, dimension_places, record_place, record_places, rising_parts, tree_places}
+use Rattle.table_trees.specs.TreesBeside.{HoldsTreeAt}
+use Rattle.block_map.specs.MapLines.{pending_blocks}
+use Rattle.mdc_sound.specs.BlockRules.{AreNumbersSound, AreRowNumbersSound, AreSoundIndexes, AreTableIndexesSound, IsBlockIndexSound, IsSoundIndex}
+use Rattle.mdc_sound.specs.SoundDatabase.{IsSoundBetweenChanges, IsSoundWith, with_table_page}
+use Rattle.mdc_sound.specs.SpaceRules.{IsRootSound, IsTablePlaceSound, stated_root, tables_there}
+use Rattle.mdc_sound.specs.StandingTable.{ChangesTable, IsTableSpace, StandsTable, TableForests, forests_in_order, pages_of, view_of}
+use Rattle.mdc_sound.specs.TablePages.{DefinesTable}
+use Rattle.mdc_sound.specs.TableRows.{PlacedRow, rows_in_table}
+use Rattle.mdc_sound.specs.TableViews.{TableView, trees_of_table}
+use Rattle.mdc_sound.specs.ToldPages.{PageList, told_pages}
+use Rattle.mdc_sound.proofs.NextNumberLemmas.{limits_next, stands_next, with_next}
+use Rattle.mdc_sound.proofs.SoundChangeLemmas.{ChangesPlace, IsPlaceSpace, each_table_now, first_rules_now}
+use Rattle.mdc_sound.proofs.SoundDatabaseLemmas.{length-with_table_page, page_at-with_table_page, put_table_page, rows_with_table_page}
+use Rattle.mdc_sound.proofs.SpaceRulesLemmas.{range_at, range_length}
+use Rattle.mdc_sound.proofs.StandingTableLemmas.{forests_of, number_of_place, one_standing, stands_listed, stands_of_sound, stands_still}
+
+-- ---- page 0
+
+-- the root page, with another count
+root_stated_again : (m n : ℕ) → root_stating m (stated_root n) ≡ stated_root m
+root_stated_again m n = refl
+
+first_page_same : (a b n m e : ℕ) → a ≡ b → n ≡ m → first_page_of a n e ≡ first_page_of b m e
+first_page_same a b n m e same size = ap (λ x. first_page_of x n e) same ∙ ap (λ y. first_page_of b y e) size
+
+-- ---- a table without record indexes
+
+pairs_count : {A B : Type 0} (R : A → B → Type 0) (xs : List A) (ys : List B) → AllZip R xs ys → length xs ≡ length ys
+pairs_count R [] [] all = refl
+pairs_count R [] (y ∷ ys) all = absurd all
+pairs_count R (x ∷ xs) [] all = absurd all
+pairs_count R (x ∷ xs) (y ∷ ys) all = ap suc (pairs_count R xs ys all.1)
+
+no_elements : {A : Type 0} (xs : List A) → length xs ≡ 0 → xs ≡ []
+no_elements [] none = refl
+no_elements (x ∷ xs) none = absurd (omega (arith, none))
+
+zip_count : (dims : List (List ℕ)) (roots : List ℕ) → length roots ≡ length dims → length (zip dims roots) ≡ length dims
+zip_count [] roots same = refl
+zip_count (dim ∷ dims) [] same = absurd (omega (arith, same))
+zip_count (dim ∷ dims) (root ∷ roots) same = ap suc (zip_count dims roots (omega (arith, same)))
+
+-- has no trees of such
+no_index_trees : {S : Type 0} (g : Ghosts S) (ext : Extents) (s : S) (def : TableDef) (owners : List Kind) (forests : TableForests) → StandsTable g ext s def owners forests
+    → length def.roots.dims ≡ length def.dims → def.indexes ≡ [] → forests.indexes ≡ []
+no_index_trees g ext s def owners forests st one_each none =
+    let all = pairs_count (HoldsTreeAt g s) (tree_places def) (forests_in_order forests) st.trees.held in
+    let dims = pairs_count (λ dim index. IsBlockIndexSound def (rows_in_table ext (pages_of g s) def forests.map) (rising_parts dim) index) def.dims forests.dims st.indexes.dims in
+    let places = length-append (dimension_places def) (record_places def) in
+    let trees = length-append forests.dims forests.indexes in
+    let of_dims = length-map (zip def.dims def.roots.dims) (λ (pair : List ℕ × ℕ). dimension_place def pair.0 pair.1) ∙ zip_count def.dims def.roots.dims one_each in
+    let of_indexes = length-map def.indexes (record_place def) ∙ ap length none in
+    no_elements forests.indexes (omega (arith, all, dims, places, trees, of_dims, of_indexes))
+
+no_indexes_sound : (ext : Extents) (pages : PageList) (def : TableDef) (forests : TableForests) → def.indexes ≡ [] → forests.indexes ≡ [] → AreTableIndexesSound ext pages (view_of def forests)
+no_indexes_sound ext pages def forests none trees =
+    let R : IndexDef → Forest → Type 0 = IsSoundIndex def (rows_in_table ext pages def forests.map) (pending_blocks forests.map) in
+    subst (λ indexes. AllZip R indexes forests.indexes) (sym none) (subst (λ found. AllZip R [] found) (sym trees) tt)
+
+-- ---- the change
+
+module _ {S : Type 0} (g : Ghosts S) (before ext : Extents) (old new : S) (def : TableDef) (owners owners_now : List Kind) (forests forests_now : TableForests)
+    (sound : IsSoundWith before def (pages_of g old)) (st : StandsTable g before old def owners forests)
+    (changes : ChangesTable g before ext old new def owners forests owners_now forests_now)
+    (touched : Touches g (IsTableSpace g before old def) old new) (longer : length (pages_of g old) ≤ length (pages_of g new)) where
+  stood : StandsTable g before old def sound.view.owners (forests_of sound.table)
+  stood = stands_of_sound g before old def sound st.told
+
+  same_standing : (owners ≡ sound.view.owners) × (forests_in_order forests ≡ trees_of_table sound.table)
+  same_standing = one_standing g before old def owners sound.view.owners forests (forests_of sound.table) st stood
+
+  same_owners : owners ≡ sound.view.owners
+  same_owners = same_standing.0
+
+  times_same : (p : ℕ) → sum_by (times p) (forests_in_order forests) ≡ sum_by (times p) (trees_of_table sound.table)
+  times_same p = ap (sum_by (times p)) same_standing.1
+
+  low : def.number < 16
+  low = (number_of_place before (with_table_page def (pages_of g old)) sound.view sound.first def.number sound.table sound.there).0
+
+  enough_pages : 17 ≤ length (pages_of g old)
+  enough_pages = omega (arith, sound.first.rule1.count.count, length-with_table_page def (pages_of g old))
+
+  limits : IsTableDef def.number def
+  limits =
+      let here = range_at (IsTablePlaceSound before (with_table_page def (pages_of g old)) sound.view.owners) 0 16 sound.view.places def.number (Some sound.table) sound.first.rule3.each sound.there in
+      let same : 0 + def.number ≡ def.number = omega arith in
+      subst (λ d. IsTableDef def.number d) sound.same (subst (λ t. IsTableDef t sound.table.def) same here.1.0.limits)
+
+  -- page 0 states how many pages there are now
+  root_then : HoldsPage g old 0 (stated_root (length (pages_of g old)))
+  root_then =
+      let count = length-with_table_page def (pages_of g old) in record {
+        is_told = st.told;
+        within = omega (arith, enough_pages);
+        bytes_are = sym (page_at-with_table_page def (pages_of g old) 0 (λ e. omega (arith, e))) ∙ (sound.first.rule1.root ∙ ap stated_root count);
+      }
+
+  root_now : page_at (pages_of g new) 0 ≡ stated_root (length (pages_of g new))
+  root_now = elim (cases_lt (length (pages_of g old)) (length (pages_of g new))) [
+    | inl grown ↦ (changes.grows.stated.grown grown (stated_root (length (pages_of g old))) root_then).bytes_are ∙ root_stated_again (length (pages_of g new)) (length (pages_of g old))
+    | inr not_grown ↦
+        let same : length (pages_of g new) ≡ length (pages_of g old) = omega (arith, not_grown, longer) in
+        (changes.grows.stated.same same (stated_root (length (pages_of g old))) root_then).bytes_are ∙ ap stated_root (sym same)
+  ]
+
+  whole_then : IsWholeCount g before old
+  whole_then =
+      let count = sound.first.rule1.count in
+      record { extents = count.extents; within = count.within; count = sym (length-with_table_page def (pages_of g old)) ∙ count.count }
+
+  module _ (def_now : TableDef) (same_number : def_now.number ≡ def.number) (same_name : def_now.name ≡ def.name) (same_indexes : def_now.indexes ≡ def.indexes)
+      (limits_now : IsTableDef def.number def_now) (stands_now : StandsTable g ext new def_now owners_now forests_now) where
+    pages_now : PageList
+    pages_now = with_table_page def_now (pages_of g new)
+
+    low_now : def_now.number < 16
+    low_now = omega (arith, low, same_number)
+
+    length_now : length pages_now ≡ length (pages_of g new)
+    unfolding pages_now
+    length_now = length-with_table_page def_now (pages_of g new)
+
+    root_sound_now : IsRootSound ext pages_now
+    unfolding pages_now
+    root_sound_now =
+        let whole = changes.grows.whole whole_then in record {
+          count = record {
+            extents = whole.extents;
+            within = omega (arith, whole.within, changes.shape.cap);
+            count = length_now ∙ (whole.count ∙ first_page_same before.cap ext.cap before.extent_pages ext.extent_pages whole.extents (sym changes.shape.cap) (sym changes.shape.extent_pages));
+          };
+          root = page_at-with_table_page def_now (pages_of g new) 0 (λ e. omega (arith, e)) ∙ (root_now ∙ ap stated_root (sym length_now));
+        }
+
+    listed_now : StandsTable told_pages ext pages_now def_now owners_now forests_now
+    unfolding pages_now
+    listed_now =
+        let listed = stands_listed g new stands_now.told ext def_now owners_now forests_now stands_now in
+        stands_still (OnlyPage (1 + def_now.number)) ext (pages_of g new) pages_now def_now owners_now forests_now listed (put_table_page def_now (pages_of g new)) refl
+        (omega (arith, length_now))
+        (λ p on only. omega (arith, on.0, only, low_now))
+        (λ p l only. omega (arith, (listed.trees.used p l).page.behind, only, low_now))
+        (λ p of only. omega (arith, of.page.behind, only, low_now))
+
+    defines_now : DefinesTable pages_now def.number def_now
+    unfolding pages_now
+    defines_now = record {
+      limits = limits_now;
+      printed = ap (page_at pages_now) (ap (λ n. 1 + n) (sym same_number)) ∙ get_or-set_same (pages_of g new) (1 + def_now.number) (table_page def_now) [] (omega (arith, low_now, enough_pages, longer));
+    }
+
+    touched_now : Touches told_pages (IsPlaceSpace before owners sound.table def.number) (with_table_page def (pages_of g old)) pages_now
+    unfolding pages_now
+    touched_now = record {
+      others = λ p bytes off holds.
+          let other : p ≢ 1 + def.number = λ e. off (inr (inr (inr (inr e)))) in
+          let other_now : p ≢ 1 + def_now.number = λ e. other (omega (arith, e, same_number)) in
+          let was : HoldsPage g old p bytes = record {
+            is_told = st.told;
+            within = omega (arith, holds.within, length-with_table_page def (pages_of g old));
+            bytes_are = sym (page_at-with_table_page def (pages_of g old) p other) ∙ holds.bytes_are;
+          } in
+          let is = touched.others p bytes (λ mine. elim (mine owners forests st) [
+            | inl l ↦ off (inl (omega (arith, l, times_same p)))
+            | inr more ↦ elim more [
+              | inl of ↦ off (inr (inl of))
+              | inr others ↦ elim others [ inl space ↦ off (inr (inr (inl space))) | inr idle ↦ off (inr (inr (inr (inl idle)))) ]
+            ]
+          ]) was in record {
+            is_told = refl;
+            within = omega (arith, is.within, length_now);
+            bytes_are = page_at-with_table_page def_now (pages_of g new) p other_now ∙ is.bytes_are;
+          };
+    }
+
+    changes_place : ChangesPlace before ext (with_table_page def (pages_of g old)) pages_now owners sound.table def_now owners_now forests_now def.number
+    changes_place = record {
+      shape = changes.shape;
+      stands = listed_now;
+      defines = defines_now;
+      name = same_name ∙ sym (ap (λ (d : TableDef). d.name) sound.same);
+      indexes = same_indexes ∙ sym (ap (λ (d : TableDef). d.indexes) sound.same);
+      root = root_sound_now;
+      others_blocks = λ e u apart is. changes.others_blocks e u apart is;
+      no_others_blocks = λ e u apart is. changes.no_others_blocks e u apart is;
+      others_pages = λ p used none. changes.others_pages p used (times_same p ∙ none);
+      used_pages = λ p used. elim (changes.used_pages p used) [ inl some ↦ inl some | inr was ↦ inr (was.0, sym (times_same p) ∙ was.1) ];
+      pages = λ p some. elim (changes.pages p some) [ inl l ↦ inl (omega (arith, l, times_same p)) | inr idle ↦ inr idle ];
+      touched = touched_now;
+    }
+
+    pub sound_of_change : IsSoundWith ext def_now (pages_of g new)
+    unfolding pages_now
+    sound_of_change = record {
+      view = record { owners = owners_now; places = slice_set sound.view.places def.number (Some (view_of def_now forests_now)) };
+      table = view_of def_now forests_now;
+      first = first_rules_now before ext (with_table_page def (pages_of g old)) pages_now sound.view sound.table def_now owners_now forests_now def.number sound.first sound.there
+          (subst (λ o. ChangesPlace before ext (with_table_page def (pages_of g old)) pages_now o sound.table def_now owners_now forests_now def.number) same_owners changes_place);
+      there = subst (λ n. slice_get (slice_set sound.view.places def.number (Some (view_of def_now forests_now))) n ≡ Some (Some (view_of def_now forests_now))) (sym same_number)
+          (slice_get-set_same sound.view.places def.number (Some (view_of def_now forests_now))
+          (omega (arith, low, range_length (IsTablePlaceSound before (with_table_page def (pages_of g old)) sound.view.owners) 0 16 sound.view.places sound.first.rule3.each)));
+      same = refl;
+    }
+
+    -- ---- between two changes
+
+    -- what was said of the rows of each table is said of them now, where it is of this one's
+    each_table_between : (P : TableView → List PlacedRow → Type 0) → AllByRecursion (λ x. P x (rows_in_table before (with_table_page def (pages_of g old)) x.def x.map)) (tables_there sound.view.places)
+        → P (view_of def_now forests_now) (rows_in_table ext (pages_of g new) def_now forests_now.map)
+        → AllByRecursion (λ x. P x (rows_in_table ext (with_table_page def_now (pages_of g new)) x.def x.map)) (tables_there (slice_set sound.view.places def.number (Some (view_of def_now forests_now))))
+    unfolding pages_now
+    each_table_between P were is =
+        each_table_now before ext (with_table_page def (pages_of g old)) pages_now sound.view sound.table def_now owners_now forests_now def.number sound.first sound.there
+        (subst (λ o. ChangesPlace before ext (with_table_page def (pages_of g old)) pages_now o sound.table def_now owners_now forests_now def.number) same_owners changes_place)
+        P were (subst (P (view_of def_now forests_now)) (sym (rows_with_table_page ext def_now (pages_of g new) low_now def_now forests_now.map)) is)
+
+    pub between_of_change : AreSoundIndexes before (with_table_page def (pages_of g old)) sound.view → AreNumbersSound before (with_table_page def (pages_of g old)) sound.view
+        → AreTableIndexesSound ext (pages_of g new) (view_of def_now forests_now) → AreRowNumbersSound def_now (rows_in_table ext (pages_of g new) def_now forests_now.map)
+        → IsSoundBetweenChanges ext def_now (pages_of g new)
+    unfolding pages_now sound_of_change
+    between_of_change indexed numbered indexes_now numbers_now = record {
+      sound = sound_of_change;
+      rule11 = each_table_between (λ x rows. AllZip (IsSoundIndex x.def rows (pending_blocks x.map)) x.def.indexes x.indexes) indexed indexes_now;
+      numbers = each_table_between (λ x rows. AreRowNumbersSound x.def rows) numbered numbers_now;
+    }
+
+  -- the definition is as it was, or its next row number is another one
+  pub sound_of_changed_table : IsSoundWith ext def (pages_of g new)
+  sound_of_changed_table = sound_of_change def refl refl refl limits changes.stands
+
+  pub sound_with_next : (next : ℕ) → next < 18446744073709551616 → IsSoundWith ext (with_next def next) (pages_of g new)
+  sound_with_next next small = sound_of_change (with_next def next) refl refl refl (limits_next def.number def next small limits) (stands_next g ext new def next owners_now forests_now changes.stands)
+
+  -- the same between two changes of a table without record indexes
+  pub between_without_indexes : AreSoundIndexes before (with_table_page def (pages_of g old)) sound.view → AreNumbersSound before (with_table_page def (pages_of g old)) sound.view → def.indexes ≡ []
+      → AreRowNumbersSound def (rows_in_table ext (pages_of g new) def forests_now.map) → IsSoundBetweenChanges ext def (pages_of g new)
+  between_without_indexes indexed numbered none numbers_now =
+      between_of_change def refl refl refl limits changes.stands indexed numbered
+      (no_indexes_sound ext (pages_of g new) def forests_now none (no_index_trees g ext new def owners_now forests_now changes.stands limits.roots.one_each none)) numbers_now
+
+  pub between_with_next : AreSoundIndexes before (with_table_page def (pages_of g old)) sound.view → AreNumbersSound before (with_table_page def (pages_of g old)) sound.view → def.indexes ≡ []
+      → (next : ℕ) → next < 18446744073709551616 → AreRowNumbersSound (with_next def next) (rows_in_table ext (pages_of g new) def forests_now.map) → IsSoundBetweenChanges ext (with_next def next) (pages_of g new)
+  between_with_next indexed numbered none next small numbers_now =
+      let stands = stands_next g ext new def next owners_now forests_now changes.stands in
+      between_of_change (with_next def next) refl refl refl (limits_next def.number def next small limits) stands indexed numbered
+      (no_indexes_sound ext (pages_of g new) (with_next def next) forests_now none (no_index_trees g ext new (with_next def next) owners_now forests_now stands limits.roots.one_each none)) numbers_now

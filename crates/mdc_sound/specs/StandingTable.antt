@@ -1,0 +1,200 @@
+-- A table that stands among the extents of a store which tells its pages, whatever else is in them; what calls on its rows make
+-- of it, and which pages they touch. These are the rules on its trees, its block map, its blocks and its block indexes, with the
+-- definition in hand in the place of its table page.
+use Rattle.std.specs.Prelude.{◌≡◌, ◌≢◌, ◌⊎◌, ◌<◌, ℕ, IsTrue, List, ◌∷◌, ◌++◌, map, sum_by, Contains, Option, Some, None, slice_index_or, slice_set}
+use Rattle.std.specs.List.{AllByRecursion}
+use Rattle.mdc_words.specs.ByteOrder.{Entry}
+use Rattle.mdc_values.specs.declared.rid.Rid.{Rid}
+use Rattle.mdc_ast.specs.declared.definition.TableDef.{TableDef}
+use Rattle.mdc_ast.specs.declared.row.Row.{Row}
+use Rattle.store_api.specs.Extents.{first_page_of}
+use Rattle.store_api.specs.declared.fault.Damage.{Damage}
+use Rattle.store_api.specs.declared.pages.Pages.{Ghosts}
+use Rattle.extent_map.specs.Map.{HoldsMap, IsMapPage, IsSpacePage}
+use Rattle.extent_map.specs.Owners.{AreRightNotes, HasNoFree, IsExtentPage, IsSameShape, IsUsedPage, extent_of, owner_of}
+use Rattle.extent_map.specs.declared.extents.Extents.{Extents}
+use Rattle.extent_map.specs.declared.kind.Kind.{Kind}
+use Rattle.extent_map.specs.declared.kind.Kind.TheVariants.{Block}
+use Rattle.key_codec.specs.Keys.{key_bytes}
+use Rattle.entry_tree.specs.Forest.{Forest, times}
+use Rattle.entry_tree.specs.Standing.{IsIdlePage}
+use Rattle.block_map.specs.MapLines.{map_lines, used_blocks}
+use Rattle.table_trees.specs.TableTrees.{TreePlace, block_index_places, cell_parts, tree_places}
+use Rattle.table_trees.specs.TreesBeside.{GrowsPages, StandTrees}
+use Rattle.mdc_sound.specs.BlockRules.{AreBlockRowsSound, AreTableBlockIndexesSound, IsIdleCountSound, IsOfOneCell, IsUsedCountSound}
+use Rattle.mdc_sound.specs.Placing.{IsRowAt, PutsRow, Spot, SpotsAfterClaims, SpotsAfterReturns, TakesRow, block_slot_count, table_spots}
+use Rattle.mdc_sound.specs.Placing.Spot.{OtherBlock, UsedBlock}
+use Rattle.mdc_sound.specs.SpaceRules.{IsBlockMapSound}
+use Rattle.mdc_sound.specs.TableViews.{TableView}
+use Rattle.mdc_sound.specs.ToldPages.{PageList}
+
+-- ---- the table
+
+-- the trees of a table
+pub record TableForests : Type 0 where
+  pub map : Forest
+  pub composite : Forest
+  pub dims : List Forest
+  pub indexes : List Forest
+
+-- a definition with the trees of its table
+abbrev pub view_of : TableDef → TableForests → TableView
+view_of def forests = record { def = def; map = forests.map; composite = forests.composite; dims = forests.dims; indexes = forests.indexes }
+
+-- all of them, in the order of their places
+abbrev pub forests_in_order : TableForests → List Forest
+forests_in_order forests = forests.map ∷ forests.composite ∷ forests.dims ++ forests.indexes
+
+-- the pages of a store as they are now
+abbrev pub pages_of : {S : Type 0} → Ghosts S → S → PageList
+pages_of g s = (g.state s).work
+
+-- The store tells the table: its trees stand among the extents, its block map names exactly its blocks, its Used blocks hold
+-- rows that fit and are of one cell each, all is counted right, and its block indexes have exactly the Used blocks.
+pub record StandsTable {S : Type 0} (g : Ghosts S) (ext : Extents) (s : S) (def : TableDef) (owners : List Kind) (forests : TableForests) : Type 0 where
+  pub told : IsTrue (g.state s).is_told
+  pub trees : StandTrees g ext s owners (tree_places def) (forests_in_order forests)
+  pub map : IsBlockMapSound ext owners def forests.map
+  pub rows : AllByRecursion (AreBlockRowsSound ext (pages_of g s) def) (used_blocks forests.map)
+  pub used_counts : AllByRecursion (IsUsedCountSound ext (pages_of g s) def) (map_lines forests.map)
+  pub idle_counts : AllByRecursion IsIdleCountSound (map_lines forests.map)
+  pub cells : AllByRecursion (IsOfOneCell ext (pages_of g s) def) (used_blocks forests.map)
+  pub indexes : AreTableBlockIndexesSound ext (pages_of g s) (view_of def forests)
+
+-- what each extent is to the table, in these pages
+abbrev pub spots_of : {S : Type 0} → Ghosts S → Extents → S → TableDef → List Kind → TableForests → List Spot
+spots_of g ext s def owners forests = table_spots ext (pages_of g s) def owners forests.map
+
+-- ---- what calls on its rows make of it
+
+-- Calls on a table's rows made it another one that stands, in extents of the same shape. The blocks of other tables and the used
+-- index pages outside its trees are as they were, its trees took only pages that were theirs or idle, and its record indexes
+-- have the trees that they had.
+pub record ChangesTable {S : Type 0} (g : Ghosts S) (before ext : Extents) (old new : S) (def : TableDef)
+    (owners : List Kind) (forests : TableForests) (owners_now : List Kind) (forests_now : TableForests) : Type 0 where
+  pub stands : StandsTable g ext new def owners_now forests_now
+  pub shape : IsSameShape before ext
+  pub records : forests_now.indexes ≡ forests.indexes
+  pub others_blocks : (e t : ℕ) → t ≢ def.number → owner_of owners e ≡ Block t → owner_of owners_now e ≡ Block t
+  pub no_others_blocks : (e t : ℕ) → t ≢ def.number → owner_of owners_now e ≡ Block t → owner_of owners e ≡ Block t
+  pub others_pages : (p : ℕ) → IsUsedPage before owners p → sum_by (times p) (forests_in_order forests) ≡ 0 → IsUsedPage before owners_now p
+  pub used_pages : (p : ℕ) → IsUsedPage before owners_now p
+      → 0 < sum_by (times p) (forests_in_order forests_now) ⊎ (IsUsedPage before owners p × (sum_by (times p) (forests_in_order forests) ≡ 0))
+  pub pages : (p : ℕ) → 0 < sum_by (times p) (forests_in_order forests_now) → 0 < sum_by (times p) (forests_in_order forests) ⊎ IsIdlePage before owners p
+  pub grows : GrowsPages g before old new
+  pub notes : AreRightNotes before owners → AreRightNotes ext owners_now
+
+-- ---- which pages they touch
+
+-- a page of a block of this table
+pub record IsBlockPageOf (ext : Extents) (owners : List Kind) (t p : ℕ) : Type 0 where
+  pub page : IsExtentPage ext p
+  pub block : owner_of owners (extent_of ext p) ≡ Block t
+
+-- a page of one block
+abbrev pub IsPageOfBlock : Extents → ℕ → ℕ → Type 0
+IsPageOfBlock ext block p = IsExtentPage ext p × (extent_of ext p ≡ block)
+
+-- The pages that a call on a table's rows may change and bring to hand, where the table was told to stand: those of its trees
+-- and its blocks, those of the extent map with page 0, and idle ones.
+abbrev pub IsTableSpace : {S : Type 0} → Ghosts S → Extents → S → TableDef → ℕ → Type 0
+IsTableSpace g ext s def p =
+    (owners : List Kind) (forests : TableForests) → StandsTable g ext s def owners forests
+    → 0 < sum_by (times p) (forests_in_order forests) ⊎ (IsBlockPageOf ext owners def.number p ⊎ (IsSpacePage ext p ⊎ IsIdlePage ext owners p))
+
+-- the same of a call that claims nothing
+abbrev pub IsTableOrMapPage : {S : Type 0} → Ghosts S → Extents → S → TableDef → ℕ → Type 0
+IsTableOrMapPage g ext s def p =
+    (owners : List Kind) (forests : TableForests) → StandsTable g ext s def owners forests
+    → 0 < sum_by (times p) (forests_in_order forests) ⊎ (IsBlockPageOf ext owners def.number p ⊎ IsMapPage ext p)
+
+-- the pages of a table's own trees, where it was told to stand
+abbrev pub IsTableTreePage : {S : Type 0} → Ghosts S → Extents → S → TableDef → ℕ → Type 0
+IsTableTreePage g ext s def p =
+    (owners : List Kind) (forests : TableForests) → StandsTable g ext s def owners forests → 0 < sum_by (times p) (forests_in_order forests)
+
+-- ---- damage and full files
+
+-- the roots of the trees in some places
+abbrev pub roots_in : List TreePlace → List ℕ
+roots_in places = map (λ place. place.root) places
+
+-- What damage met by a call on a table's rows names: the count of pages, a page of the extent map, a root by the rules on trees,
+-- block maps and block indexes, a page of a tree that isn't a used one, a row page, or the first page of a block whose count
+-- isn't right.
+pub data NamesTablePart (ext : Extents) (def : TableDef) (damage : Damage) : Type 0 where
+  count : damage.rule ≡ 1 → damage.page ≡ 0 → NamesTablePart ext def damage
+  map_page : damage.rule ≡ 2 → IsMapPage ext damage.page → NamesTablePart ext def damage
+  tree : damage.rule ≡ 4 → Contains (roots_in (tree_places def)) damage.page → NamesTablePart ext def damage
+  tree_page : damage.rule ≡ 5 → NamesTablePart ext def damage
+  block_map : damage.rule ≡ 6 → damage.page ≡ def.roots.map → NamesTablePart ext def damage
+  row_page : (block : ℕ) → damage.rule ≡ 7 → IsPageOfBlock ext block damage.page → NamesTablePart ext def damage
+  row_count : (block : ℕ) → damage.rule ≡ 8 → damage.page ≡ first_page_of ext.cap ext.extent_pages block → NamesTablePart ext def damage
+  block_index : damage.rule ≡ 10 → Contains (roots_in (block_index_places def)) damage.page → NamesTablePart ext def damage
+
+-- the damage is such a part's, and the table wasn't told to stand
+pub record BreaksTable {S : Type 0} (g : Ghosts S) (ext : Extents) (s : S) (def : TableDef) (damage : Damage) : Type 0 where
+  pub names : NamesTablePart ext def damage
+  pub broken : (owners : List Kind) (forests : TableForests) → StandsTable g ext s def owners forests → ⊥
+
+-- the same of a call that expects more of a table than that it stands
+pub record BreaksExpected {S : Type 0} (g : Ghosts S) (ext : Extents) (s : S) (def : TableDef) (Expected : List Kind → TableForests → Type 0) (damage : Damage) : Type 0 where
+  pub names : NamesTablePart ext def damage
+  pub broken : (owners : List Kind) (forests : TableForests) → StandsTable g ext s def owners forests → Expected owners forests → ⊥
+
+-- the extent map is told now with no free extent
+pub record MeetsNoFree {S : Type 0} (g : Ghosts S) (ext : Extents) (s : S) : Type 0 where
+  pub owners : List Kind
+  pub map : HoldsMap g ext s owners
+  pub none_free : HasNoFree owners
+
+-- ---- rows put and taken out
+
+-- The notes of which block of a cell may be the first with room: a number for each key of a cell. They are right where each Used
+-- block of the cell below its number has no empty slot.
+pub record AreRightRooms (def : TableDef) (room_from : Entry → ℕ) (spots : List Spot) : Type 0 where
+  pub full : (block : ℕ) (row : Row) (slots : List (Option Row)) → slice_index_or spots block OtherBlock ≡ UsedBlock slots
+      → Contains slots (Some row) → block < room_from (key_bytes def.columns (cell_parts def) row.values) → Contains slots None → ⊥
+
+-- the table is told to stand, and the notes in memory are right
+pub record IsReadyTable {S : Type 0} (g : Ghosts S) (ext : Extents) (room_from : Entry → ℕ) (s : S) (def : TableDef) (owners : List Kind) (forests : TableForests) : Type 0 where
+  pub stands : StandsTable g ext s def owners forests
+  pub notes : AreRightNotes ext owners
+  pub rooms : AreRightRooms def room_from (spots_of g ext s def owners forests)
+
+-- A row was put where placing says, after which trees may have taken free extents. The table stands, and the notes are right.
+pub record PlacesRow {S : Type 0} (g : Ghosts S) (before ext : Extents) (room_from : Entry → ℕ) (old new : S) (def : TableDef)
+    (owners : List Kind) (forests : TableForests) (row : Row) (rid : Rid) : Type 0 where
+  pub owners_now : List Kind
+  pub forests_now : TableForests
+  pub changes : ChangesTable g before ext old new def owners forests owners_now forests_now
+  pub rooms : AreRightRooms def room_from (spots_of g ext new def owners_now forests_now)
+  pub mid : List Spot
+  pub puts : PutsRow def (block_slot_count before def) (spots_of g before old def owners forests) row mid rid
+  pub claims : SpotsAfterClaims mid (spots_of g ext new def owners_now forests_now)
+
+-- The row in a place was taken out, after which trees may have given extents back. The table stands, and the notes are right.
+pub record TakesRowOut {S : Type 0} (g : Ghosts S) (before ext : Extents) (room_from : Entry → ℕ) (old new : S) (def : TableDef)
+    (owners : List Kind) (forests : TableForests) (row : Row) (rid : Rid) : Type 0 where
+  pub owners_now : List Kind
+  pub forests_now : TableForests
+  pub changes : ChangesTable g before ext old new def owners forests owners_now forests_now
+  pub rooms : AreRightRooms def room_from (spots_of g ext new def owners_now forests_now)
+  pub mid : List Spot
+  pub takes : TakesRow (spots_of g before old def owners forests) rid row mid
+  pub returns : SpotsAfterReturns mid (spots_of g ext new def owners_now forests_now)
+
+-- The row in a place became another of the same cell, in its place.
+pub record OverwritesRow {S : Type 0} (g : Ghosts S) (before ext : Extents) (room_from : Entry → ℕ) (old new : S) (def : TableDef)
+    (owners : List Kind) (forests : TableForests) (row other : Row) (rid : Rid) : Type 0 where
+  pub changes : ChangesTable g before ext old new def owners forests owners forests
+  pub rooms : AreRightRooms def room_from (spots_of g ext new def owners forests)
+  pub slots : List (Option Row)
+  pub lay : IsRowAt (spots_of g before old def owners forests) rid row slots
+  pub spots : spots_of g ext new def owners forests ≡ slice_set (spots_of g before old def owners forests) rid.block (UsedBlock (slice_set slots rid.slot (Some other)))
+
+-- a row lies in a place of a table that stands
+pub record HasRowAt {S : Type 0} (g : Ghosts S) (ext : Extents) (s : S) (def : TableDef) (rid : Rid) (owners : List Kind) (forests : TableForests) : Type 0 where
+  pub row : Row
+  pub slots : List (Option Row)
+  pub lies : IsRowAt (spots_of g ext s def owners forests) rid row slots
