@@ -1,0 +1,5 @@
+pub mod HeldRowsLemmas
+pub mod PageRowsLemmas
+pub mod PartsLemmas
+pub mod PlacedRowsLemmas
+pub mod ReadValuesLemmas

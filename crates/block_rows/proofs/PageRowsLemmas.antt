@@ -1,0 +1,185 @@
+-- One page of a block: its slots by its bits, and what a call on its bytes makes of the page in the store.
+use Rattle.std.proofs.Common.{◌≡◌, ◌<◌, ◌≤◌, ◌+◌, ℕ, zero, suc, List, [], ◌∷◌, ◌++◌, length, get_or, drop, map, Option, Some, None, Bool, IsTrue, true, false, cond, not, Result, Ok, Err, IfErr, refl, ap, sym, ◌∙◌, arith, subst}
+use Rattle.std.specs.Prelude.{is_some}
+use Rattle.std.proofs.lemmas.List.{map-append}
+use Rattle.std.proofs.lemmas.List.Sums.{count_by-le-length, sum_by-cons}
+use Rattle.mdc_ast.specs.declared.definition.ColumnDef.{ColumnDef}
+use Rattle.mdc_ast.specs.declared.row.Row.{Row}
+use Rattle.mdc_words.proofs.ListedLemmas.{get_or-listed, length-listed}
+use Rattle.store_api.specs.Causes.{NoDamage, fault_of}
+use Rattle.store_api.specs.Frame.{HoldsPage, NoPage, OnlyPage}
+use Rattle.store_api.specs.RunsOverPages.{RunsOverPages}
+use Rattle.store_api.specs.StoreState.{page_at}
+use Rattle.store_api.specs.declared.fault.Damage.{Damage}
+use Rattle.store_api.specs.declared.fault.StoreFault.{StoreFault}
+use Rattle.store_api.specs.declared.fault.StoreFault.TheVariants.{Device, Damaged, Memory}
+use Rattle.store_api.specs.declared.pages.Pages.{Ghosts}
+use Rattle.store_api.proofs.FrameLemmas.{holds_along}
+use Rattle.store_api.proofs.RunsOverPagesLemmas.{runs_damage, runs_memory, runs_on, runs_then, runs_wider}
+use Rattle.row_page.specs.RowPage.{IsFirstSlot, IsRowPage, count_rows, is_slot_filled, rows_of, slot_bytes, slot_count, slot_row}
+use Rattle.row_page.specs.Row.{row_in}
+use Rattle.mdc_sound.specs.Placing.{HoldsNowhere, IsEmptySlot}
+use Rattle.mdc_sound.specs.TableRows.{PlacedRow, rows_from_slot}
+use Rattle.block_rows.specs.HeldRows.{placed_row}
+use Rattle.block_rows.specs.declared.hit.Hit.{Hit}
+use Rattle.block_rows.proofs.PlacedRowsLemmas.{pushed-all, pushed-row}
+use Rattle.block_rows.specs.PageRows.{HoldsRowPage, IsFaultOfBytes, IsLowestEmpty, RefusesPage}
+
+-- ---- the slots of a page
+
+module _ (columns : List ColumnDef) (page : List ℕ) where
+  pub length-slots : (slots : List (Option Row)) → rows_of columns page ≡ slots → length slots ≡ slot_count columns
+  length-slots slots has = ap length (sym has) ∙ length-listed (slot_count columns) (slot_row columns page)
+
+  pub slot-at : (slots : List (Option Row)) (slot : ℕ) (d : Option Row) → rows_of columns page ≡ slots → slot < slot_count columns → get_or slots slot d ≡ slot_row columns page slot
+  slot-at slots slot d has below = ap (λ l. get_or l slot d) (sym has) ∙ get_or-listed (slot_count columns) (slot_row columns page) slot d below
+
+  not_empty : (b : Bool) (row : Row) → b ≡ true → IsEmptySlot (cond b (Some row) None) → ⊥
+  not_empty true row is empty = empty
+  not_empty false row is empty = absurd cc
+
+  is_empty : (b : Bool) (row : Row) → b ≡ false → cond b (Some row) None ≡ None
+  is_empty true row is = absurd cc
+  is_empty false row is = refl
+
+  not_false : (b : Bool) → not b ≡ false → b ≡ true
+  not_false true is = refl
+  not_false false is = absurd cc
+
+  not_true : (b : Bool) → not b ≡ true → b ≡ false
+  not_true true is = absurd cc
+  not_true false is = refl
+
+  filled-at : (slots : List (Option Row)) (slot : ℕ) (d : Option Row) → rows_of columns page ≡ slots → slot < slot_count columns → not (is_slot_filled page slot) ≡ false → IsEmptySlot (get_or slots slot d) → ⊥
+  filled-at slots slot d has below filled empty =
+      not_empty (is_slot_filled page slot) _ (not_false (is_slot_filled page slot) filled) (subst IsEmptySlot (slot-at slots slot d has below) empty)
+
+  -- the lowest empty slot, by the bits
+  pub lowest-bits : (slots : List (Option Row)) (found : Option ℕ) → rows_of columns page ≡ slots → IsFirstSlot (λ slot. not (is_slot_filled page slot)) 0 (slot_count columns) found → IsLowestEmpty slots found
+  lowest-bits slots None has first = λ k d within empty.
+      let below : k < slot_count columns = omega (arith, within, length-slots slots has) in
+      filled-at slots k d has below (first k (omega arith) below) empty
+  lowest-bits slots (Some slot) has first = record {
+    within = omega (arith, first.1, length-slots slots has);
+    is_it = λ d. slot-at slots slot d has first.1 ∙ is_empty (is_slot_filled page slot) _ (not_true (is_slot_filled page slot) first.2);
+    holds = tt;
+    lowest = λ k d less empty. filled-at slots k d has (omega (arith, less, first.1)) (first.3 k (omega arith) less) empty;
+  }
+
+-- a list with as many rows as slots has no empty one
+pub all-filled : (slots : List (Option Row)) → count_rows slots ≡ length slots → HoldsNowhere IsEmptySlot slots
+all-filled [] full k d within empty = absurd (omega arith)
+all-filled (None ∷ slots) full k d within empty =
+    absurd (omega (arith, full, sum_by-cons (λ slot. cond (is_some slot) 1 0) None slots, count_by-le-length is_some slots))
+all-filled (Some row ∷ slots) full zero d within empty = empty
+all-filled (Some row ∷ slots) full (suc k) d within empty =
+    all-filled slots (omega (arith, full, sum_by-cons (λ slot. cond (is_some slot) 1 0) (Some row) slots)) k d (omega arith) empty
+
+-- ---- a view of the page
+
+module _ (columns view_columns : List ColumnDef) (page view_page : List ℕ) (same : view_page ≡ page) (alike : view_columns ≡ columns) where
+  -- it states as many rows as it has slots
+  pub full-view : (rows capacity : ℕ) → ((slots : List (Option Row)) → IsRowPage view_columns view_page slots → rows ≡ count_rows slots) → rows ≡ capacity → capacity ≡ slot_count columns
+      → (slots : List (Option Row)) → IsRowPage columns page slots → HoldsNowhere IsEmptySlot slots
+  full-view rows capacity counted full most slots is =
+      let there : IsRowPage view_columns view_page slots = subst (λ k. IsRowPage k view_page slots) (sym alike) (subst (λ b. IsRowPage columns b slots) (sym same) is) in
+      all-filled slots (sym (counted slots there) ∙ (full ∙ (most ∙ sym (length-slots columns page slots is.has))))
+
+  pub lowest-view : (found : Option ℕ) → IsFirstSlot (λ slot. not (is_slot_filled view_page slot)) 0 (slot_count view_columns) found
+      → (slots : List (Option Row)) → IsRowPage columns page slots → IsLowestEmpty slots found
+  lowest-view found first slots is =
+      lowest-bits columns page slots found is.has
+      (subst (λ k. IsFirstSlot (λ slot. not (is_slot_filled page slot)) 0 (slot_count k) found) alike
+      (subst (λ b. IsFirstSlot (λ slot. not (is_slot_filled b slot)) 0 (slot_count view_columns) found) same first))
+
+  pub empty-view : (slot : ℕ) → slot < slot_count columns → is_slot_filled view_page slot ≡ false
+      → (slots : List (Option Row)) → IsRowPage columns page slots → None ≡ get_or slots slot None
+  empty-view slot below empty slots is =
+      sym (slot-at columns page slots slot None is.has below ∙ is_empty columns page (is_slot_filled page slot) _ (ap (λ b. is_slot_filled b slot) (sym same) ∙ empty))
+
+  pub filled-view : (slot : ℕ) (row : Row) (row_columns : List ColumnDef) (bytes : List ℕ) → slot < slot_count columns → is_slot_filled view_page slot ≡ true
+      → row_columns ≡ view_columns → bytes ≡ slot_bytes view_columns view_page slot → row ≡ row_in row_columns bytes
+      → (slots : List (Option Row)) → IsRowPage columns page slots → Some row ≡ get_or slots slot None
+  filled-view slot row row_columns bytes below filled of are is slots has =
+      let here : row_in row_columns bytes ≡ row_in columns (slot_bytes columns page slot) =
+      ap (λ k. row_in k bytes) (of ∙ alike) ∙ ap (row_in columns) (are ∙ (ap (λ k. slot_bytes k view_page slot) alike ∙ ap (λ b. slot_bytes columns b slot) same)) in
+      ap Some (is ∙ here) ∙ sym (slot-at columns page slots slot None has.has below ∙ filled_is (is_slot_filled page slot) _ (ap (λ b. is_slot_filled b slot) (sym same) ∙ filled))
+    where
+      filled_is : (b : Bool) (row : Row) → b ≡ true → cond b (Some row) None ≡ Some row
+      filled_is true row is = refl
+      filled_is false row is = absurd cc
+
+  -- the next slot with a row, and the empty ones before it
+  pub passed-view : (from end : ℕ) → end ≤ slot_count columns → ((k : ℕ) → from ≤ k → k < end → is_slot_filled view_page k ≡ false)
+      → (slots : List (Option Row)) → IsRowPage columns page slots → (k : ℕ) → from ≤ k → k < end → get_or slots k None ≡ None
+  passed-view from end most empty slots is k late early = sym (empty-view k (omega (arith, most, early)) (empty k late early) slots is)
+
+  -- the next row pushed, behind the rows of the slots before it
+  pub pushes-view : (block base from slot : ℕ) (row : Row) (row_columns : List ColumnDef) (bytes : List ℕ) (hits now : List PlacedRow)
+      → IsFirstSlot (is_slot_filled view_page) from (slot_count view_columns) (Some slot)
+      → row_columns ≡ view_columns → bytes ≡ slot_bytes view_columns view_page slot → row ≡ row_in row_columns bytes
+      → now ≡ hits ++ record { rid = record { block = block; slot = base + slot }; row = row } ∷ []
+      → (slots : List (Option Row)) → IsRowPage columns page slots → (whole : List PlacedRow) → hits ++ rows_from_slot block (base + from) (drop from slots) ≡ whole
+      → now ++ rows_from_slot block (base + (slot + 1)) (drop (slot + 1) slots) ≡ whole
+  pushes-view block base from slot row row_columns bytes hits now first of are is pushed slots has whole so_far =
+      let below : slot < slot_count columns = omega (arith, first.1, ap slot_count alike) in
+      ap (λ l. l ++ rows_from_slot block (base + (slot + 1)) (drop (slot + 1) slots)) pushed
+      ∙ pushed-row block base from slots hits whole so_far slot row first.0 (omega (arith, below, length-slots columns page slots has.has))
+      (passed-view from slot (omega (arith, below)) first.3 slots has)
+      (sym (filled-view slot row row_columns bytes below first.2 of are is slots has))
+
+  -- no row is left
+  pub ends-view : (block base from : ℕ) (hits : List PlacedRow) → from ≤ slot_count columns → IsFirstSlot (is_slot_filled view_page) from (slot_count view_columns) None
+      → (slots : List (Option Row)) → IsRowPage columns page slots → (whole : List PlacedRow) → hits ++ rows_from_slot block (base + from) (drop from slots) ≡ whole → hits ≡ whole
+  ends-view block base from hits within none slots has whole so_far =
+      let all : length slots ≡ slot_count columns = length-slots columns page slots has.has in
+      let most : slot_count view_columns ≡ slot_count columns = ap slot_count alike in
+      pushed-all block base from slots hits whole so_far (omega (arith, within, all)) (λ k late early.
+      passed-view from (slot_count columns) (omega arith) (λ i behind before. none i behind (omega (arith, before, most))) slots has k late (omega (arith, early, all)))
+
+-- hits by their places
+pub placed-pushed : (hits now : List Hit) (hit : Hit) → now ≡ hits ++ hit ∷ [] → map placed_row now ≡ map placed_row hits ++ placed_row hit ∷ []
+placed-pushed hits now hit is = ap (map placed_row) is ∙ map-append placed_row hits (hit ∷ [])
+
+-- ---- the page in the store
+
+module _ {S : Type 0} {g : Ghosts S} {columns : List ColumnDef} {p : ℕ} where
+  -- the page at hand
+  pub rows_at_hand : {s : S} {hand : Option (List ℕ)} {page : List ℕ} {slots : List (Option Row)} → ((bytes : List ℕ) → HoldsPage g s p bytes → hand ≡ Some bytes) → hand ≡ Some page
+      → HoldsRowPage g columns s p slots → IsRowPage columns page slots
+  rows_at_hand {slots = slots} at_hand lent holds =
+      let same : Some holds.bytes ≡ Some _ = sym (at_hand holds.bytes holds.page) ∙ lent in
+      subst (λ bytes. IsRowPage columns bytes slots) (cc) holds.has
+
+  -- the same page
+  pub rows_along : {old new : S} {slots : List (Option Row)} → (g.state new).is_told ≡ (g.state old).is_told → (g.state new).work ≡ (g.state old).work
+      → HoldsRowPage g columns old p slots → HoldsRowPage g columns new p slots
+  rows_along told same holds = record { bytes = holds.bytes; page = holds_along told same holds.page; has = holds.has }
+
+  -- a call on its bytes, behind a run
+  pub page_fault_runs : {X : Type 0} {Mine Kind : ℕ → Type 0} {old new : S} (bytes : List ℕ) (result : Result X StoreFault)
+      → RunsOverPages g Mine Kind NoDamage old new None → IfErr result (IsFaultOfBytes columns bytes p)
+      → ((slots : List (Option Row)) → HoldsRowPage g columns old p slots → IsRowPage columns bytes slots)
+      → RunsOverPages g Mine Kind (RefusesPage g columns old p) old new (fault_of result)
+  page_fault_runs bytes (Ok x) run refuses told = runs_on run
+  page_fault_runs bytes (Err Device) run refuses told = absurd refuses
+  page_fault_runs bytes (Err (Damaged damage)) run refuses told =
+      runs_damage (runs_on run) (record { page = refuses.page; rule = refuses.rule; no_rows = λ slots holds. refuses.no_rows slots (told slots holds) })
+  page_fault_runs bytes (Err Memory) run refuses told = runs_memory (runs_on run)
+
+  -- the page that was lent
+  pub rows_of_told : {s : S} {page : List ℕ} → (IsTrue (g.state s).is_told → page ≡ page_at (g.state s).work p) → (slots : List (Option Row)) → HoldsRowPage g columns s p slots → IsRowPage columns page slots
+  rows_of_told told slots holds =
+      subst (λ bytes. IsRowPage columns bytes slots) (sym (told holds.page.is_told ∙ holds.page.bytes_are)) holds.has
+
+  -- what was said of the same page earlier
+  pub refuses_before : {old new : S} → (g.state new).is_told ≡ (g.state old).is_told → (g.state new).work ≡ (g.state old).work
+      → (damage : Damage) → RefusesPage g columns new p damage → RefusesPage g columns old p damage
+  refuses_before told same damage refuses = record { page = refuses.page; rule = refuses.rule; no_rows = λ slots holds. refuses.no_rows slots (rows_along told same holds) }
+
+  -- a look at the page, and then a change of it
+  pub look_then_change : {old mid new : S} {fault : Option StoreFault} → RunsOverPages g NoPage (OnlyPage p) (RefusesPage g columns old p) old mid None → (g.state mid).work ≡ (g.state old).work
+      → RunsOverPages g (OnlyPage p) (OnlyPage p) (RefusesPage g columns mid p) mid new fault → RunsOverPages g (OnlyPage p) (OnlyPage p) (RefusesPage g columns old p) old new fault
+  look_then_change {old = old} look same change =
+      let first : RunsOverPages g (OnlyPage p) (OnlyPage p) (RefusesPage g columns old p) old _ None = runs_wider look (λ q there none. absurd none) (λ q is. is) (λ damage breaks. breaks) in
+      runs_then first change (λ q there is. is) (λ q is. is) (refuses_before look.works.steady.is_told same)

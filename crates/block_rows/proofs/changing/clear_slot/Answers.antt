@@ -1,0 +1,22 @@
+use Rattle.std.proofs.Common.{None}
+use Rattle.store_api.proofs.RunsOverPagesLemmas.{runs_exit, runs_then}
+use Rattle.block_rows.proofs.HeldRowsLemmas.{breaks_at_slot, breaks_extent, changed_in_block, page_of_slot_in_block}
+use Rattle.block_rows.proofs.changing.clear_slot.Goals as goal
+
+pub returns-in_err-place-clause-runs : goal.returns-in_err-place-clause-runs
+returns-in_err-place-clause-runs g c = runs_exit c.from_residual.result c.from_residual.ensures.1 (breaks_extent c.in_err-place.ensures.runs)
+
+pub returns-clause-clears : goal.returns-clause-clears
+returns-clause-clears g c =
+    let place = c.in_ok-place.ensures in
+    changed_in_block g.P.Pages c.args.ext.now c.args.def.now c.args.rid.block c.args.pages.now c.args.rid.slot c.in_ok-place.place.page c.in_ok-place.place.slot
+    place.page place.slot place.below c.requires.slot c.clear_in_page.new.pages None c.clear_in_page.result c.clear_in_page.ensures.runs c.clear_in_page.ensures.count c.clear_in_page.ensures.clears
+
+pub returns-clause-runs : goal.returns-clause-runs
+returns-clause-runs g c =
+    let place = c.in_ok-place.ensures in
+    let in_block = page_of_slot_in_block g.P.Pages c.args.ext.now c.args.def.now c.args.rid.block c.args.pages.now c.args.rid.slot c.in_ok-place.place.page c.in_ok-place.place.slot
+    place.page place.slot place.below c.requires.slot in
+    runs_then (breaks_extent place.runs) c.clear_in_page.ensures.runs (λ p there is. in_block p c.requires.below is) (λ p is. in_block p c.requires.below is)
+    (breaks_at_slot g.P.Pages c.args.ext.now c.args.def.now c.args.rid.block c.args.pages.now c.args.rid.slot c.in_ok-place.place.page c.in_ok-place.place.slot
+    place.page place.slot place.below c.requires.slot c.requires.below)

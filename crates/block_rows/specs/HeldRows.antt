@@ -1,0 +1,61 @@
+-- The rows that a block is told to hold: the slots of its pages, one page behind the other (docs/FORMAT.md, "Row pages").
+use Rattle.std.specs.Prelude.{◌≡◌, ◌⊎◌, ◌≤◌, ◌<◌, ◌+◌, ℕ, IsTrue, List, length, Option, Some, None, Contains, slice_set}
+use Rattle.std.specs.List.{All}
+use Rattle.mdc_ast.specs.Truth.{value_at}
+use Rattle.mdc_ast.specs.declared.definition.ColumnDef.{ColumnDef}
+use Rattle.mdc_ast.specs.declared.definition.TableDef.{TableDef}
+use Rattle.mdc_ast.specs.declared.row.Row.{Row}
+use Rattle.store_api.specs.Extents.{first_page_of}
+use Rattle.store_api.specs.Frame.{HoldsPage}
+use Rattle.store_api.specs.declared.fault.Damage.{Damage}
+use Rattle.store_api.specs.declared.pages.Pages.{Ghosts}
+use Rattle.extent_map.specs.Map.{map_page_of}
+use Rattle.extent_map.specs.declared.extents.Extents.{Extents}
+use Rattle.key_codec.specs.Keys.{has_key, type_of_column}
+use Rattle.row_page.specs.RowPage.{IsRowPage, rows_of}
+use Rattle.mdc_sound.specs.BlockRules.{IsBlockPageSound}
+use Rattle.mdc_sound.specs.Placing.{IsEmptySlot, IsLowestAt}
+use Rattle.mdc_sound.specs.StandingTable.{IsPageOfBlock, pages_of}
+use Rattle.mdc_sound.specs.TableRows.{PlacedRow, block_slots}
+use Rattle.block_rows.specs.declared.hit.Hit.{Hit}
+
+-- the pages of a block are told to be row pages with these slots
+pub record HoldsRows {S : Type 0} (g : Ghosts S) (ext : Extents) (s : S) (def : TableDef) (block : ℕ) (slots : List (Option Row)) : Type 0 where
+  pub told : IsTrue (g.state s).is_told
+  pub there : first_page_of ext.cap ext.extent_pages (block + 1) ≤ length (pages_of g s)
+  pub forms : (j : ℕ) → j < ext.extent_pages → IsBlockPageSound ext (pages_of g s) def block j
+  pub slots_are : block_slots ext (pages_of g s) def block ≡ slots
+
+-- a row and its place, as a call gives them
+abbrev pub placed_row : Hit → PlacedRow
+placed_row hit = record { rid = hit.rid; row = hit.row }
+
+-- a row that was read from bytes has a value in each column, with a key in it
+pub record HasReadValues (columns : List ColumnDef) (row : Row) : Type 0 where
+  pub each : (place : ℕ) → place < length columns → (place < length row.values) × IsTrue (has_key (type_of_column columns place) (value_at row.values place))
+
+-- so has each row that was found
+abbrev pub HaveReadValues : List ColumnDef → List Hit → Type 0
+HaveReadValues columns = All (λ hit. HasReadValues columns hit.row)
+
+-- The row went into the lowest empty slot of the block; or none was empty, and nothing changed.
+abbrev pub PutsFirst : {S : Type 0} → Ghosts S → Extents → S → S → TableDef → ℕ → Row → List (Option Row) → Option ℕ → Type 0
+PutsFirst g ext old new def block row slots None = (Contains slots None → ⊥) × (pages_of g new ≡ pages_of g old)
+PutsFirst g ext old new def block row slots (Some slot) =
+    IsLowestAt IsEmptySlot slots slot None × HoldsRows g ext new def block (slice_set slots slot (Some row))
+
+-- rule 2: the extent lies past the pages that there are
+pub record BreaksExtent {S : Type 0} (g : Ghosts S) (ext : Extents) (s : S) (block : ℕ) (damage : Damage) : Type 0 where
+  pub page : damage.page ≡ map_page_of block
+  pub rule : damage.rule ≡ 2
+  pub past : length (pages_of g s) < first_page_of ext.cap ext.extent_pages (block + 1)
+
+-- rule 7: a page of the block isn't told to be a row page
+pub record BreaksRowPage {S : Type 0} (g : Ghosts S) (ext : Extents) (s : S) (def : TableDef) (block : ℕ) (damage : Damage) : Type 0 where
+  pub page : IsPageOfBlock ext block damage.page
+  pub rule : damage.rule ≡ 7
+  pub no_rows : (bytes : List ℕ) → HoldsPage g s damage.page bytes → IsRowPage def.columns bytes (rows_of def.columns bytes) → ⊥
+
+-- what a call on the rows of a block may name
+abbrev pub BreaksRows : {S : Type 0} → Ghosts S → Extents → S → TableDef → ℕ → Damage → Type 0
+BreaksRows g ext s def block damage = BreaksExtent g ext s block damage ⊎ BreaksRowPage g ext s def block damage

@@ -1,0 +1,109 @@
+// Changes of the slots of a block.
+ghost use Rattle.std.specs.Prelude.{◌≡◌, ◌<◌, ◌*◌, List, Option, Some, None, length, false, replicate, slice_set, IsTrue, IfOk, OnOk};
+ghost use Rattle.mdc_ast.specs.declared.row.Row.{Row};
+ghost use Rattle.mdc_ast.specs.meaning.Database.{fits_all};
+ghost use Rattle.store_api.specs.Causes.{fault_of};
+ghost use Rattle.store_api.specs.RunsOverPages.{RunsOverPages};
+ghost use Rattle.row_page.specs.Row.{AreRowColumns};
+ghost use Rattle.row_page.specs.RowPage.{slot_count};
+ghost use Rattle.mdc_sound.specs.Placing.{block_slot_count};
+ghost use Rattle.mdc_sound.specs.StandingTable.{IsPageOfBlock};
+ghost use Rattle.block_rows.specs.HeldRows.{BreaksExtent, BreaksRows, HoldsRows, PutsFirst};
+
+use crate::page_changing::{clear_in_page, put_first_in_page, put_in_page};
+use crate::places::{first_page, first_slot, place_of_slot};
+use extent_map::Extents;
+use mdc_ast::{Row, TableDef};
+use mdc_values::Rid;
+use store_api::{Pages, StoreFault, blank_page, write_page};
+
+/// Puts a row into the lowest empty slot of a block, and answers that slot. None where no slot is empty.
+pub fn put_first<P: Pages>(
+    def: &TableDef,
+    ext: &Extents,
+    pages: &mut P,
+    block: u32,
+    row: &Row,
+) -> Result<Option<u16>, StoreFault>
+    requires columns { AreRowColumns def.now.columns }
+    requires fits { IsTrue (fits_all def.now.columns row.now.values) }
+    requires below { block < ext.now.cap }
+    requires going { (P.state pages.old).ended ≡ false }
+    ensures puts { IfOk result (λ slot. (slots : List (Option Row)) → HoldsRows P.Pages ext.now pages.old def.now block slots
+        → PutsFirst P.Pages ext.now pages.old pages.new def.now block row.now slots slot) }
+    ensures count { length (P.state pages.new).work ≡ length (P.state pages.old).work }
+    ensures runs { RunsOverPages P.Pages (IsPageOfBlock ext.now block) (IsPageOfBlock ext.now block) (BreaksRows P.Pages ext.now pages.old def.now block) pages.old pages.new (fault_of result) }
+{
+    let first = first_page(ext, pages, block)?;
+    for j in 0..ext.extent_pages {
+        if let Some(slot) = put_first_in_page(&def.columns, pages, first + j, row)? {
+            return Ok(Some(first_slot(ext, &def.columns, j) + slot));
+        }
+    }
+    Ok(None)
+}
+
+/// Puts a row into a slot, in the place of any that is there.
+pub fn put_slot<P: Pages>(
+    def: &TableDef,
+    ext: &Extents,
+    pages: &mut P,
+    rid: Rid,
+    row: &Row,
+) -> Result<(), StoreFault>
+    requires columns { AreRowColumns def.now.columns }
+    requires fits { IsTrue (fits_all def.now.columns row.now.values) }
+    requires below { rid.block < ext.now.cap }
+    requires slot { rid.slot < block_slot_count ext.now def.now }
+    requires going { (P.state pages.old).ended ≡ false }
+    ensures puts { OnOk result ((slots : List (Option Row)) → HoldsRows P.Pages ext.now pages.old def.now rid.block slots
+        → HoldsRows P.Pages ext.now pages.new def.now rid.block (slice_set slots rid.slot (Some row.now))) }
+    ensures count { length (P.state pages.new).work ≡ length (P.state pages.old).work }
+    ensures runs { RunsOverPages P.Pages (IsPageOfBlock ext.now rid.block) (IsPageOfBlock ext.now rid.block) (BreaksRows P.Pages ext.now pages.old def.now rid.block) pages.old pages.new (fault_of result) }
+{
+    let place = place_of_slot(def, ext, pages, rid)?;
+    put_in_page(&def.columns, pages, place.page, place.slot, row)
+}
+
+/// Empties a slot.
+pub fn clear_slot<P: Pages>(
+    def: &TableDef,
+    ext: &Extents,
+    pages: &mut P,
+    rid: Rid,
+) -> Result<(), StoreFault>
+    requires columns { AreRowColumns def.now.columns }
+    requires below { rid.block < ext.now.cap }
+    requires slot { rid.slot < block_slot_count ext.now def.now }
+    requires going { (P.state pages.old).ended ≡ false }
+    ensures clears { OnOk result ((slots : List (Option Row)) → HoldsRows P.Pages ext.now pages.old def.now rid.block slots
+        → HoldsRows P.Pages ext.now pages.new def.now rid.block (slice_set slots rid.slot None)) }
+    ensures count { length (P.state pages.new).work ≡ length (P.state pages.old).work }
+    ensures runs { RunsOverPages P.Pages (IsPageOfBlock ext.now rid.block) (IsPageOfBlock ext.now rid.block) (BreaksRows P.Pages ext.now pages.old def.now rid.block) pages.old pages.new (fault_of result) }
+{
+    let place = place_of_slot(def, ext, pages, rid)?;
+    clear_in_page(&def.columns, pages, place.page, place.slot)
+}
+
+/// Makes each page of an extent an empty row page. Its pages may hold anything before. It looks at none of them.
+pub fn wipe_block<P: Pages>(
+    def: &TableDef,
+    ext: &Extents,
+    pages: &mut P,
+    block: u32,
+) -> Result<(), StoreFault>
+    requires columns { AreRowColumns def.now.columns }
+    requires below { block < ext.now.cap }
+    requires going { (P.state pages.old).ended ≡ false }
+    ensures wipes { OnOk result (IsTrue (P.state pages.old).is_told → HoldsRows P.Pages ext.now pages.new def.now block (replicate (block_slot_count ext.now def.now) None)) }
+    ensures count { length (P.state pages.new).work ≡ length (P.state pages.old).work }
+    ensures runs { RunsOverPages P.Pages (IsPageOfBlock ext.now block) (IsPageOfBlock ext.now block) (BreaksExtent P.Pages ext.now pages.old block) pages.old pages.new (fault_of result) }
+{
+    let first = first_page(ext, pages, block)?;
+    let mut empty = *blank_page();
+    row_page::wipe(&mut empty, &def.columns);
+    for j in 0..ext.extent_pages {
+        write_page(pages, first + j, &empty)?;
+    }
+    Ok(())
+}

@@ -1,0 +1,192 @@
+// What one page of a block holds.
+ghost use Rattle.std.specs.Prelude.{◌≡◌, ◌<◌, ◌+◌, ◌++◌, ℕ, List, Option, Some, None, false, map, length, slice_index_or, IfOk, IfErr, IfSome, OnOk};
+ghost use Rattle.mdc_ast.specs.declared.row.Row.{Row};
+ghost use Rattle.store_api.specs.Causes.{fault_of};
+ghost use Rattle.store_api.specs.Fetching.{BringsOnce};
+ghost use Rattle.store_api.specs.Frame.{NoPage, OnlyPage};
+ghost use Rattle.store_api.specs.RunsOverPages.{RunsOverPages};
+ghost use Rattle.row_page.specs.Row.{AreRowColumns, row_in};
+ghost use Rattle.row_page.specs.RowPage.{slot_count, IsRowPage};
+ghost use Rattle.mdc_sound.specs.TableRows.{rows_from_slot};
+ghost use Rattle.block_rows.specs.HeldRows.{placed_row, HasReadValues, HaveReadValues};
+ghost use Rattle.block_rows.specs.PageRows.{HoldsRowPage, IsFaultOfBytes, IsLowestEmpty, RefusesPage};
+
+use crate::Hit;
+use mdc_ast::{ColumnDef, Row};
+use mdc_values::{List, Rid};
+use row_page::{RowPageView, RowView, capacity};
+use std::alloc::Global;
+use store_api::{Damage, Page, Pages, StoreFault, bring};
+
+/// The rule that damage of a row page names.
+const ROW_PAGE_RULE: u16 = 7;
+
+/// Page p isn't a row page.
+pub(crate) fn no_row_page(p: u32) -> StoreFault
+    ensures { result ≡ StoreFault.Damaged (record { page = p; rule = 7 }) }
+{
+    StoreFault::Damaged(Damage {
+        page: p,
+        rule: ROW_PAGE_RULE,
+    })
+}
+
+/// The lowest empty slot of page p.
+pub(crate) fn first_empty_in_page<P: Pages>(
+    columns: &List<ColumnDef>,
+    pages: &mut P,
+    p: u32,
+) -> Result<Option<u16>, StoreFault>
+    requires columns { AreRowColumns columns.now }
+    requires going { (P.state pages.old).ended ≡ false }
+    requires within { p < length (P.state pages.old).work }
+    ensures lowest { IfOk result (λ slot. (slots : List (Option Row)) → HoldsRowPage P.Pages columns.now pages.old p slots → IsLowestEmpty slots slot) }
+    ensures below { IfOk result (λ slot. IfSome slot (λ slot. slot < slot_count columns.now)) }
+    ensures same { (P.state pages.new).work ≡ (P.state pages.old).work }
+    ensures runs { RunsOverPages P.Pages NoPage (OnlyPage p) (RefusesPage P.Pages columns.now pages.old p) pages.old pages.new (fault_of result) }
+{
+    bring(pages, p)?;
+    match first_empty(columns, pages.page(), p) {
+        Ok(slot) => Ok(slot),
+        Err(fault) => Err(fault),
+    }
+}
+
+/// The lowest empty slot in the bytes of page p. The bits of a page that states as many rows as it has slots aren't looked at.
+fn first_empty(columns: &List<ColumnDef>, page: &Page, p: u32) -> Result<Option<u16>, StoreFault>
+    requires { AreRowColumns columns.now }
+    ensures lowest { IfOk result (λ slot. (slots : List (Option Row)) → IsRowPage columns.now page.now slots → IsLowestEmpty slots slot) }
+    ensures below { IfOk result (λ slot. IfSome slot (λ slot. slot < slot_count columns.now)) }
+    ensures refuses { IfErr result (IsFaultOfBytes columns.now page.now p) }
+{
+    let Some(view) = RowPageView::look(page, columns) else {
+        return Err(no_row_page(p));
+    };
+    if view.rows() == capacity(columns) {
+        return Ok(None);
+    }
+    Ok(view.first_empty())
+}
+
+/// A copy of the row in a slot of page p.
+pub(crate) fn row_in_page<P: Pages>(
+    alloc: Global,
+    columns: &List<ColumnDef>,
+    pages: &mut P,
+    p: u32,
+    slot: u16,
+) -> Result<Option<Row>, StoreFault>
+    requires columns { AreRowColumns columns.now }
+    requires slot { slot < slot_count columns.now }
+    requires going { (P.state pages.old).ended ≡ false }
+    requires within { p < length (P.state pages.old).work }
+    ensures found { IfOk result (λ row. (slots : List (Option Row)) → HoldsRowPage P.Pages columns.now pages.old p slots → row ≡ slice_index_or slots slot None) }
+    ensures keyed { IfOk result (λ row. IfSome row (HasReadValues columns.now)) }
+    ensures same { (P.state pages.new).work ≡ (P.state pages.old).work }
+    ensures once { BringsOnce P.Pages (OnlyPage p) pages.old pages.new }
+    ensures runs { RunsOverPages P.Pages NoPage (OnlyPage p) (RefusesPage P.Pages columns.now pages.old p) pages.old pages.new (fault_of result) }
+{
+    bring(pages, p)?;
+    match copy_row(alloc, columns, pages.page(), p, slot) {
+        Ok(row) => Ok(row),
+        Err(fault) => Err(fault),
+    }
+}
+
+/// A copy of the row in a slot, in the bytes of page p.
+fn copy_row(
+    alloc: Global,
+    columns: &List<ColumnDef>,
+    page: &Page,
+    p: u32,
+    slot: u16,
+) -> Result<Option<Row>, StoreFault>
+    requires columns { AreRowColumns columns.now }
+    requires slot { slot < slot_count columns.now }
+    ensures found { IfOk result (λ row. (slots : List (Option Row)) → IsRowPage columns.now page.now slots → row ≡ slice_index_or slots slot None) }
+    ensures keyed { IfOk result (λ row. IfSome row (HasReadValues columns.now)) }
+    ensures refuses { IfErr result (IsFaultOfBytes columns.now page.now p) }
+{
+    let Some(view) = RowPageView::look(page, columns) else {
+        return Err(no_row_page(p));
+    };
+    let Some(row) = view.row(slot) else {
+        return Ok(None);
+    };
+    Ok(Some(copy_of(alloc, &row)?))
+}
+
+/// A copy of a row that is lent.
+fn copy_of(alloc: Global, row: &RowView) -> Result<Row, StoreFault>
+    ensures row { IfOk result (λ copy. copy ≡ row_in row.now.columns.now row.now.bytes.now) }
+    ensures memory { IfErr result (λ fault. fault ≡ StoreFault.Memory) }
+{
+    match row.to_row(alloc) {
+        Ok(copy) => Ok(copy),
+        Err(_) => Err(StoreFault::Memory),
+    }
+}
+
+/// Puts copies of the rows of page p last, by rising slot. Its first slot is that of the block which is given.
+pub(crate) fn push_rows_of_page<P: Pages>(
+    alloc: Global,
+    columns: &List<ColumnDef>,
+    pages: &mut P,
+    p: u32,
+    first: Rid,
+    hits: &mut Vec<Hit>,
+) -> Result<(), StoreFault>
+    requires columns { AreRowColumns columns.now }
+    requires room { first.slot + slot_count columns.now < 65536 }
+    requires going { (P.state pages.old).ended ≡ false }
+    requires within { p < length (P.state pages.old).work }
+    ensures rows { OnOk result ((slots : List (Option Row)) → HoldsRowPage P.Pages columns.now pages.old p slots
+        → map placed_row hits.new.items ≡ map placed_row hits.old.items ++ rows_from_slot first.block first.slot slots) }
+    ensures keyed { OnOk result (HaveReadValues columns.now hits.old.items → HaveReadValues columns.now hits.new.items) }
+    ensures same { (P.state pages.new).work ≡ (P.state pages.old).work }
+    ensures once { BringsOnce P.Pages (OnlyPage p) pages.old pages.new }
+    ensures runs { RunsOverPages P.Pages NoPage (OnlyPage p) (RefusesPage P.Pages columns.now pages.old p) pages.old pages.new (fault_of result) }
+{
+    bring(pages, p)?;
+    match push_rows(alloc, columns, pages.page(), p, first, hits) {
+        Ok(()) => Ok(()),
+        Err(fault) => Err(fault),
+    }
+}
+
+/// Puts copies of the rows in the bytes of page p last.
+fn push_rows(
+    alloc: Global,
+    columns: &List<ColumnDef>,
+    page: &Page,
+    p: u32,
+    first: Rid,
+    hits: &mut Vec<Hit>,
+) -> Result<(), StoreFault>
+    requires columns { AreRowColumns columns.now }
+    requires room { first.slot + slot_count columns.now < 65536 }
+    ensures rows { OnOk result ((slots : List (Option Row)) → IsRowPage columns.now page.now slots
+        → map placed_row hits.new.items ≡ map placed_row hits.old.items ++ rows_from_slot first.block first.slot slots) }
+    ensures keyed { OnOk result (HaveReadValues columns.now hits.old.items → HaveReadValues columns.now hits.new.items) }
+    ensures refuses { IfErr result (IsFaultOfBytes columns.now page.now p) }
+{
+    let Some(view) = RowPageView::look(page, columns) else {
+        return Err(no_row_page(p));
+    };
+    let mut from = 0;
+    'slots: while let Some(slot) = view.next_filled(from) {
+        let Some(row) = view.row(slot) else {
+            unreachable!();
+        };
+        let rid = Rid {
+            block: first.block,
+            slot: first.slot + slot,
+        };
+        hits.push(Hit {
+            rid,
+            row: copy_of(alloc, &row)?,
+        })?;
+        from = slot + 1;
+    }
+    Ok(())
+}

@@ -1,0 +1,95 @@
+// Where the slots of a block lie.
+ghost use Rattle.std.specs.Prelude.{◌≡◌, ◌≤◌, ◌<◌, ◌+◌, ◌*◌, ◌/◌, ◌%◌, length, IfOk, OnOk};
+ghost use Rattle.store_api.specs.Causes.{fault_of};
+ghost use Rattle.store_api.specs.Extents.{first_page_of};
+ghost use Rattle.store_api.specs.Frame.{NoPage};
+ghost use Rattle.store_api.specs.RunsOverPages.{RunsOverPages};
+ghost use Rattle.extent_map.specs.Map.{map_page_of};
+ghost use Rattle.row_page.specs.Row.{AreRowColumns};
+ghost use Rattle.row_page.specs.RowPage.{slot_count};
+ghost use Rattle.mdc_sound.specs.Placing.{block_slot_count};
+ghost use Rattle.block_rows.specs.HeldRows.{BreaksExtent};
+
+use extent_map::Extents;
+use mdc_ast::{ColumnDef, TableDef};
+use mdc_values::{List, Rid};
+use row_page::capacity;
+use store_api::{Damage, Pages, StoreFault};
+
+/// The rule that damage of the extent map names: an extent in use lies within the pages that there are.
+const EXTENT_RULE: u16 = 2;
+
+/// The first page of the extent map, behind the root page and the table pages.
+const FIRST_MAP_PAGE: u32 = 17;
+
+/// How many extents stand on a page of the map.
+const PAGE_EXTENTS: u32 = 512;
+
+/// A slot of a page.
+#[derive(Clone, Copy, Debug)]
+pub(crate) struct SlotPlace {
+    /// The number of the page.
+    pub(crate) page: u32,
+    /// The slot there.
+    pub(crate) slot: u16,
+}
+
+/// The first page of a block. Damaged where the extent doesn't lie within the pages that there are.
+pub(crate) fn first_page<P: Pages>(ext: &Extents, pages: &P, block: u32) -> Result<u32, StoreFault>
+    requires below { block < ext.now.cap }
+    ensures first { IfOk result (λ p. p ≡ first_page_of ext.now.cap ext.now.extent_pages block) }
+    ensures there { OnOk result (first_page_of ext.now.cap ext.now.extent_pages (block + 1) ≤ length (P.state pages.now).work) }
+    ensures runs { RunsOverPages P.Pages NoPage NoPage (BreaksExtent P.Pages ext.now pages.now block) pages.now pages.now (fault_of result) }
+{
+    let first = ext.first_page(block);
+    if pages.count() < first + ext.extent_pages {
+        return Err(StoreFault::Damaged(past_the_pages(block)));
+    }
+    Ok(first)
+}
+
+/// The extent of a block lies past the pages that there are.
+fn past_the_pages(block: u32) -> Damage
+    ensures page { result.page ≡ map_page_of block }
+    ensures rule { result.rule ≡ 2 }
+{
+    Damage {
+        page: FIRST_MAP_PAGE + block / PAGE_EXTENTS,
+        rule: EXTENT_RULE,
+    }
+}
+
+/// Where a slot of a block lies.
+pub(crate) fn place_of_slot<P: Pages>(
+    def: &TableDef,
+    ext: &Extents,
+    pages: &P,
+    rid: Rid,
+) -> Result<SlotPlace, StoreFault>
+    requires columns { AreRowColumns def.now.columns }
+    requires below { rid.block < ext.now.cap }
+    requires slot { rid.slot < block_slot_count ext.now def.now }
+    ensures page { IfOk result (λ place. place.page ≡ first_page_of ext.now.cap ext.now.extent_pages rid.block + rid.slot / slot_count def.now.columns) }
+    ensures slot { IfOk result (λ place. place.slot ≡ rid.slot % slot_count def.now.columns) }
+    ensures below { IfOk result (λ place. place.slot < slot_count def.now.columns) }
+    ensures there { OnOk result (first_page_of ext.now.cap ext.now.extent_pages (rid.block + 1) ≤ length (P.state pages.now).work) }
+    ensures within { IfOk result (λ place. place.page < length (P.state pages.now).work) }
+    ensures runs { RunsOverPages P.Pages NoPage NoPage (BreaksExtent P.Pages ext.now pages.now rid.block) pages.now pages.now (fault_of result) }
+{
+    let first = first_page(ext, pages, rid.block)?;
+    let capacity = capacity(&def.columns);
+    Ok(SlotPlace {
+        page: first + u32::from(rid.slot / capacity),
+        slot: rid.slot % capacity,
+    })
+}
+
+/// The first slot of a block that lies on page j of it.
+pub(crate) fn first_slot(ext: &Extents, columns: &List<ColumnDef>, j: u32) -> u16
+    requires columns { AreRowColumns columns.now }
+    requires within { j < ext.now.extent_pages }
+    ensures slot { result ≡ j * slot_count columns.now }
+    ensures room { result + slot_count columns.now < 65536 }
+{
+    j as u16 * capacity(columns)
+}
