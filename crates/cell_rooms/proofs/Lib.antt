@@ -1,0 +1,5 @@
+pub mod CellKeysLemmas
+pub mod FoundRoomLemmas
+pub mod RoomNotesLemmas
+pub mod TableRunsLemmas
+pub mod UsedBlocksLemmas

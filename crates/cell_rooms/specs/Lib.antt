@@ -1,0 +1,2 @@
+pub mod FoundRoom
+pub mod RoomNotes
