@@ -1,0 +1,2 @@
+pub mod ReadTables
+pub mod ReadPages

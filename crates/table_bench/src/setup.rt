@@ -1,0 +1,32 @@
+// The file that is looked at.
+ghost use Rattle.std.specs.Prelude.{◌≡◌, false, IfOk};
+
+use crate::stop::Stop;
+use extent_map::Extents;
+use mdc_outside::Host;
+use page_store::FileStore;
+use std::alloc::Global;
+use store_api::Pages;
+
+// How many clean pages a store keeps.
+const CACHE: usize = 1024;
+
+/// Opens the database in a file.
+pub fn opened<H: Host + Drop>(alloc: Global, mut host: H, path: &str) -> Result<FileStore<H>, Stop>
+    ensures going { IfOk result (λ store. (⟦<FileStore<H> as Pages>⟧.state store).ended ≡ false) }
+{
+    host.attach(path, false)?;
+    match FileStore::open(alloc, host, CACHE) {
+        Ok(store) => Ok(store),
+        Err(unopened) => Err(Stop::Unopened(unopened.fault)),
+    }
+}
+
+/// The extents of such a database.
+pub fn extents_of<H: Host>(store: &FileStore<H>) -> Result<Extents, Stop> {
+    let (extents, extent_pages) = store.shape();
+    match Extents::new(extents, extent_pages) {
+        Some(ext) => Ok(ext),
+        None => Err(Stop::Shape),
+    }
+}
