@@ -13,7 +13,7 @@ use Rattle.key_codec.specs.KeyOrder.{AreSameAtParts}
 use Rattle.key_codec.specs.Keys.{ArePartsOf, AreTurnable}
 use Rattle.key_codec.proofs.KeyLemmas.{key_bytes-same, same-key_bytes}
 use Rattle.table_trees.specs.TableTrees.{cell_parts, rising_parts}
-use Rattle.mdc_sound.specs.Cells.{AreOfOneCell, cell_places}
+use Rattle.table_trees.specs.RowCells.{AreOfOneCell, cell_places}
 use Rattle.cell_rooms.specs.FoundRoom.{cell_key_of}
 
 same_parts : (places : List ℕ) (a b : List Value) → map (value_at a) places ≡ map (value_at b) places → AreSameAtParts (rising_parts places) a b

@@ -14,7 +14,7 @@ use Rattle.mdc_words.specs.ByteOrder.{Entry}
 use Rattle.block_map.specs.MapLines.{MapLine, map_line, map_lines, blocks_of_state, used_blocks}
 use Rattle.block_map.proofs.MapLinesLemmas.{contains_more, named_in_state}
 use Rattle.mdc_sound.specs.BlockRules.{AreBlockRowsSound, AreTableBlockIndexesSound, IsBlockIndexSound, IsOfOneCell, IsUsedCountSound}
-use Rattle.mdc_sound.specs.Cells.{AreOfOneCell}
+use Rattle.table_trees.specs.RowCells.{AreOfOneCell}
 use Rattle.mdc_sound.specs.FittingRows.{RowFits}
 use Rattle.mdc_sound.specs.SpaceRules.{IsBlockMapSound, IsMapLineSound}
 use Rattle.mdc_sound.specs.TableRows.{PlacedRow, rows_in_table}

@@ -12,7 +12,7 @@ use Rattle.key_codec.specs.Keys.{width_of_parts}
 use Rattle.node_page.specs.Node.{number_within}
 use Rattle.row_page.specs.RowPage.{IsRowPage, rows_of}
 use Rattle.entry_tree.specs.Forest.{Forest, leaf_entries}
-use Rattle.mdc_sound.specs.Cells.{AreOfOneCell}
+use Rattle.table_trees.specs.RowCells.{AreOfOneCell}
 use Rattle.block_map.specs.MapLines.{MapLine, map_lines, pending_blocks, used_blocks}
 use Rattle.mdc_sound.specs.FittingRows.{RowFits}
 use Rattle.mdc_sound.specs.SpaceRules.{DatabaseView, EachTable}

@@ -1,6 +1,5 @@
 pub mod BlockRules
 pub mod Breaks
-pub mod Cells
 pub mod EmptyDatabase
 pub mod FittingRows
 pub mod Placing

@@ -14,7 +14,7 @@ use Rattle.extent_map.specs.declared.kind.Kind.{Kind}
 use Rattle.extent_map.specs.declared.kind.Kind.TheVariants as kind
 use Rattle.row_page.specs.RowPage.{slot_count}
 use Rattle.entry_tree.specs.Forest.{Forest}
-use Rattle.mdc_sound.specs.Cells.{AreOfOneCell}
+use Rattle.table_trees.specs.RowCells.{AreOfOneCell}
 use Rattle.mdc_sound.specs.TableRows.{PlacedRow, block_slots, rows_from_slot}
 use Rattle.block_map.specs.MapLines.{map_lines, mapped_state}
 use Rattle.mdc_sound.specs.ToldPages.{PageList}

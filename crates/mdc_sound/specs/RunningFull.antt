@@ -25,7 +25,7 @@ use Rattle.entry_tree.specs.Forest.{EachNode, Forest, leaf_entries, times}
 use Rattle.entry_tree.specs.HeldTrees.{nodes_in}
 use Rattle.entry_tree.specs.Standing.{AsksPages}
 use Rattle.entry_tree.specs.TreeChanges.{KeepsLeaf}
-use Rattle.mdc_sound.specs.Cells.{AreOfOneCell}
+use Rattle.table_trees.specs.RowCells.{AreOfOneCell}
 use Rattle.mdc_sound.specs.Placing.{Spot, ChangesRow, IsRowAt, PutsRow, TakesRow, SpotsAfterClaims, SpotsAfterReturns, HoldsNowhere, HasRoomFor, IsFreeBlock, IsFreeExtent, block_slot_count, rows_from_spot, table_spots}
 use Rattle.mdc_sound.specs.Placing.Spot.{FreeExtent, FreeBlock, UsedBlock, OtherBlock}
 use Rattle.mdc_sound.specs.TableRows.{PlacedRow}
