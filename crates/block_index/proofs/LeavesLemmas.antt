@@ -11,22 +11,13 @@ use Rattle.node_page.proofs.WordsLemmas.{below_at_end}
 use Rattle.entry_tree.specs.EntryBounds.{Bound}
 use Rattle.entry_tree.specs.Reading.{IsLeafFrom, RestBegins, entries_from}
 use Rattle.entry_tree.proofs.EntryBoundsLemmas.{from_below}
-use Rattle.entry_tree.proofs.WalksLemmas.{leaf_alone, leaf_and_rest}
+use Rattle.entry_tree.proofs.WalksLemmas.{first_from, leaf_alone, leaf_and_rest}
 use Rattle.block_index.specs.Reading.{entries_left, room_above}
 
 -- a leaf that was read, and what lies behind it
 pub leaf_then_left : (all : List Entry) (bound : Entry) (given : List Entry) (next : Bound) → IsLeafFrom all bound given next → entries_from bound all ≡ given ++ entries_left all next
 leaf_then_left all bound given None l = leaf_alone all bound given l ∙ sym (append-nil given)
 leaf_then_left all bound given (Some next) l = leaf_and_rest all bound next given l
-
--- the first of the entries from a bound on isn't below it
-first_not_below : (bound x : Entry) (all more : List Entry) → entries_from bound all ≡ x ∷ more → below x bound ≡ false
-first_not_below bound x [] more e = cc
-first_not_below bound x (y ∷ ys) more e = go (below y bound) refl e (first_not_below bound x ys more)
-  where
-    go : (b : Bool) → below y bound ≡ b → (if b then entries_from bound ys else y ∷ entries_from bound ys) ≡ x ∷ more → (entries_from bound ys ≡ x ∷ more → below x bound ≡ false) → below x bound ≡ false
-    go true p q f = f q
-    go false p q f = let same : y ≡ x = cc in subst (λ (v : Entry). below v bound ≡ false) same p
 
 -- the bound at which the rest begins lies above the one that was looked from
 pub rest_above : (all : List Entry) (bound next : Entry) (given : List Entry) → IsLeafFrom all bound given (Some next) → below bound next ≡ true
@@ -35,7 +26,7 @@ rest_above all bound next (x ∷ given) l = go l.rest l.whole l.begins
   where
     go : (rest : List Entry) → entries_from bound all ≡ (x ∷ given) ++ rest → RestBegins (x ∷ given) (Some next) rest → below bound next ≡ true
     go [] whole b = absurd b
-    go (y ∷ ys) whole b = from_below bound x next (first_not_below bound x all (given ++ y ∷ ys) whole) b.0.0
+    go (y ∷ ys) whole b = from_below bound x next (first_from bound x all (given ++ y ∷ ys) whole) b.0.0
 
 -- ---- an end of each walk
 

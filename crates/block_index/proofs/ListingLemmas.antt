@@ -23,7 +23,7 @@ use Rattle.entry_tree.specs.declared.tree.Tree.{Tree}
 use Rattle.table_trees.specs.TableTrees.{block_index_places, place_of_tree}
 use Rattle.table_trees.specs.TreesBeside.{GrowsPages, IsSpaceOfTrees, IsTreesOrMapPage, StandTrees}
 use Rattle.table_trees.proofs.PageCountLemmas.{grows_pages_none, grows_pages_then, grows_pages_with}
-use Rattle.table_trees.proofs.SideBySideLemmas.{changes_none, changes_then, place_space, place_trees_or_map, space_back, sum_no_more, tree_among, trees_or_map_back}
+use Rattle.table_trees.proofs.SideBySideLemmas.{changes_none, changes_then, place_space, place_trees_or_map, space_back, sum_no_less, sum_no_more, tree_among, trees_or_map_back}
 use Rattle.table_trees.proofs.TreeListsLemmas.{cut_at, set_at_cut, times-one, times-parts}
 use Rattle.table_trees.proofs.TreesBesideLemmas.{adds_beside, removes_beside, space_of_tree, trees_or_map_of_removal}
 use Rattle.block_index.specs.Cells.{cell_entries}
@@ -45,20 +45,6 @@ move_next Moves zero (y ∷ entries) trees (a ∷ after) x t u at is moves first
 move_next Moves (suc n) (y ∷ entries) [] after x t u at is moves first = absurd first
 move_next Moves (suc n) (y ∷ entries) (b ∷ trees) [] x t u at is moves first = absurd first
 move_next Moves (suc n) (y ∷ entries) (b ∷ trees) (a ∷ after) x t u at is moves first = (first.0, move_next Moves n entries trees after x t u at is moves first.1)
-
--- no page stands less often in the trees where none stands less often in one that changed
-sum_no_less : (trees : List Forest) (i : ℕ) (t t_now : Forest) → slice_get trees i ≡ Some t → ((q : ℕ) → times q t ≤ times q t_now) → (q : ℕ) → sum_by (times q) trees ≤ sum_by (times q) (set trees i t_now)
-sum_no_less trees i t t_now is more q =
-    omega (
-      arith,
-      ap (sum_by (times q)) (cut_at trees i t is),
-      ap (sum_by (times q)) (set_at_cut trees i t t_now is),
-      times-parts q (take i trees) (t ∷ []) (drop (suc i) trees),
-      times-parts q (take i trees) (t_now ∷ []) (drop (suc i) trees),
-      times-one q t,
-      times-one q t_now,
-      more q,
-    )
 
 module _ {S : Type 0} (g : Ghosts S) (before : Extents) (old : S) (def : TableDef) (values : List Value) (block : ℕ) where
   -- the first n indexes were changed, whatever stood before

@@ -5,6 +5,7 @@ use Rattle.std.specs.declared.cmp.Ordering.TheVariants.{Less, Equal, Greater}
 use Rattle.std.specs.Ordering.{is_lt, nat_cmp, ordering_then}
 use Rattle.std.specs.Cmp.Lexicographic.{slice_cmp}
 use Rattle.std.proofs.Math.Nat.{mod-eq_of_lt}
+use Rattle.std.proofs.Math.Seq.{take-length}
 use Rattle.std.proofs.lemmas.Bool.{cases_lt}
 use Rattle.std.proofs.lemmas.Bool.Decides.{nat_tests}
 use Rattle.std.proofs.lemmas.List.{get_or-drop, length-drop, length-take-le, take-append-drop}
@@ -12,10 +13,12 @@ use Rattle.std.proofs.lemmas.List.Elements.{Contains-append_cases, Contains-appe
 use Rattle.byteorder.specs.Endian.{big_bytes, big_number}
 use Rattle.mdc_words.specs.ByteOrder.{Entry, below}
 use Rattle.mdc_values.specs.Rising.{IsLower, LastIsBefore}
+use Rattle.node_page.proofs.JudgeLemmas.{reprinted}
 use Rattle.key_codec.proofs.OrderLemmas.{slice_cmp-append, slice_cmp-big_bytes, slice_cmp-same}
 use Rattle.entry_tree.specs.EntryBounds.{IsEntryOf}
 use Rattle.entry_tree.specs.Reading.{AreAtLeast, IsFirstFrom, IsFirstOr, entries_from}
 use Rattle.entry_tree.proofs.EntryBoundsLemmas.{exact_entries}
+use Rattle.entry_tree.proofs.ReadingLemmas.{from_entries_from, in_entries_from, least_of}
 use Rattle.block_index.specs.Cells.{entry_under}
 use Rattle.block_index.specs.Reading.{AreBlocksUnder, FindsUnder}
 
@@ -60,36 +63,6 @@ between_under key x a b wide low high =
     let same : length front ≡ length key = length-take-le (length key) x (omega (arith, wide)) in
     exact_entries front key (front_order front key back (big_bytes 4 a) same (ap (λ v. below v (entry_under key a)) whole ∙ low))
     (front_order key front (big_bytes 4 b) back (sym same) (ap (below (entry_under key b)) whole ∙ high))
-
--- ---- entries from a bound on
-
--- an entry of the list that isn't below the bound is one of those from the bound on
-pub in_entries_from : (bound x : Entry) (xs : List Entry) → IsEntryOf x xs → below x bound ≡ false → IsEntryOf x (entries_from bound xs)
-in_entries_from bound x [] i b = absurd i
-in_entries_from bound x (y ∷ ys) i b = go (below y bound) refl i (in_entries_from bound x ys)
-  where
-    go : (c : Bool) → below y bound ≡ c → (x ≡ y) ⊎ IsEntryOf x ys → (IsEntryOf x ys → below x bound ≡ false → IsEntryOf x (entries_from bound ys))
-        → IsEntryOf x (if c then entries_from bound ys else y ∷ entries_from bound ys)
-    go true e (inl p) f = let wrong : true ≡ false = sym e ∙ ap (λ (v : Entry). below v bound) (sym p) ∙ b in cc
-    go true e (inr j) f = f j b
-    go false e (inl p) f = inl p
-    go false e (inr j) f = inr (f j b)
-
--- and the other way round
-pub from_entries_from : (bound x : Entry) (xs : List Entry) → IsEntryOf x (entries_from bound xs) → IsEntryOf x xs × (below x bound ≡ false)
-from_entries_from bound x [] i = absurd i
-from_entries_from bound x (y ∷ ys) i = go (below y bound) refl i (from_entries_from bound x ys)
-  where
-    go : (c : Bool) → below y bound ≡ c → IsEntryOf x (if c then entries_from bound ys else y ∷ entries_from bound ys) → (IsEntryOf x (entries_from bound ys) → IsEntryOf x ys × (below x bound ≡ false))
-        → IsEntryOf x (y ∷ ys) × (below x bound ≡ false)
-    go true e i f = let r = f i in (inr r.0, r.1)
-    go false e (inl p) f = (inl p, ap (λ (v : Entry). below v bound) p ∙ e)
-    go false e (inr j) f = let r = f j in (inr r.0, r.1)
-
-least_of : (s x : Entry) (xs : List Entry) → AreAtLeast (Some s) xs → IsEntryOf x xs → below x s ≡ false
-least_of s x [] h i = absurd i
-least_of s x (y ∷ ys) h (inl e) = subst (λ (v : Entry). below v s ≡ false) (sym e) h.0
-least_of s x (y ∷ ys) h (inr i) = least_of s x ys h.1 i
 
 -- ---- the lowest entry from a bound on
 
@@ -182,32 +155,14 @@ last_put (x ∷ y ∷ xs) b e l = last_put (y ∷ xs) b e l
 
 -- ---- the bytes of a block
 
--- four bytes are those of their number
-pub block_reprinted : (xs : List ℕ) → ((k : ℕ) → get_or xs k 0 < 256) → length xs ≡ 4 → big_bytes 4 (big_number 4 xs) ≡ xs
-block_reprinted [] are long = absurd (omega (arith, long))
-block_reprinted (a ∷ []) are long = absurd (omega (arith, long))
-block_reprinted (a ∷ b ∷ []) are long = absurd (omega (arith, long))
-block_reprinted (a ∷ b ∷ c ∷ []) are long = absurd (omega (arith, long))
-block_reprinted (a ∷ b ∷ c ∷ d ∷ []) are long =
-    let p : a < 256 = are 0 in
-    let q : b < 256 = are 1 in
-    let r : c < 256 = are 2 in
-    let s : d < 256 = are 3 in
-    let n = a * 16777216 + (b * 65536 + (c * 256 + (d * 1 + 0))) in
-    let first : n / 16777216 % 256 ≡ a = omega arith in
-    let second : n / 65536 % 256 ≡ b = omega arith in
-    let third : n / 256 % 256 ≡ c = omega arith in
-    let fourth : n % 256 ≡ d = omega arith in
-    ap (λ x. x ∷ n / 65536 % 256 ∷ n / 256 % 256 ∷ n % 256 ∷ []) first ∙ ap (λ x. a ∷ x ∷ n / 256 % 256 ∷ n % 256 ∷ []) second
-    ∙ ap (λ x. a ∷ b ∷ x ∷ n % 256 ∷ []) third ∙ ap (λ x. a ∷ b ∷ c ∷ x ∷ []) fourth
-block_reprinted (a ∷ b ∷ c ∷ d ∷ e ∷ xs) are long = absurd (omega (arith, long))
-
 -- an entry is its key and its block
 pub entry_split : (key : List ℕ) (entry : Entry) (front back : List ℕ) (block : ℕ) → ((k : ℕ) → get_or entry k 0 < 256) → length key + 4 ≡ length entry → front ≡ take (length key) entry → back ≡ drop (length key) entry → front ≡ key
     → block ≡ big_number 4 back → entry ≡ entry_under key block
 entry_split key entry front back block are long front_is back_is same block_is =
     let bytes : (k : ℕ) → get_or back k 0 < 256 =
     λ k. subst (λ bs. get_or bs k 0 < 256) (sym back_is) (subst (λ n. n < 256) (sym (get_or-drop (length key) entry k 0)) (are (length key + k))) in
+    let four : length back ≡ 4 = ap length back_is ∙ omega (arith, length-drop (length key) entry, long) in
+    let printed : big_bytes 4 (big_number 4 back) ≡ back = reprinted back bytes (omega (arith, four)) ∙ (ap (λ n. take n back) (sym four) ∙ take-length back) in
     sym (take-append-drop (length key) entry)
     ∙ (ap (λ f. f ++ drop (length key) entry) (sym front_is ∙ same)
-    ∙ ap (λ b. key ++ b) (sym back_is ∙ (sym (block_reprinted back bytes (ap length back_is ∙ omega (arith, length-drop (length key) entry, long))) ∙ ap (big_bytes 4) (sym block_is))))
+    ∙ ap (λ b. key ++ b) (sym back_is ∙ (sym printed ∙ ap (big_bytes 4) (sym block_is))))

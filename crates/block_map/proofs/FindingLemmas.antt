@@ -7,6 +7,7 @@ use Rattle.mdc_words.specs.ByteOrder.{Entry, below}
 use Rattle.entry_tree.specs.EntryBounds.{IsEntryOf}
 use Rattle.entry_tree.specs.Forest.{Forest, leaf_entries}
 use Rattle.entry_tree.specs.Reading.{AreAtLeast, IsFirstFrom, IsFirstOr, entries_from}
+use Rattle.entry_tree.proofs.ReadingLemmas.{from_entries_from, in_entries_from, least_of}
 use Rattle.block_map.specs.BlockMaps.{FindsBlock, IsMapForm, NamesBlock}
 use Rattle.block_map.specs.MapLines.{AreMapEntries, IsMapEntry, map_entry, map_line}
 use Rattle.block_map.specs.MapRows.{row_entry, state_number}
@@ -14,34 +15,6 @@ use Rattle.block_map.specs.declared.row.BlockRow.{BlockRow}
 use Rattle.block_map.proofs.MapFormLemmas.{form_state}
 use Rattle.block_map.proofs.MapLinesLemmas.{entry_small, named_entry}
 use Rattle.block_map.proofs.MapOrderLemmas.{before_block, entry_before_row, not_before_lowest}
-
--- an entry of the list that isn't below the bound is one of those from the bound on
-pub in_entries_from : (bound x : Entry) (xs : List Entry) → IsEntryOf x xs → below x bound ≡ false → IsEntryOf x (entries_from bound xs)
-in_entries_from bound x [] i b = absurd i
-in_entries_from bound x (y ∷ ys) i b = go (below y bound) refl i (in_entries_from bound x ys)
-  where
-    go : (c : Bool) → below y bound ≡ c → (x ≡ y) ⊎ IsEntryOf x ys → (IsEntryOf x ys → below x bound ≡ false → IsEntryOf x (entries_from bound ys))
-        → IsEntryOf x (if c then entries_from bound ys else y ∷ entries_from bound ys)
-    go true e (inl p) f = let wrong : true ≡ false = sym e ∙ ap (λ (v : Entry). below v bound) (sym p) ∙ b in cc
-    go true e (inr j) f = f j b
-    go false e (inl p) f = inl p
-    go false e (inr j) f = inr (f j b)
-
--- and the other way round
-pub from_entries_from : (bound x : Entry) (xs : List Entry) → IsEntryOf x (entries_from bound xs) → IsEntryOf x xs × (below x bound ≡ false)
-from_entries_from bound x [] i = absurd i
-from_entries_from bound x (y ∷ ys) i = go (below y bound) refl i (from_entries_from bound x ys)
-  where
-    go : (c : Bool) → below y bound ≡ c → IsEntryOf x (if c then entries_from bound ys else y ∷ entries_from bound ys) → (IsEntryOf x (entries_from bound ys) → IsEntryOf x ys × (below x bound ≡ false))
-        → IsEntryOf x (y ∷ ys) × (below x bound ≡ false)
-    go true e i f = let r = f i in (inr r.0, r.1)
-    go false e (inl p) f = (inl p, ap (λ (v : Entry). below v bound) p ∙ e)
-    go false e (inr j) f = let r = f j in (inr r.0, r.1)
-
-least_of : (s x : Entry) (xs : List Entry) → AreAtLeast (Some s) xs → IsEntryOf x xs → below x s ≡ false
-least_of s x [] h i = absurd i
-least_of s x (y ∷ ys) h (inl e) = subst (λ (v : Entry). below v s ≡ false) (sym e) h.0
-least_of s x (y ∷ ys) h (inr i) = least_of s x ys h.1 i
 
 -- an entry that is written as what it says isn't below the lowest one of its block
 pub not_below_own : (x : Entry) → IsMapEntry x → below x (map_entry (map_line x).block 0 0) ≡ false

@@ -14,6 +14,7 @@ use Rattle.entry_tree.proofs.AmendingLemmas.{Rises-around}
 use Rattle.entry_tree.proofs.EntryBoundsLemmas.{AllAbove, below_itself, below_trans, not_below}
 use Rattle.entry_tree.proofs.ReadingLemmas.{entries_from-least}
 use Rattle.entry_tree.proofs.WalksLemmas.{leaf_alone, leaf_and_rest}
+use Rattle.entry_tree.proofs.ReadingLemmas.{from_entries_from, in_entries_from}
 use Rattle.block_map.specs.BlockMaps.{FindsFree, IsLowestFreeBlock, IsMapForm}
 use Rattle.block_map.specs.MapLines.{AreMapEntries, IsMapEntry, blocks_in_state, free_blocks, map_entry, map_line}
 use Rattle.block_map.specs.MapRows.{row_entry, state_number}
@@ -24,7 +25,7 @@ use Rattle.block_map.specs.declared.state.BlockState.TheVariants.{Free, Used, Pe
 use Rattle.block_map.specs.declared.walk.Walk.{Walk}
 use Rattle.block_map.specs.contracts.state.BlockState.{the_type}
 use denote.Enum.Bare.{sameb}
-use Rattle.block_map.proofs.FindingLemmas.{from_entries_from, in_entries_from, not_below_own}
+use Rattle.block_map.proofs.FindingLemmas.{not_below_own}
 use Rattle.block_map.proofs.MapFormLemmas.{form_one, form_state}
 use Rattle.block_map.proofs.MapLinesLemmas.{contains_cases, entry_small, in_state-row, in_state_named, named_in_state, row_block, row_state}
 use Rattle.block_map.proofs.MapOrderLemmas.{before_block, not_before_first, row_no_higher, rows_no_higher}

@@ -20,6 +20,7 @@ use Rattle.mdc_ast.specs.meaning.Definitions.{width}
 use Rattle.key_codec.specs.Keys.{has_key, type_of_column}
 use Rattle.row_page.specs.Row.{column_value, columns_values, nulls_in, row_in, row_width_of, value_or_null}
 use Rattle.row_page.specs.RowPage.{slot_bytes, slot_start}
+use Rattle.row_page.proofs.ColumnLemmas.{length-trimmed}
 use Rattle.block_rows.specs.HeldRows.{HasReadValues, HaveReadValues}
 use Rattle.block_rows.specs.declared.hit.Hit.{Hit}
 
@@ -49,18 +50,6 @@ no_longer m n le = grind (arith, nat_tests)
 
 below : (m n : ℕ) → m < n → IsTrue (nat_lt m n)
 below m n lt = grind (arith, nat_tests)
-
-length-before_text : (b : ℕ) (text : List ℕ) → length (before_text b text) ≤ suc (length text)
-length-before_text b [] = by_byte (b == 32)
-  where
-    by_byte : (t : Bool) → length (cond t [] (b ∷ [])) ≤ 1
-    by_byte true = omega arith
-    by_byte false = omega arith
-length-before_text b (c ∷ text) = omega arith
-
-length-trimmed : (text : List ℕ) → length (trimmed text) ≤ length text
-length-trimmed [] = omega arith
-length-trimmed (b ∷ text) = omega (arith, length-before_text b (trimmed text), length-trimmed text)
 
 has_key-column_value : (ty : ColType) (bytes : List ℕ) → length bytes ≤ width ty → AreBytes bytes → IsTrue (has_key ty (column_value ty bytes))
 unfolding column_value

@@ -19,7 +19,7 @@ use Rattle.entry_tree.proofs.DescentLemmas.{outside}
 use Rattle.entry_tree.proofs.EntryBoundsLemmas.{AllAbove, AllAbove-and, AllBelow, AllBelow-and, Climbs-above, Climbs-and, Rises-below, Under-up, below_itself, below_trans, put_between, up_to}
 use Rattle.entry_tree.proofs.FencesLemmas.{IsSamePlace, SetsFence, high_moved, high_of-with_high, high_of-with_low, holds_plug, low_moved, low_of-with_high, low_of-with_low, with_high, with_high-place, with_low, with_low-place}
 use Rattle.entry_tree.proofs.LeavesLemmas.{EachBeside-from_plug, fork_trim, trim_fork}
-use Rattle.entry_tree.proofs.ReadingLemmas.{AllAbove-least, AreAtLeast-and, AreAtLeast-down, AreBehind, AreUnder-and, Rises-least, Rises-under, behind_place}
+use Rattle.entry_tree.proofs.ReadingLemmas.{AllAbove-least, AreAtLeast-and, AreAtLeast-down, AreBehind, AreUnder-and, behind_place, least_of, Rises-least, Rises-under}
 use Rattle.entry_tree.proofs.ReadLeafLemmas.{high_fence-bound, low_fence-bound}
 use Rattle.entry_tree.proofs.RefitLemmas.{room_by}
 use Rattle.entry_tree.proofs.TreeChangesLemmas.{changed, leaf_change}
@@ -200,11 +200,6 @@ roomy_high old new root page (f ∷ above) front x back y first fence w e a b i 
       high = rw (high_of-with_high first fence fs e) (above_of y first (entries_behind fs) w.behind i);
     }
   where
-    least_of : (s v : Entry) (xs : List Entry) → AreAtLeast (Some s) xs → IsEntryOf v xs → below v s ≡ false
-    least_of s v (z ∷ zs) h (inl q) = subst (λ (r : Entry). below r s ≡ false) (sym q) h.0
-    least_of s v (z ∷ zs) h (inr j) = least_of s v zs h.1 j
-    least_of s v [] h j = absurd j
-
     above_of : (s v : Entry) (xs : List Entry) → AllAbove s xs → IsEntryOf v xs → below s v ≡ true
     above_of s v (z ∷ zs) h (inl q) = subst (λ (r : Entry). below s r ≡ true) (sym q) h.0
     above_of s v (z ∷ zs) h (inr j) = above_of s v zs h.1 j

@@ -1,8 +1,8 @@
 -- What stands in the leaf of a bound, and what lies behind it.
-use Rattle.std.proofs.Common.{◌≡◌, ℕ, zero, suc, List, [], ◌∷◌, ◌++◌, refl, ap, arith, ◌∙◌, append-nil, length, drop}
+use Rattle.std.proofs.Common.{◌≡◌, ◌⊎◌, ℕ, zero, suc, List, [], ◌∷◌, ◌++◌, refl, ap, arith, sym, ◌∙◌, subst, inl, inr, append-nil, length, drop}
 use Rattle.std.specs.Prelude.{Some, None, true, false, Bool, if◌then◌else◌}
 use Rattle.mdc_words.specs.ByteOrder.{Entry, below}
-use Rattle.entry_tree.specs.EntryBounds.{Bound, AtLeast, Under, Room, Climbs, Rises, IsLeafPlace}
+use Rattle.entry_tree.specs.EntryBounds.{Bound, AtLeast, Under, Room, Climbs, IsEntryOf, Rises, IsLeafPlace}
 use Rattle.entry_tree.specs.Forest.{Forest, Fits, leaf_entries, heads, ◌&◌}
 use Rattle.entry_tree.specs.Forest.Forest.{Nil, Leaf, Fork}
 use Rattle.entry_tree.specs.Reading.{AreAtLeast, AreUnder, entries_from}
@@ -185,3 +185,34 @@ behind_place (f ∷ fs) t page m e h =
     go (s ∷ highs) r b =
         AreAtLeast-and (Some s) (leaf_entries f.right) (entries_behind fs) (Fits-least (Some s) (high_of None fs) highs f.right r)
         (upper s (high_of None fs) (entries_behind fs) (Fits-room (Some s) (high_of None fs) highs f.right r) b)
+
+-- ---- one entry
+
+-- an entry of the list that isn't below the bound is one of those from the bound on
+pub in_entries_from : (bound x : Entry) (xs : List Entry) → IsEntryOf x xs → below x bound ≡ false → IsEntryOf x (entries_from bound xs)
+in_entries_from bound x [] i b = absurd i
+in_entries_from bound x (y ∷ ys) i b = go (below y bound) refl i (in_entries_from bound x ys)
+  where
+    go : (c : Bool) → below y bound ≡ c → (x ≡ y) ⊎ IsEntryOf x ys → (IsEntryOf x ys → below x bound ≡ false → IsEntryOf x (entries_from bound ys))
+        → IsEntryOf x (if c then entries_from bound ys else y ∷ entries_from bound ys)
+    go true e (inl p) f = let wrong : true ≡ false = sym e ∙ ap (λ (v : Entry). below v bound) (sym p) ∙ b in cc
+    go true e (inr j) f = f j b
+    go false e (inl p) f = inl p
+    go false e (inr j) f = inr (f j b)
+
+-- and the other way round
+pub from_entries_from : (bound x : Entry) (xs : List Entry) → IsEntryOf x (entries_from bound xs) → IsEntryOf x xs × (below x bound ≡ false)
+from_entries_from bound x [] i = absurd i
+from_entries_from bound x (y ∷ ys) i = go (below y bound) refl i (from_entries_from bound x ys)
+  where
+    go : (c : Bool) → below y bound ≡ c → IsEntryOf x (if c then entries_from bound ys else y ∷ entries_from bound ys) → (IsEntryOf x (entries_from bound ys) → IsEntryOf x ys × (below x bound ≡ false))
+        → IsEntryOf x (y ∷ ys) × (below x bound ≡ false)
+    go true e i f = let r = f i in (inr r.0, r.1)
+    go false e (inl p) f = (inl p, ap (λ (v : Entry). below v bound) p ∙ e)
+    go false e (inr j) f = let r = f j in (inr r.0, r.1)
+
+-- an entry of those that aren't below a bound isn't
+pub least_of : (s x : Entry) (xs : List Entry) → AreAtLeast (Some s) xs → IsEntryOf x xs → below x s ≡ false
+least_of s x [] h i = absurd i
+least_of s x (y ∷ ys) h (inl e) = subst (λ (v : Entry). below v s ≡ false) (sym e) h.0
+least_of s x (y ∷ ys) h (inr i) = least_of s x ys h.1 i

@@ -21,7 +21,7 @@ under_all s [] h = tt
 under_all s (x ∷ xs) h = (h.0, under_all s xs h.1)
 
 -- the first of the entries from a bound on isn't below it
-first_from : (bound x : Entry) (all more : List Entry) → entries_from bound all ≡ x ∷ more → below x bound ≡ false
+pub first_from : (bound x : Entry) (all more : List Entry) → entries_from bound all ≡ x ∷ more → below x bound ≡ false
 first_from bound x [] more e = cc
 first_from bound x (y ∷ ys) more e = go (below y bound) refl e (first_from bound x ys more)
   where

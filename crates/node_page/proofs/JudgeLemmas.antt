@@ -44,7 +44,7 @@ leaf_body w (suc n) page fits long =
     ∙ sym (piece xs (n * w) w (next_room n w page fits long)) ∙ ap (λ k. take k xs) (sym (suc-mul n w))
 
 -- four bytes are those of their number
-reprinted : (xs : List ℕ) → AreBytes xs → 4 ≤ length xs → big_bytes 4 (big_number 4 xs) ≡ take 4 xs
+pub reprinted : (xs : List ℕ) → AreBytes xs → 4 ≤ length xs → big_bytes 4 (big_number 4 xs) ≡ take 4 xs
 reprinted [] are long = absurd (omega arith)
 reprinted (a ∷ []) are long = absurd (omega arith)
 reprinted (a ∷ b ∷ []) are long = absurd (omega arith)

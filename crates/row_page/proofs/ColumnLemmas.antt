@@ -40,7 +40,7 @@ trimmed-append [] k = trimmed-blanks k
 trimmed-append (b ∷ text) k = ap (before_text b) (trimmed-append text k)
 
 -- what is cut off a text are blanks
-length-before_text : (b : ℕ) (text : List ℕ) → length (before_text b text) ≤ suc (length text)
+pub length-before_text : (b : ℕ) (text : List ℕ) → length (before_text b text) ≤ suc (length text)
 length-before_text b [] = by_byte (b == 32)
   where
     by_byte : (t : Bool) → length (cond t [] (b ∷ [])) ≤ 1
@@ -48,7 +48,7 @@ length-before_text b [] = by_byte (b == 32)
     by_byte false = omega arith
 length-before_text b (c ∷ text) = omega arith
 
-length-trimmed : (text : List ℕ) → length (trimmed text) ≤ length text
+pub length-trimmed : (text : List ℕ) → length (trimmed text) ≤ length text
 length-trimmed [] = omega arith
 length-trimmed (b ∷ text) = omega (arith, length-before_text b (trimmed text), length-trimmed text)
 

@@ -60,9 +60,9 @@ idle_same one other owners p s idle = record {
 times-at : (p : ℕ) (trees : List Forest) (i : ℕ) (t : Forest) → slice_get trees i ≡ Some t → times p t ≤ sum_by (times p) trees
 times-at p trees i t is = omega (arith, ap (sum_by (times p)) (cut_at trees i t is), times-parts p (take i trees) (t ∷ []) (drop (suc i) trees), times-one p t)
 
--- no page stands more often in the trees where none stands more often in one that changed
-pub sum_no_more : (trees : List Forest) (i : ℕ) (t t_now : Forest) → slice_get trees i ≡ Some t → ((q : ℕ) → times q t_now ≤ times q t) → (q : ℕ) → sum_by (times q) (set trees i t_now) ≤ sum_by (times q) trees
-sum_no_more trees i t t_now is fewer q =
+-- how often a page stands in the trees where one of them is another
+pub times-set : (trees : List Forest) (i : ℕ) (t t_now : Forest) → slice_get trees i ≡ Some t → (q : ℕ) → sum_by (times q) (set trees i t_now) + times q t ≡ sum_by (times q) trees + times q t_now
+times-set trees i t t_now is q =
     omega (
       arith,
       ap (sum_by (times q)) (cut_at trees i t is),
@@ -71,8 +71,15 @@ sum_no_more trees i t t_now is fewer q =
       times-parts q (take i trees) (t_now ∷ []) (drop (suc i) trees),
       times-one q t,
       times-one q t_now,
-      fewer q,
     )
+
+-- no page stands more often in the trees where none stands more often in one that changed
+pub sum_no_more : (trees : List Forest) (i : ℕ) (t t_now : Forest) → slice_get trees i ≡ Some t → ((q : ℕ) → times q t_now ≤ times q t) → (q : ℕ) → sum_by (times q) (set trees i t_now) ≤ sum_by (times q) trees
+sum_no_more trees i t t_now is fewer q = omega (arith, times-set trees i t t_now is q, fewer q)
+
+-- and none less often where none does so in that one
+pub sum_no_less : (trees : List Forest) (i : ℕ) (t t_now : Forest) → slice_get trees i ≡ Some t → ((q : ℕ) → times q t ≤ times q t_now) → (q : ℕ) → sum_by (times q) trees ≤ sum_by (times q) (set trees i t_now)
+sum_no_less trees i t t_now is more q = omega (arith, times-set trees i t t_now is q, more q)
 
 module _ {S : Type 0} {g : Ghosts S} where
   -- ---- what stays
