@@ -11,14 +11,11 @@ use Rattle.mdc_ast.specs.declared.definition.TableDef.{TableDef}
 use Rattle.mdc_ast.specs.meaning.Database.{fits_all}
 use Rattle.key_codec.specs.KeyOrder.{AreSameAtParts}
 use Rattle.key_codec.specs.Keys.{ArePartsOf, AreTurnable}
-use Rattle.key_codec.proofs.KeyLemmas.{key_bytes-same, same-key_bytes}
+use Rattle.key_codec.proofs.KeyLemmas.{same-key_bytes}
 use Rattle.table_trees.specs.TableTrees.{cell_parts, rising_parts}
 use Rattle.table_trees.specs.RowCells.{AreOfOneCell, cell_places}
+use Rattle.mdc_sound.proofs.CellKeysLemmas.{cell_key-same}
 use Rattle.cell_rooms.specs.FoundRoom.{cell_key_of}
-
-same_parts : (places : List ℕ) (a b : List Value) → map (value_at a) places ≡ map (value_at b) places → AreSameAtParts (rising_parts places) a b
-same_parts [] a b e = tt
-same_parts (place ∷ places) a b e = (cc, same_parts places a b (cc))
 
 same_values : (places : List ℕ) (a b : List Value) → AreSameAtParts (rising_parts places) a b → map (value_at a) places ≡ map (value_at b) places
 same_values [] a b same = refl
@@ -29,7 +26,7 @@ turnable [] values = tt
 turnable (place ∷ places) values = (tt, turnable places values)
 
 pub cell_key_of-same : (def : TableDef) (a b : List Value) → AreOfOneCell def a b → cell_key_of def a ≡ cell_key_of def b
-cell_key_of-same def a b one = key_bytes-same def.columns (cell_parts def) a b (same_parts (cell_places def) a b one)
+cell_key_of-same def a b one = cell_key-same def a b one
 
 pub one_cell : (def : TableDef) (a b : List Value) → ArePartsOf def.columns (cell_parts def) → IsTrue (fits_all def.columns a) → IsTrue (fits_all def.columns b) → cell_key_of def a ≡ cell_key_of def b
     → AreOfOneCell def a b

@@ -37,52 +37,19 @@ use Rattle.mdc_sound.specs.Placing.Spot.{FreeBlock, FreeExtent, IndexExtent, Oth
 use Rattle.mdc_sound.specs.StandingTable.{StandsTable, TableForests, pages_of, spots_of}
 use Rattle.mdc_sound.specs.TableRows.{PlacedRow, block_slots, rows_in_block, rows_in_table}
 use Rattle.mdc_sound.proofs.BlockRulesLemmas.{each_of, line_at, named_owned}
+use Rattle.mdc_sound.proofs.ElementsLemmas.{contains_flat, each_entry, entry_in, flat_contains, from_map, named_block}
+use Rattle.mdc_sound.proofs.MappedBlocksLemmas.{IsUsedLine, map_form, used_line, used_number}
+use Rattle.mdc_sound.proofs.SlotRowsLemmas.{IsPlaced, empty_slot, fewer_rows, length-block_slots, length-rows_from_slot, placed_in_slot, slot_of_placed}
 use Rattle.mdc_sound.proofs.StandingTableLemmas.{stands_same}
 use Rattle.mdc_sound.proofs.TableSpotsLemmas.{used_of_spot, used_spot}
 use Rattle.cell_rooms.specs.FoundRoom.{FindsRoom, cell_key_of}
 use Rattle.cell_rooms.proofs.CellKeysLemmas.{cell_key_of-same, one_cell, same_entry}
-use Rattle.cell_rooms.proofs.TableRunsLemmas.{map_form}
-use Rattle.cell_rooms.proofs.UsedBlocksLemmas.{IsPlaced, IsUsedLine, contains_flat, empty_slot, fewer_rows, flat_contains, length-block_slots, length-rows_from_slot, placed_in_slot, slot_of_placed, used_line}
-
--- ---- elements of lists
-
--- what holds of each holds of one
-each_entry : (P : Entry → Type 0) (xs : List Entry) (x : Entry) → AllByRecursion P xs → IsEntryOf x xs → P x
-each_entry P [] x all at = absurd at
-each_entry P (y ∷ ys) x all (inl e) = subst P (sym e) all.0
-each_entry P (y ∷ ys) x all (inr i) = each_entry P ys x all.1 i
-
-entry_in : (xs : List Entry) (x : Entry) → Contains xs x → IsEntryOf x xs
-entry_in [] x (k, l, e) = absurd (omega (arith, l))
-entry_in (y ∷ ys) x at = go (contains_cases x y ys at) (entry_in ys x)
-  where
-    go : (y ≡ x) ⊎ Contains ys x → (Contains ys x → IsEntryOf x ys) → (x ≡ y) ⊎ IsEntryOf x ys
-    go (inl e) more = inl (sym e)
-    go (inr c) more = inr (more c)
-
-from_map : {X Y : Type 0} (f : X → Y) (xs : List X) (y : Y) → Contains (map f xs) y → (x : X) × Contains xs x × (f x ≡ y)
-from_map f [] y (k, l, e) = absurd (omega (arith, l))
-from_map {X} {Y} f (x ∷ xs) y at = go (contains_cases y (f x) (map f xs) at) (from_map f xs y)
-  where
-    go : (f x ≡ y) ⊎ Contains (map f xs) y → (Contains (map f xs) y → (z : X) × Contains xs z × (f z ≡ y)) → (z : X) × Contains (x ∷ xs) z × (f z ≡ y)
-    go (inl e) more = (x, (0, omega arith, refl), e)
-    go (inr c) more = let r = more c in (r.0, contains_more r.0 x xs r.1, r.2)
-
-named_block : (xs : List Entry) (x : Entry) → IsEntryOf x xs → Contains (map (λ (line : MapLine). line.block) (map map_line xs)) (map_line x).block
-named_block [] x i = absurd i
-named_block (y ∷ ys) x (inl e) = (0, omega arith, ap (λ (v : Entry). (map_line v).block) (sym e))
-named_block (y ∷ ys) x (inr i) = contains_more (map_line x).block (map_line y).block (map (λ (line : MapLine). line.block) (map map_line ys)) (named_block ys x i)
 
 -- ---- rows of the block map
 
 -- how many rows an entry says
 line_rows : (block state rows : ℕ) → (map_line (map_entry block state rows)).rows ≡ rows % 256 ^ 2
 line_rows block state rows = big_from-bytes 2 rows []
-
-used_number : (s : BlockState) → state_number s ≡ 1 → s ≡ state.Used
-used_number state.Free e = absurd (omega (arith, e))
-used_number state.Used e = refl
-used_number state.Pending e = absurd (omega (arith, e))
 
 -- a spot with room is a Used block
 has_room : (def : TableDef) (row : Row) (spot : Spot) → HasRoomFor def row spot → (slots : List (Option Row)) × (spot ≡ UsedBlock slots) × HasRoomFor def row (UsedBlock slots)

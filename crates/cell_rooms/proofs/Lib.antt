@@ -2,4 +2,3 @@ pub mod CellKeysLemmas
 pub mod FoundRoomLemmas
 pub mod RoomNotesLemmas
 pub mod TableRunsLemmas
-pub mod UsedBlocksLemmas

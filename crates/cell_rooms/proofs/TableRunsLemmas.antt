@@ -23,15 +23,8 @@ use Rattle.table_trees.specs.TreesBeside.{BreaksTreeAt, HoldsTreeAt, IsTreePageA
 use Rattle.table_trees.proofs.TableTreesLemmas.{same_tree_place}
 use Rattle.mdc_sound.specs.SpaceRules.{IsBlockMapSound, IsMapLineSound}
 use Rattle.mdc_sound.specs.StandingTable.{BreaksExpected, BreaksTable, IsTableTreePage, NamesTablePart, StandsTable, TableForests}
+use Rattle.mdc_sound.proofs.MappedBlocksLemmas.{map_form}
 use Rattle.mdc_sound.proofs.StandingTableLemmas.{stands_same}
-
--- a block map of a table that stands has the form of one
-states_of : (ext : Extents) (owners : List Kind) (def : TableDef) (lines : List MapLine) → AllByRecursion (IsMapLineSound ext owners def) lines → AllByRecursion (λ (line : MapLine). line.state ≤ 2) lines
-states_of ext owners def [] h = tt
-states_of ext owners def (line ∷ lines) h = (h.0.state, states_of ext owners def lines h.1)
-
-pub map_form : (ext : Extents) (owners : List Kind) (def : TableDef) (map_tree : Forest) → IsBlockMapSound ext owners def map_tree → IsMapForm map_tree
-map_form ext owners def map_tree sound = record { states = states_of ext owners def (map_lines map_tree) sound.lines; once_each = sound.once_each }
 
 module _ {S : Type 0} {g : Ghosts S} where
   module _ (ext : Extents) (s : S) (def : TableDef) where

@@ -1,11 +1,15 @@
 pub mod BlockRulesLemmas
+pub mod CellKeysLemmas
 pub mod ChangedRowsLemmas
 pub mod ChangedTablesLemmas
 pub mod DefinitionTreesLemmas
+pub mod ElementsLemmas
 pub mod EmptyDatabaseLemmas
+pub mod MappedBlocksLemmas
 pub mod NextNumberLemmas
 pub mod PlacingLemmas
 pub mod RowNumbersLemmas
+pub mod SlotRowsLemmas
 pub mod SmallDatabaseLemmas
 pub mod SoundChangeLemmas
 pub mod SoundDatabaseLemmas
