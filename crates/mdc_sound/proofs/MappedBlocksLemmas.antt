@@ -58,10 +58,11 @@ second_true true true c d is = refl
 second_true true false c d is = absurd (cc)
 second_true false b c d is = absurd (cc)
 
-few_extents : (n : ℕ) → nat_le n 65536 ≡ true → n ≤ 65536
-few_extents n is = grind (arith, nat_tests)
+-- there are at most 65,536 extents, so that a block has a number of four bytes
+pub few_extents : (ext : Extents) → ext.cap ≤ 65536
+few_extents ext =
+    let is : nat_le ext.cap 65536 ≡ true = second_true (nat_le 4 ext.cap) (nat_le ext.cap 65536) (is_extent_size ext.extent_pages) (nat_le (ext.cap * ext.extent_pages) 262144) ext.within in
+    grind (arith, nat_tests, is)
 
--- a block has a number of four bytes
 pub small_block : (ext : Extents) (block : ℕ) → block < ext.cap → block < 2 ^ 32
-small_block ext block low =
-    omega (arith, low, few_extents ext.cap (second_true (nat_le 4 ext.cap) (nat_le ext.cap 65536) (is_extent_size ext.extent_pages) (nat_le (ext.cap * ext.extent_pages) 262144) ext.within))
+small_block ext block low = omega (arith, low, few_extents ext)
