@@ -153,7 +153,7 @@ module _ {S : Type 0} {g : Ghosts S} {ext : Extents} {s : S} {tree : Tree} {leaf
         }
 
   -- what a return may name
-  pub giving : {now : Extents} {mid : S} {p : ℕ} {damage : Damage} → BreaksUsedPage g now mid p damage
+  pub giving : {now : Extents} {mid : S} {p : ℕ} {damage : Damage} → IsSameShape ext now → BreaksUsedPage g now mid p damage
       → ((owners : List Kind) → IsDroppable g ext s tree leaf page at owners → (more : List Kind) × HoldsMap g now mid more × IsUsedPage now more p)
       → BreaksDrop g ext s tree leaf page at damage
-  giving {now} {mid} {p} u told = inr (record { mid = mid; ext = now; page = p; map = told; breaks = u })
+  giving {now} {mid} {p} shape u told = inr (record { mid = mid; ext = now; shape = shape; page = p; map = told; breaks = u })

@@ -253,6 +253,7 @@ module _ {S : Type 0} {g : Ghosts S} {ext : Extents} {s m : S} {tree : Tree} {le
   breaks_drop spot told same (inr r) = inr (record {
     mid = r.mid;
     ext = r.ext;
+    shape = r.shape;
     page = r.page;
     map = λ owners held.
         let d = spot_to_drop held.1 (spot held.0 held.1.held) told same in

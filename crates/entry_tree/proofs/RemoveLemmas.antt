@@ -65,7 +65,7 @@ module _ {S : Type 0} {g : Ghosts S} {ext : Extents} {s m : S} {tree : Tree} whe
 
   pub breaks_same : {damage : Damage} → (g.state m).is_told ≡ (g.state s).is_told → (g.state m).work ≡ (g.state s).work → BreaksTreeOrReturn g ext m tree damage → BreaksTreeOrReturn g ext s tree damage
   breaks_same told same (inl b) = inl (record { page = b.page; rule = b.rule; broken = λ t h. b.broken t (held_same told same h) })
-  breaks_same told same (inr r) = inr (record { mid = r.mid; ext = r.ext; page = r.page; map = λ owners held. r.map owners (held.0, stands_same told same held.1); breaks = r.breaks })
+  breaks_same told same (inr r) = inr (record { mid = r.mid; ext = r.ext; shape = r.shape; page = r.page; map = λ owners held. r.map owners (held.0, stands_same told same held.1); breaks = r.breaks })
 
 -- the item that went is the entry
 pub removes_it : {S : Type 0} {g : Ghosts S} {ext after : Extents} (s m : S) {new : S} {tree : Tree} {owners : List Kind} {t : Forest} {x : Entry} (page at : ℕ) {parent : Option (ℕ × ℕ)} → (g.state m).is_told ≡ (g.state s).is_told

@@ -7,7 +7,7 @@ use Rattle.store_api.specs.declared.fault.Damage.{Damage}
 use Rattle.store_api.specs.declared.pages.Pages.{Ghosts}
 use Rattle.extent_map.specs.Damages.{BreaksUsedPage}
 use Rattle.extent_map.specs.Map.{HoldsMap, IsMapPage}
-use Rattle.extent_map.specs.Owners.{AreRightNotes, IsUsedPage, without_page}
+use Rattle.extent_map.specs.Owners.{AreRightNotes, IsSameShape, IsUsedPage, without_page}
 use Rattle.extent_map.specs.declared.extents.Extents.{Extents}
 use Rattle.extent_map.specs.declared.kind.Kind.{Kind}
 use Rattle.entry_tree.specs.EntryBounds.{IsEntryOf, with_entry}
@@ -90,10 +90,11 @@ abbrev pub IsDropLook : Extents → Node → ℕ → ℕ → ℕ → Type 0
 IsDropLook ext node page at p = IsDropPage ext page p ⊎ IsOtherChild node at p
 
 -- The extent map broke a rule at the return of a page, or that page isn't a used one. Whatever owners were told before to meet a
--- fact, the map is told there with that page in use; so where they were told none is named.
-pub record BreaksAtReturn {S : Type 0} (g : Ghosts S) (Told : List Kind → Type 0) (damage : Damage) : Type 0 where
+-- fact, the map is told there with that page in use; so where they were told none is named. Extents have the shape that they had.
+pub record BreaksAtReturn {S : Type 0} (g : Ghosts S) (before : Extents) (Told : List Kind → Type 0) (damage : Damage) : Type 0 where
   pub mid : S
   pub ext : Extents
+  pub shape : IsSameShape before ext
   pub page : ℕ
   pub map : (owners : List Kind) → Told owners → (more : List Kind) × HoldsMap g ext mid more × IsUsedPage ext more page
   pub breaks : BreaksUsedPage g ext mid page damage
@@ -116,7 +117,7 @@ IsDroppableLeaf g s tree leaf page at =
 abbrev pub BreaksDrop : {S : Type 0} → Ghosts S → Extents → S → Tree → ℕ → ℕ → ℕ → Damage → Type 0
 BreaksDrop g ext s tree leaf page at damage =
     BreaksWhere tree (IsDroppableLeaf g s tree leaf page at) damage
-    ⊎ BreaksAtReturn g (IsDroppable g ext s tree leaf page at) damage
+    ⊎ BreaksAtReturn g ext (IsDroppable g ext s tree leaf page at) damage
 
 -- what a removal did: the entry is gone, and the pages that the tree no longer has are given back
 pub record RemovesEntry {S : Type 0} (g : Ghosts S) (before ext : Extents) (new : S) (tree : Tree) (x : Entry) (owners : List Kind) (t : Forest) : Type 0 where
@@ -140,4 +141,4 @@ IsTreeOrMapPage g ext s tree p = (owners : List Kind) (t : Forest) → StandsTre
 -- what a removal may name: the tree where it hasn't its form, or what broke a rule at a return
 abbrev pub BreaksTreeOrReturn : {S : Type 0} → Ghosts S → Extents → S → Tree → Damage → Type 0
 BreaksTreeOrReturn g ext s tree damage =
-    BreaksTree g s tree damage ⊎ BreaksAtReturn g (λ owners. (t : Forest) × StandsTree g ext s tree owners t) damage
+    BreaksTree g s tree damage ⊎ BreaksAtReturn g ext (λ owners. (t : Forest) × StandsTree g ext s tree owners t) damage

@@ -1,4 +1,4 @@
-use Rattle.std.proofs.Common.{◌≡◌, None, Some, inl, inr, subst, sym}
+use Rattle.std.proofs.Common.{◌≡◌, None, Some, inl, inr, refl, subst, sym}
 use Rattle.store_api.specs.RunsOverPages.{RunsOverPages}
 use Rattle.store_api.proofs.RunsOverPagesLemmas.{runs_exit, runs_on, runs_then, runs_wider}
 use Rattle.extent_map.specs.Owners.{without_page}
@@ -43,7 +43,7 @@ returns-in_ok-take_from_inner-in-None-clause-runs g c =
     (BreaksDrop g.P.Pages c.args.ext.now c.args.pages.now c.args.tree.now c.args.leaf c.args.page c.args.at) c.args.pages.now c.take_from_inner.new.pages None =
     runs_then start (runs_on {Breaks = BreaksDrop g.P.Pages c.args.ext.now c.args.pages.now c.args.tree.now c.args.leaf c.args.page c.args.at} c.in_ok-take_from_inner-in-None.ensures.runs) (λ p there is. inl is) (λ p is. inl (inl is)) (λ damage b. b) in
     runs_then taken c.give_page.ensures.runs (λ p there is. inr is) (λ p is. inl (inr is))
-    (λ damage b. giving b (λ owners d. (owners, map_stands d.4 c.in_ok-other_child.ensures.runs c.in_ok-take_from_inner-in-None.ensures.runs, leaf_used d.4)))
+    (λ damage b. giving (record { cap = refl; extent_pages = refl }) b (λ owners d. (owners, map_stands d.4 c.in_ok-other_child.ensures.runs c.in_ok-take_from_inner-in-None.ensures.runs, leaf_used d.4)))
 
 pub returns-in_err-take_content-in-Some-clause-runs : goal.returns-in_err-take_content-in-Some-clause-runs
 returns-in_err-take_content-in-Some-clause-runs g c =
@@ -70,7 +70,7 @@ returns-in_err-give_page-in-Some-clause-runs g c =
     (λ p is. inr (other_look (nodes_in c.args.tree.now.width (g.P.Pages.state c.args.pages.now) c.args.page) c.args.at c.in-Some.other p beside is)) (λ damage b. b) in
     runs_exit c.from_residual-in_err-give_page-in-Some.result c.from_residual-in_err-give_page-in-Some.ensures.1
     (runs_then taken c.in_err-give_page-in-Some.ensures.runs (λ p there is. inr is) (λ p is. inl (inr is))
-    (λ damage b. giving b (λ owners d. (owners, map_stands d.4 c.in_ok-other_child.ensures.runs c.in_ok-take_content-in-Some.ensures.runs, (other_used c.in-Some.other d.4 beside).0))))
+    (λ damage b. giving (record { cap = refl; extent_pages = refl }) b (λ owners d. (owners, map_stands d.4 c.in_ok-other_child.ensures.runs c.in_ok-take_content-in-Some.ensures.runs, (other_used c.in-Some.other d.4 beside).0))))
 
 pub returns-in_ok-give_page-in-Some-clause-drops : goal.returns-in_ok-give_page-in-Some-clause-drops
 returns-in_ok-give_page-in-Some-clause-drops g c =
@@ -96,7 +96,7 @@ returns-in_ok-give_page-in-Some-clause-runs g c =
     (BreaksDrop g.P.Pages c.args.ext.now c.args.pages.now c.args.tree.now c.args.leaf c.args.page c.args.at) c.args.pages.now c.give_page-in-Some.new.pages None =
     runs_then taken (runs_on {Breaks = BreaksDrop g.P.Pages c.args.ext.now c.args.pages.now c.args.tree.now c.args.leaf c.args.page c.args.at} c.in_ok-give_page-in-Some.ensures.runs) (λ p there is. inr is) (λ p is. inl (inr is)) (λ damage b. b) in
     runs_then given c.give_page-in-Some-2.ensures.runs (λ p there is. inr (map_page-shape c.args.ext.now c.give_page-in-Some.new.ext p c.give_page-in-Some.ensures.shape is)) (λ p is. inl (inr (map_page-shape c.args.ext.now c.give_page-in-Some.new.ext p c.give_page-in-Some.ensures.shape is)))
-    (λ damage b. giving b (λ owners d.
+    (λ damage b. giving c.give_page-in-Some.ensures.shape b (λ owners d.
     let used = other_used c.in-Some.other d.4 beside in (
       without_page c.args.ext.now owners c.in-Some.other,
       c.in_ok-give_page-in-Some.ensures.gives owners (map_stands d.4 c.in_ok-other_child.ensures.runs c.in_ok-take_content-in-Some.ensures.runs),
