@@ -1,0 +1,420 @@
+-- The block comes into the block indexes, or leaves them.
+use Rattle.std.proofs.Common.{◌≡◌, ◌<◌, ◌≤◌, ◌^◌, ℕ, List, ◌∷◌, length, [], ap, arith, inl, inr, map, refl, subst, suc, sym, zero, ◌++◌, ◌+◌, ◌/◌, ◌∙◌}
+use Rattle.std.specs.Prelude.{sum_by, Contains, Some, slice_get, zip}
+use Rattle.mdc_values.specs.declared.value.Value.{Value}
+use Rattle.mdc_ast.specs.declared.definition.TableDef.{TableDef}
+use Rattle.mdc_ast.specs.declared.row.Cell.{Cell}
+use Rattle.store_api.specs.Frame.{Touches}
+use Rattle.store_api.specs.declared.fault.Damage.{Damage}
+use Rattle.store_api.specs.declared.pages.Pages.{Ghosts}
+use Rattle.extent_map.specs.Owners.{AreRightNotes, IsSameShape, IsUsedPage, extent_of, owner_of}
+use Rattle.extent_map.specs.declared.extents.Extents.{Extents}
+use Rattle.extent_map.specs.declared.kind.Kind.{Kind}
+use Rattle.entry_tree.specs.Forest.{times, Forest, leaf_entries}
+use Rattle.table_trees.specs.RowCells.{cell_places}
+use Rattle.table_trees.specs.TableTrees.{HasBlockIndexes, block_index_places, TreePlace, block_entry, cell_parts, dimension_place, map_place, place_of_tree, record_places, rising_parts, tree_places}
+use Rattle.table_trees.specs.TreesBeside.{GrowsPages, IsSpaceOfTrees, IsTreesOrMapPage, StandTrees, ChangesTrees}
+use Rattle.block_index.specs.Cells.{HaveKeys, cell_entries}
+use Rattle.block_index.specs.Listing.{BreaksListing, BreaksUnlisting, FillsListing, ListsBlock, UnlistsBlock, ComesTo, GainsEntry, LosesEntry, MoveFirst}
+use Rattle.table_trees.specs.RowCells.{IsCellOf}
+use Rattle.mdc_sound.specs.Placing.{AfterClaims, AfterReturns, Spot}
+use Rattle.mdc_sound.specs.StandingTable.{MeetsNoFree, TableForests, forests_in_order, NamesTablePart, pages_of, roots_in}
+use Rattle.table_blocks.specs.AroundBlock.{StandsAround, IsIndexAround, IsOtherRow, block_in_entry}
+use Rattle.table_blocks.specs.BlockChanges.{BreaksAround, IsPlaceAround, IsSpaceAround, IsSpotChange}
+use Rattle.table_blocks.specs.BlockNow.{IsListed, IsOwnBlock, IsUnlisted, IsListedIn, IsUnlistedIn}
+use Rattle.table_blocks.specs.BlockSteps.{MovesEntries}
+use Rattle.std.specs.List.{AllByRecursion, AllZip}
+use Rattle.std.proofs.lemmas.Slice.Zip.{AllZip-long}
+use Rattle.extent_map.specs.declared.kind.Kind.TheVariants.{Block, Free, Index}
+use Rattle.entry_tree.specs.Pruning.{BreaksAtReturn}
+use Rattle.extent_map.specs.Damages.{BreaksSpace}
+use Rattle.mdc_words.specs.ByteOrder.{Entry}
+use Rattle.mdc_sound.specs.Placing.Spot.{FreeExtent, IndexExtent}
+use Rattle.extent_map.specs.Map.{HoldsMap, HoldsMapPage}
+use Rattle.entry_tree.specs.EntryBounds.{IsEntryOf}
+use Rattle.table_blocks.proofs.IndexEntriesLemmas.{IsKeyedDimension, around_gained, around_lost, at_dimension, keyed_dimensions, listed_in, move_each, moves_both, not_yet, unlisted_in}
+use Rattle.mdc_sound.proofs.TableRowsLemmas.{KeepsBlockPages}
+use Rattle.mdc_sound.specs.TableRows.{PlacedRow}
+use Rattle.entry_tree.specs.Standing.{StandsTree, with_pages}
+use Rattle.entry_tree.specs.declared.tree.Tree.{Tree}
+use Rattle.mdc_sound.proofs.StandingTableLemmas.{block_below, block_kept}
+use Rattle.table_blocks.proofs.BlockEntriesLemmas.{block_in_keyed}
+use Rattle.table_trees.proofs.SideBySideLemmas.{block_page_apart, part_changes, part_space, part_stands, part_trees_or_map, space_of_trees_or_map, tree_among}
+use Rattle.extent_map.proofs.DamagesLemmas.{breaks_space_never}
+use Rattle.std.proofs.lemmas.Bool.{cases_lt}
+use Rattle.block_index.proofs.CellsLemmas.{cell_entries-row}
+use Rattle.table_blocks.proofs.SpotChangesLemmas.{claims_change, returns_change}
+use Rattle.block_map.proofs.MapLinesLemmas.{contains_more}
+use Rattle.extent_map.proofs.ExtentsLemmas.{extent_below}
+use Rattle.table_blocks.proofs.OtherBlocksLemmas.{index_used, map_still, not_freed, other_row_now, other_row_small, other_row_was, rows_held_still, spot_after}
+use Rattle.store_api.specs.Extents.{map_pages}
+use Rattle.extent_map.proofs.UsedPagesLemmas.{no_space_page}
+use Rattle.extent_map.proofs.HoldsMapLemmas.{on_map}
+use Rattle.std.proofs.lemmas.Option.{same_Some}
+use Rattle.entry_tree.proofs.UsedPagesLemmas.{shape_back, used_same}
+use Rattle.table_trees.proofs.TreeListsLemmas.{times-parts}
+use Rattle.store_api.proofs.FrameLemmas.{touches_wider}
+
+-- ---- lists of places
+
+-- how many indexes of dimensions there are
+count_dimensions : (def : TableDef) (dims : List (List ℕ)) (roots : List ℕ) → length roots ≡ length dims → length (map (λ pair. dimension_place def pair.0 pair.1) (zip dims roots)) ≡ length dims
+count_dimensions def [] roots one_each = refl
+count_dimensions def (dim ∷ dims) [] one_each = absurd (omega (arith, one_each))
+count_dimensions def (dim ∷ dims) (root ∷ roots) one_each = ap suc (count_dimensions def dims roots (omega (arith, one_each)))
+
+-- what stands in a list stands at the same place where more follows
+place_in_front : (places more : List TreePlace) (n : ℕ) (place : TreePlace) → slice_get places n ≡ Some place → slice_get (places ++ more) n ≡ Some place
+place_in_front [] more n place at = absurd cc
+place_in_front (first ∷ places) more zero place at = at
+place_in_front (first ∷ places) more (suc n) place at = place_in_front places more n place at
+
+root_there : (places : List TreePlace) (n : ℕ) (place : TreePlace) → slice_get places n ≡ Some place → Contains (roots_in places) place.root
+root_there [] n place at = absurd cc
+root_there (first ∷ places) zero place at = (0, omega arith, ap (λ (q : TreePlace). q.root) (same_Some first place at))
+root_there (first ∷ places) (suc n) place at = contains_more place.root first.root (roots_in places) (root_there places n place at)
+
+-- ---- damage
+
+-- what an index that the call had come to may name
+module _ (def : TableDef) (n : ℕ) (tree : Tree) (at : slice_get (block_index_places def) n ≡ Some (place_of_tree tree)) (before now : Extents) (shape : IsSameShape before now) (damage : Damage) where
+  tree_named : damage.page ≡ tree.root → damage.rule ≡ 4 → NamesTablePart before def damage
+  tree_named page rule =
+      NamesTablePart.tree rule (subst (Contains (roots_in (tree_places def))) (sym page) (root_there (tree_places def) (suc n) (place_of_tree tree) (place_in_front (block_index_places def) (record_places def) n (place_of_tree tree) at)))
+
+  index_named : damage.page ≡ tree.root → damage.rule ≡ 10 → NamesTablePart before def damage
+  index_named page rule = NamesTablePart.block_index rule (subst (Contains (roots_in (block_index_places def))) (sym page) (root_there (block_index_places def) n (place_of_tree tree) at))
+
+  space_named : {S : Type 0} (g : Ghosts S) (s : S) → BreaksSpace g now s damage → NamesTablePart before def damage
+  space_named g s (inl count) = NamesTablePart.count count.rule count.page
+  space_named g s (inr (i, page)) = NamesTablePart.map_page page.rule (omega (arith, page.page), omega (arith, page.page, page.on_map, ap map_pages shape.cap))
+
+-- what is named where a page is given back
+return_named : {S : Type 0} {g : Ghosts S} (def : TableDef) (before now : Extents) (old mid : S) (tree : Tree) → IsSameShape before now → (damage : Damage)
+    → BreaksAtReturn g now (λ owners. (t : Forest) × StandsTree g now mid tree owners t) damage → NamesTablePart before def damage
+return_named def before now old mid tree shape damage at_return = elim at_return.breaks [
+  | inl space ↦ elim space [
+    | inl count ↦ NamesTablePart.count count.rule count.page
+    | inr page ↦ NamesTablePart.map_page page.1.rule (omega (arith, page.1.page), omega (arith, page.1.page, page.1.on_map, ap map_pages at_return.shape.cap, ap map_pages shape.cap))
+  ]
+  | inr unused ↦ NamesTablePart.tree_page unused.rule
+]
+
+-- the page of the map that says what a page is
+map_page_told : {S : Type 0} {g : Ghosts S} {ext : Extents} {s : S} {owners : List Kind} {p : ℕ} → HoldsMap g ext s owners → IsUsedPage ext owners p → HoldsMapPage g ext s owners (extent_of ext p / 512)
+map_page_told {ext = ext} {p = p} map used = map.pages (extent_of ext p / 512) (on_map ext.cap (extent_of ext p) (extent_below ext p used.page))
+
+-- ---- claims and returns
+
+-- the entries of the block under the values of a row
+abbrev all_entries : TableDef → List Value → ℕ → List Entry
+all_entries def values block = block_entry def.columns (cell_parts def) values block ∷ map (λ dim. block_entry def.columns (rising_parts dim) values block) def.dims
+
+module _ {S : Type 0} {g : Ghosts S} (before ext : Extents) (old new : S) (owners owners_now : List Kind) (places : List TreePlace) (trees trees_now : List Forest) (changes : ChangesTrees g before ext new places owners trees owners_now trees_now) where
+  -- where no page left the trees, no index extent became free
+  no_less : HoldsMap g before old owners → ((p : ℕ) → sum_by (times p) trees ≤ sum_by (times p) trees_now) → (e used : ℕ) → owner_of owners e ≡ Index used → owner_of owners_now e ≡ Free → ⊥
+  no_less map more e used was now = not_freed before owners owners_now e (index_used before old owners e used map was) still now
+    where
+      still : (p : ℕ) → IsUsedPage before owners p → IsUsedPage before owners_now p
+      still p used = elim (cases_lt 0 (sum_by (times p) trees)) [
+        | inl some ↦ used_same before ext owners_now p changes.shape (changes.stand.used p (omega (arith, some, more p)))
+        | inr none ↦ changes.kept.others p used (omega (arith, none))
+      ]
+
+  -- where none came to them, no free extent became an index extent
+  no_more : StandTrees g before old owners places trees → ((p : ℕ) → sum_by (times p) trees_now ≤ sum_by (times p) trees) → (e used : ℕ) → owner_of owners e ≡ Free → owner_of owners_now e ≡ Index used → ⊥
+  no_more stand fewer e used was now = not_freed ext owners_now owners e (index_used ext new owners_now e used changes.stand.map now) still was
+    where
+      still : (p : ℕ) → IsUsedPage ext owners_now p → IsUsedPage ext owners p
+      still p used = elim (changes.kept.used p (used_same before ext owners_now p changes.shape used)) [
+        | inl some ↦ used_same ext before owners p (shape_back before ext changes.shape) (stand.used p (omega (arith, some, fewer p)))
+        | inr stayed ↦ used_same ext before owners p (shape_back before ext changes.shape) stayed.0
+      ]
+
+-- the page count, where no page came and page 0 isn't touched
+grows_untouched : {S : Type 0} {g : Ghosts S} (ext : Extents) (old new : S) (owners : List Kind) (places : List TreePlace) (trees : List Forest) → StandTrees g ext old owners places trees
+    → Touches g (IsTreesOrMapPage g ext old places) old new → length (g.state new).work ≡ length (g.state old).work → GrowsPages g ext old new
+grows_untouched ext old new owners places trees st touched count = record {
+  stated = record {
+    same = λ same bytes holds. touched.others 0 bytes (λ mine. elim (mine owners trees st) [ inl here ↦ no_space_page ext 0 (st.used 0 here).page (inl refl) | inr map ↦ omega (arith, map.0) ]) holds;
+    grown = λ more. absurd (omega (arith, more, count));
+    whole = λ more. absurd (omega (arith, more, count));
+  };
+  whole = λ is. record { extents = is.extents; within = is.within; count = count ∙ is.count };
+}
+
+-- ---- the block in the indexes
+
+module _ (def : TableDef) (values : List Value) (block : ℕ) (small : block < 2 ^ 32) (has : HasBlockIndexes def) (keys : HaveKeys def.columns (cell_places def) values) where
+  -- what is known of the columns of an index
+  keyed : AllByRecursion (IsKeyedDimension def.columns values) def.dims
+  keyed = keyed_dimensions def.columns values def.dims has.dimensions keys
+
+  names_cell : block_in_entry def (cell_parts def) (block_entry def.columns (cell_parts def) values block) ≡ block
+  names_cell = block_in_keyed def (cell_places def) values block has.composite keys small
+
+  names_dimension : (dim : List ℕ) → IsKeyedDimension def.columns values dim → block_in_entry def (rising_parts dim) (block_entry def.columns (rising_parts dim) values block) ≡ block
+  names_dimension dim known = block_in_keyed def dim values block known.0 known.1 small
+
+  -- the entry of the block in the index of a dimension
+  abbrev dimension_entry : List ℕ → Entry
+  dimension_entry dim = block_entry def.columns (rising_parts dim) values block
+
+  unlisted_absent : (forests : TableForests) (n : ℕ) (x : Entry) (t : Forest) → IsUnlisted def forests block → slice_get (forests.composite ∷ forests.dims) n ≡ Some t → slice_get (all_entries def values block) n ≡ Some x
+      → IsEntryOf x (leaf_entries t) → ⊥
+  unlisted_absent forests zero x t none there entry at =
+      let tree_is : forests.composite ≡ t = same_Some forests.composite t there in
+      let entry_is : block_entry def.columns (cell_parts def) values block ≡ x = same_Some (block_entry def.columns (cell_parts def) values block) x entry in
+      none.composite x (subst (λ (v : Forest). IsEntryOf x (leaf_entries v)) (sym tree_is) at) (ap (block_in_entry def (cell_parts def)) (sym entry_is) ∙ names_cell)
+  unlisted_absent forests (suc n) x t none there entry at =
+      let here = at_dimension (IsKeyedDimension def.columns values) (λ dim index. IsUnlistedIn def (rising_parts dim) block index) dimension_entry def.dims forests.dims n x t keyed none.dims entry there in
+      here.2 x at (ap (block_in_entry def (rising_parts here.0)) here.3 ∙ names_dimension here.0 here.1)
+
+  listed_there : (forests : TableForests) (n : ℕ) (x : Entry) (t : Forest) → IsListed def forests values block → slice_get (forests.composite ∷ forests.dims) n ≡ Some t → slice_get (all_entries def values block) n ≡ Some x
+      → IsEntryOf x (leaf_entries t)
+  listed_there forests zero x t listed there entry =
+      let tree_is : forests.composite ≡ t = same_Some forests.composite t there in
+      let entry_is : block_entry def.columns (cell_parts def) values block ≡ x = same_Some (block_entry def.columns (cell_parts def) values block) x entry in
+      subst (λ (v : Forest). IsEntryOf x (leaf_entries v)) tree_is (subst (λ (y : Entry). IsEntryOf y (leaf_entries forests.composite)) entry_is listed.composite.has)
+  listed_there forests (suc n) x t listed there entry =
+      let here = at_dimension (IsKeyedDimension def.columns values) (λ dim index. IsListedIn def (rising_parts dim) values block index) dimension_entry def.dims forests.dims n x t keyed listed.dims entry there in
+      subst (λ (y : Entry). IsEntryOf y (leaf_entries t)) (sym here.3) here.2.has
+
+module _ {S : Type 0} {g : Ghosts S} (def : TableDef) (cell : Cell) (values : List Value) (block : ℕ) (small : block < 2 ^ 32) (has : HasBlockIndexes def) (is : IsCellOf def cell values) (keys : HaveKeys def.columns (cell_places def) values) where
+  as_many : (ext : Extents) (s : S) (owners : List Kind) (forests : TableForests) → StandsAround g ext s def owners forests block → length (block_index_places def) ≡ length (forests.composite ∷ forests.dims)
+  as_many ext s owners forests st =
+      let dims = AllZip-long (λ dim index. IsIndexAround ext (pages_of g s) def forests.map (rising_parts dim) block index) def.dims forests.dims st.dims in
+      omega (arith, dims, count_dimensions def def.dims def.roots.dims has.one_each)
+
+  -- the block indexes stand side by side
+  pub indexes_around : (ext : Extents) (s : S) (owners : List Kind) (forests : TableForests) → StandsAround g ext s def owners forests block → StandTrees g ext s owners (block_index_places def) (forests.composite ∷ forests.dims)
+  indexes_around ext s owners forests st =
+      part_stands ext s owners (map_place def ∷ []) (block_index_places def) (record_places def) (forests.map ∷ []) (forests.composite ∷ forests.dims) forests.indexes refl (as_many ext s owners forests st) st.trees
+
+  -- ---- a change of them
+
+  module _ (before ext : Extents) (old new : S) (owners owners_now : List Kind) (forests : TableForests) (u : Forest) (us : List Forest) (st : StandsAround g before old def owners forests block)
+      (changes : ChangesTrees g before ext new (block_index_places def) owners (forests.composite ∷ forests.dims) owners_now (u ∷ us)) (touched : Touches g (IsSpaceOfTrees g before old (block_index_places def)) old new)
+      (told : (g.state new).is_told ≡ (g.state old).is_told) where
+    -- the trees of the table afterwards
+    abbrev after : TableForests
+    after = record { map = forests.map; composite = u; dims = us; indexes = forests.indexes }
+
+    blocks_kept : (e : ℕ) → owner_of owners e ≡ Block def.number → KeepsBlockPages before ext (pages_of g old) (pages_of g new) e
+    blocks_kept e is =
+        block_kept (IsSpaceOfTrees g before old (block_index_places def)) before ext old new owners def.number e st.trees.map changes.shape st.told touched
+        (λ p of mine. block_page_apart before old owners (block_index_places def) (forests.composite ∷ forests.dims) p def.number (indexes_around before old owners forests st) of.page of.block mine)
+        (omega (arith, block_below owners e def.number is, st.trees.map.count)) is
+
+    other_now : (placed : PlacedRow) → IsOtherRow before (pages_of g old) def forests.map block placed → IsOtherRow ext (pages_of g new) def forests.map block placed
+    other_now = other_row_now before ext (pages_of g old) (pages_of g new) def owners owners_now forests.map block changes.shape (λ e low is. blocks_kept e is) changes.kept.blocks st.map
+
+    other_was : (placed : PlacedRow) → IsOtherRow ext (pages_of g new) def forests.map block placed → IsOtherRow before (pages_of g old) def forests.map block placed
+    other_was = other_row_was before ext (pages_of g old) (pages_of g new) def owners owners_now forests.map block changes.shape (λ e low is. blocks_kept e is) changes.kept.blocks st.map
+
+    abbrev AroundOld : List ℕ → Forest → Type 0
+    AroundOld dim index = IsIndexAround before (pages_of g old) def forests.map (rising_parts dim) block index
+
+    abbrev AroundNew : List ℕ → Forest → Type 0
+    AroundNew dim index = IsIndexAround ext (pages_of g new) def forests.map (rising_parts dim) block index
+
+    whole_changes : ChangesTrees g before ext new (tree_places def) owners (forests_in_order forests) owners_now (forests_in_order after)
+    whole_changes =
+        part_changes before ext old new (map_place def ∷ []) (block_index_places def) (record_places def) (forests.map ∷ []) (forests.composite ∷ forests.dims) (u ∷ us) forests.indexes owners owners_now refl
+        (as_many before old owners forests st) st.trees touched told changes
+
+    -- how often a page stands in all of them
+    times_before : (p : ℕ) → sum_by (times p) (forests_in_order forests) ≡ sum_by (times p) (forests.map ∷ []) + (sum_by (times p) (forests.composite ∷ forests.dims) + sum_by (times p) forests.indexes)
+    times_before p = omega (arith, times-parts p (forests.map ∷ []) (forests.composite ∷ forests.dims) forests.indexes)
+
+    times_after : (p : ℕ) → sum_by (times p) (forests_in_order after) ≡ sum_by (times p) (forests.map ∷ []) + (sum_by (times p) (u ∷ us) + sum_by (times p) forests.indexes)
+    times_after p = omega (arith, times-parts p (forests.map ∷ []) (u ∷ us) forests.indexes)
+
+    module _ {After : Spot → Spot → Type 0} (change : IsSpotChange After) (longer : length (g.state old).work ≤ length (g.state new).work) where
+      moves_entries : IsOwnBlock before owners def block → IsIndexAround ext (pages_of g new) def forests.map (cell_parts def) block u → AllZip AroundNew def.dims us → GrowsPages g before old new
+          → ((e used : ℕ) → owner_of owners e ≡ Free → owner_of owners_now e ≡ Index used → After FreeExtent IndexExtent) → ((e used : ℕ) → owner_of owners e ≡ Index used → owner_of owners_now e ≡ Free → After IndexExtent FreeExtent)
+          → MovesEntries g After before ext old new def block owners forests
+      moves_entries own composite dims grows took gave = record {
+        owners_now = owners_now;
+        forests_now = after;
+        changes = record {
+          stands = record {
+            told = told ∙ st.told;
+            trees = whole_changes.stand;
+            map = map_still before ext (pages_of g old) (pages_of g new) def owners owners_now forests.map block changes.shape (λ e low is. blocks_kept e is) changes.kept.blocks st.map;
+            composite = composite;
+            dims = dims;
+          };
+          trees = whole_changes;
+          records = refl;
+          spots = λ e other. spot_after change g before ext old new def owners owners_now forests.map changes.shape e (blocks_kept e) (changes.kept.blocks e) (took e) (gave e);
+          longer = longer;
+          grows = grows;
+        };
+        same_map = refl;
+        rows = λ slots held. rows_held_still g before ext old new def block slots changes.shape (blocks_kept block own.owned) told longer held;
+      }
+
+  pub lists_entries : (before ext : Extents) (old new : S) (owners : List Kind) (forests : TableForests) → StandsAround g before old def owners forests block → IsOwnBlock before owners def block
+      → ListsBlock g before ext new def cell.values block owners (forests.composite ∷ forests.dims) → GrowsPages g before old new → IsSameShape before ext
+      → Touches g (IsSpaceOfTrees g before old (block_index_places def)) old new → (g.state new).is_told ≡ (g.state old).is_told → length (g.state old).work ≤ length (g.state new).work
+      → (moves : MovesEntries g AfterClaims before ext old new def block owners forests) × (IsUnlisted def forests block → IsListed def moves.forests_now values block)
+  unfolding moves_entries
+  lists_entries before ext old new owners forests st own lists grows shape touched told longer =
+      let first : MoveFirst GainsEntry (length (all_entries def values block)) (all_entries def values block) (forests.composite ∷ forests.dims) lists.first.trees_now =
+      subst (λ es. MoveFirst GainsEntry (length es) es (forests.composite ∷ forests.dims) lists.first.trees_now) (cell_entries-row def cell values block is) lists.first.moves in
+      let both = moves_both GainsEntry (length (map (dimension_entry def values block small has keys) def.dims)) (block_entry def.columns (cell_parts def) values block) (map (dimension_entry def values block small has keys) def.dims) forests.composite forests.dims lists.first.trees_now first in
+      let changes : ChangesTrees g before ext new (block_index_places def) owners (forests.composite ∷ forests.dims) lists.first.owners_now (both.first ∷ both.rest) =
+      subst (λ ts. ChangesTrees g before ext new (block_index_places def) owners (forests.composite ∷ forests.dims) lists.first.owners_now ts) both.after_is lists.first.changes in
+      let more : (p : ℕ) → sum_by (times p) (forests.composite ∷ forests.dims) ≤ sum_by (times p) (both.first ∷ both.rest) = λ p. omega (arith, lists.pages p, ap (sum_by (times p)) both.after_is) in (
+        moves_entries before ext old new owners lists.first.owners_now forests both.first both.rest st changes touched told claims_change longer own
+            (around_gained def (cell_parts def) values block (names_cell def values block small has keys) forests.composite both.first before ext (pages_of g old) (pages_of g new) forests.map
+            (other_now before ext old new owners lists.first.owners_now forests both.first both.rest st changes touched told)
+            (other_was before ext old new owners lists.first.owners_now forests both.first both.rest st changes touched told) both.moves st.composite)
+            (move_each GainsEntry (IsKeyedDimension def.columns values) (λ dim index. IsIndexAround before (pages_of g old) def forests.map (rising_parts dim) block index)
+            (λ dim index. IsIndexAround ext (pages_of g new) def forests.map (rising_parts dim) block index) (dimension_entry def values block small has keys)
+            (λ dim t v known moves was. around_gained def (rising_parts dim) values block ((names_dimension def values block small has keys) dim known) t v before ext (pages_of g old) (pages_of g new) forests.map
+            (other_now before ext old new owners lists.first.owners_now forests both.first both.rest st changes touched told)
+            (other_was before ext old new owners lists.first.owners_now forests both.first both.rest st changes touched told) moves was)
+            def.dims forests.dims both.rest (keyed def values block small has keys) st.dims both.more)
+            grows (λ e used was now. tt) (λ e used was now. absurd (no_less before ext old new owners lists.first.owners_now (block_index_places def) (forests.composite ∷ forests.dims) (both.first ∷ both.rest) changes st.trees.map more e used was now)),
+        λ none. record {
+          composite = listed_in def (cell_parts def) values block (names_cell def values block small has keys) forests.composite both.first both.moves none.composite;
+          dims = move_each GainsEntry (IsKeyedDimension def.columns values) (λ dim index. IsUnlistedIn def (rising_parts dim) block index) (λ dim index. IsListedIn def (rising_parts dim) values block index) (dimension_entry def values block small has keys)
+              (λ dim t v known moves was. listed_in def (rising_parts dim) values block ((names_dimension def values block small has keys) dim known) t v moves was) def.dims forests.dims both.rest (keyed def values block small has keys) none.dims both.more;
+        },
+      )
+
+  pub unlists_entries : (before ext : Extents) (old new : S) (owners : List Kind) (forests : TableForests) → StandsAround g before old def owners forests block → IsOwnBlock before owners def block
+      → UnlistsBlock g before ext new def cell.values block owners (forests.composite ∷ forests.dims) → IsSameShape before ext
+      → Touches g (IsTreesOrMapPage g before old (block_index_places def)) old new → (g.state new).is_told ≡ (g.state old).is_told → length (g.state new).work ≡ length (g.state old).work
+      → (moves : MovesEntries g AfterReturns before ext old new def block owners forests) × (IsListed def forests values block → IsUnlisted def moves.forests_now block)
+      × ((p : ℕ) → 0 < sum_by (times p) (forests_in_order moves.forests_now) → 0 < sum_by (times p) (forests_in_order forests))
+  unfolding moves_entries
+  unlists_entries before ext old new owners forests st own unlists shape touched told count =
+      let first : MoveFirst LosesEntry (length (all_entries def values block)) (all_entries def values block) (forests.composite ∷ forests.dims) unlists.first.trees_now =
+      subst (λ es. MoveFirst LosesEntry (length es) es (forests.composite ∷ forests.dims) unlists.first.trees_now) (cell_entries-row def cell values block is) unlists.first.moves in
+      let both = moves_both LosesEntry (length (map (dimension_entry def values block small has keys) def.dims)) (block_entry def.columns (cell_parts def) values block) (map (dimension_entry def values block small has keys) def.dims) forests.composite forests.dims unlists.first.trees_now first in
+      let changes : ChangesTrees g before ext new (block_index_places def) owners (forests.composite ∷ forests.dims) unlists.first.owners_now (both.first ∷ both.rest) =
+      subst (λ ts. ChangesTrees g before ext new (block_index_places def) owners (forests.composite ∷ forests.dims) unlists.first.owners_now ts) both.after_is unlists.first.changes in
+      let fewer : (p : ℕ) → sum_by (times p) (both.first ∷ both.rest) ≤ sum_by (times p) (forests.composite ∷ forests.dims) = λ p. omega (arith, unlists.pages p, ap (sum_by (times p)) both.after_is) in
+      let stand = indexes_around before old owners forests st in
+      let wide : Touches g (IsSpaceOfTrees g before old (block_index_places def)) old new = touches_wider touched (λ p at. space_of_trees_or_map before old (block_index_places def) p at) in
+      let longer : length (g.state old).work ≤ length (g.state new).work = omega (arith, count) in (
+        moves_entries before ext old new owners unlists.first.owners_now forests both.first both.rest st changes wide told returns_change longer own
+            (around_lost def (cell_parts def) values block (names_cell def values block small has keys) forests.composite both.first before ext (pages_of g old) (pages_of g new) forests.map
+            (other_now before ext old new owners unlists.first.owners_now forests both.first both.rest st changes wide told)
+            (other_was before ext old new owners unlists.first.owners_now forests both.first both.rest st changes wide told)
+            small (other_row_small before (pages_of g old) owners def forests.map block st.map) both.moves st.composite)
+            (move_each LosesEntry (IsKeyedDimension def.columns values) (λ dim index. IsIndexAround before (pages_of g old) def forests.map (rising_parts dim) block index)
+            (λ dim index. IsIndexAround ext (pages_of g new) def forests.map (rising_parts dim) block index) (dimension_entry def values block small has keys)
+            (λ dim t v known moves was. around_lost def (rising_parts dim) values block ((names_dimension def values block small has keys) dim known) t v before ext (pages_of g old) (pages_of g new) forests.map
+            (other_now before ext old new owners unlists.first.owners_now forests both.first both.rest st changes wide told)
+            (other_was before ext old new owners unlists.first.owners_now forests both.first both.rest st changes wide told)
+            small (other_row_small before (pages_of g old) owners def forests.map block st.map) moves was)
+            def.dims forests.dims both.rest (keyed def values block small has keys) st.dims both.more)
+            (grows_untouched before old new owners (block_index_places def) (forests.composite ∷ forests.dims) stand touched count)
+            (λ e used was now. absurd (no_more before ext old new owners unlists.first.owners_now (block_index_places def) (forests.composite ∷ forests.dims) (both.first ∷ both.rest) changes stand fewer e used was now)) (λ e used was now. tt),
+        λ listed. record {
+          composite = unlisted_in def (cell_parts def) values block (names_cell def values block small has keys) forests.composite both.first both.moves listed.composite;
+          dims = move_each LosesEntry (IsKeyedDimension def.columns values) (λ dim index. IsListedIn def (rising_parts dim) values block index) (λ dim index. IsUnlistedIn def (rising_parts dim) block index) (dimension_entry def values block small has keys)
+              (λ dim t v known moves was. unlisted_in def (rising_parts dim) values block ((names_dimension def values block small has keys) dim known) t v moves was) def.dims forests.dims both.rest (keyed def values block small has keys) listed.dims both.more;
+        },
+        λ p l. omega (
+          arith,
+          l,
+          fewer p,
+          times_before before ext old new owners unlists.first.owners_now forests both.first both.rest st changes wide told p,
+          times_after before ext old new owners unlists.first.owners_now forests both.first both.rest st changes wide told p,
+        ),
+      )
+
+  -- the pages, and the damage
+  pub space_of_indexes : (ext : Extents) (s : S) (p : ℕ) → IsSpaceOfTrees g ext s (block_index_places def) p → IsSpaceAround g ext s def block p
+  space_of_indexes ext s p at owners forests st own =
+      elim (part_space ext s (map_place def ∷ []) (block_index_places def) (record_places def) p at owners (forests_in_order forests) st.trees) [ inl here ↦ inl here | inr rest ↦ inr (inr rest) ]
+
+  pub place_of_indexes : (ext : Extents) (s : S) (p : ℕ) → IsTreesOrMapPage g ext s (block_index_places def) p → IsPlaceAround g ext s def block p
+  place_of_indexes ext s p at owners forests st own =
+      elim (part_trees_or_map ext s (map_place def ∷ []) (block_index_places def) (record_places def) p at owners (forests_in_order forests) st.trees) [ inl here ↦ inl here | inr map ↦ inr (inr map) ]
+
+  -- what the index that a call had come to is to the table as it was
+  module _ (Moves : Entry → Forest → Forest → Type 0) (before now : Extents) (old mid : S) (tree : Tree) (x : Entry) (comes : ComesTo g Moves before old def cell.values block now mid tree x) (owners : List Kind) (forests : TableForests)
+      (st : StandsAround g before old def owners forests block) where
+    record IsNext : Type 0 where
+      pub owners_mid : List Kind
+      pub t : Forest
+      pub stands : StandsTree g now mid tree owners_mid t
+      pub there : slice_get (forests.composite ∷ forests.dims) comes.n ≡ Some t
+      pub entry : slice_get (all_entries def values block) comes.n ≡ Some x
+      pub notes : AreRightNotes before owners → AreRightNotes now owners_mid
+
+    next_index : IsNext
+    next_index =
+        let d = comes.done owners (forests.composite ∷ forests.dims) (indexes_around before old owners forests st) in
+        let one = tree_among now mid d.owners_now (block_index_places def) d.trees_now tree comes.n d.changes.stand comes.place in
+        record {
+          owners_mid = d.owners_now;
+          t = one.0;
+          stands = one.2;
+          there = sym (not_yet Moves comes.n (cell_entries def cell.values block) (forests.composite ∷ forests.dims) d.trees_now d.moves) ∙ one.1;
+          entry = ap (λ es. slice_get es comes.n) (sym (cell_entries-row def cell values block is)) ∙ comes.entry;
+          notes = d.changes.notes;
+        }
+
+  pub breaks_listing : (ext : Extents) (s : S) (damage : Damage) → BreaksListing g ext s def cell.values block damage → BreaksAround g ext s def block (λ owners forests. IsUnlisted def forests block) damage
+  breaks_listing ext s damage breaks = record {
+    names = elim breaks.breaks [
+      | inl tree_or_map ↦ elim tree_or_map [
+        | inl standing ↦ tree_named def breaks.comes.n breaks.tree breaks.comes.place ext breaks.now breaks.comes.shape damage standing.page standing.rule
+        | inr space ↦ space_named def breaks.comes.n breaks.tree breaks.comes.place ext breaks.now breaks.comes.shape damage g breaks.mid space
+      ]
+      | inr index ↦ index_named def breaks.comes.n breaks.tree breaks.comes.place ext breaks.now breaks.comes.shape damage index.page index.rule
+    ];
+    broken = λ owners forests st own none.
+        let next = next_index GainsEntry ext breaks.now s breaks.mid breaks.tree breaks.x breaks.comes owners forests st in
+        elim breaks.breaks [
+          | inl tree_or_map ↦ elim tree_or_map [
+            | inl standing ↦ standing.broken next.owners_mid next.t next.stands
+            | inr space ↦ breaks_space_never damage next.stands.map space
+          ]
+          | inr index ↦ (unlisted_absent def values block small has keys) forests breaks.comes.n breaks.x next.t none next.there next.entry (index.wrong next.owners_mid next.t next.stands)
+        ];
+  }
+
+  pub breaks_unlisting : (ext : Extents) (s : S) (damage : Damage) → BreaksUnlisting g ext s def cell.values block damage → BreaksAround g ext s def block (λ owners forests. IsListed def forests values block) damage
+  breaks_unlisting ext s damage breaks = record {
+    names = elim breaks.breaks [
+      | inl tree_or_return ↦ elim tree_or_return [
+        | inl broken ↦ tree_named def breaks.comes.n breaks.tree breaks.comes.place ext breaks.now breaks.comes.shape damage broken.page broken.rule
+        | inr at_return ↦ return_named def ext breaks.now s breaks.mid breaks.tree breaks.comes.shape damage at_return
+      ]
+      | inr index ↦ index_named def breaks.comes.n breaks.tree breaks.comes.place ext breaks.now breaks.comes.shape damage index.page index.rule
+    ];
+    broken = λ owners forests st own listed.
+        let next = next_index LosesEntry ext breaks.now s breaks.mid breaks.tree breaks.x breaks.comes owners forests st in
+        elim breaks.breaks [
+          | inl tree_or_return ↦ elim tree_or_return [
+            | inl broken ↦ broken.broken next.t next.stands.held
+            | inr at_return ↦
+                let then = at_return.map next.owners_mid (next.t, next.stands) in
+                elim at_return.breaks [
+                  | inl space ↦ breaks_space_never damage then.1 space
+                  | inr unused ↦ unused.not_used then.0 (map_page_told then.1 then.2) then.2
+                ]
+          ]
+          | inr index ↦ index.wrong next.owners_mid next.t next.stands ((listed_there def values block small has keys) forests breaks.comes.n breaks.x next.t listed next.there next.entry)
+        ];
+  }
+
+  -- a full map
+  pub full_listing : (before ext : Extents) (old new : S) (owners : List Kind) (forests : TableForests) → FillsListing g before ext old new def cell.values block → StandsAround g before old def owners forests block
+      → AreRightNotes before owners → IsSameShape before ext → MeetsNoFree g ext new
+  full_listing before ext old new owners forests fills st notes shape =
+      let next = next_index GainsEntry before fills.now old fills.mid fills.tree fills.x fills.comes owners forests st in
+      let found = fills.full next.owners_mid next.t next.stands in
+      record {
+        owners = with_pages fills.now next.owners_mid found.meets.claimed;
+        map = found.stands.map;
+        none_free = (found.meets.full (next.notes notes)).no_free;
+      }

@@ -1,0 +1,186 @@
+-- A claimed block comes into the block map and gets its first row: what the calls that follow each other say together.
+use Rattle.std.proofs.Common.{◌≡◌, ◌<◌, ◌+◌, ℕ, zero, suc, List, cond, length, max, inl, inr, refl, ap, sym, subst, ◌∙◌, arith}
+use Rattle.std.specs.List.{AllZip}
+use Rattle.std.specs.Prelude.{Contains, Option, Some, None, is_some, replicate, slice_set}
+use Rattle.std.proofs.lemmas.List.Sums.{sum_by-cons}
+use Rattle.std.proofs.lemmas.Option.{same_Some}
+use Rattle.mdc_ast.specs.declared.definition.TableDef.{TableDef}
+use Rattle.mdc_ast.specs.declared.row.Row.{Row}
+use Rattle.store_api.specs.Extents.{first_page_of}
+use Rattle.store_api.specs.RunsOverPages.{RunsOverPages}
+use Rattle.store_api.specs.declared.fault.StoreFault.{StoreFault}
+use Rattle.store_api.specs.declared.pages.Pages.{Ghosts}
+use Rattle.store_api.proofs.RunsOverPagesLemmas.{runs_then, runs_wider}
+use Rattle.extent_map.specs.Damages.{BreaksSpace, IfFull}
+use Rattle.extent_map.specs.Map.{HoldsMap, IsSpacePage, StatesGrowth}
+use Rattle.extent_map.specs.Owners.{AreRightNotes, IsSameShape, owner_of, with_block}
+use Rattle.extent_map.specs.declared.extents.Extents.{Extents}
+use Rattle.extent_map.specs.declared.fault.SpaceFault.{SpaceFault}
+use Rattle.extent_map.specs.declared.fault.SpaceFault.TheVariants.{Full, Store}
+use Rattle.extent_map.specs.declared.kind.Kind.{Kind}
+use Rattle.extent_map.specs.declared.kind.Kind.TheVariants.{Free}
+use Rattle.row_page.specs.RowPage.{count_rows}
+use Rattle.entry_tree.specs.Forest.{Forest}
+use Rattle.entry_tree.specs.Standing.{AddsEntry, FindsFull, IsTreeSpace, StandsTree, with_pages}
+use Rattle.entry_tree.specs.declared.tree.Tree.{Tree}
+use Rattle.entry_tree.proofs.ClaimsLemmas.{shape_then}
+use Rattle.table_page.specs.TableLimits.{IsTableDef}
+use Rattle.block_map.specs.BlockMaps.{HasRow}
+use Rattle.block_map.specs.MapChanges.{BreaksEntering}
+use Rattle.block_map.specs.MapRows.{row_entry}
+use Rattle.block_map.specs.declared.row.BlockRow.{BlockRow}
+use Rattle.table_trees.specs.TableTrees.{cell_parts, rising_parts}
+use Rattle.table_trees.specs.RowCells.{cell_values}
+use Rattle.mdc_sound.specs.FittingRows.{RowFits}
+use Rattle.mdc_sound.specs.Placing.{AfterClaims, begun_with, block_slot_count}
+use Rattle.mdc_sound.specs.StandingTable.{BreaksTable, IsTableSpace, MeetsNoFree, StandsTable, TableForests}
+use Rattle.mdc_sound.proofs.ChangedRowsLemmas.{some_slots}
+use Rattle.table_blocks.specs.AroundBlock.{StandsAround}
+use Rattle.table_blocks.specs.BlockChanges.{BreaksAround, IsSpaceAround, TurnsSpot}
+use Rattle.table_blocks.specs.BlockNow.{AreOfCell, IsOwnBlock, IsUnlisted, IsUnlistedIn, IsUnnamed, IsUsedNow, used_line}
+use Rattle.table_blocks.specs.BlockSteps.{BeginsBlock, ClaimsBlock, FillsBegun, MovesLine}
+use Rattle.table_blocks.proofs.BegunSlotsLemmas.{begun_cell, begun_count}
+use Rattle.table_blocks.proofs.AroundLemmas.{around_then, own_still}
+use Rattle.table_blocks.proofs.ClaimStepLemmas.{breaks_claiming, breaks_since_claim, claims_block, names_same, space_since_change, space_since_claim, turns_claimed}
+use Rattle.table_blocks.proofs.LineStepLemmas.{breaks_entering, enters_line, map_around, space_of_map}
+use Rattle.table_blocks.proofs.SpotChangesLemmas.{claims_change}
+
+-- ---- a full map
+
+-- ---- the claim
+
+module _ {S : Type 0} {g : Ghosts S} (before mid_ext : Extents) (old mid : S) (def : TableDef) (block : ℕ) where
+  -- what the claim says is so wherever the table stood
+  pub where_claimed : IsTableDef def.number def → block < before.cap → ((owners : List Kind) → HoldsMap g before old owners → owner_of owners block ≡ Free)
+      → ((owners : List Kind) → HoldsMap g before old owners → HoldsMap g mid_ext mid (with_block owners block def.number))
+      → ((owners : List Kind) → HoldsMap g before old owners → AreRightNotes before owners → AreRightNotes mid_ext (with_block owners block def.number))
+      → IsSameShape before mid_ext → StatesGrowth g old mid → length (g.state mid).work ≡ max (length (g.state old).work) (first_page_of before.cap before.extent_pages (block + 1))
+      → RunsOverPages g (IsSpacePage before) (IsSpacePage before) (BreaksSpace g before old) old mid None
+      → (owners : List Kind) (forests : TableForests) → StandsTable g before old def owners forests → ClaimsBlock g before mid_ext old mid def block owners forests
+  where_claimed defined low free claims notes shape stated count run owners forests st =
+      claims_block before mid_ext old mid def block owners forests defined st low (free owners st.trees.map) (claims owners st.trees.map) (notes owners st.trees.map) shape stated count run.touches run.works.steady.is_told
+
+module _ {S : Type 0} {g : Ghosts S} (before : Extents) (old : S) (def : TableDef) where
+  pub claim_run : {mid : S} {fault : Option StoreFault} → RunsOverPages g (IsSpacePage before) (IsSpacePage before) (BreaksSpace g before old) old mid fault
+      → RunsOverPages g (IsTableSpace g before old def) (IsTableSpace g before old def) (BreaksTable g before old def) old mid fault
+  claim_run run =
+      runs_wider run (λ p low space owners forests st. inr (inr (inl space))) (λ p space owners forests st. inr (inr (inl space))) (breaks_claiming g before old def)
+
+-- ---- the line
+
+module _ {S : Type 0} {g : Ghosts S} (before mid_ext : Extents) (old mid : S) (def : TableDef) (block : ℕ) (defined : IsTableDef def.number def)
+    (shape : IsSameShape before mid_ext) (claims : (owners : List Kind) (forests : TableForests) → StandsTable g before old def owners forests → ClaimsBlock g before mid_ext old mid def block owners forests)
+    (tree : Tree) (root : tree.root ≡ def.roots.map) (width : tree.width ≡ 7) (line : BlockRow) (is : line ≡ used_line block 1) where
+  own_line : line.block ≡ block
+  own_line = ap (λ (other : BlockRow). other.block) is
+
+  pub enter_run : {two : S} {fault : Option StoreFault} → RunsOverPages g (IsTableSpace g before old def) (IsTableSpace g before old def) (BreaksTable g before old def) old mid None
+      → RunsOverPages g (IsTreeSpace g mid_ext mid tree) (IsTreeSpace g mid_ext mid tree) (BreaksEntering g mid_ext mid tree line) mid two fault
+      → RunsOverPages g (IsTableSpace g before old def) (IsTableSpace g before old def) (BreaksTable g before old def) old two fault
+  enter_run first second =
+      runs_then first second (λ p low mine. space p mine) space
+      (λ damage breaks. breaks_since_claim g before mid_ext old mid def block (λ owners forests. IsUnnamed forests.map block) damage shape claims (λ owners forests st. (claims owners forests st).unnamed)
+      (breaks_entering tree def root width mid_ext mid block line damage own_line breaks))
+    where
+      space : (p : ℕ) → IsTreeSpace g mid_ext mid tree p → IsTableSpace g before old def p
+      space p mine owners forests st = space_since_claim before mid_ext old mid def block owners forests defined st p (claims owners forests st) (space_of_map tree def root width mid_ext mid block p mine)
+
+  -- the tree met no free extent
+  pub enter_full : (ext : Extents) (new : S) (fault : SpaceFault)
+      → IfFull fault (λ cap. (cap ≡ mid_ext.cap) × ((owners : List Kind) (t : Forest) → StandsTree g mid_ext mid tree owners t → FindsFull g mid_ext ext mid new tree (row_entry line) owners t))
+      → IfFull fault (λ cap. (cap ≡ before.cap) × ((owners : List Kind) (forests : TableForests) → StandsTable g before old def owners forests → AreRightNotes before owners → MeetsNoFree g ext new))
+  enter_full ext new (Full cap) found = (
+    found.0 ∙ shape.cap,
+    λ owners forests st notes.
+        let claim = claims owners forests st in
+        let finds = found.1 (with_block owners block def.number) forests.map (map_around tree def root width mid_ext mid (with_block owners block def.number) forests block claim.stands) in
+        record {
+          owners = with_pages mid_ext (with_block owners block def.number) finds.meets.claimed;
+          map = finds.meets.claims.map;
+          none_free = (finds.meets.full (claim.notes notes)).no_free;
+        },
+  )
+  enter_full ext new (Store fault) found = tt
+
+  -- ---- the first row
+
+  module _ (two_ext : Extents) (two : S) (same : IsSameShape mid_ext two_ext)
+      (adds : (owners : List Kind) (t : Forest) → StandsTree g mid_ext mid tree owners t → AddsEntry g mid_ext two_ext mid two tree (row_entry line) owners t)
+      (run : RunsOverPages g (IsTreeSpace g mid_ext mid tree) (IsTreeSpace g mid_ext mid tree) (BreaksEntering g mid_ext mid tree line) mid two None) where
+    where_entered : (owners : List Kind) (forests : TableForests) → StandsTable g before old def owners forests → MovesLine g AfterClaims mid_ext two_ext mid two def block line (with_block owners block def.number) forests
+    where_entered owners forests st =
+        let claim = claims owners forests st in
+        enters_line tree def root width mid_ext two_ext mid two block line (with_block owners block def.number) forests claim.stands claim.own own_line claim.unnamed
+        (adds (with_block owners block def.number) forests.map (map_around tree def root width mid_ext mid (with_block owners block def.number) forests block claim.stands))
+        same run.touches run.works.steady.is_told run.works.no_shorter
+
+    own_then : (owners : List Kind) (forests : TableForests) (st : StandsTable g before old def owners forests) → IsOwnBlock two_ext (where_entered owners forests st).owners_now def block
+    own_then owners forests st =
+        let moves = where_entered owners forests st in
+        own_still mid_ext two_ext mid two def block (with_block owners block def.number) moves.owners_now forests moves.forests_now moves.changes (claims owners forests st).own
+
+    unlisted_then : (owners : List Kind) (forests : TableForests) (st : StandsTable g before old def owners forests) → IsUnlisted def (where_entered owners forests st).forests_now block
+    unlisted_then owners forests st =
+        let moves = where_entered owners forests st in
+        let was = (claims owners forests st).unlisted in
+        record {
+          composite = subst (λ (index : Forest). IsUnlistedIn def (cell_parts def) block index) (sym moves.composite) was.composite;
+          dims = subst (λ (indexes : List Forest). AllZip (λ dim index. IsUnlistedIn def (rising_parts dim) block index) def.dims indexes) (sym moves.dims) was.dims;
+        }
+
+    pub fill_run : {new : S} {fault : Option StoreFault} → RunsOverPages g (IsTableSpace g before old def) (IsTableSpace g before old def) (BreaksTable g before old def) old two None
+        → RunsOverPages g (IsSpaceAround g two_ext two def block) (IsSpaceAround g two_ext two def block) (BreaksAround g two_ext two def block (λ owners forests. IsUnlisted def forests block)) two new fault
+        → RunsOverPages g (IsTableSpace g before old def) (IsTableSpace g before old def) (BreaksTable g before old def) old new fault
+    fill_run first second =
+        runs_then first second (λ p low mine. space p mine) space
+        (λ damage breaks. record {
+          names = names_same before two_ext def damage (shape_then before mid_ext two_ext shape same) breaks.names;
+          broken = λ owners forests st.
+              let moves = where_entered owners forests st in
+              breaks.broken moves.owners_now moves.forests_now moves.changes.stands (own_then owners forests st) (unlisted_then owners forests st);
+        })
+      where
+        space : (p : ℕ) → IsSpaceAround g two_ext two def block p → IsTableSpace g before old def p
+        space p mine owners forests st =
+            let moves = where_entered owners forests st in
+            space_since_change before mid_ext old mid def block owners forests defined st (claims owners forests st) two_ext two moves.owners_now moves.forests_now moves.changes p mine
+
+    pub fill_full : (ext : Extents) (new : S) (fault : SpaceFault)
+        → IfFull fault (λ cap. (cap ≡ two_ext.cap) × ((owners : List Kind) (forests : TableForests) → StandsAround g two_ext two def owners forests block → IsOwnBlock two_ext owners def block → AreRightNotes two_ext owners → MeetsNoFree g ext new))
+        → IfFull fault (λ cap. (cap ≡ before.cap) × ((owners : List Kind) (forests : TableForests) → StandsTable g before old def owners forests → AreRightNotes before owners → MeetsNoFree g ext new))
+    fill_full ext new (Full cap) found = (
+      found.0 ∙ same.cap ∙ shape.cap,
+      λ owners forests st notes.
+          let moves = where_entered owners forests st in
+          found.1 moves.owners_now moves.forests_now moves.changes.stands (own_then owners forests st) (moves.changes.trees.notes ((claims owners forests st).notes notes)),
+    )
+    fill_full ext new (Store fault) found = tt
+
+    pub begins_new : (row : Row) (ext : Extents) (new : S) → RowFits def row
+        → ((owners : List Kind) (forests : TableForests) → StandsAround g two_ext two def owners forests block → IsOwnBlock two_ext owners def block → FillsBegun g two_ext ext two new def block row owners forests)
+        → (owners : List Kind) (forests : TableForests) → StandsTable g before old def owners forests → BeginsBlock g before ext old new def block row owners forests
+    begins_new row ext new fits fills owners forests st =
+        let claim = claims owners forests st in
+        let moves = where_entered owners forests st in
+        let own = own_then owners forests st in
+        let fill = fills moves.owners_now moves.forests_now moves.changes.stands own in
+        let n = block_slot_count two_ext def in
+        let slots = slice_set (replicate n None) 0 (Some row) in
+        let some : 0 < n = some_slots two_ext def.number def defined in
+        let all = around_then claims_change mid_ext two_ext ext mid two new def block (with_block owners block def.number) moves.owners_now fill.owners_now forests moves.forests_now fill.forests_now moves.changes fill.changes in
+        let is_line : line ≡ used_line block (count_rows slots) = is ∙ ap (used_line block) (sym (begun_count n row some)) in
+        let now : IsUsedNow g ext new def fill.owners_now fill.forests_now block row.values slots = record {
+          own = own_still two_ext ext two new def block moves.owners_now fill.owners_now moves.forests_now fill.forests_now fill.changes own;
+          line = subst (λ (map_tree : Forest). HasRow (used_line block (count_rows slots)) map_tree) (sym fill.same_map) (subst (λ (other : BlockRow). HasRow other moves.forests_now.map) is_line moves.line_there);
+          rows = fill.rows;
+          cell = begun_cell def n row some fits;
+          listed = fill.listed (unlisted_then owners forests st);
+        } in
+        let turns = turns_claimed before mid_ext old mid def block owners forests defined st ext new fill.owners_now fill.forests_now row.values slots claim all now in
+        let whole = shape_then before mid_ext two_ext shape same in
+        let count : n ≡ block_slot_count before def = rw whole.extent_pages refl in
+        record {
+          owners_now = fill.owners_now;
+          forests_now = fill.forests_now;
+          turns = subst (λ (k : ℕ). TurnsSpot g AfterClaims before ext old new def block (begun_with k row) owners forests fill.owners_now fill.forests_now) count turns;
+        }

@@ -1,0 +1,213 @@
+-- A row written over another of its cell, and the run that does so.
+use Rattle.std.proofs.Common.{◌≡◌, ◌<◌, ◌^◌, ◌++◌, ◌∷◌, ℕ, List, refl, ap, arith, sym, ◌∙◌, subst, length, set, get_or, ◌⊎◌, inl, inr}
+use Rattle.std.specs.Prelude.{Contains, Option, Some, None, cond, is_some, slice_index_or}
+use Rattle.std.proofs.lemmas.Bool.{cases_eq}
+use Rattle.std.proofs.lemmas.List.{get_or_default, get_or-set_other, get_or-set_same, length-set}
+use Rattle.std.proofs.lemmas.List.Sums.{sum_by-cons, sum_by-set}
+use Rattle.mdc_words.specs.ByteOrder.{Entry}
+use Rattle.mdc_values.specs.declared.rid.Rid.{Rid}
+use Rattle.mdc_values.specs.declared.value.Value.{Value}
+use Rattle.mdc_ast.specs.declared.definition.TableDef.{TableDef}
+use Rattle.mdc_ast.specs.declared.row.Row.{Row}
+use Rattle.store_api.specs.Frame.{NoPage}
+use Rattle.store_api.specs.RunsOverPages.{RunsOverPages}
+use Rattle.store_api.specs.declared.fault.Damage.{Damage}
+use Rattle.store_api.specs.declared.fault.StoreFault.{StoreFault}
+use Rattle.store_api.specs.declared.fault.StoreFault.TheVariants.{Damaged}
+use Rattle.store_api.specs.declared.pages.Pages.{Ghosts}
+use Rattle.store_api.proofs.FrameLemmas.{touches_same, touches_then}
+use Rattle.store_api.proofs.RunsOverPagesLemmas.{runs_damage, runs_then, runs_wider}
+use Rattle.extent_map.specs.Owners.{owner_of}
+use Rattle.extent_map.specs.declared.extents.Extents.{Extents}
+use Rattle.extent_map.specs.declared.kind.Kind.{Kind}
+use Rattle.table_page.specs.TableLimits.{IsTableDef}
+use Rattle.row_page.specs.RowPage.{count_rows}
+use Rattle.entry_tree.specs.Forest.{Forest, times}
+use Rattle.entry_tree.specs.HeldTrees.{HoldsTree, IsTreePage}
+use Rattle.entry_tree.specs.declared.tree.Tree.{Tree}
+use Rattle.block_map.specs.BlockMaps.{AnyMap, BreaksMapTree, FindsBlock, HasRow}
+use Rattle.block_map.specs.MapLines.{map_line}
+use Rattle.block_map.specs.MapRows.{row_entry, state_number}
+use Rattle.block_map.specs.declared.row.BlockRow.{BlockRow}
+use Rattle.block_map.specs.declared.state.BlockState.{BlockState}
+use Rattle.block_map.specs.declared.state.BlockState.TheVariants as state
+use Rattle.block_map.proofs.MapFormLemmas.{form_one}
+use Rattle.block_map.proofs.MapLinesLemmas.{row_block, row_state}
+use Rattle.table_trees.specs.TableTrees.{map_place, place_of_tree}
+use Rattle.table_trees.specs.TreesBeside.{HoldsTreeAt}
+use Rattle.table_trees.proofs.TableTreesLemmas.{same_tree_place}
+use Rattle.table_trees.specs.RowCells.{AreOfOneCell}
+use Rattle.mdc_sound.specs.FittingRows.{RowFits}
+use Rattle.mdc_sound.specs.Placing.{IsRowAt}
+use Rattle.mdc_sound.specs.Placing.Spot.{OtherBlock, UsedBlock}
+use Rattle.mdc_sound.specs.StandingTable.{BreaksExpected, HasRowAt, IsPageOfBlock, IsTableOrMapPage, NamesTablePart, StandsTable, TableForests, spots_of}
+use Rattle.mdc_sound.proofs.PlacingLemmas.{filled_below}
+use Rattle.mdc_sound.proofs.StandingTableLemmas.{stands_same}
+use Rattle.block_rows.specs.HeldRows.{BreaksRows, HoldsRows}
+use Rattle.block_rows.proofs.HeldRowsLemmas.{rows_stay}
+use Rattle.mdc_sound.proofs.MappedBlocksLemmas.{few_extents, map_form, used_number}
+use Rattle.table_blocks.specs.BlockChanges.{SameSpot, TurnsSpot}
+use Rattle.table_blocks.specs.BlockNow.{AreOfCell, IsOwnBlock, IsUsedNow, used_line}
+use Rattle.table_blocks.proofs.AroundLemmas.{breaks_of_table, breaks_rows, rows_step}
+use Rattle.table_blocks.proofs.ClosingLemmas.{turns_used}
+use Rattle.table_blocks.proofs.OpeningLemmas.{around_block, own_of_line, used_spot_now}
+use Rattle.table_blocks.proofs.SpotChangesLemmas.{same_change}
+
+-- ---- a slot with a row, written over
+
+-- how many rows are in a slot
+abbrev rows_in_slot : Option Row → ℕ
+rows_in_slot slot = cond (is_some slot) 1 0
+
+module _ (slots : List (Option Row)) (k : ℕ) (was row : Row) (there : slice_index_or slots k None ≡ Some was) where
+  -- it has as many rows
+  pub overwritten_count : count_rows (set slots k (Some row)) ≡ count_rows slots
+  overwritten_count =
+      let same : rows_in_slot (get_or slots k None) ≡ 1 = ap rows_in_slot there in
+      omega (arith, sum_by-set rows_in_slot slots k (Some row) None (filled_below slots k was there), same)
+
+  -- the row that was written, and rows that were there
+  overwritten_row : (other : Row) → Contains (set slots k (Some row)) (Some other) → (other ≡ row) ⊎ Contains slots (Some other)
+  overwritten_row other (i, low, at) = elim (cases_eq i k) [
+    | inl same ↦
+        let here : get_or (set slots k (Some row)) i (Some other) ≡ Some row =
+        ap (λ (n : ℕ). get_or (set slots k (Some row)) n (Some other)) same ∙ get_or-set_same slots k (Some row) (Some other) (filled_below slots k was there) in
+        let is : Some other ≡ Some row = sym at ∙ here in inl (cc)
+    | inr apart ↦ inr (i, omega (arith, low, length-set slots k (Some row)), sym (get_or-set_other slots k i (Some row) (Some other) apart) ∙ at)
+  ]
+
+  pub overwritten_cell : (def : TableDef) (values : List Value) → RowFits def row → AreOfOneCell def was.values row.values → AreOfCell def values slots → AreOfCell def values (set slots k (Some row))
+  overwritten_cell def values fits one cell = record {
+    some = omega (arith, cell.some, overwritten_count);
+    fit = λ other at. elim (overwritten_row other at) [ inl is ↦ subst (RowFits def) (sym is) fits | inr c ↦ cell.fit other c ];
+    one_cell = λ other at. elim (overwritten_row other at) [
+      | inl is ↦
+          let low = filled_below slots k was there in
+          let first : AreOfOneCell def was.values values = cell.one_cell was (k, low, get_or_default slots k (Some was) None low ∙ there) in
+          subst (λ (r : Row). AreOfOneCell def r.values values) (sym is) (sym one ∙ first)
+      | inr c ↦ cell.one_cell other c
+    ];
+  }
+
+-- ---- what the block map says of a block with a row
+
+module _ {S : Type 0} {g : Ghosts S} where
+  module _ (ext : Extents) (s : S) (def : TableDef) where
+    -- the block map is the tree of its handle
+    holds_map_tree : (tree : Tree) (owners : List Kind) (forests : TableForests) → tree.root ≡ def.roots.map → tree.width ≡ 7 → StandsTable g ext s def owners forests → HoldsTree g s tree forests.map
+    holds_map_tree tree owners forests root width st =
+        let at : HoldsTreeAt g s (place_of_tree tree) forests.map = subst (λ place. HoldsTreeAt g s place forests.map) (sym (same_tree_place (place_of_tree tree) (map_place def) root width)) st.trees.held.0 in
+        record { is_tree = at.is_tree; trim = at.trim }
+
+    module _ (owners : List Kind) (forests : TableForests) (defined : IsTableDef def.number def) (st : StandsTable g ext s def owners forests) (block : ℕ) (values : List Value) (slots : List (Option Row))
+        (now : IsUsedNow g ext s def owners forests block values slots) where
+      -- it names it
+      used_found : FindsBlock forests.map block None → ⊥
+      used_found none = none (st.map.entries, st.map.all_named block now.own.within now.own.owned)
+
+      -- as Used
+      found_used : (row : BlockRow) → FindsBlock forests.map block (Some row) → row.state ≡ state.Used
+      found_used row found =
+          let small : block < 2 ^ 32 = omega (arith, now.own.within, few_extents ext) in
+          let line = used_line block (count_rows slots) in
+          let low : row.block < 2 ^ 32 = subst (λ (n : ℕ). n < 2 ^ 32) (sym found.0) small in
+          let one : row_entry row ≡ row_entry line = form_one forests.map (row_entry row) (row_entry line) (map_form ext owners def forests.map st.map) found.1 now.line (row_block row low ∙ found.0 ∙ sym (row_block line small)) in
+          used_number row.state (sym (row_state row) ∙ ap (λ (x : Entry). (map_line x).state) one ∙ row_state line)
+
+  -- ---- the runs
+
+  module _ (ext : Extents) (def : TableDef) (rid : Rid) (tree : Tree) (root : tree.root ≡ def.roots.map) (width : tree.width ≡ 7) where
+    -- a block that was found in the block map is one of the table
+    pub own_found : (s : S) (found : Option BlockRow) (line : BlockRow) → IsTableDef def.number def → rid.block < ext.cap → ((t : Forest) → HoldsTree g s tree t → FindsBlock t rid.block found) → found ≡ Some line
+        → (owners : List Kind) (forests : TableForests) → StandsTable g ext s def owners forests → IsOwnBlock ext owners def rid.block
+    own_found s found line defined low finds is owners forests st =
+        let at : FindsBlock forests.map rid.block (Some line) = subst (FindsBlock forests.map rid.block) is (finds forests.map (holds_map_tree ext s def tree owners forests root width st)) in
+        subst (IsOwnBlock ext owners def) at.0 (own_of_line ext s def owners forests defined st line at.1 (omega (arith, at.0, low)))
+
+    -- the call on the block map
+    breaks_map : (s : S) (damage : Damage) → BreaksMapTree g s tree AnyMap damage → IsTableDef def.number def → BreaksExpected g ext s def (HasRowAt g ext s def rid) damage
+    breaks_map s damage (inl b) defined = record {
+      names = NamesTablePart.tree b.rule (0, omega arith, sym (b.page ∙ root));
+      broken = λ owners forests st expected. b.broken forests.map (holds_map_tree ext s def tree owners forests root width st);
+    }
+    breaks_map s damage (inr b) defined = record {
+      names = NamesTablePart.block_map b.rule (b.page ∙ root);
+      broken = λ owners forests st expected. b.broken forests.map (holds_map_tree ext s def tree owners forests root width st) (map_form ext owners def forests.map st.map) tt;
+    }
+
+    pub run_of_map : {old new : S} {fault : Option StoreFault} → IsTableDef def.number def → RunsOverPages g NoPage (IsTreePage g old tree) (BreaksMapTree g old tree AnyMap) old new fault
+        → RunsOverPages g (IsTableOrMapPage g ext old def) (IsTableOrMapPage g ext old def) (BreaksExpected g ext old def (HasRowAt g ext old def rid)) old new fault
+    run_of_map {old} {new} {fault} defined run =
+        runs_wider run (λ p there none. absurd none)
+        (λ p is owners forests st. inl (omega (arith, is forests.map (holds_map_tree ext old def tree owners forests root width st), sum_by-cons (times p) forests.map (forests.composite ∷ forests.dims ++ forests.indexes))))
+        (λ damage b. breaks_map old damage b defined)
+
+    -- the block map doesn't name the block, or not as Used
+    unmapped_breaks : (s : S) (found : Option BlockRow) (damage : Damage) → IsTableDef def.number def → damage.page ≡ def.roots.map → damage.rule ≡ 6
+        → ((t : Forest) → HoldsTree g s tree t → FindsBlock t rid.block found) → ((row : BlockRow) → found ≡ Some row → row.state ≡ state.Used → ⊥)
+        → BreaksExpected g ext s def (HasRowAt g ext s def rid) damage
+    unmapped_breaks s found damage defined page rule finds unused = record {
+      names = NamesTablePart.block_map rule page;
+      broken = λ owners forests st expected.
+          let used = used_spot_now ext s def owners forests defined st rid.block expected.slots (expected.lies.block OtherBlock) in
+          go owners forests st expected.slots used.0 used.1 found (finds forests.map (holds_map_tree ext s def tree owners forests root width st)) unused;
+    }
+      where
+        go : (owners : List Kind) (forests : TableForests) → StandsTable g ext s def owners forests → (slots : List (Option Row)) (values : List Value) → IsUsedNow g ext s def owners forests rid.block values slots
+            → (f : Option BlockRow) → FindsBlock forests.map rid.block f → ((row : BlockRow) → f ≡ Some row → row.state ≡ state.Used → ⊥) → ⊥
+        go owners forests st slots values now None finds_it never = used_found ext s def owners forests defined st rid.block values slots now finds_it
+        go owners forests st slots values now (Some row) finds_it never = never row refl (found_used ext s def owners forests defined st rid.block values slots now row finds_it)
+
+    pub run_unmapped : {old new : S} (fault : StoreFault) (found : Option BlockRow) → IsTableDef def.number def → fault ≡ Damaged (record { page = def.roots.map; rule = 6 })
+        → RunsOverPages g NoPage (IsTreePage g old tree) (BreaksMapTree g old tree AnyMap) old new None
+        → ((t : Forest) → HoldsTree g old tree t → FindsBlock t rid.block found) → ((row : BlockRow) → found ≡ Some row → row.state ≡ state.Used → ⊥)
+        → RunsOverPages g (IsTableOrMapPage g ext old def) (IsTableOrMapPage g ext old def) (BreaksExpected g ext old def (HasRowAt g ext old def rid)) old new (Some fault)
+    run_unmapped {old} {new} fault found defined is run finds unused =
+        subst (λ (f : StoreFault). RunsOverPages g (IsTableOrMapPage g ext old def) (IsTableOrMapPage g ext old def) (BreaksExpected g ext old def (HasRowAt g ext old def rid)) old new (Some f)) (sym is)
+        (runs_damage (run_of_map defined run) (unmapped_breaks old found (record { page = def.roots.map; rule = 6 }) defined refl refl finds unused))
+
+  -- ---- the call on the block, behind one that left the work as it was
+
+  module _ (ext : Extents) (old mid new : S) (def : TableDef) (rid : Rid) (defined : IsTableDef def.number def) (low : rid.block < ext.cap) (told : (g.state mid).is_told ≡ (g.state old).is_told)
+      (same : (g.state mid).work ≡ (g.state old).work) where
+    back : (owners : List Kind) (forests : TableForests) → StandsTable g ext mid def owners forests → StandsTable g ext old def owners forests
+    back owners forests st = stands_same ext mid old def owners forests (sym told) (sym same) st
+
+    row_breaks : (damage : Damage) → BreaksRows g ext mid def rid.block damage → BreaksExpected g ext old def (HasRowAt g ext old def rid) damage
+    row_breaks damage b =
+        let late : BreaksExpected g ext mid def (HasRowAt g ext old def rid) damage =
+        breaks_of_table ext mid def rid.block (λ owners forests. (slots : List (Option Row)) × HoldsRows g ext mid def rid.block slots) (HasRowAt g ext old def rid) damage (breaks_rows ext mid def rid.block damage b low)
+        (λ owners forests st expected.
+        let now = used_spot_now ext old def owners forests defined (back owners forests st) rid.block expected.slots (expected.lies.block OtherBlock) in
+        (around_block ext mid def owners forests defined st rid.block, now.1.own, (expected.slots, rows_stay g ext def rid.block told same now.1.rows))) in
+        record { names = late.names; broken = λ owners forests st expected. late.broken owners forests (stands_same ext old mid def owners forests told same st) expected }
+
+    page_own : (p : ℕ) → ((owners : List Kind) (forests : TableForests) → StandsTable g ext old def owners forests → IsOwnBlock ext owners def rid.block) → IsPageOfBlock ext rid.block p → IsTableOrMapPage g ext old def p
+    page_own p own is owners forests st = inr (inl (record { page = is.0; block = ap (owner_of owners) is.1 ∙ (own owners forests st).owned }))
+
+    pub run_behind : {fault : Option StoreFault} → ((owners : List Kind) (forests : TableForests) → StandsTable g ext old def owners forests → IsOwnBlock ext owners def rid.block)
+        → RunsOverPages g (IsTableOrMapPage g ext old def) (IsTableOrMapPage g ext old def) (BreaksExpected g ext old def (HasRowAt g ext old def rid)) old mid None
+        → RunsOverPages g (IsPageOfBlock ext rid.block) (IsPageOfBlock ext rid.block) (BreaksRows g ext mid def rid.block) mid new fault
+        → RunsOverPages g (IsTableOrMapPage g ext old def) (IsTableOrMapPage g ext old def) (BreaksExpected g ext old def (HasRowAt g ext old def rid)) old new fault
+    run_behind own first second = runs_then first second (λ p there is. page_own p own is) (λ p is. page_own p own is) (λ damage b. row_breaks damage b)
+
+    -- what it makes of a table
+    pub row_overwritten : {Kinds : ℕ → Type 0} {Breaks : Damage → Type 0} {fault : Option StoreFault} (row : Row) → RunsOverPages g (IsPageOfBlock ext rid.block) Kinds Breaks mid new fault
+        → length (g.state new).work ≡ length (g.state mid).work → RowFits def row
+        → ((slots : List (Option Row)) → HoldsRows g ext mid def rid.block slots → HoldsRows g ext new def rid.block (set slots rid.slot (Some row)))
+        → (owners : List Kind) (forests : TableForests) (was : Row) (slots : List (Option Row)) → StandsTable g ext old def owners forests → IsRowAt (spots_of g ext old def owners forests) rid was slots
+        → AreOfOneCell def was.values row.values
+        → TurnsSpot g SameSpot ext ext old new def rid.block (UsedBlock (set slots rid.slot (Some row))) owners forests owners forests
+    row_overwritten row run count fits puts owners forests was slots st lies one =
+        let found = used_spot_now ext old def owners forests defined st rid.block slots (lies.block OtherBlock) in
+        let now = found.1 in
+        let after : IsUsedNow g ext new def owners forests rid.block found.0 (set slots rid.slot (Some row)) = record {
+          own = now.own;
+          line = subst (λ (n : ℕ). HasRow (used_line rid.block n) forests.map) (sym (overwritten_count slots rid.slot was row lies.slot)) now.line;
+          rows = puts slots (rows_stay g ext def rid.block told same now.rows);
+          cell = overwritten_cell slots rid.slot was row lies.slot def found.0 fits one now.cell;
+          listed = now.listed;
+        } in
+        let changes = rows_step same_change ext old new def rid.block owners forests (around_block ext old def owners forests defined st rid.block) now.own
+        (touches_then (touches_same told same) run.touches) (run.works.steady.is_told ∙ told) (count ∙ ap length same) in
+        turns_used same_change ext ext old new def rid.block owners owners forests forests defined changes found.0 (set slots rid.slot (Some row)) after

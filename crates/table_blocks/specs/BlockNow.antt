@@ -1,0 +1,88 @@
+-- What one block is to its table: what the block map says of it, which rows lie in it, and under which cell it is listed.
+use Rattle.std.specs.Prelude.{◌≡◌, ◌≢◌, ◌<◌, ℕ, List, Option, Some, Contains}
+use Rattle.std.specs.List.{AllZip}
+use Rattle.mdc_words.specs.ByteOrder.{Entry}
+use Rattle.mdc_values.specs.declared.value.Value.{Value}
+use Rattle.mdc_ast.specs.declared.definition.KeyPart.{KeyPart}
+use Rattle.mdc_ast.specs.declared.definition.TableDef.{TableDef}
+use Rattle.mdc_ast.specs.declared.row.Row.{Row}
+use Rattle.store_api.specs.declared.pages.Pages.{Ghosts}
+use Rattle.extent_map.specs.Owners.{owner_of}
+use Rattle.extent_map.specs.declared.extents.Extents.{Extents}
+use Rattle.extent_map.specs.declared.kind.Kind.{Kind}
+use Rattle.extent_map.specs.declared.kind.Kind.TheVariants.{Block}
+use Rattle.row_page.specs.RowPage.{count_rows}
+use Rattle.entry_tree.specs.EntryBounds.{IsEntryOf}
+use Rattle.entry_tree.specs.Forest.{Forest, leaf_entries}
+use Rattle.block_map.specs.BlockMaps.{HasRow}
+use Rattle.block_map.specs.MapLines.{map_line}
+use Rattle.block_map.specs.declared.row.BlockRow.{BlockRow}
+use Rattle.block_map.specs.declared.state.BlockState.TheVariants as state
+use Rattle.table_trees.specs.TableTrees.{block_entry, cell_parts, rising_parts}
+use Rattle.table_trees.specs.RowCells.{AreOfOneCell}
+use Rattle.mdc_sound.specs.FittingRows.{RowFits}
+use Rattle.mdc_sound.specs.StandingTable.{TableForests}
+use Rattle.block_rows.specs.HeldRows.{HoldsRows}
+use Rattle.table_blocks.specs.AroundBlock.{block_in_entry}
+
+-- the extent is a block of the table
+pub record IsOwnBlock (ext : Extents) (owners : List Kind) (def : TableDef) (block : ℕ) : Type 0 where
+  pub within : block < ext.cap
+  pub owned : owner_of owners block ≡ Block def.number
+
+-- ---- the block map
+
+-- the block map doesn't name the block
+abbrev pub IsUnnamed : Forest → ℕ → Type 0
+IsUnnamed map_tree block = (x : Entry) → IsEntryOf x (leaf_entries map_tree) → (map_line x).block ≢ block
+
+-- what the block map says of a Free block
+abbrev pub free_line : ℕ → BlockRow
+free_line block = record { block = block; state = state.Free; rows = 0 }
+
+-- and of a Used one with so many rows
+abbrev pub used_line : ℕ → ℕ → BlockRow
+used_line block rows = record { block = block; state = state.Used; rows = rows }
+
+-- ---- the block indexes
+
+-- the index has the block under the cell of these values, and under no other
+pub record IsListedIn (def : TableDef) (parts : List KeyPart) (values : List Value) (block : ℕ) (index : Forest) : Type 0 where
+  pub has : IsEntryOf (block_entry def.columns parts values block) (leaf_entries index)
+  pub only : (y : Entry) → IsEntryOf y (leaf_entries index) → block_in_entry def parts y ≡ block → y ≡ block_entry def.columns parts values block
+
+-- no entry of the index names the block
+abbrev pub IsUnlistedIn : TableDef → List KeyPart → ℕ → Forest → Type 0
+IsUnlistedIn def parts block index = (y : Entry) → IsEntryOf y (leaf_entries index) → block_in_entry def parts y ≢ block
+
+-- each block index has the block under the cell of these values
+pub record IsListed (def : TableDef) (forests : TableForests) (values : List Value) (block : ℕ) : Type 0 where
+  pub composite : IsListedIn def (cell_parts def) values block forests.composite
+  pub dims : AllZip (λ dim index. IsListedIn def (rising_parts dim) values block index) def.dims forests.dims
+
+-- none names it
+pub record IsUnlisted (def : TableDef) (forests : TableForests) (block : ℕ) : Type 0 where
+  pub composite : IsUnlistedIn def (cell_parts def) block forests.composite
+  pub dims : AllZip (λ dim index. IsUnlistedIn def (rising_parts dim) block index) def.dims forests.dims
+
+-- ---- the block as a whole
+
+-- A Free block of the table.
+pub record IsFreeNow (ext : Extents) (def : TableDef) (owners : List Kind) (forests : TableForests) (block : ℕ) : Type 0 where
+  pub own : IsOwnBlock ext owners def block
+  pub line : HasRow (free_line block) forests.map
+  pub unlisted : IsUnlisted def forests block
+
+-- slots with a row at least, whose rows fit and are of the cell of these values
+pub record AreOfCell (def : TableDef) (values : List Value) (slots : List (Option Row)) : Type 0 where
+  pub some : 0 < count_rows slots
+  pub fit : (row : Row) → Contains slots (Some row) → RowFits def row
+  pub one_cell : (row : Row) → Contains slots (Some row) → AreOfOneCell def row.values values
+
+-- A Used block of the table with these slots, listed under the cell of these values.
+pub record IsUsedNow {S : Type 0} (g : Ghosts S) (ext : Extents) (s : S) (def : TableDef) (owners : List Kind) (forests : TableForests) (block : ℕ) (values : List Value) (slots : List (Option Row)) : Type 0 where
+  pub own : IsOwnBlock ext owners def block
+  pub line : HasRow (used_line block (count_rows slots)) forests.map
+  pub rows : HoldsRows g ext s def block slots
+  pub cell : AreOfCell def values slots
+  pub listed : IsListed def forests values block

@@ -1,0 +1,143 @@
+-- What each call on one block says, in the words of a table that stands around it and of one that stands.
+use Rattle.std.specs.Prelude.{◌≡◌, ◌≢◌, ◌<◌, ◌≤◌, ◌-◌, ℕ, List, Contains, Option, Some, None, length, replicate, slice_index_or, slice_set}
+use Rattle.mdc_values.specs.declared.rid.Rid.{Rid}
+use Rattle.mdc_ast.specs.declared.definition.TableDef.{TableDef}
+use Rattle.mdc_ast.specs.declared.row.Row.{Row}
+use Rattle.store_api.specs.declared.pages.Pages.{Ghosts}
+use Rattle.extent_map.specs.Owners.{AreRightNotes, IsSameShape, owner_of, with_block}
+use Rattle.extent_map.specs.declared.extents.Extents.{Extents}
+use Rattle.extent_map.specs.declared.kind.Kind.{Kind}
+use Rattle.extent_map.specs.declared.kind.Kind.TheVariants.{Free}
+use Rattle.block_map.specs.BlockMaps.{HasRow}
+use Rattle.block_map.specs.MapLines.{free_blocks}
+use Rattle.block_map.specs.declared.row.BlockRow.{BlockRow}
+use Rattle.table_trees.specs.TreesBeside.{GrowsPages}
+use Rattle.mdc_sound.specs.Placing.{AfterClaims, AfterReturns, HasRoomFor, IsEmptySlot, IsLowestAt, IsRowAt, Spot, begun_with, block_slot_count, left_with}
+use Rattle.mdc_sound.specs.Placing.Spot.{OtherBlock, UsedBlock}
+use Rattle.mdc_sound.specs.StandingTable.{TableForests, pages_of, spots_of}
+use Rattle.block_rows.specs.HeldRows.{HoldsRows}
+use Rattle.table_blocks.specs.AroundBlock.{StandsAround}
+use Rattle.table_blocks.specs.BlockChanges.{ChangesAround, SameSpot, TurnsSpot, spot_in}
+use Rattle.table_blocks.specs.BlockNow.{IsListed, IsOwnBlock, IsUnlisted, IsUnnamed, free_line, used_line}
+
+-- ---- a block that comes into use
+
+-- The block has one row, in its lowest slot, and was listed under its cell; its line in the block map is as it was.
+pub record FillsBegun {S : Type 0} (g : Ghosts S) (before ext : Extents) (old new : S) (def : TableDef) (block : ℕ) (row : Row) (owners : List Kind) (forests : TableForests) : Type 0 where
+  pub owners_now : List Kind
+  pub forests_now : TableForests
+  pub changes : ChangesAround g AfterClaims before ext old new def block owners forests owners_now forests_now
+  pub same_map : forests_now.map ≡ forests.map
+  pub rows : HoldsRows g ext new def block (slice_set (replicate (block_slot_count before def) None) 0 (Some row))
+  pub listed : IsUnlisted def forests block → IsListed def forests_now row.values block
+
+-- A block of a table that stood is Used now, with one row in its lowest slot; after that trees may have taken free extents.
+pub record BeginsBlock {S : Type 0} (g : Ghosts S) (before ext : Extents) (old new : S) (def : TableDef) (block : ℕ) (row : Row) (owners : List Kind) (forests : TableForests) : Type 0 where
+  pub owners_now : List Kind
+  pub forests_now : TableForests
+  pub turns : TurnsSpot g AfterClaims before ext old new def block (begun_with (block_slot_count before def) row) owners forests owners_now forests_now
+
+-- ---- a row more, another row, a row less
+
+-- a block has this line in the block map, and room for the row
+pub record HasRoomAt {S : Type 0} (g : Ghosts S) (ext : Extents) (s : S) (def : TableDef) (line : BlockRow) (row : Row) (owners : List Kind) (forests : TableForests) : Type 0 where
+  pub line_there : HasRow line forests.map
+  pub room : HasRoomFor def row (slice_index_or (spots_of g ext s def owners forests) line.block OtherBlock)
+
+-- The row lies in the lowest slot of its block that was empty, and nothing else changed.
+pub record FillsSlot {S : Type 0} (g : Ghosts S) (ext : Extents) (old new : S) (def : TableDef) (rid : Rid) (row : Row) (owners : List Kind) (forests : TableForests) : Type 0 where
+  pub forests_now : TableForests
+  pub slots : List (Option Row)
+  pub was : slice_index_or (spots_of g ext old def owners forests) rid.block OtherBlock ≡ UsedBlock slots
+  pub lowest : IsLowestAt IsEmptySlot slots rid.slot None
+  pub turns : TurnsSpot g SameSpot ext ext old new def rid.block (UsedBlock (slice_set slots rid.slot (Some row))) owners forests owners forests_now
+
+-- The row that lay in a place was taken out, and a block without rows is Free; after that trees may have given extents back.
+pub record EmptiesSlot {S : Type 0} (g : Ghosts S) (before ext : Extents) (old new : S) (def : TableDef) (rid : Rid) (row : Row) (owners : List Kind) (forests : TableForests) : Type 0 where
+  pub owners_now : List Kind
+  pub forests_now : TableForests
+  pub slots : List (Option Row)
+  pub lies : IsRowAt (spots_of g before old def owners forests) rid row slots
+  pub turns : TurnsSpot g AfterReturns before ext old new def rid.block (left_with (slice_set slots rid.slot None)) owners forests owners_now forests_now
+
+-- ---- a block that is freed
+
+-- The block is Free in the block map, and none of its entries under the cell of these values is left in a block index.
+pub record FreesBlock {S : Type 0} (g : Ghosts S) (before ext : Extents) (old new : S) (def : TableDef) (block : ℕ) (row : Row) (owners : List Kind) (forests : TableForests) : Type 0 where
+  pub owners_now : List Kind
+  pub forests_now : TableForests
+  pub changes : ChangesAround g AfterReturns before ext old new def block owners forests owners_now forests_now
+  pub line : HasRow (free_line block) forests_now.map
+  pub unlisted : IsListed def forests row.values block → IsUnlisted def forests_now block
+
+-- what freeing a block expects: it has this line, and is listed under the cell of the row
+pub record ExpectsFreeing (def : TableDef) (line : BlockRow) (row : Row) (owners : List Kind) (forests : TableForests) : Type 0 where
+  pub line_there : HasRow line forests.map
+  pub listed : IsListed def forests row.values line.block
+
+-- the table has this Free block
+pub record HasFreeBlock (block : ℕ) (owners : List Kind) (forests : TableForests) : Type 0 where
+  pub free : Contains (free_blocks forests.map) block
+
+-- ---- a block that loses a row
+
+-- The block is Used in the block map with so many rows; its entries in the block indexes and its pages are as they were.
+pub record LeavesFewer {S : Type 0} (g : Ghosts S) (before ext : Extents) (old new : S) (def : TableDef) (block count : ℕ) (forests forests_now : TableForests) : Type 0 where
+  pub line : HasRow (used_line block count) forests_now.map
+  pub composite : forests_now.composite ≡ forests.composite
+  pub dims : forests_now.dims ≡ forests.dims
+  pub rows : (slots : List (Option Row)) → HoldsRows g before old def block slots → HoldsRows g ext new def block slots
+
+-- The block is Free in the block map, and none of its entries under the cell of the row is left in a block index.
+pub record LeavesFree (def : TableDef) (block : ℕ) (row : Row) (forests forests_now : TableForests) : Type 0 where
+  pub line : HasRow (free_line block) forests_now.map
+  pub unlisted : IsListed def forests row.values block → IsUnlisted def forests_now block
+
+-- The block of this line has a row less in the block map, and is Free where that was its last.
+pub record DropsRow {S : Type 0} (g : Ghosts S) (before ext : Extents) (old new : S) (def : TableDef) (line : BlockRow) (row : Row) (owners : List Kind) (forests : TableForests) : Type 0 where
+  pub owners_now : List Kind
+  pub forests_now : TableForests
+  pub changes : ChangesAround g AfterReturns before ext old new def line.block owners forests owners_now forests_now
+  pub fewer : 1 < line.rows → LeavesFewer g before ext old new def line.block (line.rows - 1) forests forests_now
+  pub last : line.rows ≤ 1 → LeavesFree def line.block row forests forests_now
+
+-- ---- steps midway
+
+-- The block's line in the block map became this one, and nothing else changed; trees may have taken or given back extents.
+pub record MovesLine {S : Type 0} (g : Ghosts S) (After : Spot → Spot → Type 0) (before ext : Extents) (old new : S) (def : TableDef) (block : ℕ) (line : BlockRow) (owners : List Kind) (forests : TableForests) : Type 0 where
+  pub owners_now : List Kind
+  pub forests_now : TableForests
+  pub changes : ChangesAround g After before ext old new def block owners forests owners_now forests_now
+  pub line_there : HasRow line forests_now.map
+  pub composite : forests_now.composite ≡ forests.composite
+  pub dims : forests_now.dims ≡ forests.dims
+  pub rows : (slots : List (Option Row)) → HoldsRows g before old def block slots → HoldsRows g ext new def block slots
+
+-- The block's entries in the block indexes changed, and nothing else; trees may have taken or given back extents.
+pub record MovesEntries {S : Type 0} (g : Ghosts S) (After : Spot → Spot → Type 0) (before ext : Extents) (old new : S) (def : TableDef) (block : ℕ) (owners : List Kind) (forests : TableForests) : Type 0 where
+  pub owners_now : List Kind
+  pub forests_now : TableForests
+  pub changes : ChangesAround g After before ext old new def block owners forests owners_now forests_now
+  pub same_map : forests_now.map ≡ forests.map
+  pub rows : (slots : List (Option Row)) → HoldsRows g before old def block slots → HoldsRows g ext new def block slots
+
+-- Wherever a table stood but for a block, it stands so after calls, and what was expected of it is now this.
+pub record StepsTo {S : Type 0} (g : Ghosts S) (After : Spot → Spot → Type 0) (before ext : Extents) (old new : S) (def : TableDef) (block : ℕ)
+    (Expected Then : List Kind → TableForests → Type 0) (owners : List Kind) (forests : TableForests) : Type 0 where
+  pub owners_now : List Kind
+  pub forests_now : TableForests
+  pub changes : ChangesAround g After before ext old new def block owners forests owners_now forests_now
+  pub expects : Expected owners forests → Then owners_now forests_now
+
+-- A free extent is a block of the table now, which no tree of it names.
+pub record ClaimsBlock {S : Type 0} (g : Ghosts S) (before ext : Extents) (old new : S) (def : TableDef) (block : ℕ) (owners : List Kind) (forests : TableForests) : Type 0 where
+  pub free : owner_of owners block ≡ Free
+  pub shape : IsSameShape before ext
+  pub stands : StandsAround g ext new def (with_block owners block def.number) forests block
+  pub own : IsOwnBlock ext (with_block owners block def.number) def block
+  pub unnamed : IsUnnamed forests.map block
+  pub unlisted : IsUnlisted def forests block
+  pub spots : (e : ℕ) → e ≢ block → spot_in g ext new def (with_block owners block def.number) forests e ≡ spot_in g before old def owners forests e
+  pub longer : length (pages_of g old) ≤ length (pages_of g new)
+  pub grows : GrowsPages g before old new
+  pub notes : AreRightNotes before owners → AreRightNotes ext (with_block owners block def.number)

@@ -1,0 +1,4 @@
+pub mod AroundBlock
+pub mod BlockChanges
+pub mod BlockNow
+pub mod BlockSteps

@@ -1,0 +1,126 @@
+// A block comes into use with its first row.
+ghost use Rattle.std.specs.Prelude.{◌≡◌, ◌<◌, ℕ, List, Contains, false, IfErr, IfOk, OnOk};
+ghost use Rattle.store_api.specs.Causes.{store_fault_in};
+ghost use Rattle.store_api.specs.RunsOverPages.{RunsOverPages};
+ghost use Rattle.extent_map.specs.Damages.{IfFull, store_part_of};
+ghost use Rattle.extent_map.specs.Owners.{AreRightNotes, IsLowestFree, IsSameShape};
+ghost use Rattle.extent_map.specs.declared.kind.Kind.{Kind};
+ghost use Rattle.table_page.specs.TableLimits.{IsTableDef};
+ghost use Rattle.block_map.specs.MapLines.{free_blocks};
+ghost use Rattle.mdc_sound.specs.FittingRows.{RowFits};
+ghost use Rattle.mdc_sound.specs.StandingTable.{BreaksExpected, BreaksTable, IsTableSpace, MeetsNoFree, StandsTable, TableForests};
+ghost use Rattle.table_blocks.specs.AroundBlock.{StandsAround};
+ghost use Rattle.table_blocks.specs.BlockChanges.{BreaksAround, IsSpaceAround};
+ghost use Rattle.table_blocks.specs.BlockNow.{IsOwnBlock, IsUnlisted};
+ghost use Rattle.table_blocks.specs.BlockSteps.{BeginsBlock, FillsBegun, HasFreeBlock};
+
+use crate::cells::cell_of;
+use block_index::list_block;
+use block_map::{BlockMap, BlockRow, BlockState};
+use block_rows::{put_slot, wipe_block};
+use extent_map::{Extents, SpaceFault};
+use mdc_ast::{Row, TableDef};
+use mdc_values::Rid;
+use std::alloc::Global;
+use store_api::Pages;
+
+/// Takes a Free block of the table into use, with a row in its lowest slot, and lists it under the row's cell. Damaged where
+/// the block isn't Free. `Full` says that a block index met no free extent; then `undo` goes back, and the notes of the
+/// extents are to be forgotten.
+pub fn begin_free_block<P: Pages>(
+    alloc: Global,
+    def: &TableDef,
+    ext: &mut Extents,
+    pages: &mut P,
+    block: u32,
+    row: &Row,
+) -> Result<(), SpaceFault>
+    requires defined { IsTableDef def.now.number def.now }
+    requires fits { RowFits def.now row.now }
+    requires within { block < ext.old.cap }
+    requires going { (P.state pages.old).ended ≡ false }
+    ensures begins { OnOk result ((owners : List Kind) (forests : TableForests) → StandsTable P.Pages ext.old pages.old def.now owners forests → Contains (free_blocks forests.map) block
+        → BeginsBlock P.Pages ext.old ext.new pages.old pages.new def.now block row.now owners forests) }
+    ensures full { IfErr result (λ fault. IfFull fault (λ cap. (cap ≡ ext.old.cap) × ((owners : List Kind) (forests : TableForests) → StandsTable P.Pages ext.old pages.old def.now owners forests
+        → AreRightNotes ext.old owners → MeetsNoFree P.Pages ext.new pages.new))) }
+    ensures shape { IsSameShape ext.old ext.new }
+    ensures runs { RunsOverPages P.Pages (IsTableSpace P.Pages ext.old pages.old def.now) (IsTableSpace P.Pages ext.old pages.old def.now)
+        (BreaksExpected P.Pages ext.old pages.old def.now (HasFreeBlock block)) pages.old pages.new (store_fault_in store_part_of result) }
+{
+    let map = BlockMap::at(alloc, def.roots.map);
+    let free = BlockRow {
+        block,
+        state: BlockState::Free,
+        rows: 0,
+    };
+    map.replace(pages, free, first_line(block))?;
+    fill_begun(alloc, def, ext, pages, block, row)
+}
+
+/// Claims the lowest free extent as a block of the table, and takes it into use with a row in its lowest slot. It answers the
+/// block's number. `Full` says that there is no free extent, at the claim or at a tree; then `undo` goes back, and the notes of
+/// the extents are to be forgotten.
+pub fn begin_new_block<P: Pages>(
+    alloc: Global,
+    def: &TableDef,
+    ext: &mut Extents,
+    pages: &mut P,
+    row: &Row,
+) -> Result<u32, SpaceFault>
+    requires defined { IsTableDef def.now.number def.now }
+    requires fits { RowFits def.now row.now }
+    requires going { (P.state pages.old).ended ≡ false }
+    ensures begins { IfOk result (λ block. (owners : List Kind) (forests : TableForests) → StandsTable P.Pages ext.old pages.old def.now owners forests
+        → BeginsBlock P.Pages ext.old ext.new pages.old pages.new def.now block row.now owners forests) }
+    ensures lowest { IfOk result (λ block. (owners : List Kind) (forests : TableForests) → StandsTable P.Pages ext.old pages.old def.now owners forests → AreRightNotes ext.old owners → IsLowestFree owners block) }
+    ensures full { IfErr result (λ fault. IfFull fault (λ cap. (cap ≡ ext.old.cap) × ((owners : List Kind) (forests : TableForests) → StandsTable P.Pages ext.old pages.old def.now owners forests
+        → AreRightNotes ext.old owners → MeetsNoFree P.Pages ext.new pages.new))) }
+    ensures shape { IsSameShape ext.old ext.new }
+    ensures runs { RunsOverPages P.Pages (IsTableSpace P.Pages ext.old pages.old def.now) (IsTableSpace P.Pages ext.old pages.old def.now)
+        (BreaksTable P.Pages ext.old pages.old def.now) pages.old pages.new (store_fault_in store_part_of result) }
+{
+    let block = ext.claim_block(pages, def.number)?;
+    let map = BlockMap::at(alloc, def.roots.map);
+    map.enter(ext, pages, first_line(block))?;
+    fill_begun(alloc, def, ext, pages, block, row)?;
+    Ok(block)
+}
+
+/// The line of a block with one row.
+fn first_line(block: u32) -> BlockRow
+    ensures { result ≡ record { block = block; state = BlockState.Used; rows = 1 } }
+{
+    BlockRow {
+        block,
+        state: BlockState::Used,
+        rows: 1,
+    }
+}
+
+/// Empties a block of the table, puts a row into its lowest slot, and lists it under the row's cell. Its line in the block map
+/// stays.
+fn fill_begun<P: Pages>(
+    alloc: Global,
+    def: &TableDef,
+    ext: &mut Extents,
+    pages: &mut P,
+    block: u32,
+    row: &Row,
+) -> Result<(), SpaceFault>
+    requires defined { IsTableDef def.now.number def.now }
+    requires fits { RowFits def.now row.now }
+    requires within { block < ext.old.cap }
+    requires going { (P.state pages.old).ended ≡ false }
+    ensures fills { OnOk result ((owners : List Kind) (forests : TableForests) → StandsAround P.Pages ext.old pages.old def.now owners forests block → IsOwnBlock ext.old owners def.now block
+        → FillsBegun P.Pages ext.old ext.new pages.old pages.new def.now block row.now owners forests) }
+    ensures full { IfErr result (λ fault. IfFull fault (λ cap. (cap ≡ ext.old.cap) × ((owners : List Kind) (forests : TableForests) → StandsAround P.Pages ext.old pages.old def.now owners forests block
+        → IsOwnBlock ext.old owners def.now block → AreRightNotes ext.old owners → MeetsNoFree P.Pages ext.new pages.new))) }
+    ensures shape { IsSameShape ext.old ext.new }
+    ensures runs { RunsOverPages P.Pages (IsSpaceAround P.Pages ext.old pages.old def.now block) (IsSpaceAround P.Pages ext.old pages.old def.now block)
+        (BreaksAround P.Pages ext.old pages.old def.now block (λ owners forests. IsUnlisted def.now forests block)) pages.old pages.new (store_fault_in store_part_of result) }
+{
+    let cell = cell_of(alloc, def, &row.values)?;
+    wipe_block(def, ext, pages, block)?;
+    put_slot(def, ext, pages, Rid { block, slot: 0 }, row)?;
+    list_block(alloc, def, ext, pages, &cell, block)
+}

@@ -1,0 +1,34 @@
+// The damage that a table's blocks may show.
+ghost use Rattle.std.specs.Prelude.{◌≡◌, ◌<◌};
+ghost use Rattle.store_api.specs.Extents.{first_page_of};
+
+use extent_map::Extents;
+use mdc_ast::TableDef;
+use store_api::{Damage, StoreFault};
+
+/// The rule that damage of a block map names: it names each block of the table once, and nothing else.
+const MAP_RULE: u16 = 6;
+
+/// The rule that damage of a count names: a Used block has as many rows as its line says.
+const COUNT_RULE: u16 = 8;
+
+/// The block map doesn't say of a block what it should.
+pub(crate) fn unmapped(def: &TableDef) -> StoreFault
+    ensures { result ≡ StoreFault.Damaged (record { page = def.now.roots.map; rule = 6 }) }
+{
+    StoreFault::Damaged(Damage {
+        page: def.roots.map,
+        rule: MAP_RULE,
+    })
+}
+
+/// A block hasn't as many rows as its line says.
+pub(crate) fn miscounted(ext: &Extents, block: u32) -> StoreFault
+    requires { block < ext.now.cap }
+    ensures { result ≡ StoreFault.Damaged (record { page = first_page_of ext.now.cap ext.now.extent_pages block; rule = 8 }) }
+{
+    StoreFault::Damaged(Damage {
+        page: ext.first_page(block),
+        rule: COUNT_RULE,
+    })
+}

@@ -1,0 +1,59 @@
+// A row more in a Used block.
+ghost use Rattle.std.specs.Prelude.{◌≡◌, ◌<◌, ℕ, List, false, length, IfOk, slice_index_or};
+ghost use Rattle.store_api.specs.Causes.{fault_of};
+ghost use Rattle.store_api.specs.RunsOverPages.{RunsOverPages};
+ghost use Rattle.extent_map.specs.declared.kind.Kind.{Kind};
+ghost use Rattle.table_page.specs.TableLimits.{IsTableDef};
+ghost use Rattle.mdc_sound.specs.FittingRows.{RowFits};
+ghost use Rattle.mdc_sound.specs.StandingTable.{BreaksExpected, IsTableOrMapPage, StandsTable, TableForests};
+ghost use Rattle.table_blocks.specs.BlockSteps.{FillsSlot, HasRoomAt};
+
+use crate::faults::miscounted;
+use block_map::{BlockMap, BlockRow, BlockState};
+use block_rows::put_first;
+use extent_map::Extents;
+use mdc_ast::{Row, TableDef};
+use mdc_values::Rid;
+use std::alloc::Global;
+use store_api::{Pages, StoreFault};
+
+/// Puts a row into the lowest empty slot of a Used block of its cell, which has this line in the block map and has room, and
+/// answers where it lies. Damaged where the block hasn't that line, or no slot is empty. It claims no page.
+pub fn put_in_block<P: Pages>(
+    alloc: Global,
+    def: &TableDef,
+    ext: &Extents,
+    pages: &mut P,
+    line: BlockRow,
+    row: &Row,
+) -> Result<Rid, StoreFault>
+    requires defined { IsTableDef def.now.number def.now }
+    requires fits { RowFits def.now row.now }
+    requires used { line.state ≡ BlockState.Used }
+    requires within { line.block < ext.now.cap }
+    requires going { (P.state pages.old).ended ≡ false }
+    ensures block { IfOk result (λ rid. rid.block ≡ line.block) }
+    ensures fills { IfOk result (λ rid. (owners : List Kind) (forests : TableForests) → StandsTable P.Pages ext.now pages.old def.now owners forests
+        → HasRoomAt P.Pages ext.now pages.old def.now line row.now owners forests → FillsSlot P.Pages ext.now pages.old pages.new def.now rid row.now owners forests) }
+    ensures count { length (P.state pages.new).work ≡ length (P.state pages.old).work }
+    ensures runs { RunsOverPages P.Pages (IsTableOrMapPage P.Pages ext.now pages.old def.now) (IsTableOrMapPage P.Pages ext.now pages.old def.now)
+        (BreaksExpected P.Pages ext.now pages.old def.now (HasRoomAt P.Pages ext.now pages.old def.now line row.now)) pages.old pages.new (fault_of result) }
+{
+    let Some(rows) = line.rows.checked_add(1) else {
+        return Err(miscounted(ext, line.block));
+    };
+    let map = BlockMap::at(alloc, def.roots.map);
+    let more = BlockRow {
+        block: line.block,
+        state: BlockState::Used,
+        rows,
+    };
+    map.replace(pages, line, more)?;
+    let Some(slot) = put_first(def, ext, pages, line.block, row)? else {
+        return Err(miscounted(ext, line.block));
+    };
+    Ok(Rid {
+        block: line.block,
+        slot,
+    })
+}

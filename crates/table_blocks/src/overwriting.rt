@@ -1,0 +1,54 @@
+// Another row in the place of one.
+ghost use Rattle.std.specs.Prelude.{◌≡◌, ◌<◌, ℕ, List, Option, Some, false, length, slice_set, OnOk};
+ghost use Rattle.store_api.specs.Causes.{fault_of};
+ghost use Rattle.store_api.specs.RunsOverPages.{RunsOverPages};
+ghost use Rattle.extent_map.specs.declared.kind.Kind.{Kind};
+ghost use Rattle.mdc_ast.specs.declared.row.Row.{Row};
+ghost use Rattle.table_page.specs.TableLimits.{IsTableDef};
+ghost use Rattle.table_trees.specs.RowCells.{AreOfOneCell};
+ghost use Rattle.mdc_sound.specs.FittingRows.{RowFits};
+ghost use Rattle.mdc_sound.specs.Placing.{IsRowAt, block_slot_count};
+ghost use Rattle.mdc_sound.specs.Placing.Spot.{UsedBlock};
+ghost use Rattle.mdc_sound.specs.StandingTable.{BreaksExpected, HasRowAt, IsTableOrMapPage, StandsTable, TableForests, spots_of};
+ghost use Rattle.table_blocks.specs.BlockChanges.{SameSpot, TurnsSpot};
+
+use crate::faults::unmapped;
+use block_map::{BlockMap, BlockState};
+use block_rows::put_slot;
+use extent_map::Extents;
+use mdc_ast::{Row, TableDef};
+use mdc_values::Rid;
+use std::alloc::Global;
+use store_api::{Pages, StoreFault};
+
+/// Puts a row into the place of one that lies there and is of the same cell. Damaged where no row can lie there, since the block
+/// isn't Used. It claims no page, and changes no tree.
+pub fn overwrite_row<P: Pages>(
+    alloc: Global,
+    def: &TableDef,
+    ext: &Extents,
+    pages: &mut P,
+    rid: Rid,
+    row: &Row,
+) -> Result<(), StoreFault>
+    requires defined { IsTableDef def.now.number def.now }
+    requires fits { RowFits def.now row.now }
+    requires within { rid.block < ext.now.cap }
+    requires slot { rid.slot < block_slot_count ext.now def.now }
+    requires going { (P.state pages.old).ended ≡ false }
+    ensures overwrites { OnOk result ((owners : List Kind) (forests : TableForests) (was : Row) (slots : List (Option Row)) → StandsTable P.Pages ext.now pages.old def.now owners forests
+        → IsRowAt (spots_of P.Pages ext.now pages.old def.now owners forests) rid was slots → AreOfOneCell def.now was.values row.now.values
+        → TurnsSpot P.Pages SameSpot ext.now ext.now pages.old pages.new def.now rid.block (UsedBlock (slice_set slots rid.slot (Some row.now))) owners forests owners forests) }
+    ensures count { length (P.state pages.new).work ≡ length (P.state pages.old).work }
+    ensures runs { RunsOverPages P.Pages (IsTableOrMapPage P.Pages ext.now pages.old def.now) (IsTableOrMapPage P.Pages ext.now pages.old def.now)
+        (BreaksExpected P.Pages ext.now pages.old def.now (HasRowAt P.Pages ext.now pages.old def.now rid)) pages.old pages.new (fault_of result) }
+{
+    let map = BlockMap::at(alloc, def.roots.map);
+    let Some(line) = map.get(pages, rid.block)? else {
+        return Err(unmapped(def));
+    };
+    if line.state != BlockState::Used {
+        return Err(unmapped(def));
+    }
+    put_slot(def, ext, pages, rid, row)
+}
