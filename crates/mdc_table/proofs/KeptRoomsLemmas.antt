@@ -1,0 +1,278 @@
+-- The notes of rooms stay right where a row is put, taken out or written over.
+use Rattle.std.proofs.Common.{◌≡◌, ◌≢◌, ◌<◌, ◌≤◌, ℕ, Bool, true, false, cond, List, length, get_or, set, refl, ap, arith, sym, ◌∙◌, subst, ◌⊎◌, inl, inr}
+use Rattle.std.specs.Prelude.{AllPairs, Contains, Option, Some, None, is_none, slice_index_or, slice_set}
+use Rattle.std.specs.List.{AllZip, list_all}
+use Rattle.std.specs.Str.{bytes_eq}
+use Rattle.std.proofs.lemmas.Bool.{cases_eq, cases_lt}
+use Rattle.std.proofs.lemmas.List.{get_or-set_other, get_or-set_same, get_or_default, get_or_past, length-set}
+use Rattle.std.proofs.lemmas.List.Elements.{AllZip-get_or}
+use Rattle.std.proofs.lemmas.Slice.Eq.{bytes_eq-Decides}
+use Rattle.std.proofs.lemmas.Slice.Zip.{AllZip-long}
+use Rattle.mdc_words.specs.ByteOrder.{Entry}
+use Rattle.mdc_values.specs.declared.rid.Rid.{Rid}
+use Rattle.mdc_ast.specs.declared.definition.TableDef.{TableDef}
+use Rattle.mdc_ast.specs.declared.row.Row.{Row}
+use Rattle.store_api.specs.declared.pages.Pages.{Ghosts}
+use Rattle.extent_map.specs.declared.extents.Extents.{Extents}
+use Rattle.extent_map.specs.declared.kind.Kind.{Kind}
+use Rattle.table_page.specs.TableLimits.{IsTableDef}
+use Rattle.block_map.specs.MapLines.{used_blocks}
+use Rattle.mdc_sound.specs.BlockRules.{AreBlockRowsSound, IsOfOneCell}
+use Rattle.table_trees.specs.RowCells.{AreOfOneCell}
+use Rattle.mdc_sound.specs.FittingRows.{RowFits}
+use Rattle.mdc_sound.specs.Placing.{AfterClaims, AfterReturns, HasRoomFor, IsRowAt, Spot, left_with}
+use Rattle.mdc_sound.specs.Placing.Spot.{FreeBlock, FreeExtent, IndexExtent, OtherBlock, PendingBlock, UsedBlock}
+use Rattle.mdc_sound.specs.StandingTable.{AreRightRooms, StandsTable, TableForests, pages_of, spots_of}
+use Rattle.mdc_sound.specs.TableRows.{PlacedRow, block_slots, rows_in_block}
+use Rattle.mdc_sound.proofs.BlockRulesLemmas.{each_of}
+use Rattle.mdc_sound.proofs.DefinitionTreesLemmas.{has_block_indexes}
+use Rattle.mdc_sound.proofs.PlacingLemmas.{filled_below}
+use Rattle.mdc_sound.proofs.TableSpotsLemmas.{used_of_spot}
+use Rattle.table_blocks.specs.BlockChanges.{SameSpot}
+use Rattle.cell_rooms.specs.FoundRoom.{cell_key_of}
+use Rattle.cell_rooms.proofs.CellKeysLemmas.{cell_key_of-same, one_cell}
+use Rattle.mdc_sound.proofs.SlotRowsLemmas.{IsPlaced, placed_in_slot}
+
+-- ---- lists
+
+-- keys are the same or not
+key_cases : (a b : Entry) → (a ≡ b) ⊎ (a ≢ b)
+key_cases a b = go (bytes_eq a b) refl
+  where
+    go : (test : Bool) → bytes_eq a b ≡ test → (a ≡ b) ⊎ (a ≢ b)
+    go true is = inl ((bytes_eq-Decides a b).0 is)
+    go false is = inr (λ same. let yes = (bytes_eq-Decides a b).1 same in absurd (cc))
+
+-- what holds of each element and each later one holds of any two
+any_two : {X : Type 0} (R : X → X → Type 0) (xs : List X) (a b : X) → ((x : X) → R x x) → ((x y : X) → R x y → R y x) → AllPairs R xs → Contains xs a → Contains xs b → R a b
+any_two {X} R xs a b alone turned pairs (i, li, ei) (j, lj, ej) =
+    let at_b : get_or xs j a ≡ b = get_or_default xs j a b lj ∙ ej in
+    let at_a : get_or xs i b ≡ a = get_or_default xs i b a li ∙ ei in
+    elim (cases_lt i j) [
+      | inl low ↦ subst (λ (y : X). R a y) at_b (subst (λ (x : X). R x (get_or xs j a)) ei (pairs i j a low lj))
+      | inr high ↦ elim (cases_eq i j) [
+        | inl same ↦
+            let e : a ≡ b = sym ei ∙ ap (λ (n : ℕ). get_or xs n a) same ∙ at_b in
+            subst (λ (y : X). R a y) e (alone a)
+        | inr other ↦
+            let low : j < i = omega (arith, high, other) in
+            turned b a (subst (λ (y : X). R b y) at_a (subst (λ (x : X). R x (get_or xs i b)) ej (pairs j i b low li)))
+      ]
+    ]
+
+-- an element of a list with one other
+of_set : {X : Type 0} (xs : List X) (k : ℕ) (y x : X) → Contains (slice_set xs k y) x → (y ≡ x) ⊎ Contains xs x
+of_set {X} xs k y x (i, li, ei) =
+    let long = length-set xs k y in
+    elim (cases_eq i k) [
+      | inl same ↦
+          let low : k < length xs = omega (arith, li, long, same) in
+          inl (sym (get_or-set_same xs k y x low) ∙ ap (λ (n : ℕ). get_or (set xs k y) n x) (sym same) ∙ ei)
+      | inr other ↦ inr (i, omega (arith, li, long), sym (get_or-set_other xs k i y x other) ∙ ei)
+    ]
+
+pub in_set : {X : Type 0} (xs : List X) (k : ℕ) (y : X) → k < length xs → Contains (slice_set xs k y) y
+in_set xs k y low = (k, omega (arith, low, length-set xs k y), get_or-set_same xs k y y low)
+
+-- the row in a slot is one of the slots
+pub in_slot : (slots : List (Option Row)) (k : ℕ) (row : Row) → slice_index_or slots k None ≡ Some row → Contains slots (Some row)
+in_slot slots k row is = let low = filled_below slots k row is in (k, low, get_or_default slots k (Some row) None low ∙ is)
+
+-- ---- spots
+
+pub used_below : (spots : List Spot) (block : ℕ) (slots : List (Option Row)) → slice_index_or spots block OtherBlock ≡ UsedBlock slots → block < length spots
+used_below spots block slots is = elim (cases_lt block (length spots)) [
+  | inl low ↦ low
+  | inr past ↦ let wrong = sym (get_or_past spots block OtherBlock past) ∙ is in absurd (cc)
+]
+
+-- a spot with room is a Used block
+pub room_used : (def : TableDef) (row : Row) (spot : Spot) → HasRoomFor def row spot → (slots : List (Option Row)) × (spot ≡ UsedBlock slots) × HasRoomFor def row (UsedBlock slots)
+room_used def row (UsedBlock slots) room = (slots, refl, room)
+room_used def row FreeExtent room = absurd room
+room_used def row IndexExtent room = absurd room
+room_used def row OtherBlock room = absurd room
+room_used def row FreeBlock room = absurd room
+room_used def row PendingBlock room = absurd room
+
+-- what is left is a Used block with these slots, if it is one
+left_used : (slots all : List (Option Row)) → left_with slots ≡ UsedBlock all → slots ≡ all
+left_used slots all is = go (list_all is_none slots) is
+  where
+    go : (none : Bool) → cond none FreeBlock (UsedBlock slots) ≡ UsedBlock all → slots ≡ all
+    go true e = absurd (cc)
+    go false e = cc
+
+-- a relation of spots that makes no block a Used one
+record KeepsUsed (After : Spot → Spot → Type 0) : Type 0 where
+  pub was : (a : Spot) (slots : List (Option Row)) → After a (UsedBlock slots) → a ≡ UsedBlock slots
+
+claims_keep : KeepsUsed AfterClaims
+claims_keep = record { was = was }
+  where
+    was : (a : Spot) (slots : List (Option Row)) → AfterClaims a (UsedBlock slots) → a ≡ UsedBlock slots
+    was FreeExtent slots h = h
+    was IndexExtent slots h = h
+    was OtherBlock slots h = h
+    was FreeBlock slots h = h
+    was PendingBlock slots h = h
+    was (UsedBlock before) slots h = h
+
+returns_keep : KeepsUsed AfterReturns
+returns_keep = record { was = was }
+  where
+    was : (a : Spot) (slots : List (Option Row)) → AfterReturns a (UsedBlock slots) → a ≡ UsedBlock slots
+    was FreeExtent slots h = h
+    was IndexExtent slots h = h
+    was OtherBlock slots h = h
+    was FreeBlock slots h = h
+    was PendingBlock slots h = h
+    was (UsedBlock before) slots h = h
+
+same_keeps : KeepsUsed SameSpot
+same_keeps = record { was = λ a slots h. h }
+
+module _ (After : Spot → Spot → Type 0) (keeps : KeepsUsed After) (old new : List Spot) (block : ℕ) (spot : Spot) (turned : AllZip After (slice_set old block spot) new) where
+  used_before : (b : ℕ) (slots : List (Option Row)) → slice_index_or new b OtherBlock ≡ UsedBlock slots → (slice_index_or (slice_set old block spot) b OtherBlock ≡ UsedBlock slots) × (b < length old)
+  used_before b slots is =
+      let long = AllZip-long After (slice_set old block spot) new turned in
+      let low : b < length (slice_set old block spot) = omega (arith, used_below new b slots is, long) in
+      let at : After (slice_index_or (slice_set old block spot) b OtherBlock) (slice_index_or new b OtherBlock) = AllZip-get_or After (slice_set old block spot) new b OtherBlock OtherBlock turned low in (
+        keeps.was (slice_index_or (slice_set old block spot) b OtherBlock) slots (subst (After (slice_index_or (slice_set old block spot) b OtherBlock)) is at),
+        omega (arith, low, length-set old block spot),
+      )
+
+  -- a Used block elsewhere was one
+  used_elsewhere : (b : ℕ) (slots : List (Option Row)) → b ≢ block → slice_index_or new b OtherBlock ≡ UsedBlock slots → slice_index_or old b OtherBlock ≡ UsedBlock slots
+  used_elsewhere b slots other is = sym (get_or-set_other old block b spot OtherBlock other) ∙ (used_before b slots is).0
+
+  -- and the one that was changed is what it was made
+  used_there : (slots : List (Option Row)) → slice_index_or new block OtherBlock ≡ UsedBlock slots → spot ≡ UsedBlock slots
+  used_there slots is = let before = used_before block slots is in sym (get_or-set_same old block spot OtherBlock before.1) ∙ before.0
+
+-- ---- the rows of a Used block
+
+module _ {S : Type 0} {g : Ghosts S} (ext : Extents) (s : S) (def : TableDef) (owners : List Kind) (forests : TableForests) (st : StandsTable g ext s def owners forests) where
+  -- they fit
+  row_fits : (block : ℕ) (slots : List (Option Row)) (row : Row) → slice_index_or (spots_of g ext s def owners forests) block OtherBlock ≡ UsedBlock slots → Contains slots (Some row) → RowFits def row
+  row_fits block slots row is there =
+      let spot = used_of_spot ext (pages_of g s) def owners forests.map st.map block slots is in
+      let at : IsPlaced block row (rows_in_block ext (pages_of g s) def block) =
+      placed_in_slot block 0 (block_slots ext (pages_of g s) def block) row (subst (λ (all : List (Option Row)). Contains all (Some row)) spot.1 there) in
+      let sound = each_of (AreBlockRowsSound ext (pages_of g s) def) (used_blocks forests.map) block st.rows spot.0 in
+      subst (RowFits def) at.row_is (each_of (λ (placed : PlacedRow). RowFits def placed.row) (rows_in_block ext (pages_of g s) def block) at.placed sound.rows at.there)
+
+  -- and are of one cell
+  same_cell : (block : ℕ) (slots : List (Option Row)) (a b : Row) → slice_index_or (spots_of g ext s def owners forests) block OtherBlock ≡ UsedBlock slots → Contains slots (Some a) → Contains slots (Some b)
+      → AreOfOneCell def a.values b.values
+  same_cell block slots a b is a_there b_there =
+      let spot = used_of_spot ext (pages_of g s) def owners forests.map st.map block slots is in
+      let at_a : IsPlaced block a (rows_in_block ext (pages_of g s) def block) =
+      placed_in_slot block 0 (block_slots ext (pages_of g s) def block) a (subst (λ (all : List (Option Row)). Contains all (Some a)) spot.1 a_there) in
+      let at_b : IsPlaced block b (rows_in_block ext (pages_of g s) def block) =
+      placed_in_slot block 0 (block_slots ext (pages_of g s) def block) b (subst (λ (all : List (Option Row)). Contains all (Some b)) spot.1 b_there) in
+      let pairs = each_of (IsOfOneCell ext (pages_of g s) def) (used_blocks forests.map) block st.cells spot.0 in
+      let one : AreOfOneCell def at_a.placed.row.values at_b.placed.row.values =
+      any_two (λ (x y : PlacedRow). AreOfOneCell def x.row.values y.row.values) (rows_in_block ext (pages_of g s) def block) at_a.placed at_b.placed (λ x. refl) (λ x y e. sym e) pairs at_a.there at_b.there in
+      subst (λ (x : Row). AreOfOneCell def x.values b.values) at_a.row_is (subst (λ (y : Row). AreOfOneCell def at_a.placed.row.values y.values) at_b.row_is one)
+
+-- ---- the notes
+
+-- where nothing is noted, the notes are right
+pub rooms_forgotten : (def : TableDef) (now : Entry → ℕ) (spots : List Spot) → ((key : Entry) → now key ≡ 0) → AreRightRooms def now spots
+rooms_forgotten def now spots none = record { full = λ block row slots is there low empty. omega (arith, low, none (cell_key_of def row.values)) }
+
+-- no block below the note of a row's cell has room for it
+pub none_below : (def : TableDef) (from : Entry → ℕ) (spots : List Spot) (row : Row) (block : ℕ) → AreRightRooms def from spots → block < from (cell_key_of def row.values)
+    → HasRoomFor def row (slice_index_or spots block OtherBlock) → ⊥
+none_below def from spots row block right low room =
+    let r = room_used def row (slice_index_or spots block OtherBlock) room in
+    let other = r.2.0.0 in
+    let same = cell_key_of-same def other.values row.values r.2.0.2 in
+    right.full block other r.0 r.1 r.2.0.1 (subst (λ (key : Entry). block < from key) (sym same) low) r.2.1
+
+module _ {S : Type 0} {g : Ghosts S} (before ext : Extents) (old new : S) (def : TableDef) (owners owners_now : List Kind) (forests forests_now : TableForests)
+    (st : StandsTable g before old def owners forests) (now_st : StandsTable g ext new def owners_now forests_now) (from : Entry → ℕ) (right : AreRightRooms def from (spots_of g before old def owners forests)) where
+  -- a row was put into a block of its cell, below which none has room
+  pub rooms_noted : (now : Entry → ℕ) (row : Row) (block : ℕ) (slots : List (Option Row)) → IsTableDef def.number def → RowFits def row
+      → AllZip AfterClaims (slice_set (spots_of g before old def owners forests) block (UsedBlock slots)) (spots_of g ext new def owners_now forests_now) → Contains slots (Some row)
+      → ((b : ℕ) → b < block → HasRoomFor def row (slice_index_or (spots_of g before old def owners forests) b OtherBlock) → ⊥)
+      → now (cell_key_of def row.values) ≤ block → ((other : Entry) → other ≢ cell_key_of def row.values → now other ≤ from other)
+      → AreRightRooms def now (spots_of g ext new def owners_now forests_now)
+  rooms_noted now row block slots defined fits turned has none noted others = record { full = full }
+    where
+      full : (b : ℕ) (r : Row) (all : List (Option Row)) → slice_index_or (spots_of g ext new def owners_now forests_now) b OtherBlock ≡ UsedBlock all → Contains all (Some r)
+          → b < now (cell_key_of def r.values) → Contains all None → ⊥
+      full b r all is there low empty = elim (cases_eq b block) [
+        | inl same ↦
+            let here : slice_index_or (spots_of g ext new def owners_now forests_now) block OtherBlock ≡ UsedBlock all =
+            subst (λ (n : ℕ). slice_index_or (spots_of g ext new def owners_now forests_now) n OtherBlock ≡ UsedBlock all) same is in
+            let e = used_there AfterClaims claims_keep (spots_of g before old def owners forests) (spots_of g ext new def owners_now forests_now) block (UsedBlock slots) turned all here in
+            let slots_are : slots ≡ all = cc (e) in
+            let one = same_cell ext new def owners_now forests_now now_st block all r row here there (subst (λ (xs : List (Option Row)). Contains xs (Some row)) slots_are has) in
+            let below : b < now (cell_key_of def row.values) = subst (λ (key : Entry). b < now key) (cell_key_of-same def r.values row.values one) low in
+            omega (arith, same, below, noted)
+        | inr other ↦
+            let was = used_elsewhere AfterClaims claims_keep (spots_of g before old def owners forests) (spots_of g ext new def owners_now forests_now) block (UsedBlock slots) turned b all other is in
+            elim (key_cases (cell_key_of def r.values) (cell_key_of def row.values)) [
+              | inl key ↦
+                  let below : b < now (cell_key_of def row.values) = subst (λ (k : Entry). b < now k) key low in
+                  let fit = row_fits before old def owners forests st b all r was there in
+                  let one = one_cell def r.values row.values (has_block_indexes def.number def defined).composite.key fit.values fits.values key in
+                  none b (omega (arith, below, noted)) (subst (HasRoomFor def row) (sym was) ((r, there, one), empty))
+              | inr differ ↦ right.full b r all was there (omega (arith, low, others (cell_key_of def r.values) differ)) empty
+            ]
+      ]
+
+  -- a row was taken out
+  pub rooms_lowered : (now : Entry → ℕ) (rid : Rid) (row : Row) (slots : List (Option Row)) → IsRowAt (spots_of g before old def owners forests) rid row slots
+      → AllZip AfterReturns (slice_set (spots_of g before old def owners forests) rid.block (left_with (slice_set slots rid.slot None))) (spots_of g ext new def owners_now forests_now)
+      → now (cell_key_of def row.values) ≤ rid.block → ((other : Entry) → now other ≤ from other) → AreRightRooms def now (spots_of g ext new def owners_now forests_now)
+  rooms_lowered now rid row slots lies turned lowered kept = record { full = full }
+    where
+      left : Spot
+      left = left_with (slice_set slots rid.slot None)
+
+      full : (b : ℕ) (r : Row) (all : List (Option Row)) → slice_index_or (spots_of g ext new def owners_now forests_now) b OtherBlock ≡ UsedBlock all → Contains all (Some r)
+          → b < now (cell_key_of def r.values) → Contains all None → ⊥
+      full b r all is there low empty = elim (cases_eq b rid.block) [
+        | inl same ↦
+            let here : slice_index_or (spots_of g ext new def owners_now forests_now) rid.block OtherBlock ≡ UsedBlock all =
+            subst (λ (n : ℕ). slice_index_or (spots_of g ext new def owners_now forests_now) n OtherBlock ≡ UsedBlock all) same is in
+            let e = used_there AfterReturns returns_keep (spots_of g before old def owners forests) (spots_of g ext new def owners_now forests_now) rid.block (left_with (slice_set slots rid.slot None)) turned all here in
+            let slots_are = left_used (slice_set slots rid.slot None) all e in
+            let in_now : Contains (slice_set slots rid.slot None) (Some r) = subst (λ (xs : List (Option Row)). Contains xs (Some r)) (sym slots_are) there in
+            let in_old : Contains slots (Some r) = elim (of_set slots rid.slot None (Some r) in_now) [ inl wrong ↦ absurd (cc (wrong)) | inr c ↦ c ] in
+            let one = same_cell before old def owners forests st rid.block slots r row (lies.block OtherBlock) in_old (in_slot slots rid.slot row lies.slot) in
+            let below : b < now (cell_key_of def row.values) = subst (λ (key : Entry). b < now key) (cell_key_of-same def r.values row.values one) low in
+            omega (arith, same, below, lowered)
+        | inr other ↦
+            let was = used_elsewhere AfterReturns returns_keep (spots_of g before old def owners forests) (spots_of g ext new def owners_now forests_now) rid.block (left_with (slice_set slots rid.slot None)) turned b all other is in
+            right.full b r all was there (omega (arith, low, kept (cell_key_of def r.values))) empty
+      ]
+
+  -- a row became another of its cell
+  pub rooms_overwritten : (rid : Rid) (row now : Row) (slots : List (Option Row)) → IsRowAt (spots_of g before old def owners forests) rid row slots → AreOfOneCell def row.values now.values
+      → AllZip SameSpot (slice_set (spots_of g before old def owners forests) rid.block (UsedBlock (slice_set slots rid.slot (Some now)))) (spots_of g ext new def owners_now forests_now)
+      → AreRightRooms def from (spots_of g ext new def owners_now forests_now)
+  rooms_overwritten rid row now slots lies one turned = record { full = full }
+    where
+      full : (b : ℕ) (r : Row) (all : List (Option Row)) → slice_index_or (spots_of g ext new def owners_now forests_now) b OtherBlock ≡ UsedBlock all → Contains all (Some r)
+          → b < from (cell_key_of def r.values) → Contains all None → ⊥
+      full b r all is there low empty = elim (cases_eq b rid.block) [
+        | inl same ↦
+            let here : slice_index_or (spots_of g ext new def owners_now forests_now) rid.block OtherBlock ≡ UsedBlock all =
+            subst (λ (n : ℕ). slice_index_or (spots_of g ext new def owners_now forests_now) n OtherBlock ≡ UsedBlock all) same is in
+            let e = used_there SameSpot same_keeps (spots_of g before old def owners forests) (spots_of g ext new def owners_now forests_now) rid.block (UsedBlock (slice_set slots rid.slot (Some now))) turned all here in
+            let slots_are : slice_set slots rid.slot (Some now) ≡ all = cc (e) in
+            let now_there : Contains all (Some now) = subst (λ (xs : List (Option Row)). Contains xs (Some now)) slots_are (in_set slots rid.slot (Some now) (filled_below slots rid.slot row lies.slot)) in
+            let empty_now : Contains (slice_set slots rid.slot (Some now)) None = subst (λ (xs : List (Option Row)). Contains xs None) (sym slots_are) empty in
+            let was_empty : Contains slots None = elim (of_set slots rid.slot (Some now) None empty_now) [ inl wrong ↦ absurd (cc (wrong)) | inr c ↦ c ] in
+            let both = same_cell ext new def owners_now forests_now now_st rid.block all r now here there now_there in
+            let key = cell_key_of-same def r.values row.values (both ∙ sym one) in
+            let below : rid.block < from (cell_key_of def row.values) = subst (λ (n : ℕ). n < from (cell_key_of def row.values)) same (subst (λ (k : Entry). b < from k) key low) in
+            right.full rid.block row slots (lies.block OtherBlock) (in_slot slots rid.slot row lies.slot) below was_empty
+        | inr other ↦
+            let was = used_elsewhere SameSpot same_keeps (spots_of g before old def owners forests) (spots_of g ext new def owners_now forests_now) rid.block (UsedBlock (slice_set slots rid.slot (Some now))) turned b all other is in
+            right.full b r all was there low empty
+      ]

@@ -1,0 +1,5 @@
+pub mod KeptRoomsLemmas
+pub mod NextBlocksLemmas
+pub mod PlacingRowsLemmas
+pub mod StandingBlocksLemmas
+pub mod TakingRowsLemmas

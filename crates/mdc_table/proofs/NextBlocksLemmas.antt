@@ -1,0 +1,137 @@
+-- The next block that comes into use, behind calls that left the work as it was, and the runs of such calls.
+use Rattle.std.proofs.Common.{◌≡◌, ◌≤◌, ℕ, List, refl, arith, inl, inr}
+use Rattle.std.specs.Prelude.{Contains, IfErr, IfOk, Option, None, Result, Ok, Err}
+use Rattle.store_api.specs.Frame.{NoPage}
+use Rattle.store_api.specs.RunsOverPages.{RunsOverPages}
+use Rattle.store_api.specs.declared.fault.StoreFault.{StoreFault}
+use Rattle.store_api.specs.declared.pages.Pages.{Ghosts}
+use Rattle.store_api.proofs.RunsOverPagesLemmas.{runs_then, runs_wider}
+use Rattle.extent_map.specs.Damages.{IfFull}
+use Rattle.extent_map.specs.Owners.{AreRightNotes, IsLowestFree}
+use Rattle.extent_map.specs.declared.extents.Extents.{Extents}
+use Rattle.extent_map.specs.declared.fault.SpaceFault.{SpaceFault}
+use Rattle.extent_map.specs.declared.fault.SpaceFault.TheVariants.{Full, Store}
+use Rattle.extent_map.specs.declared.kind.Kind.{Kind}
+use Rattle.mdc_words.specs.ByteOrder.{Entry}
+use Rattle.mdc_ast.specs.declared.definition.TableDef.{TableDef}
+use Rattle.mdc_ast.specs.declared.row.Row.{Row}
+use Rattle.block_map.specs.BlockMaps.{FindsFree, IsLowestFreeBlock}
+use Rattle.block_map.specs.MapLines.{free_blocks}
+use Rattle.mdc_sound.specs.Placing.{AfterClaims, begun_with, block_slot_count, HasRoomFor, HoldsNowhere}
+use Rattle.mdc_sound.specs.StandingTable.{BreaksExpected, BreaksTable, IsReadyTable, IsTableOrMapPage, IsTableSpace, IsTableTreePage, MeetsNoFree, NamesTablePart, spots_of, StandsTable, TableForests}
+use Rattle.mdc_sound.proofs.StandingTableLemmas.{stands_same}
+use Rattle.table_blocks.specs.BlockSteps.{BeginsBlock}
+use Rattle.mdc_table.specs.NextBlock.{BeginsNext, FindsNoPlace, IsNextBlock}
+use Rattle.mdc_table.proofs.PlacingRowsLemmas.{turns_along}
+use Rattle.mdc_table.proofs.StandingBlocksLemmas.{free_within}
+
+-- ---- the block
+
+module _ {S : Type 0} {g : Ghosts S} (before ext : Extents) (old mid new : S) (def : TableDef) (owners : List Kind) (forests : TableForests) (told : (g.state mid).is_told ≡ (g.state old).is_told)
+    (same : (g.state mid).work ≡ (g.state old).work) where
+  begins_along : (block : ℕ) (row : Row) → BeginsBlock g before ext mid new def block row owners forests → BeginsBlock g before ext old new def block row owners forests
+  begins_along block row begins = record {
+    owners_now = begins.owners_now;
+    forests_now = begins.forests_now;
+    turns = turns_along before ext old mid new def owners forests told same AfterClaims block (begun_with (block_slot_count before def) row) begins.owners_now begins.forests_now begins.turns;
+  }
+
+  -- a Free block that was found
+  pub begins_free : (block : ℕ) (row : Row) → IsLowestFreeBlock forests.map 0 block → BeginsBlock g before ext mid new def block row owners forests → BeginsNext g before ext old new def block row owners forests
+  begins_free block row lowest begins = record { next = λ notes. IsNextBlock.free_block lowest; begins = begins_along block row begins }
+
+-- a free extent, where none was found
+pub begins_new : {S : Type 0} (g : Ghosts S) (before ext : Extents) (old mid new : S) (def : TableDef) (row : Row) (result : Result ℕ SpaceFault)
+    → (g.state mid).is_told ≡ (g.state old).is_told → (g.state mid).work ≡ (g.state old).work
+    → ((owners : List Kind) (forests : TableForests) → StandsTable g before old def owners forests → FindsFree forests.map 0 None)
+    → IfOk result (λ block. (owners : List Kind) (forests : TableForests) → StandsTable g before mid def owners forests → BeginsBlock g before ext mid new def block row owners forests)
+    → IfOk result (λ block. (owners : List Kind) (forests : TableForests) → StandsTable g before mid def owners forests → AreRightNotes before owners → IsLowestFree owners block)
+    → IfOk result (λ block. (owners : List Kind) (forests : TableForests) → StandsTable g before old def owners forests → BeginsNext g before ext old new def block row owners forests)
+begins_new g before ext old mid new def row (Ok block) told same none begins lowest = λ owners forests st.
+    let st_mid = stands_same before old mid def owners forests told same st in
+    record {
+      next = λ notes. IsNextBlock.free_extent (λ other there. none owners forests st other there (omega arith)) (lowest owners forests st_mid notes);
+      begins = begins_along before ext old mid new def owners forests told same block row (begins owners forests st_mid);
+    }
+begins_new g before ext old mid new def row (Err fault) told same none begins lowest = tt
+
+-- no block that the block map names lies past the extents
+pub past_breaks : {S : Type 0} (g : Ghosts S) (ext : Extents) (s : S) (def : TableDef) (block : ℕ) → ext.cap ≤ block
+    → ((owners : List Kind) (forests : TableForests) → StandsTable g ext s def owners forests → Contains (free_blocks forests.map) block) → BreaksTable g ext s def (record { page = def.roots.map; rule = 6 })
+past_breaks g ext s def block past free = record {
+  names = NamesTablePart.block_map refl refl;
+  broken = λ owners forests st. omega (arith, past, free_within ext s def owners forests st block (free owners forests st));
+}
+
+-- ---- full files
+
+module _ {S : Type 0} (g : Ghosts S) (before ext : Extents) (old mid new : S) (def : TableDef) (told : (g.state mid).is_told ≡ (g.state old).is_told) (same : (g.state mid).work ≡ (g.state old).work) where
+  pub full_along : (fault : SpaceFault)
+      → IfFull fault (λ cap. (cap ≡ before.cap) × ((owners : List Kind) (forests : TableForests) → StandsTable g before mid def owners forests → AreRightNotes before owners → MeetsNoFree g ext new))
+      → IfFull fault (λ cap. (cap ≡ before.cap) × ((owners : List Kind) (forests : TableForests) → StandsTable g before old def owners forests → AreRightNotes before owners → MeetsNoFree g ext new))
+  full_along (Full cap) full = (full.0, λ owners forests st notes. full.1 owners forests (stands_same before old mid def owners forests told same st) notes)
+  full_along (Store fault) full = tt
+
+  pub full_result_along : {X : Type 0} (result : Result X SpaceFault)
+      → IfErr result (λ fault. IfFull fault (λ cap. (cap ≡ before.cap) × ((owners : List Kind) (forests : TableForests) → StandsTable g before mid def owners forests → AreRightNotes before owners → MeetsNoFree g ext new)))
+      → IfErr result (λ fault. IfFull fault (λ cap. (cap ≡ before.cap) × ((owners : List Kind) (forests : TableForests) → StandsTable g before old def owners forests → AreRightNotes before owners → MeetsNoFree g ext new)))
+  full_result_along (Ok x) full = tt
+  full_result_along (Err fault) full = full_along fault full
+
+-- and the same of a table whose notes are right
+pub full_ready : {S : Type 0} (g : Ghosts S) (before ext : Extents) (old new : S) (def : TableDef) (from : Entry → ℕ) (fault : SpaceFault)
+    → IfFull fault (λ cap. (cap ≡ before.cap) × ((owners : List Kind) (forests : TableForests) → StandsTable g before old def owners forests → AreRightNotes before owners → MeetsNoFree g ext new))
+    → IfFull fault (λ cap. (cap ≡ before.cap) × ((owners : List Kind) (forests : TableForests) → IsReadyTable g before from old def owners forests → MeetsNoFree g ext new))
+full_ready g before ext old new def from (Full cap) full = (full.0, λ owners forests ready. full.1 owners forests ready.stands ready.notes)
+full_ready g before ext old new def from (Store fault) full = tt
+
+-- and of one whose cells have no room
+pub full_no_place : {S : Type 0} (g : Ghosts S) (before ext : Extents) (old new : S) (def : TableDef) (row : Row) (from : Entry → ℕ) (fault : SpaceFault)
+    → ((owners : List Kind) (forests : TableForests) → IsReadyTable g before from old def owners forests → HoldsNowhere (HasRoomFor def row) (spots_of g before old def owners forests))
+    → IfFull fault (λ cap. (cap ≡ before.cap) × ((owners : List Kind) (forests : TableForests) → IsReadyTable g before from old def owners forests → MeetsNoFree g ext new))
+    → IfFull fault (λ cap. (cap ≡ before.cap) × ((owners : List Kind) (forests : TableForests) → IsReadyTable g before from old def owners forests → FindsNoPlace g before ext old new def row owners forests))
+full_no_place g before ext old new def row from (Full cap) no_room full = (full.0, λ owners forests ready. record { no_room = no_room owners forests ready; none_free = full.1 owners forests ready })
+full_no_place g before ext old new def row from (Store fault) no_room full = tt
+
+-- ---- runs
+
+module _ {S : Type 0} {g : Ghosts S} (ext : Extents) (def : TableDef) where
+  -- a call that reads trees
+  pub runs_in_space : {old new : S} {fault : Option StoreFault} → RunsOverPages g NoPage (IsTableTreePage g ext old def) (BreaksTable g ext old def) old new fault
+      → RunsOverPages g (IsTableSpace g ext old def) (IsTableSpace g ext old def) (BreaksTable g ext old def) old new fault
+  runs_in_space run = runs_wider run (λ p there none. absurd none) (λ p is owners forests st. inl (is owners forests st)) (λ damage b. b)
+
+  -- and one behind it that may claim
+  pub runs_space_then : {old mid new : S} {fault : Option StoreFault} → (g.state mid).work ≡ (g.state old).work
+      → RunsOverPages g NoPage (IsTableTreePage g ext old def) (BreaksTable g ext old def) old mid None
+      → RunsOverPages g (IsTableSpace g ext mid def) (IsTableSpace g ext mid def) (BreaksTable g ext mid def) mid new fault
+      → RunsOverPages g (IsTableSpace g ext old def) (IsTableSpace g ext old def) (BreaksTable g ext old def) old new fault
+  runs_space_then {old} {mid} {new} same first second =
+      let told = first.works.steady.is_told in
+      runs_then (runs_in_space {fault = None} first) second (λ p there is owners forests st. is owners forests (stands_same ext old mid def owners forests told same st))
+      (λ p is owners forests st. is owners forests (stands_same ext old mid def owners forests told same st))
+      (λ damage b. record { names = b.names; broken = λ owners forests st. b.broken owners forests (stands_same ext old mid def owners forests told same st) })
+
+  -- the same, where it expects more of the table than that it stands
+  pub runs_space_expecting : {old mid new : S} {fault : Option StoreFault} (Expected : List Kind → TableForests → Type 0) → (g.state mid).work ≡ (g.state old).work
+      → ((owners : List Kind) (forests : TableForests) → StandsTable g ext old def owners forests → Expected owners forests)
+      → RunsOverPages g NoPage (IsTableTreePage g ext old def) (BreaksTable g ext old def) old mid None
+      → RunsOverPages g (IsTableSpace g ext mid def) (IsTableSpace g ext mid def) (BreaksExpected g ext mid def Expected) mid new fault
+      → RunsOverPages g (IsTableSpace g ext old def) (IsTableSpace g ext old def) (BreaksTable g ext old def) old new fault
+  runs_space_expecting {old} {mid} {new} Expected same expected first second =
+      let told = first.works.steady.is_told in
+      runs_then (runs_in_space {fault = None} first) second (λ p there is owners forests st. is owners forests (stands_same ext old mid def owners forests told same st))
+      (λ p is owners forests st. is owners forests (stands_same ext old mid def owners forests told same st))
+      (λ damage b. record { names = b.names; broken = λ owners forests st. b.broken owners forests (stands_same ext old mid def owners forests told same st) (expected owners forests st) })
+
+  -- the pages of a call that claims nothing
+  pub runs_of_place : {old new : S} {fault : Option StoreFault} (Expected : List Kind → TableForests → Type 0)
+      → RunsOverPages g (IsTableOrMapPage g ext old def) (IsTableOrMapPage g ext old def) (BreaksExpected g ext old def Expected) old new fault
+      → RunsOverPages g (IsTableSpace g ext old def) (IsTableSpace g ext old def) (BreaksExpected g ext old def Expected) old new fault
+  runs_of_place {old} {new} Expected run = runs_wider run (λ p there is. in_space p is) in_space (λ damage b. b)
+    where
+      in_space : (p : ℕ) → IsTableOrMapPage g ext old def p → IsTableSpace g ext old def p
+      in_space p is owners forests st = elim (is owners forests st) [
+        | inl tree ↦ inl tree
+        | inr rest ↦ elim rest [ inl block ↦ inr (inl block) | inr map ↦ inr (inr (inl (inr map))) ]
+      ]

@@ -1,0 +1,223 @@
+-- A row that was put into a block of its cell, or into one that came into use, as a call on a table says it.
+use Rattle.std.proofs.Common.{◌≡◌, ◌≢◌, ◌<◌, ◌≤◌, ℕ, List, [], ◌∷◌, length, replicate, refl, ap, arith, sym, ◌∙◌, subst, inl, inr}
+use Rattle.std.specs.Prelude.{Option, Some, None, slice_index_or, slice_set}
+use Rattle.std.specs.List.{AllZip}
+use Rattle.std.proofs.Math.Nat.{mul-pos}
+use Rattle.std.proofs.lemmas.Bool.{cases_lt}
+use Rattle.std.proofs.lemmas.List.{get_or_default, length-replicate}
+use Rattle.mdc_words.specs.ByteOrder.{Entry}
+use Rattle.mdc_values.specs.declared.rid.Rid.{Rid}
+use Rattle.mdc_ast.specs.declared.definition.TableDef.{TableDef}
+use Rattle.mdc_ast.specs.declared.row.Row.{Row}
+use Rattle.store_api.specs.declared.pages.Pages.{Ghosts}
+use Rattle.extent_map.specs.declared.extents.Extents.{Extents}
+use Rattle.extent_map.specs.declared.kind.Kind.{Kind}
+use Rattle.extent_map.proofs.ExtentsLemmas.{extent_limits}
+use Rattle.extent_map.proofs.GrowthLemmas.{growth_along}
+use Rattle.table_page.specs.TableLimits.{IsTableDef}
+use Rattle.row_page.proofs.RowPageLemmas.{slot_count-ge}
+use Rattle.block_map.specs.BlockMaps.{HasRow}
+use Rattle.block_map.specs.declared.row.BlockRow.{BlockRow}
+use Rattle.block_map.specs.declared.state.BlockState.{BlockState}
+use Rattle.block_map.specs.declared.state.BlockState.TheVariants as state
+use Rattle.table_trees.specs.TreesBeside.{GrowsPages}
+use Rattle.entry_tree.specs.Forest.{Forest}
+use Rattle.mdc_sound.specs.FittingRows.{RowFits}
+use Rattle.mdc_sound.specs.Placing.{AfterClaims, HasRoomFor, HoldsNowhere, IsFreeBlock, IsFreeExtent, IsLowestAt, PutsRow, Spot, begun_with, block_slot_count, table_spots}
+use Rattle.mdc_sound.specs.Placing.Spot.{FreeBlock, FreeExtent, IndexExtent, OtherBlock, PendingBlock, UsedBlock}
+use Rattle.mdc_sound.specs.StandingTable.{AreRightRooms, ChangesTable, IsReadyTable, pages_of, PlacesRow, spots_of, TableForests}
+use Rattle.mdc_sound.specs.ToldPages.{PageList}
+use Rattle.mdc_sound.proofs.ChangedRowsLemmas.{some_slots}
+use Rattle.mdc_sound.proofs.TableSpotsLemmas.{free_block_of_spot, free_block_spot, free_of_spot, free_spot, length-spots}
+use Rattle.table_blocks.specs.BlockChanges.{SameSpot, TurnsSpot}
+use Rattle.table_blocks.specs.BlockSteps.{FillsSlot, HasRoomAt}
+use Rattle.table_blocks.proofs.SpotChangesLemmas.{claims_change}
+use Rattle.cell_rooms.specs.FoundRoom.{FindsRoom, IsFirstRoom, cell_key_of}
+use Rattle.mdc_table.specs.NextBlock.{BeginsNext, IsNextBlock}
+use Rattle.mdc_table.proofs.KeptRoomsLemmas.{in_set, none_below, rooms_noted, used_below}
+use Rattle.mdc_table.proofs.StandingBlocksLemmas.{free_within}
+
+-- ---- spots
+
+-- the same spots, where trees may have taken extents
+claims_none : (xs ys : List Spot) → AllZip SameSpot xs ys → AllZip AfterClaims xs ys
+claims_none [] [] all = tt
+claims_none [] (y ∷ ys) all = absurd all
+claims_none (x ∷ xs) [] all = absurd all
+claims_none (x ∷ xs) (y ∷ ys) all = (subst (AfterClaims x) all.0 (claims_change.stays x), claims_none xs ys all.1)
+
+free_block_is : (spot : Spot) → IsFreeBlock spot → spot ≡ FreeBlock
+free_block_is FreeBlock is = refl
+free_block_is FreeExtent is = absurd is
+free_block_is IndexExtent is = absurd is
+free_block_is OtherBlock is = absurd is
+free_block_is PendingBlock is = absurd is
+free_block_is (UsedBlock slots) is = absurd is
+
+free_extent_is : (spot : Spot) → IsFreeExtent spot → spot ≡ FreeExtent
+free_extent_is FreeExtent is = refl
+free_extent_is IndexExtent is = absurd is
+free_extent_is OtherBlock is = absurd is
+free_extent_is FreeBlock is = absurd is
+free_extent_is PendingBlock is = absurd is
+free_extent_is (UsedBlock slots) is = absurd is
+
+-- what is so of no spot by its number is so nowhere
+nowhere : (P : Spot → Type 0) (spots : List Spot) → ((k : ℕ) → P (slice_index_or spots k OtherBlock) → ⊥) → HoldsNowhere P spots
+nowhere P spots none k d low holds = none k (subst P (get_or_default spots k d OtherBlock low) holds)
+
+-- the lowest
+lowest_at : (P : Spot → Type 0) (spots : List Spot) (block : ℕ) (spot : Spot) → block < length spots → slice_index_or spots block OtherBlock ≡ spot → P spot
+    → ((k : ℕ) → k < block → P (slice_index_or spots k OtherBlock) → ⊥) → IsLowestAt P spots block spot
+lowest_at P spots block spot low is holds none = record {
+  within = low;
+  is_it = λ d. get_or_default spots block d OtherBlock low ∙ is;
+  holds = holds;
+  lowest = λ k d less so. none k less (subst P (get_or_default spots k d OtherBlock (omega (arith, less, low))) so);
+}
+
+length-empty : (n : ℕ) (slot : Option Row) → length (replicate n slot) ≡ n
+length-empty n slot = length-replicate n slot
+
+-- ---- one call more, behind calls that left the work as it was
+
+module _ {S : Type 0} {g : Ghosts S} (before ext : Extents) (old mid new : S) (def : TableDef) (owners : List Kind) (forests : TableForests) (told : (g.state mid).is_told ≡ (g.state old).is_told)
+    (same : (g.state mid).work ≡ (g.state old).work) where
+  grows_along : GrowsPages g before mid new → GrowsPages g before old new
+  grows_along grows = record {
+    stated = growth_along told same grows.stated;
+    whole = λ is. grows.whole (record { extents = is.extents; within = is.within; count = ap length same ∙ is.count });
+  }
+
+  changes_along : (owners_now : List Kind) (forests_now : TableForests) → ChangesTable g before ext mid new def owners forests owners_now forests_now → ChangesTable g before ext old new def owners forests owners_now forests_now
+  changes_along owners_now forests_now changes = record {
+    stands = changes.stands;
+    shape = changes.shape;
+    records = changes.records;
+    others_blocks = changes.others_blocks;
+    no_others_blocks = changes.no_others_blocks;
+    others_pages = changes.others_pages;
+    used_pages = changes.used_pages;
+    pages = changes.pages;
+    grows = grows_along changes.grows;
+    notes = changes.notes;
+  }
+
+  pub turns_along : (After : Spot → Spot → Type 0) (block : ℕ) (spot : Spot) (owners_now : List Kind) (forests_now : TableForests) → TurnsSpot g After before ext mid new def block spot owners forests owners_now forests_now
+      → TurnsSpot g After before ext old new def block spot owners forests owners_now forests_now
+  turns_along After block spot owners_now forests_now turns = record {
+    changes = changes_along owners_now forests_now turns.changes;
+    spots = subst (λ (pages : PageList). AllZip After (slice_set (table_spots before pages def owners forests.map) block spot) (spots_of g ext new def owners_now forests_now)) same turns.spots;
+  }
+
+-- ---- what was found
+
+-- below the block that was found none has room
+none_before : (def : TableDef) (from : ℕ) (spots : List Spot) (row : Row) (block : ℕ) → ((b : ℕ) → b < from → HasRoomFor def row (slice_index_or spots b OtherBlock) → ⊥)
+    → ((b : ℕ) → from ≤ b → b < block → HasRoomFor def row (slice_index_or spots b OtherBlock) → ⊥) → (b : ℕ) → b < block → HasRoomFor def row (slice_index_or spots b OtherBlock) → ⊥
+none_before def from spots row block below lowest b low room = elim (cases_lt b from) [
+  | inl less ↦ below b less room
+  | inr high ↦ lowest b high low room
+]
+
+-- what putting a row there expects
+pub room_at : {S : Type 0} {g : Ghosts S} (ext : Extents) (old mid : S) (def : TableDef) (owners : List Kind) (forests : TableForests) (row : Row) (from : ℕ) (found : BlockRow) → (g.state mid).work ≡ (g.state old).work
+    → IsFirstRoom def (spots_of g ext old def owners forests) forests.map row from found → HasRoomAt g ext mid def (record { block = found.block; state = state.Used; rows = found.rows }) row owners forests
+room_at ext old mid def owners forests row from found same first = record {
+  line_there = subst (λ (s : BlockState). HasRow (record { block = found.block; state = s; rows = found.rows }) forests.map) first.used first.mapped;
+  room = subst (λ (pages : PageList). HasRoomFor def row (slice_index_or (table_spots ext pages def owners forests.map) found.block OtherBlock)) (sym same) first.room;
+}
+
+module _ {S : Type 0} {g : Ghosts S} (ext : Extents) (old mid new : S) (def : TableDef) (owners : List Kind) (forests : TableForests) (row : Row) (from now : Entry → ℕ)
+    (defined : IsTableDef def.number def) (fits : RowFits def row) (told : (g.state mid).is_told ≡ (g.state old).is_told) (same : (g.state mid).work ≡ (g.state old).work)
+    (ready : IsReadyTable g ext from old def owners forests) where
+  -- the row went into the block that was found
+  pub placed_in_cell : (found : BlockRow) (rid : Rid) (key : Entry) → key ≡ cell_key_of def row.values → IsFirstRoom def (spots_of g ext old def owners forests) forests.map row (from key) found
+      → rid.block ≡ found.block → FillsSlot g ext mid new def rid row owners forests → now key ≤ found.block → ((other : Entry) → other ≢ key → now other ≤ from other)
+      → PlacesRow g ext ext now old new def owners forests row rid
+  placed_in_cell found rid key is first at fills noted others =
+      let spots = spots_of g ext old def owners forests in
+      let was : slice_index_or spots rid.block OtherBlock ≡ UsedBlock fills.slots =
+      subst (λ (pages : PageList). slice_index_or (table_spots ext pages def owners forests.map) rid.block OtherBlock ≡ UsedBlock fills.slots) same fills.was in
+      let slots = slice_set fills.slots rid.slot (Some row) in
+      let turns = turns_along ext ext old mid new def owners forests told same SameSpot rid.block (UsedBlock slots) owners fills.forests_now fills.turns in
+      let claims = claims_none (slice_set spots rid.block (UsedBlock slots)) (spots_of g ext new def owners fills.forests_now) turns.spots in
+      let none : (b : ℕ) → b < rid.block → HasRoomFor def row (slice_index_or spots b OtherBlock) → ⊥ =
+      λ b low. none_before def (from key) spots row found.block (λ n less. none_below def from spots row n ready.rooms (subst (λ (k : Entry). n < from k) is less)) first.lowest b (omega (arith, low, at)) in
+      let here : HasRoomFor def row (slice_index_or spots rid.block OtherBlock) = subst (λ (n : ℕ). HasRoomFor def row (slice_index_or spots n OtherBlock)) (sym at) first.room in
+      record {
+        owners_now = owners;
+        forests_now = fills.forests_now;
+        changes = turns.changes;
+        rooms =
+            rooms_noted ext ext old new def owners owners forests fills.forests_now ready.stands turns.changes.stands from ready.rooms now row rid.block slots defined fits claims
+            (in_set fills.slots rid.slot (Some row) fills.lowest.within) none (omega (arith, noted, at, ap now is)) (λ other differ. others other (λ e. differ (e ∙ is)));
+        mid = slice_set spots rid.block (UsedBlock slots);
+        puts = PutsRow.in_cell rid.block rid.slot fills.slots
+            (lowest_at (HasRoomFor def row) spots rid.block (UsedBlock fills.slots) (used_below spots rid.block fills.slots was) was (subst (HasRoomFor def row) was here) none) fills.lowest refl;
+        claims = claims;
+      }
+
+-- nothing found from the note on, and nothing below it
+module _ {spots : List Spot} (map_tree : Forest) {def : TableDef} (row : Row) (from : Entry → ℕ) (key : Entry) (is : key ≡ cell_key_of def row.values) (rooms : AreRightRooms def from spots)
+    (found : FindsRoom def spots map_tree row (from key) None) where
+  pub no_room_at : (b : ℕ) → HasRoomFor def row (slice_index_or spots b OtherBlock) → ⊥
+  no_room_at b room = elim (cases_lt b (from key)) [
+    | inl less ↦ none_below def from spots row b rooms (subst (λ (k : Entry). b < from k) is less) room
+    | inr high ↦ found b high room
+  ]
+
+  pub no_room_found : HoldsNowhere (HasRoomFor def row) spots
+  no_room_found = nowhere (HasRoomFor def row) spots no_room_at
+
+module _ {S : Type 0} {g : Ghosts S} (before ext : Extents) (old mid new : S) (def : TableDef) (owners : List Kind) (forests : TableForests) (row : Row) (from now : Entry → ℕ)
+    (defined : IsTableDef def.number def) (fits : RowFits def row) (told : (g.state mid).is_told ≡ (g.state old).is_told) (same : (g.state mid).work ≡ (g.state old).work)
+    (ready : IsReadyTable g before from old def owners forests) where
+  -- the row went into a block that came into use
+  pub placed_in_next : (block : ℕ) (key : Entry) → key ≡ cell_key_of def row.values → FindsRoom def (spots_of g before old def owners forests) forests.map row (from key) None
+      → BeginsNext g before ext mid new def block row owners forests → now key ≤ block → ((other : Entry) → other ≢ key → now other ≤ from other)
+      → PlacesRow g before ext now old new def owners forests row (record { block = block; slot = 0 })
+  placed_in_next block key is found next noted others =
+      let begins = next.begins in
+      let turns = turns_along before ext old mid new def owners forests told same AfterClaims block (begun_with (block_slot_count before def) row) begins.owners_now begins.forests_now begins.turns in
+      record {
+        owners_now = begins.owners_now;
+        forests_now = begins.forests_now;
+        changes = turns.changes;
+        rooms =
+            rooms_noted before ext old new def owners begins.owners_now forests begins.forests_now ready.stands turns.changes.stands from ready.rooms now row block
+            (slice_set (replicate (block_slot_count before def) None) 0 (Some row)) defined fits turns.spots
+            (in_set (replicate (block_slot_count before def) None) 0 (Some row) (omega (arith, some_slots before def.number def defined, length-empty (block_slot_count before def) None)))
+            (λ b low. no_room b) (omega (arith, noted, ap now is)) (λ other differ. others other (λ e. differ (e ∙ is)));
+        mid = slice_set spots block (begun_with (block_slot_count before def) row);
+        puts = puts (next.next ready.notes);
+        claims = turns.spots;
+      }
+    where
+      spots : List Spot
+      spots = spots_of g before old def owners forests
+
+      no_room : (b : ℕ) → HasRoomFor def row (slice_index_or (spots_of g before old def owners forests) b OtherBlock) → ⊥
+      no_room = no_room_at forests.map row from key is ready.rooms found
+
+      puts : IsNextBlock owners forests.map block
+          → PutsRow def (block_slot_count before def) (spots_of g before old def owners forests) row (slice_set (spots_of g before old def owners forests) block (begun_with (block_slot_count before def) row)) (record { block = block; slot = 0 })
+      puts (IsNextBlock.free_block lowest) =
+          PutsRow.in_free_block block (nowhere (HasRoomFor def row) (spots_of g before old def owners forests) no_room)
+          (lowest_at IsFreeBlock (spots_of g before old def owners forests) block FreeBlock (omega (arith, free_within before old def owners forests ready.stands block lowest.free, length-spots before (pages_of g old) def owners forests.map))
+          (free_block_spot before (pages_of g old) def owners forests.map block OtherBlock ready.stands.map lowest.free) tt
+          (λ k less holds.
+          let free = free_block_of_spot before (pages_of g old) def owners forests.map ready.stands.map k (free_block_is (slice_index_or (spots_of g before old def owners forests) k OtherBlock) holds) in
+          omega (arith, lowest.lowest k free (omega arith), less)))
+          refl
+      puts (IsNextBlock.free_extent none lowest) =
+          let low : block < before.cap = omega (arith, lowest.within, ready.stands.trees.map.count) in
+          PutsRow.in_free_extent block (nowhere (HasRoomFor def row) (spots_of g before old def owners forests) no_room)
+          (nowhere IsFreeBlock (spots_of g before old def owners forests)
+          (λ k holds. none k (free_block_of_spot before (pages_of g old) def owners forests.map ready.stands.map k (free_block_is (slice_index_or (spots_of g before old def owners forests) k OtherBlock) holds))))
+          (lowest_at IsFreeExtent (spots_of g before old def owners forests) block FreeExtent (omega (arith, low, length-spots before (pages_of g old) def owners forests.map))
+          (free_spot before (pages_of g old) def owners forests.map block OtherBlock low lowest.free) tt
+          (λ k less holds.
+          let free = free_of_spot before (pages_of g old) def owners forests.map ready.stands.map k (free_extent_is (slice_index_or (spots_of g before old def owners forests) k OtherBlock) holds) in
+          lowest.lowest k less free.1))
+          refl

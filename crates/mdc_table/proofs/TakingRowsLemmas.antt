@@ -1,0 +1,96 @@
+-- A row that was taken out or written over, as calls on a table say it.
+use Rattle.std.proofs.Common.{◌≡◌, ◌<◌, ◌≤◌, ℕ, false, List, [], ◌∷◌, length, refl, ap, arith, sym, ◌⊎◌, inl, inr}
+use Rattle.std.specs.Prelude.{IsTrue, OnOk, Option, Some, None, Result, Ok, Err, slice_set}
+use Rattle.std.specs.List.{AllZip}
+use Rattle.std.proofs.lemmas.Bool.Decides.{nat_tests}
+use Rattle.mdc_words.specs.ByteOrder.{Entry}
+use Rattle.mdc_values.specs.declared.rid.Rid.{Rid}
+use Rattle.mdc_ast.specs.declared.definition.ColumnDef.{ColumnDef}
+use Rattle.mdc_ast.specs.declared.definition.TableDef.{TableDef}
+use Rattle.mdc_ast.specs.declared.row.Row.{Row}
+use Rattle.mdc_ast.specs.meaning.Definitions.{are_there}
+use Rattle.store_api.specs.declared.fault.StoreFault.{StoreFault}
+use Rattle.store_api.specs.declared.pages.Pages.{Ghosts}
+use Rattle.extent_map.specs.declared.extents.Extents.{Extents}
+use Rattle.extent_map.specs.declared.kind.Kind.{Kind}
+use Rattle.key_codec.specs.Keys.{places_of}
+use Rattle.key_codec.proofs.KeyLemmas.{first_there}
+use Rattle.table_trees.specs.TableTrees.{rising_parts}
+use Rattle.block_index.specs.Cells.{HaveKeys}
+use Rattle.block_rows.specs.HeldRows.{HasReadValues}
+use Rattle.table_trees.specs.RowCells.{AreOfOneCell}
+use Rattle.mdc_sound.specs.Placing.{IsRowAt, Spot, block_slot_count, left_with}
+use Rattle.mdc_sound.specs.Placing.Spot.{UsedBlock}
+use Rattle.mdc_sound.specs.StandingTable.{AreRightRooms, BreaksExpected, HasRowAt, IsReadyTable, NamesTablePart, OverwritesRow, StandsTable, TableForests, TakesRowOut, spots_of}
+use Rattle.table_blocks.specs.BlockChanges.{SameSpot, TurnsSpot}
+use Rattle.table_blocks.specs.BlockSteps.{EmptiesSlot}
+use Rattle.cell_rooms.specs.FoundRoom.{cell_key_of}
+use Rattle.mdc_table.specs.TableReading.{HasRowOfCell}
+use Rattle.mdc_table.proofs.KeptRoomsLemmas.{rooms_forgotten, rooms_lowered, rooms_overwritten}
+use Rattle.mdc_table.proofs.StandingBlocksLemmas.{lies_within}
+
+-- a row that was read has keys in places that are there
+pub keys_of_read : (columns : List ColumnDef) (places : List ℕ) (row : Row) → IsTrue (are_there columns (places_of (rising_parts places))) → HasReadValues columns row → HaveKeys columns places row.values
+keys_of_read columns [] row there read = tt
+keys_of_read columns (place ∷ places) row there read =
+    let split = first_there columns (record { column = place; descending = false }) (rising_parts places) there in
+    let within : place < length columns = grind (arith, nat_tests, split.0) in
+    (read.each place within, keys_of_read columns places row split.1 read)
+
+same_spots : (xs ys : List Spot) → AllZip SameSpot xs ys → xs ≡ ys
+same_spots [] [] all = refl
+same_spots [] (y ∷ ys) all = absurd all
+same_spots (x ∷ xs) [] all = absurd all
+same_spots (x ∷ xs) (y ∷ ys) all = let first : x ≡ y = all.0 in let rest : xs ≡ ys = same_spots xs ys all.1 in cc (first, rest)
+
+module _ {S : Type 0} {g : Ghosts S} where
+  -- no row lies where there is no such extent or no such slot
+  pub no_row_there : (ext : Extents) (s : S) (def : TableDef) (rid : Rid) → (ext.cap ≤ rid.block) ⊎ (block_slot_count ext def ≤ rid.slot)
+      → BreaksExpected g ext s def (HasRowAt g ext s def rid) (record { page = def.roots.map; rule = 6 })
+  no_row_there ext s def rid past = record {
+    names = NamesTablePart.block_map refl refl;
+    broken = λ owners forests st has.
+        let within = lies_within ext s def owners forests st rid has.row has.slots has.lies in
+        elim past [ inl high ↦ omega (arith, high, within.0) | inr high ↦ omega (arith, high, within.1) ];
+  }
+
+  module _ (before ext : Extents) (old new : S) (def : TableDef) (rid : Rid) (row : Row) (owners : List Kind) (forests : TableForests) (from now : Entry → ℕ) (ready : IsReadyTable g before from old def owners forests)
+      (empties : EmptiesSlot g before ext old new def rid row owners forests) where
+    row_out : AreRightRooms def now (spots_of g ext new def empties.owners_now empties.forests_now) → TakesRowOut g before ext now old new def owners forests row rid
+    row_out rooms = record {
+      owners_now = empties.owners_now;
+      forests_now = empties.forests_now;
+      changes = empties.turns.changes;
+      rooms = rooms;
+      mid = slice_set (spots_of g before old def owners forests) rid.block (left_with (slice_set empties.slots rid.slot None));
+      takes = record { slots = empties.slots; lies = empties.lies; is_left = refl };
+      returns = empties.turns.spots;
+    }
+
+    -- a row was taken out, and the note of its cell lowered
+    pub row_taken : (key : Entry) → key ≡ cell_key_of def row.values → now key ≤ rid.block → ((other : Entry) → now other ≤ from other) → TakesRowOut g before ext now old new def owners forests row rid
+    row_taken key is lowered kept =
+        row_out (rooms_lowered before ext old new def owners empties.owners_now forests empties.forests_now ready.stands empties.turns.changes.stands from ready.rooms now rid row empties.slots empties.lies
+        empties.turns.spots (omega (arith, lowered, ap now is)) kept)
+
+    -- or the notes were lost
+    pub row_taken_forgetting : ((key : Entry) → now key ≡ 0) → TakesRowOut g before ext now old new def owners forests row rid
+    row_taken_forgetting none = row_out (rooms_forgotten def now (spots_of g ext new def empties.owners_now empties.forests_now) none)
+
+-- a row was written over
+pub row_overwritten : {S : Type 0} (g : Ghosts S) (ext : Extents) (old new : S) (def : TableDef) (rid : Rid) (row : Row) (from : Entry → ℕ) (result : Result (Unit {0}) StoreFault)
+    → OnOk result ((owners : List Kind) (forests : TableForests) (was : Row) (slots : List (Option Row)) → StandsTable g ext old def owners forests
+    → IsRowAt (spots_of g ext old def owners forests) rid was slots → AreOfOneCell def was.values row.values
+    → TurnsSpot g SameSpot ext ext old new def rid.block (UsedBlock (slice_set slots rid.slot (Some row))) owners forests owners forests)
+    → OnOk result ((owners : List Kind) (forests : TableForests) (was : Row) → IsReadyTable g ext from old def owners forests → HasRowOfCell g ext old def rid was row owners forests
+    → OverwritesRow g ext ext from old new def owners forests was row rid)
+row_overwritten g ext old new def rid row from (Ok x) turns = λ owners forests was ready has.
+    let turned = turns owners forests was has.slots ready.stands has.lies has.one_cell in
+    record {
+      changes = turned.changes;
+      rooms = rooms_overwritten ext ext old new def owners owners forests forests ready.stands turned.changes.stands from ready.rooms rid was row has.slots has.lies has.one_cell turned.spots;
+      slots = has.slots;
+      lay = has.lies;
+      spots = sym (same_spots (slice_set (spots_of g ext old def owners forests) rid.block (UsedBlock (slice_set has.slots rid.slot (Some row)))) (spots_of g ext new def owners forests) turned.spots);
+    }
+row_overwritten g ext old new def rid row from (Err fault) turns = tt

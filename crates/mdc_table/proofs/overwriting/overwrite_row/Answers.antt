@@ -1,0 +1,19 @@
+use Rattle.std.proofs.Common.{arith, inl, inr}
+use Rattle.store_api.proofs.RunsOverPagesLemmas.{runs_none}
+use Rattle.cell_rooms.specs.RoomNotes.{room_from}
+use Rattle.cell_rooms.proofs.TableRunsLemmas.{runs_broken}
+use Rattle.mdc_table.proofs.TakingRowsLemmas.{no_row_there, row_overwritten}
+use Rattle.mdc_table.proofs.overwriting.overwrite_row.Goals.{then-rid-ext-via-then-rid-ext, then-rid-ext-via-else-rid-ext+then-from-block_slots}
+use Rattle.mdc_table.proofs.overwriting.overwrite_row.Goals as goal
+
+pub returns-then-rid-ext-clause-runs : goal.returns-then-rid-ext-clause-runs
+returns-then-rid-ext-clause-runs g c =
+    runs_broken c.unmapped.result c.unmapped.ensures runs_none
+    (no_row_there c.args.ext.now c.args.pages.now c.args.def.now c.args.rid (elim c.then-rid-ext.branch [
+      | then-rid-ext-via-then-rid-ext w ↦ inl w.if-rid-ext.true
+      | then-rid-ext-via-else-rid-ext+then-from-block_slots w ↦ inr (omega (arith, w.if-from-block_slots.true, w.from.ensures, w.block_slots.ensures))
+    ]))
+
+pub returns-clause-overwrites : goal.returns-clause-overwrites
+returns-clause-overwrites g c =
+    row_overwritten g.P.Pages c.args.ext.now c.args.pages.now c.overwrite_row.new.pages c.args.def.now c.args.rid c.args.row.now (room_from c.args.rooms.now) c.overwrite_row.result c.overwrite_row.ensures.overwrites

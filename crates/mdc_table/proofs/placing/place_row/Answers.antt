@@ -1,0 +1,149 @@
+use Rattle.std.proofs.Common.{None, Some, ap, arith, subst, sym, ◌∙◌}
+use Rattle.store_api.specs.RunsOverPages.{RunsOverPages}
+use Rattle.store_api.proofs.RunsOverPagesLemmas.{runs_exit_as, runs_memory, runs_none}
+use Rattle.extent_map.specs.Damages.{store_part_of}
+use Rattle.entry_tree.proofs.ClaimsLemmas.{if_err_by}
+use Rattle.block_index.proofs.CellsLemmas.{keys_of_fitting}
+use Rattle.table_trees.specs.RowCells.{cell_places}
+use Rattle.mdc_sound.specs.StandingTable.{BreaksTable, IsTableSpace, spots_of}
+use Rattle.mdc_sound.proofs.DefinitionTreesLemmas.{has_block_indexes}
+use Rattle.mdc_sound.proofs.StandingTableLemmas.{stands_same}
+use Rattle.table_blocks.specs.BlockSteps.{HasRoomAt}
+use Rattle.block_map.specs.declared.row.BlockRow.{BlockRow}
+use Rattle.block_map.specs.declared.state.BlockState.TheVariants as state
+use Rattle.cell_rooms.specs.FoundRoom.{FindsRoom}
+use Rattle.cell_rooms.specs.RoomNotes.{room_from}
+use Rattle.mdc_table.proofs.NextBlocksLemmas.{full_along, full_no_place, full_ready, runs_in_space, runs_of_place, runs_space_expecting, runs_space_then}
+use Rattle.mdc_table.proofs.PlacingRowsLemmas.{no_room_found, placed_in_cell, placed_in_next, room_at}
+use Rattle.mdc_table.proofs.placing.place_row.Goals as goal
+
+pub cell_key-requires-clause-parts : goal.cell_key-requires-clause-parts
+cell_key-requires-clause-parts g c = (has_block_indexes c.args.def.now.number c.args.def.now c.requires.defined).composite.key
+
+pub cell_key-requires-clause-values : goal.cell_key-requires-clause-values
+cell_key-requires-clause-values g c =
+    let def = c.args.def.now in
+    keys_of_fitting def.columns (cell_places def) c.args.row.now.values (has_block_indexes def.number def c.requires.defined).composite.key.there c.requires.fits.values
+
+pub returns-in_err-key-clause-runs : goal.returns-in_err-key-clause-runs
+returns-in_err-key-clause-runs g c =
+    let ext = c.args.ext.now in
+    let def = c.args.def.now in
+    let s = c.args.pages.now in
+    runs_exit_as store_part_of c.from_residual.result c.from_residual.ensures.1
+    (subst (λ fault. RunsOverPages g.P.Pages (IsTableSpace g.P.Pages ext s def) (IsTableSpace g.P.Pages ext s def) (BreaksTable g.P.Pages ext s def) s s (Some fault)) (sym c.in_err-key.ensures.memory)
+    (runs_memory runs_none))
+
+pub returns-in_err-line-clause-runs : goal.returns-in_err-line-clause-runs
+returns-in_err-line-clause-runs g c =
+    runs_exit_as store_part_of c.from_residual-in_err-line.result c.from_residual-in_err-line.ensures.1
+    (runs_in_space c.args.ext.now c.args.def.now {fault = Some c.in_err-line.field-0.0} c.in_err-line.ensures.runs)
+
+pub returns-in_err-block-clause-full : goal.returns-in_err-block-clause-full
+returns-in_err-block-clause-full g c =
+    let fault = c.in_err-block.field-0.0 in
+    let ext = c.args.ext.now in
+    let def = c.args.def.now in
+    let s = c.args.pages.now in
+    let row = c.args.row.now in
+    let rooms = c.args.rooms.now in
+    let key = c.in_ok-key.key.items in
+    let is = c.in_ok-key.ensures.key in
+    let noted_from = c.first-from.ensures ∙ ap (room_from rooms) c.deref.ensures.value in
+    if_err_by c.from_residual-in_err-block.result fault _ c.from_residual-in_err-block.ensures.1
+    (full_no_place g.P.Pages ext c.begin_block.new.ext s c.begin_block.new.pages def row (room_from rooms) fault
+    (λ owners forests ready.
+    let spots = spots_of g.P.Pages ext s def owners forests in
+    let found : FindsRoom def spots forests.map row c.first-from.result None =
+    subst (FindsRoom def spots forests.map row c.first-from.result) c.in_default.is (c.in_ok-line.ensures.finds owners forests row ready.stands c.requires.fits.values (c.deref-2.ensures.value ∙ is)) in
+    no_room_found forests.map row (room_from rooms) key is ready.rooms (subst (λ n. FindsRoom def spots forests.map row n None) noted_from found))
+    (full_ready g.P.Pages ext c.begin_block.new.ext s c.begin_block.new.pages def (room_from rooms) fault
+    (full_along g.P.Pages ext c.begin_block.new.ext s c.find_room.new.pages c.begin_block.new.pages def c.in_ok-line.ensures.runs.works.steady.is_told c.find_room.ensures.same fault c.in_err-block.ensures.full)))
+
+pub returns-in_err-block-clause-runs : goal.returns-in_err-block-clause-runs
+returns-in_err-block-clause-runs g c =
+    runs_exit_as store_part_of c.from_residual-in_err-block.result c.from_residual-in_err-block.ensures.1
+    (runs_space_then c.args.ext.now c.args.def.now {fault = store_part_of c.in_err-block.field-0.0} c.find_room.ensures.same c.in_ok-line.ensures.runs c.in_err-block.ensures.runs)
+
+pub returns-in_default-clause-places : goal.returns-in_default-clause-places
+returns-in_default-clause-places g c owners forests ready =
+    let ext = c.args.ext.now in
+    let def = c.args.def.now in
+    let s = c.args.pages.now in
+    let mid = c.find_room.new.pages in
+    let row = c.args.row.now in
+    let rooms = c.args.rooms.now in
+    let told = c.in_ok-line.ensures.runs.works.steady.is_told in
+    let same = c.find_room.ensures.same in
+    let key = c.in_ok-key.key.items in
+    let is = c.in_ok-key.ensures.key in
+    let spots = spots_of g.P.Pages ext s def owners forests in
+    let found : FindsRoom def spots forests.map row c.first-from.result None =
+    subst (FindsRoom def spots forests.map row c.first-from.result) c.in_default.is (c.in_ok-line.ensures.finds owners forests row ready.stands c.requires.fits.values (c.deref-2.ensures.value ∙ is)) in
+    let noted_from = c.first-from.ensures ∙ ap (room_from rooms) c.deref.ensures.value in
+    placed_in_next ext c.begin_block.new.ext s mid c.begin_block.new.pages def owners forests row (room_from rooms) (room_from c.note.new.self) c.requires.defined c.requires.fits told same ready c.in_ok-block.block key is
+    (subst (λ n. FindsRoom def spots forests.map row n None) noted_from found)
+    (c.in_ok-block.ensures.begins owners forests (stands_same ext s mid def owners forests told same ready.stands))
+    (omega (arith, c.note.ensures.noted, ap (room_from c.note.new.self) c.deref-in_default.ensures.value))
+    (λ other differ. c.note.ensures.others other (λ e. differ (e ∙ c.deref-in_default.ensures.value)))
+
+pub returns-in_default-clause-runs : goal.returns-in_default-clause-runs
+returns-in_default-clause-runs g c =
+    runs_space_then c.args.ext.now c.args.def.now {fault = None} c.find_room.ensures.same c.in_ok-line.ensures.runs c.in_ok-block.ensures.runs
+
+pub returns-in_err-put_in_block-clause-runs : goal.returns-in_err-put_in_block-clause-runs
+returns-in_err-put_in_block-clause-runs g c =
+    let ext = c.args.ext.now in
+    let def = c.args.def.now in
+    let s = c.args.pages.now in
+    let mid = c.find_room.new.pages in
+    let row = c.args.row.now in
+    let line = c.in-Some.line in
+    let used : BlockRow = record { block = line.block; state = state.Used; rows = line.rows } in
+    let fault = Some c.in_err-put_in_block.field-0.0 in
+    runs_exit_as store_part_of c.from_residual-in_err-put_in_block.result c.from_residual-in_err-put_in_block.ensures.1
+    (runs_space_expecting ext def {fault = fault} (HasRoomAt g.P.Pages ext mid def used row) c.find_room.ensures.same
+    (λ owners forests st.
+    room_at ext s mid def owners forests row c.first-from.result line c.find_room.ensures.same
+    (subst (FindsRoom def (spots_of g.P.Pages ext s def owners forests) forests.map row c.first-from.result) c.in-Some.is
+    (c.in_ok-line.ensures.finds owners forests row st c.requires.fits.values (c.deref-2.ensures.value ∙ c.in_ok-key.ensures.key))))
+    c.in_ok-line.ensures.runs (runs_of_place ext def {fault = fault} (HasRoomAt g.P.Pages ext mid def used row) c.in_err-put_in_block.ensures.runs))
+
+pub returns-clause-places : goal.returns-clause-places
+returns-clause-places g c owners forests ready =
+    let ext = c.args.ext.now in
+    let def = c.args.def.now in
+    let s = c.args.pages.now in
+    let mid = c.find_room.new.pages in
+    let row = c.args.row.now in
+    let rooms = c.args.rooms.now in
+    let line = c.in-Some.line in
+    let told = c.in_ok-line.ensures.runs.works.steady.is_told in
+    let same = c.find_room.ensures.same in
+    let key = c.in_ok-key.key.items in
+    let is = c.in_ok-key.ensures.key in
+    let spots = spots_of g.P.Pages ext s def owners forests in
+    let found : FindsRoom def spots forests.map row c.first-from.result (Some line) =
+    subst (FindsRoom def spots forests.map row c.first-from.result) c.in-Some.is (c.in_ok-line.ensures.finds owners forests row ready.stands c.requires.fits.values (c.deref-2.ensures.value ∙ is)) in
+    let noted_from = c.first-from.ensures ∙ ap (room_from rooms) c.deref.ensures.value in
+    placed_in_cell ext s mid c.put_in_block.new.pages def owners forests row (room_from rooms) (room_from c.note-2.new.self) c.requires.defined c.requires.fits told same ready line c.in_ok-put_in_block.field-0 key is
+    (subst (λ n. FindsRoom def spots forests.map row n (Some line)) noted_from found) c.in_ok-put_in_block.ensures.block
+    (c.in_ok-put_in_block.ensures.fills owners forests (stands_same ext s mid def owners forests told same ready.stands) (room_at ext s mid def owners forests row c.first-from.result line same found))
+    (omega (arith, c.note-2.ensures.noted, ap (room_from c.note-2.new.self) c.deref-3.ensures.value))
+    (λ other differ. c.note-2.ensures.others other (λ e. differ (e ∙ c.deref-3.ensures.value)))
+
+pub returns-clause-runs : goal.returns-clause-runs
+returns-clause-runs g c =
+    let ext = c.args.ext.now in
+    let def = c.args.def.now in
+    let s = c.args.pages.now in
+    let mid = c.find_room.new.pages in
+    let row = c.args.row.now in
+    let line = c.in-Some.line in
+    let used : BlockRow = record { block = line.block; state = state.Used; rows = line.rows } in
+    runs_space_expecting ext def {fault = None} (HasRoomAt g.P.Pages ext mid def used row) c.find_room.ensures.same
+    (λ owners forests st.
+    room_at ext s mid def owners forests row c.first-from.result line c.find_room.ensures.same
+    (subst (FindsRoom def (spots_of g.P.Pages ext s def owners forests) forests.map row c.first-from.result) c.in-Some.is
+    (c.in_ok-line.ensures.finds owners forests row st c.requires.fits.values (c.deref-2.ensures.value ∙ c.in_ok-key.ensures.key))))
+    c.in_ok-line.ensures.runs (runs_of_place ext def {fault = None} (HasRoomAt g.P.Pages ext mid def used row) c.in_ok-put_in_block.ensures.runs)

@@ -1,0 +1,84 @@
+use Rattle.std.proofs.Common.{◌≡◌, ◌<◌, ◌^◌, None, Some, arith, inl, inr, rules, subst, sym}
+use Rattle.std.specs.Prelude.{false}
+use Rattle.store_api.proofs.RunsOverPagesLemmas.{runs_exit}
+use Rattle.block_map.specs.BlockMaps.{FindsBlock}
+use Rattle.block_map.specs.declared.state.BlockState.TheVariants as state
+use Rattle.cell_rooms.proofs.FoundRoomLemmas.{used_is_mapped, used_is_used}
+use Rattle.cell_rooms.proofs.TableRunsLemmas.{holds_block_map}
+use Rattle.mdc_table.proofs.StandingBlocksLemmas.{no_row_past, no_row_unless_used, row_found, runs_looking, runs_on_map, runs_on_rows, used_of_line}
+use Rattle.mdc_table.proofs.reading.row_at.Goals.{then-rid-ext-via-then-rid-ext, then-rid-ext-via-else-rid-ext+then-from-block_slots}
+use Rattle.mdc_table.proofs.reading.row_at.Goals as goal
+
+pub returns-then-rid-ext-clause-found : goal.returns-then-rid-ext-clause-found
+returns-then-rid-ext-clause-found g c owners forests st =
+    let ext = c.args.ext.now in
+    let def = c.args.def.now in
+    sym (no_row_past ext c.args.pages.now def owners forests st c.args.rid (elim c.then-rid-ext.branch [
+      | then-rid-ext-via-then-rid-ext w ↦ inl w.if-rid-ext.true
+      | then-rid-ext-via-else-rid-ext+then-from-block_slots w ↦ inr (omega (arith, w.if-from-block_slots.true, w.from.ensures, w.block_slots.ensures))
+    ]))
+
+pub returns-in_err-line-clause-runs : goal.returns-in_err-line-clause-runs
+returns-in_err-line-clause-runs g c =
+    let map = c.at-map.result in
+    runs_exit c.from_residual.result c.from_residual.ensures.1
+    (runs_looking {fault = Some c.in_err-line.field-0.0} c.args.ext.now c.args.def.now c.args.rid.block (runs_on_map {fault = Some c.in_err-line.field-0.0} c.args.ext.now c.args.def.now map.tree c.at-map.ensures map.seven c.in_err-line.ensures.runs))
+
+pub returns-in_default-clause-found : goal.returns-in_default-clause-found
+returns-in_default-clause-found g c owners forests st =
+    let ext = c.args.ext.now in
+    let s = c.args.pages.now in
+    let def = c.args.def.now in
+    let map = c.at-map.result in
+    sym (no_row_unless_used ext s def owners forests st c.args.rid
+    (λ used. used_is_mapped ext s def owners forests st c.args.rid.block used
+    (subst (FindsBlock forests.map c.args.rid.block) c.in_default.is (c.in_ok-line.ensures.found forests.map (holds_block_map ext s def map.tree owners forests c.at-map.ensures map.seven st)))))
+
+pub returns-in_default-clause-runs : goal.returns-in_default-clause-runs
+returns-in_default-clause-runs g c =
+    let map = c.at-map.result in
+    runs_looking {fault = None} c.args.ext.now c.args.def.now c.args.rid.block (runs_on_map {fault = None} c.args.ext.now c.args.def.now map.tree c.at-map.ensures map.seven c.in_ok-line.ensures.runs)
+
+pub returns-then-ne-clause-found : goal.returns-then-ne-clause-found
+returns-then-ne-clause-found g c owners forests st =
+    let ext = c.args.ext.now in
+    let s = c.args.pages.now in
+    let def = c.args.def.now in
+    let map = c.at-map.result in
+    sym (no_row_unless_used ext s def owners forests st c.args.rid
+    (λ used.
+    let is = used_is_used ext s def owners forests st c.args.rid.block c.in-Some.line used
+    (subst (FindsBlock forests.map c.args.rid.block) c.in-Some.is (c.in_ok-line.ensures.found forests.map (holds_block_map ext s def map.tree owners forests c.at-map.ensures map.seven st))) in
+    let wrong : c.ne.result ≡ false = rw is at c.ne.ensures in
+    cc (c.if-ne.true, wrong)))
+
+pub returns-then-ne-clause-runs : goal.returns-then-ne-clause-runs
+returns-then-ne-clause-runs g c =
+    let map = c.at-map.result in
+    runs_looking {fault = None} c.args.ext.now c.args.def.now c.args.rid.block (runs_on_map {fault = None} c.args.ext.now c.args.def.now map.tree c.at-map.ensures map.seven c.in_ok-line.ensures.runs)
+
+pub returns-clause-found : goal.returns-clause-found
+returns-clause-found g c =
+    let ext = c.args.ext.now in
+    let s = c.args.pages.now in
+    let def = c.args.def.now in
+    let map = c.at-map.result in
+    let used : c.in-Some.line.state ≡ state.Used = search rules in
+    let small : c.args.rid.block < 2 ^ 32 = omega arith in
+    row_found ext s c.get.new.pages def c.args.rid c.row_in_slot.result c.in_ok-line.ensures.runs.works.steady.is_told c.get.ensures.same
+    (λ owners forests st. used_of_line ext s def owners forests st c.args.rid.block c.in-Some.line small
+    (subst (FindsBlock forests.map c.args.rid.block) c.in-Some.is (c.in_ok-line.ensures.found forests.map (holds_block_map ext s def map.tree owners forests c.at-map.ensures map.seven st))) used)
+    c.row_in_slot.ensures.found
+
+pub returns-clause-runs : goal.returns-clause-runs
+returns-clause-runs g c =
+    let ext = c.args.ext.now in
+    let s = c.args.pages.now in
+    let def = c.args.def.now in
+    let map = c.at-map.result in
+    let used : c.in-Some.line.state ≡ state.Used = search rules in
+    let small : c.args.rid.block < 2 ^ 32 = omega arith in
+    runs_on_rows ext def c.args.rid.block c.get.ensures.same c.if-rid-ext.false
+    (λ owners forests st. used_of_line ext s def owners forests st c.args.rid.block c.in-Some.line small
+    (subst (FindsBlock forests.map c.args.rid.block) c.in-Some.is (c.in_ok-line.ensures.found forests.map (holds_block_map ext s def map.tree owners forests c.at-map.ensures map.seven st))) used)
+    (runs_on_map {fault = None} ext def map.tree c.at-map.ensures map.seven c.in_ok-line.ensures.runs) c.row_in_slot.ensures.runs

@@ -1,0 +1,49 @@
+use Rattle.std.proofs.Common.{arith, inl, inr, ◌∙◌}
+use Rattle.store_api.proofs.RunsOverPagesLemmas.{runs_none}
+use Rattle.cell_rooms.specs.RoomNotes.{room_from}
+use Rattle.cell_rooms.proofs.TableRunsLemmas.{runs_broken}
+use Rattle.table_trees.specs.RowCells.{cell_places}
+use Rattle.mdc_sound.proofs.DefinitionTreesLemmas.{has_block_indexes}
+use Rattle.mdc_table.proofs.TakingRowsLemmas.{keys_of_read, no_row_there, row_taken, row_taken_forgetting}
+use Rattle.mdc_table.proofs.taking.take_row.Goals.{then-rid-ext-via-then-rid-ext, then-rid-ext-via-else-rid-ext+then-from-block_slots}
+use Rattle.mdc_table.proofs.taking.take_row.Goals as goal
+
+pub returns-then-rid-ext-clause-runs : goal.returns-then-rid-ext-clause-runs
+returns-then-rid-ext-clause-runs g c =
+    runs_broken c.unmapped.result c.unmapped.ensures runs_none
+    (no_row_there c.args.ext.now c.args.pages.now c.args.def.now c.args.rid (elim c.then-rid-ext.branch [
+      | then-rid-ext-via-then-rid-ext w ↦ inl w.if-rid-ext.true
+      | then-rid-ext-via-else-rid-ext+then-from-block_slots w ↦ inr (omega (arith, w.if-from-block_slots.true, w.from.ensures, w.block_slots.ensures))
+    ]))
+
+pub cell_key-requires-clause-parts : goal.cell_key-requires-clause-parts
+cell_key-requires-clause-parts g c = (has_block_indexes c.args.def.now.number c.args.def.now c.requires.defined).composite.key
+
+pub cell_key-requires-clause-values : goal.cell_key-requires-clause-values
+cell_key-requires-clause-values g c =
+    let def = c.args.def.now in
+    keys_of_read def.columns (cell_places def) c.in_ok-row.row (has_block_indexes def.number def c.requires.defined).composite.key.there c.in_ok-row.ensures.keyed
+
+pub returns-in_default-clause-takes : goal.returns-in_default-clause-takes
+returns-in_default-clause-takes g c owners forests ready has =
+    let row = c.in_ok-row.row in (
+      row,
+      row_taken_forgetting c.args.ext.now c.take_row.new.ext c.args.pages.now c.take_row.new.pages c.args.def.now c.args.rid row owners forests (room_from c.args.rooms.now) (room_from c.forget.new.self) ready
+          (c.in_ok-row.ensures.takes owners forests ready.stands) c.forget.ensures,
+    )
+
+pub returns-clause-takes : goal.returns-clause-takes
+returns-clause-takes g c owners forests ready has =
+    let row = c.in_ok-row.row in (
+      row,
+      row_taken c.args.ext.now c.take_row.new.ext c.args.pages.now c.take_row.new.pages c.args.def.now c.args.rid row owners forests (room_from c.args.rooms.now) (room_from c.lower.new.self) ready
+          (c.in_ok-row.ensures.takes owners forests ready.stands) c.deref.result.now (c.deref.ensures.value ∙ c.in-Ok.ensures.key) c.lower.ensures.lowered c.lower.ensures.kept,
+    )
+
+pub returns-in_default-clause-leaves : goal.returns-in_default-clause-leaves
+returns-in_default-clause-leaves g c owners forests st =
+    let empties = c.in_ok-row.ensures.takes owners forests st in (empties.owners_now, empties.forests_now, empties.turns.changes)
+
+pub returns-clause-leaves : goal.returns-clause-leaves
+returns-clause-leaves g c owners forests st =
+    let empties = c.in_ok-row.ensures.takes owners forests st in (empties.owners_now, empties.forests_now, empties.turns.changes)

@@ -1,0 +1,2 @@
+pub mod NextBlock
+pub mod TableReading

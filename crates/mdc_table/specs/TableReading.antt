@@ -1,0 +1,36 @@
+-- What the calls that read a table answer.
+use Rattle.std.specs.Prelude.{◌≡◌, ◌⊎◌, ℕ, List, Option, Contains, length}
+use Rattle.mdc_values.specs.declared.rid.Rid.{Rid}
+use Rattle.mdc_ast.specs.declared.definition.TableDef.{TableDef}
+use Rattle.mdc_ast.specs.declared.row.Row.{Row}
+use Rattle.store_api.specs.declared.pages.Pages.{Ghosts}
+use Rattle.extent_map.specs.declared.extents.Extents.{Extents}
+use Rattle.extent_map.specs.declared.kind.Kind.{Kind}
+use Rattle.entry_tree.specs.Forest.{Forest}
+use Rattle.block_map.specs.MapLines.{free_blocks, pending_blocks, used_blocks}
+use Rattle.table_trees.specs.RowCells.{AreOfOneCell}
+use Rattle.mdc_sound.specs.Placing.{IsRowAt}
+use Rattle.table_trees.specs.TableTrees.{map_place}
+use Rattle.table_trees.specs.TreesBeside.{IsTreePageAt}
+use Rattle.mdc_sound.specs.StandingTable.{IsPageOfBlock, TableForests, spots_of}
+use Rattle.mdc_table.specs.declared.account.Account.{Account}
+
+-- the table has this Used block
+pub record HasUsedBlock (block : ℕ) (owners : List Kind) (forests : TableForests) : Type 0 where
+  pub used : Contains (used_blocks forests.map) block
+
+-- how many blocks a block map names in each state
+pub record CountsBlocks (map_tree : Forest) (account : Account) : Type 0 where
+  pub used : account.used ≡ length (used_blocks map_tree)
+  pub free : account.free ≡ length (free_blocks map_tree)
+  pub pending : account.pending ≡ length (pending_blocks map_tree)
+
+-- a row lies in a place, and another one is of its cell
+pub record HasRowOfCell {S : Type 0} (g : Ghosts S) (ext : Extents) (s : S) (def : TableDef) (rid : Rid) (row other : Row) (owners : List Kind) (forests : TableForests) : Type 0 where
+  pub slots : List (Option Row)
+  pub lies : IsRowAt (spots_of g ext s def owners forests) rid row slots
+  pub one_cell : AreOfOneCell def row.values other.values
+
+-- the pages that looking for the row of a place brings to hand: those of the block map, where it is a tree, and of the block
+abbrev pub IsRowLook : {S : Type 0} → Ghosts S → Extents → S → TableDef → ℕ → ℕ → Type 0
+IsRowLook g ext s def block p = IsTreePageAt g s (map_place def) p ⊎ IsPageOfBlock ext block p

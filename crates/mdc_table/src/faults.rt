@@ -1,0 +1,18 @@
+// The damage that a block map may show.
+ghost use Rattle.std.specs.Prelude.{◌≡◌};
+
+use mdc_ast::TableDef;
+use store_api::{Damage, StoreFault};
+
+/// The rule that damage of a block map names: it names each block of the table once, and nothing else.
+const MAP_RULE: u16 = 6;
+
+/// The block map doesn't say of a block what it should.
+pub(crate) fn unmapped(def: &TableDef) -> StoreFault
+    ensures { result ≡ StoreFault.Damaged (record { page = def.now.roots.map; rule = 6 }) }
+{
+    StoreFault::Damaged(Damage {
+        page: def.roots.map,
+        rule: MAP_RULE,
+    })
+}

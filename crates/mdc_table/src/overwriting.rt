@@ -1,0 +1,48 @@
+// Another row of the same cell in the place of one.
+ghost use Rattle.std.specs.Prelude.{◌≡◌, List, false, length, OnOk};
+ghost use Rattle.store_api.specs.Causes.{fault_of};
+ghost use Rattle.store_api.specs.RunsOverPages.{RunsOverPages};
+ghost use Rattle.extent_map.specs.declared.kind.Kind.{Kind};
+ghost use Rattle.mdc_ast.specs.declared.row.Row.{Row};
+ghost use Rattle.table_page.specs.TableLimits.{IsTableDef};
+ghost use Rattle.mdc_sound.specs.FittingRows.{RowFits};
+ghost use Rattle.mdc_sound.specs.StandingTable.{BreaksExpected, HasRowAt, IsReadyTable, IsTableOrMapPage, OverwritesRow, TableForests};
+ghost use Rattle.cell_rooms.specs.RoomNotes.{room_from};
+ghost use Rattle.mdc_table.specs.TableReading.{HasRowOfCell};
+
+use crate::faults::unmapped;
+use crate::reading::block_slots;
+use cell_rooms::Rooms;
+use extent_map::Extents;
+use mdc_ast::{Row, TableDef};
+use mdc_values::Rid;
+use std::alloc::Global;
+use store_api::{Pages, StoreFault};
+
+/// Puts a row into the place of one that lies there and is of the same cell. Damaged where no row lies there. It changes no tree,
+/// and the notes stay right. After a fault `undo` goes back to a mark.
+pub fn overwrite_row<P: Pages>(
+    alloc: Global,
+    def: &TableDef,
+    ext: &Extents,
+    rooms: &Rooms,
+    pages: &mut P,
+    rid: Rid,
+    row: &Row,
+) -> Result<(), StoreFault>
+    requires defined { IsTableDef def.now.number def.now }
+    requires fits { RowFits def.now row.now }
+    requires going { (P.state pages.old).ended ≡ false }
+    ensures overwrites { OnOk result ((owners : List Kind) (forests : TableForests) (was : Row) → IsReadyTable P.Pages ext.now (room_from rooms.now) pages.old def.now owners forests
+        → HasRowOfCell P.Pages ext.now pages.old def.now rid was row.now owners forests
+        → OverwritesRow P.Pages ext.now ext.now (room_from rooms.now) pages.old pages.new def.now owners forests was row.now rid) }
+    ensures count { length (P.state pages.new).work ≡ length (P.state pages.old).work }
+    ensures runs { RunsOverPages P.Pages (IsTableOrMapPage P.Pages ext.now pages.old def.now) (IsTableOrMapPage P.Pages ext.now pages.old def.now)
+        (BreaksExpected P.Pages ext.now pages.old def.now (HasRowAt P.Pages ext.now pages.old def.now rid)) pages.old pages.new (fault_of result) }
+{
+    let _rooms = rooms;
+    if rid.block >= ext.cap || u32::from(rid.slot) >= block_slots(def, ext) {
+        return Err(unmapped(def));
+    }
+    table_blocks::overwrite_row(alloc, def, ext, pages, rid, row)
+}

@@ -1,0 +1,92 @@
+// A row is put where placing says.
+ghost use Rattle.std.specs.Prelude.{◌≡◌, List, false, IfErr, IfOk};
+ghost use Rattle.store_api.specs.Causes.{store_fault_in};
+ghost use Rattle.store_api.specs.RunsOverPages.{RunsOverPages};
+ghost use Rattle.extent_map.specs.Damages.{IfFull, store_part_of};
+ghost use Rattle.extent_map.specs.Owners.{AreRightNotes, IsSameShape};
+ghost use Rattle.extent_map.specs.declared.kind.Kind.{Kind};
+ghost use Rattle.table_page.specs.TableLimits.{IsTableDef};
+ghost use Rattle.mdc_sound.specs.FittingRows.{RowFits};
+ghost use Rattle.mdc_sound.specs.StandingTable.{BreaksTable, IsReadyTable, IsTableSpace, MeetsNoFree, PlacesRow, StandsTable, TableForests};
+ghost use Rattle.cell_rooms.specs.RoomNotes.{room_from};
+ghost use Rattle.mdc_table.specs.NextBlock.{BeginsNext, FindsNoPlace};
+
+use crate::faults::unmapped;
+use block_index::cell_key;
+use block_map::{BlockMap, BlockRow, BlockState};
+use cell_rooms::{Rooms, find_room};
+use extent_map::{Extents, SpaceFault};
+use mdc_ast::{Row, TableDef};
+use mdc_values::Rid;
+use std::alloc::Global;
+use store_api::Pages;
+use table_blocks::{begin_free_block, begin_new_block, put_in_block};
+
+/// Puts a row that fits the definition where placing says, and answers where it lies. `Full` says that no Used block of its cell
+/// has room, and a claim met no free extent. After a fault `undo` goes back to a mark, and the notes of the extents and of the rooms are to be forgotten.
+pub fn place_row<P: Pages>(
+    alloc: Global,
+    def: &TableDef,
+    ext: &mut Extents,
+    rooms: &mut Rooms,
+    pages: &mut P,
+    row: &Row,
+) -> Result<Rid, SpaceFault>
+    requires defined { IsTableDef def.now.number def.now }
+    requires fits { RowFits def.now row.now }
+    requires going { (P.state pages.old).ended ≡ false }
+    ensures places { IfOk result (λ rid. (owners : List Kind) (forests : TableForests) → IsReadyTable P.Pages ext.old (room_from rooms.old) pages.old def.now owners forests
+        → PlacesRow P.Pages ext.old ext.new (room_from rooms.new) pages.old pages.new def.now owners forests row.now rid) }
+    ensures full { IfErr result (λ fault. IfFull fault (λ cap. (cap ≡ ext.old.cap) × ((owners : List Kind) (forests : TableForests) → IsReadyTable P.Pages ext.old (room_from rooms.old) pages.old def.now owners forests
+        → FindsNoPlace P.Pages ext.old ext.new pages.old pages.new def.now row.now owners forests))) }
+    ensures shape { IsSameShape ext.old ext.new }
+    ensures runs { RunsOverPages P.Pages (IsTableSpace P.Pages ext.old pages.old def.now) (IsTableSpace P.Pages ext.old pages.old def.now)
+        (BreaksTable P.Pages ext.old pages.old def.now) pages.old pages.new (store_fault_in store_part_of result) }
+{
+    let key = cell_key(alloc, def, &row.values)?;
+    let from = rooms.first(&key);
+    let Some(line) = find_room(alloc, def, ext, pages, &key, from)? else {
+        let block = begin_block(alloc, def, ext, pages, row)?;
+        rooms.note(&key, block);
+        return Ok(Rid { block, slot: 0 });
+    };
+    rooms.note(&key, line.block);
+    // the line of a Used block, as it is found wherever the table stands
+    let line = BlockRow {
+        block: line.block,
+        state: BlockState::Used,
+        rows: line.rows,
+    };
+    Ok(put_in_block(alloc, def, ext, pages, line, row)?)
+}
+
+/// Takes a block into use with a row: the lowest Free one, else the lowest free extent. Damaged where the block map names a
+/// block that there isn't.
+fn begin_block<P: Pages>(
+    alloc: Global,
+    def: &TableDef,
+    ext: &mut Extents,
+    pages: &mut P,
+    row: &Row,
+) -> Result<u32, SpaceFault>
+    requires defined { IsTableDef def.now.number def.now }
+    requires fits { RowFits def.now row.now }
+    requires going { (P.state pages.old).ended ≡ false }
+    ensures begins { IfOk result (λ block. (owners : List Kind) (forests : TableForests) → StandsTable P.Pages ext.old pages.old def.now owners forests
+        → BeginsNext P.Pages ext.old ext.new pages.old pages.new def.now block row.now owners forests) }
+    ensures full { IfErr result (λ fault. IfFull fault (λ cap. (cap ≡ ext.old.cap) × ((owners : List Kind) (forests : TableForests) → StandsTable P.Pages ext.old pages.old def.now owners forests
+        → AreRightNotes ext.old owners → MeetsNoFree P.Pages ext.new pages.new))) }
+    ensures shape { IsSameShape ext.old ext.new }
+    ensures runs { RunsOverPages P.Pages (IsTableSpace P.Pages ext.old pages.old def.now) (IsTableSpace P.Pages ext.old pages.old def.now)
+        (BreaksTable P.Pages ext.old pages.old def.now) pages.old pages.new (store_fault_in store_part_of result) }
+{
+    let map = BlockMap::at(alloc, def.roots.map);
+    let Some(block) = map.first_free(pages)? else {
+        return begin_new_block(alloc, def, ext, pages, row);
+    };
+    if block >= ext.cap {
+        return Err(SpaceFault::Store(unmapped(def)));
+    }
+    begin_free_block(alloc, def, ext, pages, block, row)?;
+    Ok(block)
+}

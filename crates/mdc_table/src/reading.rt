@@ -1,0 +1,104 @@
+// The rows of a table, read.
+ghost use Rattle.std.specs.Prelude.{◌≡◌, ◌<◌, List, Contains, false, map, IfOk, IfSome};
+ghost use Rattle.store_api.specs.Causes.{fault_of};
+ghost use Rattle.store_api.specs.Fetching.{BringsOnce};
+ghost use Rattle.store_api.specs.Frame.{NoPage};
+ghost use Rattle.store_api.specs.RunsOverPages.{RunsOverPages};
+ghost use Rattle.extent_map.specs.declared.kind.Kind.{Kind};
+ghost use Rattle.table_page.specs.TableLimits.{IsTableDef};
+ghost use Rattle.block_map.specs.MapLines.{used_blocks};
+ghost use Rattle.block_rows.specs.HeldRows.{HasReadValues, HaveReadValues, placed_row};
+ghost use Rattle.row_page.specs.Row.{AreRowColumns};
+ghost use Rattle.mdc_sound.specs.Placing.{block_slot_count, row_at_spot};
+ghost use Rattle.mdc_sound.specs.StandingTable.{BreaksExpected, BreaksTable, IsPageOfBlock, StandsTable, TableForests, pages_of, spots_of};
+ghost use Rattle.mdc_sound.specs.TableRows.{rows_in_block};
+ghost use Rattle.table_trees.specs.TableTrees.{map_place};
+ghost use Rattle.table_trees.specs.TreesBeside.{IsTreePageAt};
+ghost use Rattle.mdc_table.specs.TableReading.{HasUsedBlock, IsRowLook};
+
+use crate::faults::unmapped;
+use block_map::{BlockMap, BlockState};
+use block_rows::{Hit, row_in_slot, rows_of_block};
+use extent_map::Extents;
+use mdc_ast::{Row, TableDef};
+use mdc_values::{Blocks, List, Rid};
+use row_page::capacity;
+use std::alloc::Global;
+use store_api::{Pages, StoreFault};
+
+/// A copy of the row in a place. None exactly where the block isn't Used, or the slot is empty.
+pub fn row_at<P: Pages>(
+    alloc: Global,
+    def: &TableDef,
+    ext: &Extents,
+    pages: &mut P,
+    rid: Rid,
+) -> Result<Option<Row>, StoreFault>
+    requires defined { IsTableDef def.now.number def.now }
+    requires going { (P.state pages.old).ended ≡ false }
+    ensures found { IfOk result (λ row. (owners : List Kind) (forests : TableForests) → StandsTable P.Pages ext.now pages.old def.now owners forests
+        → row ≡ row_at_spot (spots_of P.Pages ext.now pages.old def.now owners forests) rid) }
+    ensures keyed { IfOk result (λ row. IfSome row (HasReadValues def.now.columns)) }
+    ensures same { (P.state pages.new).work ≡ (P.state pages.old).work }
+    ensures runs { RunsOverPages P.Pages NoPage (IsRowLook P.Pages ext.now pages.old def.now rid.block) (BreaksTable P.Pages ext.now pages.old def.now) pages.old pages.new (fault_of result) }
+{
+    if rid.block >= ext.cap || u32::from(rid.slot) >= block_slots(def, ext) {
+        return Ok(None);
+    }
+    let map = BlockMap::at(alloc, def.roots.map);
+    let Some(line) = map.get(pages, rid.block)? else {
+        return Ok(None);
+    };
+    if line.state != BlockState::Used {
+        return Ok(None);
+    }
+    row_in_slot(alloc, def, ext, pages, rid)
+}
+
+/// How many slots a block has.
+pub(crate) fn block_slots(def: &TableDef, ext: &Extents) -> u32
+    requires { AreRowColumns def.now.columns }
+    ensures { result ≡ block_slot_count ext.now def.now }
+{
+    ext.extent_pages * u32::from(capacity(&def.columns))
+}
+
+/// Copies of the rows of a Used block, by rising slot. Each of its pages comes to hand once, and no other row page. Damaged where
+/// there is no such extent.
+pub fn rows_of_used_block<P: Pages>(
+    alloc: Global,
+    def: &TableDef,
+    ext: &Extents,
+    pages: &mut P,
+    block: u32,
+) -> Result<List<Hit>, StoreFault>
+    requires defined { IsTableDef def.now.number def.now }
+    requires going { (P.state pages.old).ended ≡ false }
+    ensures rows { IfOk result (λ hits. (owners : List Kind) (forests : TableForests) → StandsTable P.Pages ext.now pages.old def.now owners forests → Contains (used_blocks forests.map) block
+        → map placed_row hits ≡ rows_in_block ext.now (pages_of P.Pages pages.old) def.now block) }
+    ensures keyed { IfOk result (HaveReadValues def.now.columns) }
+    ensures same { (P.state pages.new).work ≡ (P.state pages.old).work }
+    ensures once { BringsOnce P.Pages (IsPageOfBlock ext.now block) pages.old pages.new }
+    ensures runs { RunsOverPages P.Pages NoPage (IsPageOfBlock ext.now block) (BreaksExpected P.Pages ext.now pages.old def.now (HasUsedBlock block)) pages.old pages.new (fault_of result) }
+{
+    if block >= ext.cap {
+        return Err(unmapped(def));
+    }
+    rows_of_block(alloc, def, ext, pages, block)
+}
+
+/// The Used blocks, by rising number. It looks at no row page.
+pub fn used_blocks<P: Pages>(
+    alloc: Global,
+    def: &TableDef,
+    ext: &Extents,
+    pages: &mut P,
+) -> Result<Blocks, StoreFault>
+    requires going { (P.state pages.old).ended ≡ false }
+    ensures listed { IfOk result (λ blocks. (owners : List Kind) (forests : TableForests) → StandsTable P.Pages ext.now pages.old def.now owners forests → blocks ≡ used_blocks forests.map) }
+    ensures same { (P.state pages.new).work ≡ (P.state pages.old).work }
+    ensures runs { RunsOverPages P.Pages NoPage (IsTreePageAt P.Pages pages.old (map_place def.now)) (BreaksTable P.Pages ext.now pages.old def.now) pages.old pages.new (fault_of result) }
+{
+    let _ext = ext;
+    BlockMap::at(alloc, def.roots.map).list(pages, BlockState::Used)
+}

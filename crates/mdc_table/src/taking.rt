@@ -1,0 +1,53 @@
+// A row is taken out.
+ghost use Rattle.std.specs.Prelude.{◌≡◌, List, false, length, OnOk};
+ghost use Rattle.store_api.specs.Causes.{fault_of};
+ghost use Rattle.store_api.specs.RunsOverPages.{RunsOverPages};
+ghost use Rattle.extent_map.specs.Owners.{IsSameShape};
+ghost use Rattle.extent_map.specs.declared.kind.Kind.{Kind};
+ghost use Rattle.mdc_ast.specs.declared.row.Row.{Row};
+ghost use Rattle.table_page.specs.TableLimits.{IsTableDef};
+ghost use Rattle.mdc_sound.specs.StandingTable.{BreaksExpected, ChangesTable, HasRowAt, IsReadyTable, IsTableOrMapPage, StandsTable, TableForests, TakesRowOut};
+ghost use Rattle.cell_rooms.specs.RoomNotes.{room_from};
+
+use crate::faults::unmapped;
+use crate::reading::block_slots;
+use block_index::cell_key;
+use cell_rooms::Rooms;
+use extent_map::Extents;
+use mdc_ast::{Row, TableDef};
+use mdc_values::Rid;
+use std::alloc::Global;
+use store_api::{Pages, StoreFault};
+
+/// Takes the row out that lies in a place. Damaged where no row lies there. It claims no page, and a note that memory has no
+/// room for is lost. After a fault `undo` goes back to a mark, and the notes are to be forgotten.
+pub fn take_row<P: Pages>(
+    alloc: Global,
+    def: &TableDef,
+    ext: &mut Extents,
+    rooms: &mut Rooms,
+    pages: &mut P,
+    rid: Rid,
+) -> Result<(), StoreFault>
+    requires defined { IsTableDef def.now.number def.now }
+    requires going { (P.state pages.old).ended ≡ false }
+    ensures takes { OnOk result ((owners : List Kind) (forests : TableForests) → IsReadyTable P.Pages ext.old (room_from rooms.old) pages.old def.now owners forests → HasRowAt P.Pages ext.old pages.old def.now rid owners forests
+        → (row : Row) × TakesRowOut P.Pages ext.old ext.new (room_from rooms.new) pages.old pages.new def.now owners forests row rid) }
+    ensures leaves { OnOk result ((owners : List Kind) (forests : TableForests) → StandsTable P.Pages ext.old pages.old def.now owners forests
+        → (owners_now : List Kind) × (forests_now : TableForests) × ChangesTable P.Pages ext.old ext.new pages.old pages.new def.now owners forests owners_now forests_now) }
+    ensures count { length (P.state pages.new).work ≡ length (P.state pages.old).work }
+    ensures shape { IsSameShape ext.old ext.new }
+    ensures runs { RunsOverPages P.Pages (IsTableOrMapPage P.Pages ext.old pages.old def.now) (IsTableOrMapPage P.Pages ext.old pages.old def.now)
+        (BreaksExpected P.Pages ext.old pages.old def.now (HasRowAt P.Pages ext.old pages.old def.now rid)) pages.old pages.new (fault_of result) }
+{
+    if rid.block >= ext.cap || u32::from(rid.slot) >= block_slots(def, ext) {
+        return Err(unmapped(def));
+    }
+    let row = table_blocks::take_row(alloc, def, ext, pages, rid)?;
+    let Ok(key) = cell_key(alloc, def, &row.values) else {
+        rooms.forget();
+        return Ok(());
+    };
+    rooms.lower(&key, rid.block);
+    Ok(())
+}
