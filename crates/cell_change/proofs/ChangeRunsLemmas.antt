@@ -1,0 +1,113 @@
+-- Which pages the calls that change one row touch, and what damage they name.
+use Rattle.std.proofs.Common.{◌≡◌, ◌<◌, ◌≤◌, ◌⊎◌, ℕ, List, None, length, sum_by, refl, sym, ◌∙◌, inl, inr}
+use Rattle.std.specs.Prelude.{Option}
+use Rattle.mdc_values.specs.declared.rid.Rid.{Rid}
+use Rattle.mdc_ast.specs.declared.definition.TableDef.{TableDef}
+use Rattle.mdc_ast.specs.declared.row.Row.{Row}
+use Rattle.store_api.specs.RunsOverPages.{RunsOverPages}
+use Rattle.store_api.specs.declared.fault.Damage.{Damage}
+use Rattle.store_api.specs.declared.fault.StoreFault.{StoreFault}
+use Rattle.store_api.specs.declared.pages.Pages.{Ghosts}
+use Rattle.store_api.proofs.RunsOverPagesLemmas.{runs_as, runs_wider}
+use Rattle.store_api.specs.Extents.{first_page_of}
+use Rattle.extent_map.specs.Map.{IsSpacePage}
+use Rattle.extent_map.specs.Owners.{IsSameShape, extent_of}
+use Rattle.extent_map.specs.declared.extents.Extents.{Extents}
+use Rattle.extent_map.specs.declared.kind.Kind.{Kind}
+use Rattle.entry_tree.specs.Forest.{times}
+use Rattle.entry_tree.specs.Standing.{IsIdlePage}
+use Rattle.entry_tree.proofs.ReturnedPagesLemmas.{map_page-shape}
+use Rattle.entry_tree.proofs.UsedPagesLemmas.{extent_page_same}
+use Rattle.mdc_sound.specs.StandingTable.{BreaksExpected, BreaksTable, ChangesTable, HasRowAt, IsBlockPageOf, IsTableOrMapPage, IsTableSpace, NamesTablePart, StandsTable, TableForests, forests_in_order}
+use Rattle.cell_change.specs.RowChanges.{HasThisRow}
+use Rattle.cell_change.proofs.RowChangesLemmas.{has_row}
+use Rattle.cell_change.proofs.TableStepsLemmas.{space_before}
+
+-- ---- damage in extents of the same shape
+
+first_page_at : (before mid : Extents) (block : ℕ) → IsSameShape before mid → first_page_of mid.cap mid.extent_pages block ≡ first_page_of before.cap before.extent_pages block
+first_page_at before mid block s = rw (s.cap, s.extent_pages) refl
+
+extent_at : (before mid : Extents) (p : ℕ) → IsSameShape before mid → extent_of before p ≡ extent_of mid p
+extent_at before mid p s = rw (s.cap, s.extent_pages) refl
+
+names_at : (before mid : Extents) (def : TableDef) (damage : Damage) → IsSameShape before mid → NamesTablePart mid def damage → NamesTablePart before def damage
+names_at before mid def damage s (NamesTablePart.count rule page) = NamesTablePart.count rule page
+names_at before mid def damage s (NamesTablePart.map_page rule page) = NamesTablePart.map_page rule (map_page-shape before mid damage.page s page)
+names_at before mid def damage s (NamesTablePart.tree rule page) = NamesTablePart.tree rule page
+names_at before mid def damage s (NamesTablePart.tree_page rule) = NamesTablePart.tree_page rule
+names_at before mid def damage s (NamesTablePart.block_map rule page) = NamesTablePart.block_map rule page
+names_at before mid def damage s (NamesTablePart.row_page block rule page) = NamesTablePart.row_page block rule (extent_page_same before mid damage.page s page.0, extent_at before mid damage.page s ∙ page.1)
+names_at before mid def damage s (NamesTablePart.row_count block rule page) = NamesTablePart.row_count block rule (page ∙ first_page_at before mid block s)
+names_at before mid def damage s (NamesTablePart.block_index rule page) = NamesTablePart.block_index rule page
+
+module _ {S : Type 0} (g : Ghosts S) where
+  -- a page of the table or of the extent map is one that may be touched where pages are claimed
+  pub in_space : (ext : Extents) (s : S) (def : TableDef) (p : ℕ) → IsTableOrMapPage g ext s def p → IsTableSpace g ext s def p
+  in_space ext s def p mine owners forests st = elim (mine owners forests st) [
+    | inl some ↦ inl some
+    | inr more ↦ elim more [ inl of ↦ inr (inl of) | inr map ↦ inr (inr (inl (inr map))) ]
+  ]
+
+  -- where a row should lie, this one should
+  pub breaks_this : (ext : Extents) (s : S) (def : TableDef) (rid : Rid) (row : Row) (damage : Damage) → BreaksExpected g ext s def (HasRowAt g ext s def rid) damage → BreaksExpected g ext s def (HasThisRow g ext s def rid row) damage
+  breaks_this ext s def rid row damage breaks = record { names = breaks.names; broken = λ owners forests st has. breaks.broken owners forests st (has_row g ext s def rid row owners forests has) }
+
+  -- a call on a row that is known
+  pub runs_this : (ext : Extents) (old new : S) (def : TableDef) (rid : Rid) (row : Row) (fault : Option StoreFault)
+      → RunsOverPages g (IsTableOrMapPage g ext old def) (IsTableOrMapPage g ext old def) (BreaksExpected g ext old def (HasRowAt g ext old def rid)) old new fault
+      → RunsOverPages g (IsTableOrMapPage g ext old def) (IsTableOrMapPage g ext old def) (BreaksExpected g ext old def (HasThisRow g ext old def rid row)) old new fault
+  runs_this ext old new def rid row fault run = runs_wider run (λ p low mine. mine) (λ p mine. mine) (breaks_this ext old def rid row)
+
+  -- the same of a call that may claim pages
+  pub runs_within : (ext : Extents) (old new : S) (def : TableDef) (rid : Rid) (row : Row) (fault : Option StoreFault)
+      → RunsOverPages g (IsTableOrMapPage g ext old def) (IsTableOrMapPage g ext old def) (BreaksExpected g ext old def (HasRowAt g ext old def rid)) old new fault
+      → RunsOverPages g (IsTableSpace g ext old def) (IsTableSpace g ext old def) (BreaksExpected g ext old def (HasThisRow g ext old def rid row)) old new fault
+  runs_within ext old new def rid row fault run = runs_wider run (λ p low mine. in_space ext old def p mine) (λ p mine. in_space ext old def p mine) (breaks_this ext old def rid row)
+
+  -- ---- two calls, one behind the other
+
+  -- the pages that calls may touch which expect more of a table than that it stands
+  abbrev pub IsExpectedSpace : Extents → S → TableDef → (List Kind → TableForests → Type 0) → ℕ → Type 0
+  IsExpectedSpace ext s def Expected p =
+      (owners : List Kind) (forests : TableForests) → StandsTable g ext s def owners forests → Expected owners forests
+      → 0 < sum_by (times p) (forests_in_order forests) ⊎ (IsBlockPageOf ext owners def.number p ⊎ (IsSpacePage ext p ⊎ IsIdlePage ext owners p))
+
+  -- a change of the table, whatever it is now
+  pub record LeadsOn (before mid : Extents) (old middle : S) (def : TableDef) (owners : List Kind) (forests : TableForests) : Type 0 where
+    pub owners_now : List Kind
+    pub forests_now : TableForests
+    pub changes : ChangesTable g before mid old middle def owners forests owners_now forests_now
+
+  -- a call that claims nothing, and one that may claim pages behind it, where the first left the table standing
+  pub runs_moved : (before mid : Extents) (old middle new : S) (def : TableDef) (Expected : List Kind → TableForests → Type 0) (Any : Damage → Type 0) (fault : Option StoreFault) → IsSameShape before mid
+      → ((owners : List Kind) (forests : TableForests) → StandsTable g before old def owners forests → Expected owners forests → LeadsOn before mid old middle def owners forests)
+      → RunsOverPages g (IsTableOrMapPage g before old def) (IsTableOrMapPage g before old def) Any old middle None
+      → RunsOverPages g (IsTableSpace g mid middle def) (IsTableSpace g mid middle def) (BreaksTable g mid middle def) middle new fault
+      → RunsOverPages g (IsExpectedSpace before old def Expected) (IsExpectedSpace before old def Expected) (BreaksExpected g before old def Expected) old new fault
+  runs_moved before mid old middle new def Expected Any fault shape leads first second = runs_as first second (λ p low mine. early p mine) (λ p low mine. late p mine) early late breaks
+    where
+      early : (p : ℕ) → IsTableOrMapPage g before old def p → IsExpectedSpace before old def Expected p
+      early p mine owners forests st expected = in_space before old def p mine owners forests st
+
+      late : (p : ℕ) → IsTableSpace g mid middle def p → IsExpectedSpace before old def Expected p
+      late p mine owners forests st expected =
+          let on = leads owners forests st expected in
+          space_before g before mid old middle def owners forests on.owners_now on.forests_now on.changes p (mine on.owners_now on.forests_now on.changes.stands)
+
+      breaks : (damage : Damage) → BreaksTable g mid middle def damage → BreaksExpected g before old def Expected damage
+      breaks damage is = record {
+        names = names_at before mid def damage shape is.names;
+        broken = λ owners forests st expected. let on = leads owners forests st expected in is.broken on.owners_now on.forests_now on.changes.stands;
+      }
+
+  -- the same where the first leaves the table standing wherever it stood, and damage that the second names was there before
+  pub runs_left : (before mid : Extents) (old middle new : S) (def : TableDef) (rid : Rid) (row : Row) (Any : Damage → Type 0) (fault : Option StoreFault) → IsSameShape before mid
+      → ((owners : List Kind) (forests : TableForests) → StandsTable g before old def owners forests → LeadsOn before mid old middle def owners forests)
+      → RunsOverPages g (IsTableOrMapPage g before old def) (IsTableOrMapPage g before old def) Any old middle None
+      → RunsOverPages g (IsTableSpace g mid middle def) (IsTableSpace g mid middle def) (BreaksTable g mid middle def) middle new fault
+      → RunsOverPages g (IsTableSpace g before old def) (IsTableSpace g before old def) (BreaksExpected g before old def (HasThisRow g before old def rid row)) old new fault
+  runs_left before mid old middle new def rid row Any fault shape leads first second =
+      runs_wider (runs_moved before mid old middle new def (λ owners forests. Unit {0}) Any fault shape (λ owners forests st any. leads owners forests st) first second)
+      (λ p low mine owners forests st. mine owners forests st tt) (λ p mine owners forests st. mine owners forests st tt)
+      (λ damage breaks. record { names = breaks.names; broken = λ owners forests st has. breaks.broken owners forests st tt })

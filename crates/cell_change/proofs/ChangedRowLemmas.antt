@@ -1,0 +1,102 @@
+-- A row that became another: in its place, or taken out and then put.
+use Rattle.std.proofs.Common.{◌≡◌, ◌<◌, ◌≤◌, ◌+◌, ◌*◌, ℕ, suc, List, [], ◌∷◌, None, length, refl, ap, arith, sym, ◌∙◌, subst}
+use Rattle.std.specs.Prelude.{Option, slice_set}
+use Rattle.std.specs.List.{AllZip}
+use Rattle.mdc_words.specs.ByteOrder.{Entry}
+use Rattle.mdc_values.specs.declared.rid.Rid.{Rid}
+use Rattle.mdc_ast.specs.declared.definition.TableDef.{TableDef}
+use Rattle.mdc_ast.specs.declared.row.Row.{Row}
+use Rattle.store_api.specs.Frame.{Touches}
+use Rattle.store_api.specs.declared.pages.Pages.{Ghosts}
+use Rattle.extent_map.specs.Damages.{IfFull}
+use Rattle.extent_map.specs.Owners.{IsSameShape}
+use Rattle.extent_map.specs.declared.extents.Extents.{Extents}
+use Rattle.extent_map.specs.declared.fault.SpaceFault.{SpaceFault}
+use Rattle.extent_map.specs.declared.fault.SpaceFault.TheVariants.{Full, Store}
+use Rattle.extent_map.specs.declared.kind.Kind.{Kind}
+use Rattle.row_page.specs.RowPage.{slot_count}
+use Rattle.table_page.specs.TableLimits.{IsTableDef}
+use Rattle.table_trees.specs.RowCells.{AreOfOneCell}
+use Rattle.mdc_sound.specs.Placing.{AfterClaims, AfterReturns, ChangesRow, PutsRow, Spot, SpotsAfterClaims, SpotsAfterReturns, block_slot_count}
+use Rattle.mdc_sound.specs.Placing.Spot.{FreeExtent, IndexExtent, OtherBlock, FreeBlock, PendingBlock, UsedBlock}
+use Rattle.mdc_sound.specs.SoundDatabase.{IsSoundBetweenChanges}
+use Rattle.mdc_sound.specs.StandingTable.{IsReadyTable, IsTableSpace, OverwritesRow, PlacesRow, StandsTable, TableForests, TakesRowOut, pages_of, spots_of}
+use Rattle.mdc_sound.proofs.ChangedRowsLemmas.{rows_after_overwriting, rows_after_placing, rows_after_taking}
+use Rattle.mdc_sound.proofs.RowNumbersLemmas.{numbers_over}
+use Rattle.table_blocks.proofs.SpotChangesLemmas.{claims_change, returns_change}
+use Rattle.cell_change.specs.RowChanges.{ChangesOneRow, row_in_place, rows_now}
+use Rattle.cell_change.proofs.RowChangesLemmas.{numbers_kept, sound_deleted, sound_placed}
+use Rattle.cell_change.proofs.TableStepsLemmas.{changes_table_then, takes_no_block}
+
+-- ---- what Full states
+
+pub full_as : (fault : SpaceFault) (P Q : ℕ → Type 0) → ((cap : ℕ) → P cap → Q cap) → IfFull fault P → IfFull fault Q
+full_as (Full cap) P Q as_well is = as_well cap is
+full_as (Store fault) P Q as_well is = tt
+
+same_claims : (spots : List Spot) → SpotsAfterClaims spots spots
+same_claims [] = tt
+same_claims (spot ∷ spots) = (claims_change.stays spot, same_claims spots)
+
+same_returns : (spots : List Spot) → SpotsAfterReturns spots spots
+same_returns [] = tt
+same_returns (spot ∷ spots) = (returns_change.stays spot, same_returns spots)
+
+-- blocks have as many slots in extents of the same shape
+slots_same : (before ext : Extents) (def : TableDef) → IsSameShape before ext → block_slot_count ext def ≡ block_slot_count before def
+slots_same before ext def shape = ap (λ n. n * slot_count def.columns) shape.extent_pages
+
+module _ {S : Type 0} (g : Ghosts S) where
+  -- ---- in its place
+
+  pub stays : (ext : Extents) (room_from : Entry → ℕ) (old new : S) (def : TableDef) (row other : Row) (rid : Rid) (owners : List Kind) (forests : TableForests) → StandsTable g ext old def owners forests
+      → AreOfOneCell def row.values other.values → OverwritesRow g ext ext room_from old new def owners forests row other rid → ChangesOneRow g ext ext room_from old new def row other rid rid owners forests
+  stays ext room_from old new def row other rid owners forests st cell over =
+      let now = spots_of g ext new def owners forests in
+      let rows = rows_after_overwriting g ext ext room_from old new def owners forests st row other rid over in record {
+        owners_now = owners;
+        forests_now = forests;
+        changes = over.changes;
+        rooms = over.rooms;
+        mid = now;
+        turns = ChangesRow.stays over.slots cell over.lay (subst (λ (spots : List Spot). SpotsAfterReturns spots now) over.spots (same_returns now));
+        claims = same_claims now;
+        stay = rows.0;
+        were = rows.1;
+        are = rows.2;
+      }
+
+  -- ---- taken out, and then put
+
+  module _ (before mid : Extents) (room_from room_mid : Entry → ℕ) (old middle : S) (def : TableDef) (row : Row) (rid : Rid) (owners : List Kind) (forests : TableForests)
+      (ready : IsReadyTable g before room_from old def owners forests) (takes : TakesRowOut g before mid room_mid old middle def owners forests row rid) where
+    -- the table is ready once the row is out
+    pub ready_then : IsReadyTable g mid room_mid middle def takes.owners_now takes.forests_now
+    ready_then = record { stands = takes.changes.stands; notes = takes.changes.notes ready.notes; rooms = takes.rooms }
+
+    module _ (ext : Extents) (room_now : Entry → ℕ) (new : S) (other : Row) (to : Rid) (places : PlacesRow g mid ext room_now middle new def takes.owners_now takes.forests_now other to) (defined : IsTableDef def.number def) where
+      pub moves : (AreOfOneCell def row.values other.values → ⊥) → length (pages_of g middle) ≡ length (pages_of g old) → length (pages_of g middle) ≤ length (pages_of g new)
+          → ChangesOneRow g before ext room_now old new def row other rid to owners forests
+      moves apart same longer = record {
+        owners_now = places.owners_now;
+        forests_now = places.forests_now;
+        changes = changes_table_then g before mid old middle def owners forests takes.owners_now takes.forests_now takes.changes ext new places.owners_now places.forests_now places.changes
+            (takes_no_block g before mid old middle def owners forests room_mid row rid ready.stands takes) (sym same) longer;
+        rooms = places.rooms;
+        mid = places.mid;
+        turns = ChangesRow.moves takes.mid (spots_of g mid middle def takes.owners_now takes.forests_now) to apart takes.takes takes.returns
+            (subst (λ (n : ℕ). PutsRow def n (spots_of g mid middle def takes.owners_now takes.forests_now) other places.mid to) (slots_same before mid def takes.changes.shape) places.puts);
+        claims = places.claims;
+        stay = rows_now g mid middle def takes.forests_now;
+        were = rows_after_taking g before mid room_mid old middle def owners forests ready.stands row rid takes;
+        are = rows_after_placing g mid ext room_now middle new def takes.owners_now takes.forests_now takes.changes.stands def.number other to defined places;
+      }
+
+      pub sound_moved : def.indexes ≡ [] → other.number ≡ row.number → Touches g (IsTableSpace g before old def) old middle → Touches g (IsTableSpace g mid middle def) middle new
+          → length (pages_of g old) ≤ length (pages_of g middle) → length (pages_of g middle) ≤ length (pages_of g new) → IsSoundBetweenChanges before def (pages_of g old) → IsSoundBetweenChanges ext def (pages_of g new)
+      sound_moved none number first second longer still_longer between =
+          let rows = rows_now g mid middle def takes.forests_now in
+          let then = sound_deleted g before mid old middle def owners forests ready.stands room_mid row rid takes none first longer between in
+          let kept = numbers_kept g before mid old middle def owners forests ready.stands room_mid row rid takes between in
+          sound_placed g mid ext middle new def takes.owners_now takes.forests_now takes.changes.stands room_now other to defined places none
+          (numbers_over def (row_in_place rid row) (row_in_place to other) rows number kept) second still_longer then

@@ -1,0 +1,5 @@
+pub mod ChangeRunsLemmas
+pub mod ChangedRowLemmas
+pub mod RowChangesLemmas
+pub mod SameValuesLemmas
+pub mod TableStepsLemmas

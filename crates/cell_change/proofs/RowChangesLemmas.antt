@@ -1,0 +1,138 @@
+-- What one row more, one less and one that became another make of all rows of a table, and of pages that are sound between two
+-- changes of rows.
+use Rattle.std.proofs.Common.{◌≡◌, ◌<◌, ◌≤◌, ◌+◌, ℕ, List, [], ◌∷◌, Some, None, length, ap, arith, sym, ◌∙◌, subst}
+use Rattle.std.specs.Prelude.{IsPermutation, Option, slice_index_or}
+use Rattle.std.proofs.lemmas.List.Sorted.{IsPermutation-sym}
+use Rattle.mdc_words.specs.ByteOrder.{Entry}
+use Rattle.mdc_values.specs.declared.rid.Rid.{Rid}
+use Rattle.mdc_ast.specs.declared.definition.TableDef.{TableDef}
+use Rattle.mdc_ast.specs.declared.row.Row.{Row}
+use Rattle.store_api.specs.Frame.{Touches}
+use Rattle.store_api.specs.declared.pages.Pages.{Ghosts}
+use Rattle.extent_map.specs.declared.extents.Extents.{Extents}
+use Rattle.extent_map.specs.declared.kind.Kind.{Kind}
+use Rattle.entry_tree.specs.Forest.{Forest}
+use Rattle.table_page.specs.TableLimits.{IsTableDef}
+use Rattle.mdc_sound.specs.BlockRules.{AreRowNumbersSound}
+use Rattle.mdc_sound.specs.Placing.{IsRowAt, Spot}
+use Rattle.mdc_sound.specs.Placing.Spot.{OtherBlock, UsedBlock}
+use Rattle.mdc_sound.specs.SoundDatabase.{IsSoundBetweenChanges, with_table_page}
+use Rattle.mdc_sound.specs.StandingTable.{ChangesTable, HasRowAt, IsTableSpace, OverwritesRow, PlacesRow, StandsTable, TableForests, TakesRowOut, forests_in_order, pages_of, spots_of}
+use Rattle.mdc_sound.specs.TableRows.{PlacedRow, rows_in_table}
+use Rattle.mdc_sound.specs.TableViews.{TableView, trees_of_table}
+use Rattle.mdc_sound.proofs.ChangedRowsLemmas.{rows_after_overwriting, rows_after_placing, rows_after_taking}
+use Rattle.mdc_sound.proofs.ChangedTablesLemmas.{between_with_next, between_without_indexes}
+use Rattle.mdc_sound.proofs.NextNumberLemmas.{with_next}
+use Rattle.mdc_sound.proofs.RowNumbersLemmas.{numbers_in_order, numbers_over, numbers_with, numbers_without}
+use Rattle.mdc_sound.proofs.SoundDatabaseLemmas.{rows_with_table_page}
+use Rattle.mdc_sound.proofs.SpaceRulesLemmas.{there_at}
+use Rattle.mdc_sound.proofs.StandingTableLemmas.{forests_of, number_of_place, one_standing, stands_of_sound}
+use Rattle.cell_change.specs.RowChanges.{DeletesRow, HasThisRow, InsertsRow, row_in_place, rows_now}
+
+-- one row alone lies in a place
+pub same_row : (spots : List Spot) (rid : Rid) (row other : Row) (slots more : List (Option Row)) → IsRowAt spots rid row slots → IsRowAt spots rid other more → row ≡ other
+same_row spots rid row other slots more one two =
+    let found : UsedBlock slots ≡ UsedBlock more = sym (one.block OtherBlock) ∙ two.block OtherBlock in
+    let same : slots ≡ more = cc in
+    let rows : Some row ≡ Some other = sym one.slot ∙ (ap (λ s. slice_index_or s rid.slot None) same ∙ two.slot) in
+    cc
+
+module _ {S : Type 0} (g : Ghosts S) where
+  -- a row that is known lies in a place
+  pub has_row : (ext : Extents) (s : S) (def : TableDef) (rid : Rid) (row : Row) (owners : List Kind) (forests : TableForests) → HasThisRow g ext s def rid row owners forests → HasRowAt g ext s def rid owners forests
+  has_row ext s def rid row owners forests has = record { row = row; slots = has.slots; lies = has.lies }
+
+  -- ---- row numbers
+
+  -- the row numbers of the table at hand are sound where those of all tables are
+  pub numbers_here : (ext : Extents) (s : S) (def : TableDef) (owners : List Kind) (forests : TableForests) → IsSoundBetweenChanges ext def (pages_of g s) → StandsTable g ext s def owners forests
+      → AreRowNumbersSound def (rows_now g ext s def forests)
+  numbers_here ext s def owners forests between st =
+      let pages = pages_of g s in
+      let with = with_table_page def pages in
+      let sound = between.sound in
+      let table = sound.table in
+      let low = (number_of_place ext with sound.view sound.first def.number table sound.there).0 in
+      let stood = stands_of_sound g ext s def sound st.told in
+      let trees : forests_in_order forests ≡ trees_of_table table = (one_standing g ext s def owners sound.view.owners forests (forests_of table) st stood).1 in
+      let map : table.map ≡ forests.map = cc in
+      let there : AreRowNumbersSound table.def (rows_in_table ext with table.def table.map) =
+      there_at (λ (x : TableView). AreRowNumbersSound x.def (rows_in_table ext with x.def x.map)) sound.view.places def.number table sound.there between.numbers in
+      let here : AreRowNumbersSound def (rows_in_table ext with def table.map) = subst (λ (d : TableDef). AreRowNumbersSound d (rows_in_table ext with d table.map)) sound.same there in
+      let plain : AreRowNumbersSound def (rows_in_table ext pages def table.map) = subst (AreRowNumbersSound def) (rows_with_table_page ext def pages low def table.map) here in
+      subst (λ (m : Forest). AreRowNumbersSound def (rows_in_table ext pages def m)) map plain
+
+  module _ (before ext : Extents) (old new : S) (def : TableDef) (owners : List Kind) (forests : TableForests) (st : StandsTable g before old def owners forests) where
+    -- ---- a change of a table without record indexes
+
+    pub sound_after : (owners_now : List Kind) (forests_now : TableForests) → ChangesTable g before ext old new def owners forests owners_now forests_now → def.indexes ≡ []
+        → Touches g (IsTableSpace g before old def) old new → length (pages_of g old) ≤ length (pages_of g new) → IsSoundBetweenChanges before def (pages_of g old)
+        → AreRowNumbersSound def (rows_now g ext new def forests_now) → IsSoundBetweenChanges ext def (pages_of g new)
+    sound_after owners_now forests_now changes none touched longer between numbers =
+        between_without_indexes g before ext old new def owners owners_now forests forests_now between.sound st changes touched longer between.rule11 between.numbers none numbers
+
+    -- ---- a row more
+
+    pub inserts : (room_from : Entry → ℕ) (row : Row) (rid : Rid) → IsTableDef def.number def → PlacesRow g before ext room_from old new def owners forests row rid
+        → InsertsRow g before ext room_from old new def row rid owners forests
+    inserts room_from row rid defined places = record { places = places; rows = rows_after_placing g before ext room_from old new def owners forests st def.number row rid defined places }
+
+    pub sound_inserted : (room_from : Entry → ℕ) (row : Row) (rid : Rid) → IsTableDef def.number def → PlacesRow g before ext room_from old new def owners forests row rid → def.indexes ≡ []
+        → row.number ≡ def.next → def.next + 1 < 18446744073709551616 → Touches g (IsTableSpace g before old def) old new → length (pages_of g old) ≤ length (pages_of g new)
+        → IsSoundBetweenChanges before def (pages_of g old) → IsSoundBetweenChanges ext (with_next def (def.next + 1)) (pages_of g new)
+    sound_inserted room_from row rid defined places none number small touched longer between =
+        let now = rows_now g ext new def places.forests_now in
+        let rows = rows_after_placing g before ext room_from old new def owners forests st def.number row rid defined places in
+        let more = numbers_with def (def.next + 1) (row_in_place rid row) (rows_now g before old def forests) (numbers_here before old def owners forests between st) (omega (arith, number)) (omega (arith, number)) in
+        between_with_next g before ext old new def owners places.owners_now forests places.forests_now between.sound st places.changes touched longer between.rule11 between.numbers none (def.next + 1) small
+        (numbers_in_order (with_next def (def.next + 1)) (row_in_place rid row ∷ rows_now g before old def forests) now rows more)
+
+    -- ---- a row less
+
+    -- the row that was taken out is the one that lay there
+    pub took_this : (room_from : Entry → ℕ) (row other : Row) (rid : Rid) → HasThisRow g before old def rid row owners forests → TakesRowOut g before ext room_from old new def owners forests other rid
+        → TakesRowOut g before ext room_from old new def owners forests row rid
+    took_this room_from row other rid has takes =
+        subst (λ (r : Row). TakesRowOut g before ext room_from old new def owners forests r rid) (same_row (spots_of g before old def owners forests) rid other row takes.takes.slots has.slots takes.takes.lies has.lies) takes
+
+    pub deletes : (room_from : Entry → ℕ) (row : Row) (rid : Rid) → TakesRowOut g before ext room_from old new def owners forests row rid
+        → DeletesRow g before ext room_from old new def row rid owners forests
+    deletes room_from row rid takes = record { takes = takes; rows = rows_after_taking g before ext room_from old new def owners forests st row rid takes }
+
+    -- the numbers of the row and of those that stay
+    pub numbers_kept : (room_from : Entry → ℕ) (row : Row) (rid : Rid) (takes : TakesRowOut g before ext room_from old new def owners forests row rid) → IsSoundBetweenChanges before def (pages_of g old)
+        → AreRowNumbersSound def (row_in_place rid row ∷ rows_now g ext new def takes.forests_now)
+    numbers_kept room_from row rid takes between =
+        let now = row_in_place rid row ∷ rows_now g ext new def takes.forests_now in
+        let were = rows_now g before old def forests in
+        numbers_in_order def were now (IsPermutation-sym now were (rows_after_taking g before ext room_from old new def owners forests st row rid takes)) (numbers_here before old def owners forests between st)
+
+    pub sound_deleted : (room_from : Entry → ℕ) (row : Row) (rid : Rid) → TakesRowOut g before ext room_from old new def owners forests row rid → def.indexes ≡ []
+        → Touches g (IsTableSpace g before old def) old new → length (pages_of g old) ≤ length (pages_of g new)
+        → IsSoundBetweenChanges before def (pages_of g old) → IsSoundBetweenChanges ext def (pages_of g new)
+    sound_deleted room_from row rid takes none touched longer between =
+        sound_after takes.owners_now takes.forests_now takes.changes none touched longer between
+        (numbers_without def (row_in_place rid row) (rows_now g ext new def takes.forests_now) (numbers_kept room_from row rid takes between))
+
+    -- ---- a row that became another in its place
+
+    pub sound_overwritten : (room_from : Entry → ℕ) (row other : Row) (rid : Rid) → OverwritesRow g before ext room_from old new def owners forests row other rid → def.indexes ≡ [] → other.number ≡ row.number
+        → Touches g (IsTableSpace g before old def) old new → length (pages_of g old) ≤ length (pages_of g new)
+        → IsSoundBetweenChanges before def (pages_of g old) → IsSoundBetweenChanges ext def (pages_of g new)
+    sound_overwritten room_from row other rid over none number touched longer between =
+        let rows = rows_after_overwriting g before ext room_from old new def owners forests st row other rid over in
+        let were = rows_now g before old def forests in
+        let first = row_in_place rid row ∷ rows.0 in
+        let numbers = numbers_in_order def were first (IsPermutation-sym first were rows.1) (numbers_here before old def owners forests between st) in
+        sound_after owners forests over.changes none touched longer between
+        (numbers_in_order def (row_in_place rid other ∷ rows.0) (rows_now g ext new def forests) rows.2 (numbers_over def (row_in_place rid row) (row_in_place rid other) rows.0 number numbers))
+
+    -- ---- a row of a number that none of the others has
+
+    pub sound_placed : (room_from : Entry → ℕ) (row : Row) (rid : Rid) → IsTableDef def.number def → PlacesRow g before ext room_from old new def owners forests row rid → def.indexes ≡ []
+        → AreRowNumbersSound def (row_in_place rid row ∷ rows_now g before old def forests) → Touches g (IsTableSpace g before old def) old new → length (pages_of g old) ≤ length (pages_of g new)
+        → IsSoundBetweenChanges before def (pages_of g old) → IsSoundBetweenChanges ext def (pages_of g new)
+    sound_placed room_from row rid defined places none numbers touched longer between =
+        let rows = rows_after_placing g before ext room_from old new def owners forests st def.number row rid defined places in
+        sound_after places.owners_now places.forests_now places.changes none touched longer between
+        (numbers_in_order def (row_in_place rid row ∷ rows_now g before old def forests) (rows_now g ext new def places.forests_now) rows numbers)

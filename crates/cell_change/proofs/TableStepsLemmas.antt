@@ -1,0 +1,224 @@
+-- Two changes of a table one after the other: what they make together, and which pages the second may touch, as seen before the
+-- first.
+use Rattle.std.proofs.Common.{◌≡◌, ◌≢◌, ◌<◌, ◌≤◌, ◌⊎◌, ℕ, Bool, true, false, zero, suc, List, [], ◌∷◌, None, length, set, get_or, sum_by, refl, ap, arith, sym, ◌∙◌, subst, inl, inr, cond}
+use Rattle.std.specs.Prelude.{IsTrue, Option, ◌==◌, is_none}
+use Rattle.std.specs.Int.{bit_at}
+use Rattle.std.specs.List.{AllZip, list_all}
+use Rattle.std.proofs.lemmas.Bool.{cases_eq, cases_lt, eq-eqb}
+use Rattle.std.proofs.lemmas.Nat.Bits.{bit_at-lt}
+use Rattle.std.proofs.lemmas.List.{get_or-set_other, get_or-set_same, get_or_past}
+use Rattle.mdc_words.specs.ByteOrder.{Entry}
+use Rattle.mdc_values.specs.declared.rid.Rid.{Rid}
+use Rattle.mdc_ast.specs.declared.definition.TableDef.{TableDef}
+use Rattle.mdc_ast.specs.declared.row.Row.{Row}
+use Rattle.store_api.specs.declared.pages.Pages.{Ghosts}
+use Rattle.extent_map.specs.Map.{IsSpacePage}
+use Rattle.extent_map.specs.Kinds.{is_unused_place, is_used_place}
+use Rattle.extent_map.specs.Owners.{IsExtentPage, IsSameShape, IsUnusedPage, IsUsedPage, extent_of, owner_of, place_in_extent}
+use Rattle.extent_map.specs.declared.extents.Extents.{Extents}
+use Rattle.extent_map.specs.declared.kind.Kind.{Kind}
+use Rattle.extent_map.specs.declared.kind.Kind.TheVariants.{Free, Block, Index}
+use Rattle.entry_tree.specs.Forest.{Forest, times}
+use Rattle.entry_tree.specs.Standing.{IsIdlePage}
+use Rattle.entry_tree.proofs.ClaimsLemmas.{space_same}
+use Rattle.entry_tree.proofs.UsedPagesLemmas.{extent_below, extent_page_same, shape_back, unused_same, used_not_idle, used_same}
+use Rattle.block_map.specs.MapLines.{map_lines, mapped_state}
+use Rattle.table_trees.specs.TreesBeside.{table_of_block}
+use Rattle.table_trees.proofs.KeptOwnersLemmas.{idle_no_block, used_no_block}
+use Rattle.table_trees.proofs.PageCountLemmas.{grows_pages_then}
+use Rattle.mdc_sound.specs.Placing.{AfterReturns, Spot, left_with, spot_of_kind, spot_of_state}
+use Rattle.mdc_sound.specs.Placing.Spot.{FreeExtent, IndexExtent, OtherBlock, FreeBlock, PendingBlock, UsedBlock}
+use Rattle.mdc_sound.specs.StandingTable.{ChangesTable, IsBlockPageOf, StandsTable, TableForests, TakesRowOut, forests_in_order, pages_of, spots_of}
+use Rattle.mdc_sound.specs.TableRows.{block_slots}
+use Rattle.mdc_sound.specs.ToldPages.{PageList}
+use Rattle.mdc_sound.proofs.SpaceRulesLemmas.{used_or_not}
+use Rattle.mdc_sound.proofs.TableSpotsLemmas.{length-spots, spot_at}
+
+-- ---- spots that are no blocks
+
+-- a free extent, or one with pages of trees
+abbrev IsNoBlock : Spot → Type 0
+IsNoBlock FreeExtent = Unit {0}
+IsNoBlock IndexExtent = Unit {0}
+IsNoBlock spot = ⊥
+
+some_block : (free used pending : Bool) (slots : List (Option Row)) → IsNoBlock (cond free FreeBlock (cond used (UsedBlock slots) (cond pending PendingBlock OtherBlock))) → ⊥
+some_block true used pending slots none = none
+some_block false true pending slots none = none
+some_block false false true slots none = none
+some_block false false false slots none = none
+
+some_owner : (own : Bool) (state : ℕ) (slots : List (Option Row)) → IsNoBlock (cond own (spot_of_state state slots) OtherBlock) → ⊥
+some_owner true state slots none = some_block (state == 0) (state == 1) (state == 2) slots none
+some_owner false state slots none = none
+
+some_left : (all : Bool) (slots : List (Option Row)) → IsNoBlock (cond all FreeBlock (UsedBlock slots)) → ⊥
+some_left true slots none = none
+some_left false slots none = none
+
+no_block_of_kind : (ext : Extents) (pages : PageList) (def : TableDef) (map_tree : Forest) (e : ℕ) (kind : Kind) → table_of_block kind ≡ None → IsNoBlock (spot_of_kind ext pages def map_tree e kind)
+no_block_of_kind ext pages def map_tree e Free none = tt
+no_block_of_kind ext pages def map_tree e (Block t) none = absurd cc
+no_block_of_kind ext pages def map_tree e (Index used) none = tt
+
+kind_of_no_block : (ext : Extents) (pages : PageList) (def : TableDef) (map_tree : Forest) (e : ℕ) (kind : Kind) → IsNoBlock (spot_of_kind ext pages def map_tree e kind) → table_of_block kind ≡ None
+kind_of_no_block ext pages def map_tree e Free none = refl
+kind_of_no_block ext pages def map_tree e (Block t) none = absurd (some_owner (t == def.number) (mapped_state e (map_lines map_tree)) (block_slots ext pages def e) none)
+kind_of_no_block ext pages def map_tree e (Index used) none = refl
+
+before_return : (a b : Spot) → AfterReturns a b → IsNoBlock b → IsNoBlock a
+before_return FreeExtent b after none = tt
+before_return IndexExtent b after none = tt
+before_return OtherBlock b after none = subst IsNoBlock (sym after) none
+before_return FreeBlock b after none = subst IsNoBlock (sym after) none
+before_return PendingBlock b after none = subst IsNoBlock (sym after) none
+before_return (UsedBlock slots) b after none = subst IsNoBlock (sym after) none
+
+before_returns : (xs ys : List Spot) (e : ℕ) → AllZip AfterReturns xs ys → IsNoBlock (get_or ys e OtherBlock) → IsNoBlock (get_or xs e OtherBlock)
+before_returns [] [] e all none = none
+before_returns [] (y ∷ ys) e all none = absurd all
+before_returns (x ∷ xs) [] e all none = absurd all
+before_returns (x ∷ xs) (y ∷ ys) zero all none = before_return x y all.0 none
+before_returns (x ∷ xs) (y ∷ ys) (suc e) all none = before_returns xs ys e all.1 none
+
+before_setting : (spots : List Spot) (block e : ℕ) (spot : Spot) → (IsNoBlock spot → ⊥) → block < length spots → IsNoBlock (get_or (set spots block spot) e OtherBlock) → IsNoBlock (get_or spots e OtherBlock)
+before_setting spots block e spot some low none = elim (cases_eq e block) [
+  | inl here ↦ absurd (some (subst IsNoBlock (ap (λ i. get_or (set spots block spot) i OtherBlock) here ∙ get_or-set_same spots block spot OtherBlock low) none))
+  | inr other ↦ subst IsNoBlock (get_or-set_other spots block e spot OtherBlock other) none
+]
+
+-- ---- the same in extents of the same shape
+
+extent_same : (one other : Extents) (p : ℕ) → IsSameShape one other → extent_of one p ≡ extent_of other p
+extent_same one other p s = rw (s.cap, s.extent_pages) refl
+
+idle_at : (one other : Extents) (owners : List Kind) (p : ℕ) → IsSameShape one other → IsIdlePage other owners p → IsIdlePage one owners p
+idle_at one other owners p s idle = record {
+  page = extent_page_same one other p s idle.page;
+  idle = elim idle.idle [ inl unused ↦ inl (unused_same one other owners p s unused) | inr free ↦ inr (ap (owner_of owners) (extent_same one other p s) ∙ free) ];
+}
+
+block_page_at : (one other : Extents) (owners : List Kind) (t p : ℕ) → IsSameShape one other → IsBlockPageOf other owners t p → IsBlockPageOf one owners t p
+block_page_at one other owners t p s of = record { page = extent_page_same one other p s of.page; block = ap (owner_of owners) (extent_same one other p s) ∙ of.block }
+
+-- a page is idle where its extent is no block and it isn't used
+idle_if : (ext : Extents) (owners : List Kind) (p : ℕ) → IsExtentPage ext p → table_of_block (owner_of owners (extent_of ext p)) ≡ None → (IsUsedPage ext owners p → ⊥) → IsIdlePage ext owners p
+idle_if ext owners p page no_block unused = record { page = page; idle = go (owner_of owners (extent_of ext p)) refl }
+  where
+    go : (kind : Kind) → owner_of owners (extent_of ext p) ≡ kind → IsUnusedPage ext owners p ⊎ (owner_of owners (extent_of ext p) ≡ Free)
+    go Free is = inr is
+    go (Block table) is = let some = sym (ap table_of_block is) ∙ no_block in absurd cc
+    go (Index used) is = elim (cases_eq (bit_at used (place_in_extent ext p)) 0) [
+      | inl clear ↦ inl (record { page = page; unused = subst (λ k. IsTrue (is_unused_place (place_in_extent ext p) k)) (sym is) (eq-eqb (bit_at used (place_in_extent ext p)) 0 clear) })
+      | inr set_bit ↦ absurd (unused (record {
+        page = page;
+        used = subst (λ k. IsTrue (is_used_place (place_in_extent ext p) k)) (sym is) (eq-eqb (bit_at used (place_in_extent ext p)) 1 (omega (arith, set_bit, bit_at-lt used (place_in_extent ext p))));
+      }))
+    ]
+
+-- ---- one change, and another behind it
+
+module _ {S : Type 0} (g : Ghosts S) (before mid : Extents) (old middle : S) (def : TableDef) (owners : List Kind) (forests : TableForests) where
+  -- taking a row out leaves each block one
+  pub takes_no_block : (room_from : Entry → ℕ) (row : Row) (rid : Rid) → StandsTable g before old def owners forests → (takes : TakesRowOut g before mid room_from old middle def owners forests row rid)
+      → (e : ℕ) → table_of_block (owner_of takes.owners_now e) ≡ None → table_of_block (owner_of owners e) ≡ None
+  takes_no_block room_from row rid st takes e none = elim (cases_lt e before.cap) [
+    | inl low ↦
+        let old_spots = spots_of g before old def owners forests in
+        let new_spots = spots_of g mid middle def takes.owners_now takes.forests_now in
+        let now_low : e < mid.cap = omega (arith, low, takes.changes.shape.cap) in
+        let shown = spot_at mid (pages_of g middle) def takes.owners_now takes.forests_now.map e OtherBlock now_low in
+        let now : IsNoBlock (get_or new_spots e OtherBlock) = subst IsNoBlock (sym shown) (no_block_of_kind mid (pages_of g middle) def takes.forests_now.map e (owner_of takes.owners_now e) none) in
+        let left = left_with (set takes.takes.slots rid.slot None) in
+        let between : IsNoBlock (get_or (set old_spots rid.block left) e OtherBlock) =
+        subst (λ (spots : List Spot). IsNoBlock (get_or spots e OtherBlock)) takes.takes.is_left (before_returns takes.mid new_spots e takes.returns now) in
+        let was = before_setting old_spots rid.block e left (some_left (list_all is_none (set takes.takes.slots rid.slot None)) (set takes.takes.slots rid.slot None)) takes.takes.lies.within between in
+        kind_of_no_block before (pages_of g old) def forests.map e (owner_of owners e) (subst IsNoBlock (spot_at before (pages_of g old) def owners forests.map e OtherBlock low) was)
+    | inr past ↦ ap table_of_block (get_or_past owners e Free (omega (arith, past, st.trees.map.count)))
+  ]
+
+  module _ (owners_mid : List Kind) (forests_mid : TableForests) (first : ChangesTable g before mid old middle def owners forests owners_mid forests_mid) where
+    -- a used page outside the table's trees is outside of them still
+    none_now : (p : ℕ) → IsUsedPage before owners p → sum_by (times p) (forests_in_order forests) ≡ 0 → sum_by (times p) (forests_in_order forests_mid) ≡ 0
+    none_now p used none = elim (cases_lt 0 (sum_by (times p) (forests_in_order forests_mid))) [
+      | inl some ↦ elim (first.pages p some) [ inl was ↦ absurd (omega (arith, was, none)) | inr idle ↦ absurd (used_not_idle before owners p used idle) ]
+      | inr not ↦ omega (arith, not)
+    ]
+
+    -- what a page was that is in no block of another table and is no used one outside the trees
+    was_of_table : (p : ℕ) → IsExtentPage before p → ((t : ℕ) → t ≢ def.number → owner_of owners_mid (extent_of before p) ≡ Block t → ⊥) → (IsUsedPage before owners_mid p → ⊥)
+        → 0 < sum_by (times p) (forests_in_order forests) ⊎ (IsBlockPageOf before owners def.number p ⊎ IsIdlePage before owners p)
+    was_of_table p page no_other unused = elim (cases_lt 0 (sum_by (times p) (forests_in_order forests))) [
+      | inl some ↦ inl some
+      | inr none ↦ inr (go (owner_of owners (extent_of before p)) refl (omega (arith, none)))
+    ]
+      where
+        no_used : sum_by (times p) (forests_in_order forests) ≡ 0 → IsUsedPage before owners p → ⊥
+        no_used none used = unused (first.others_pages p used none)
+
+        go : (kind : Kind) → owner_of owners (extent_of before p) ≡ kind → sum_by (times p) (forests_in_order forests) ≡ 0 → IsBlockPageOf before owners def.number p ⊎ IsIdlePage before owners p
+        go Free is none = inr (idle_if before owners p page (ap table_of_block is) (no_used none))
+        go (Block t) is none = elim (cases_eq t def.number) [
+          | inl mine ↦ inl (record { page = page; block = is ∙ ap Block mine })
+          | inr other ↦ absurd (no_other t other (first.others_blocks (extent_of before p) t other is))
+        ]
+        go (Index used) is none = inr (idle_if before owners p page (ap table_of_block is) (no_used none))
+
+    -- the pages that a call on the table may touch then are pages that one may touch before
+    pub space_before : (p : ℕ) → 0 < sum_by (times p) (forests_in_order forests_mid) ⊎ (IsBlockPageOf mid owners_mid def.number p ⊎ (IsSpacePage mid p ⊎ IsIdlePage mid owners_mid p))
+        → 0 < sum_by (times p) (forests_in_order forests) ⊎ (IsBlockPageOf before owners def.number p ⊎ (IsSpacePage before p ⊎ IsIdlePage before owners p))
+    space_before p mine = elim mine [
+      | inl some ↦ elim (first.pages p some) [ inl was ↦ inl was | inr idle ↦ inr (inr (inr idle)) ]
+      | inr more ↦ elim more [
+        | inl of ↦
+            let here = block_page_at before mid owners_mid def.number p first.shape of in
+            wider (was_of_table p here.page
+            (λ t other is. let same : Block t ≡ Block def.number = sym is ∙ here.block in other cc)
+            (λ used. let none = used_no_block _ (owner_of owners_mid (extent_of before p)) used.used in let some = ap table_of_block here.block in absurd cc))
+        | inr rest ↦ elim rest [
+          | inl space ↦ inr (inr (inl (space_same before mid p first.shape space)))
+          | inr idle ↦
+              let here = idle_at before mid owners_mid p first.shape idle in
+              let none = idle_no_block before owners_mid p here in
+              wider (was_of_table p here.page (λ t other is. let some = ap table_of_block is in absurd cc) (λ used. used_not_idle before owners_mid p used here))
+        ]
+      ]
+    ]
+      where
+        wider : 0 < sum_by (times p) (forests_in_order forests) ⊎ (IsBlockPageOf before owners def.number p ⊎ IsIdlePage before owners p)
+            → 0 < sum_by (times p) (forests_in_order forests) ⊎ (IsBlockPageOf before owners def.number p ⊎ (IsSpacePage before p ⊎ IsIdlePage before owners p))
+        wider (inl some) = inl some
+        wider (inr (inl of)) = inr (inl of)
+        wider (inr (inr idle)) = inr (inr (inr idle))
+
+    -- where the first left each block one, both together are one change
+    pub changes_table_then : (ext : Extents) (new : S) (owners_now : List Kind) (forests_now : TableForests) → ChangesTable g mid ext middle new def owners_mid forests_mid owners_now forests_now
+        → ((e : ℕ) → table_of_block (owner_of owners_mid e) ≡ None → table_of_block (owner_of owners e) ≡ None)
+        → length (pages_of g old) ≡ length (pages_of g middle) → length (pages_of g middle) ≤ length (pages_of g new)
+        → ChangesTable g before ext old new def owners forests owners_now forests_now
+    changes_table_then ext new owners_now forests_now second no_block same longer = record {
+      stands = second.stands;
+      shape = record { cap = second.shape.cap ∙ first.shape.cap; extent_pages = second.shape.extent_pages ∙ first.shape.extent_pages };
+      records = second.records ∙ first.records;
+      others_blocks = λ e t other is. second.others_blocks e t other (first.others_blocks e t other is);
+      no_others_blocks = λ e t other is. first.no_others_blocks e t other (second.no_others_blocks e t other is);
+      others_pages = λ p used none.
+          let later = used_same mid before owners_mid p (shape_back before mid first.shape) (first.others_pages p used none) in
+          used_same before mid owners_now p first.shape (second.others_pages p later (none_now p used none));
+      used_pages = λ p used. elim (second.used_pages p (used_same mid before owners_now p (shape_back before mid first.shape) used)) [
+        | inl some ↦ inl some
+        | inr was ↦ elim (first.used_pages p (used_same before mid owners_mid p first.shape was.0)) [ inl some ↦ absurd (omega (arith, some, was.1)) | inr earlier ↦ inr earlier ]
+      ];
+      pages = λ p some. elim (second.pages p some) [
+        | inl was ↦ first.pages p was
+        | inr idle ↦
+            let here = idle_at before mid owners_mid p first.shape idle in
+            elim (cases_lt 0 (sum_by (times p) (forests_in_order forests))) [
+              | inl was ↦ inl was
+              | inr none ↦ inr (idle_if before owners p here.page (no_block (extent_of before p) (idle_no_block before owners_mid p here))
+                  (λ used. used_not_idle before owners_mid p (first.others_pages p used (omega (arith, none))) here))
+            ]
+      ];
+      grows = grows_pages_then before mid old middle new first.shape (omega (arith, same)) longer first.grows second.grows;
+      notes = λ right. second.notes (first.notes right);
+    }

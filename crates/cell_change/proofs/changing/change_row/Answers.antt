@@ -1,0 +1,103 @@
+use Rattle.std.proofs.Common.{◌≡◌, ◌<◌, ◌≤◌, ◌∙◌, ap, arith, sym, length, None, Some}
+use Rattle.std.proofs.lemmas.Result.{IfErr-weaker, IfOk-weaker}
+use Rattle.store_api.specs.Causes.{store_fault_in}
+use Rattle.store_api.proofs.FrameLemmas.{touches_wider}
+use Rattle.store_api.proofs.RunsOverPagesLemmas.{runs_exit_as}
+use Rattle.extent_map.specs.Damages.{store_part_of}
+use Rattle.cell_change.proofs.ChangeRunsLemmas.{in_space, runs_left, runs_within}
+use Rattle.cell_change.proofs.ChangedRowLemmas.{full_as, moves, ready_then, sound_moved, stays}
+use Rattle.cell_change.proofs.RowChangesLemmas.{has_row, sound_overwritten, took_this}
+use Rattle.cell_change.proofs.SameValuesLemmas.{fits_length, read_length}
+use Rattle.cell_change.proofs.changing.change_row.Goals as goal
+
+pub returns-in_err-overwrite_row-clause-runs : goal.returns-in_err-overwrite_row-clause-runs
+returns-in_err-overwrite_row-clause-runs g c =
+    runs_exit_as store_part_of c.from_residual.result c.from_residual.ensures.1
+    (runs_within g.P.Pages c.args.ext.now c.args.pages.now c.overwrite_row.new.pages c.args.def.now c.args.rid c.args.was.now (Some c.in_err-overwrite_row.field-0.0) c.in_err-overwrite_row.ensures.runs)
+
+pub are_of_one_cell-requires-clause-a : goal.are_of_one_cell-requires-clause-a
+are_of_one_cell-requires-clause-a g c = read_length c.args.def.now.columns c.args.was.now c.requires.was
+
+pub are_of_one_cell-requires-clause-b : goal.are_of_one_cell-requires-clause-b
+are_of_one_cell-requires-clause-b g c = omega (arith, fits_length c.args.def.now.columns c.args.is.now.values c.requires.fits.values)
+
+pub returns-then-are_of_one_cell-clause-changes : goal.returns-then-are_of_one_cell-clause-changes
+returns-then-are_of_one_cell-clause-changes g c owners forests ready has =
+    let cell = c.are_of_one_cell.ensures.0 c.if-are_of_one_cell.true in
+    stays g.P.Pages c.args.ext.now _ c.args.pages.now c.overwrite_row.new.pages c.args.def.now c.args.was.now c.args.is.now c.args.rid owners forests ready.stands cell
+    (c.in_ok-overwrite_row.ensures.overwrites owners forests c.args.was.now ready (record { slots = has.slots; lies = has.lies; one_cell = cell }))
+
+pub returns-then-are_of_one_cell-clause-sound : goal.returns-then-are_of_one_cell-clause-sound
+returns-then-are_of_one_cell-clause-sound g c owners forests ready has between =
+    let cell = c.are_of_one_cell.ensures.0 c.if-are_of_one_cell.true in
+    let runs = c.in_ok-overwrite_row.ensures.runs in
+    sound_overwritten g.P.Pages c.args.ext.now c.args.ext.now c.args.pages.now c.overwrite_row.new.pages c.args.def.now owners forests ready.stands _ c.args.was.now c.args.is.now c.args.rid
+    (c.in_ok-overwrite_row.ensures.overwrites owners forests c.args.was.now ready (record { slots = has.slots; lies = has.lies; one_cell = cell }))
+    c.requires.no_indexes c.requires.number (touches_wider runs.touches (λ p mine. in_space g.P.Pages c.args.ext.now c.args.pages.now c.args.def.now p mine)) runs.works.no_shorter between
+
+pub returns-then-are_of_one_cell-clause-runs : goal.returns-then-are_of_one_cell-clause-runs
+returns-then-are_of_one_cell-clause-runs g c =
+    runs_within g.P.Pages c.args.ext.now c.args.pages.now c.overwrite_row.new.pages c.args.def.now c.args.rid c.args.was.now None c.in_ok-overwrite_row.ensures.runs
+
+pub returns-in_err-take_row-clause-runs : goal.returns-in_err-take_row-clause-runs
+returns-in_err-take_row-clause-runs g c =
+    runs_exit_as store_part_of c.from_residual-in_err-take_row.result c.from_residual-in_err-take_row.ensures.1
+    (runs_within g.P.Pages c.args.ext.now c.args.pages.now c.take_row.new.pages c.args.def.now c.args.rid c.args.was.now (Some c.in_err-take_row.field-0.0) c.in_err-take_row.ensures.runs)
+
+pub returns-clause-changes : goal.returns-clause-changes
+returns-clause-changes g c =
+    IfOk-weaker c.place_row.result _ _ (λ to places owners forests ready has.
+    let before = c.args.ext.now in
+    let mid = c.take_row.new.ext in
+    let old = c.args.pages.now in
+    let middle = c.take_row.new.pages in
+    let def = c.args.def.now in
+    let out = c.in_ok-take_row.ensures.takes owners forests ready (has_row g.P.Pages before old def c.args.rid c.args.was.now owners forests has) in
+    let took = took_this g.P.Pages before mid old middle def owners forests ready.stands _ c.args.was.now out.0 c.args.rid has out.1 in
+    let then = ready_then g.P.Pages before mid _ _ old middle def c.args.was.now c.args.rid owners forests ready took in
+    moves g.P.Pages before mid _ _ old middle def c.args.was.now c.args.rid owners forests ready took c.place_row.new.ext _ c.place_row.new.pages c.args.is.now to
+    (places took.owners_now took.forests_now then) c.requires.defined (λ cell. let yes = c.are_of_one_cell.ensures.1 cell in let no = c.if-are_of_one_cell.false in cc)
+    c.take_row.ensures.count c.place_row.ensures.runs.works.no_shorter)
+    c.place_row.ensures.places
+
+pub returns-clause-sound : goal.returns-clause-sound
+returns-clause-sound g c =
+    IfOk-weaker c.place_row.result _ _ (λ to places owners forests ready has between.
+    let before = c.args.ext.now in
+    let mid = c.take_row.new.ext in
+    let old = c.args.pages.now in
+    let middle = c.take_row.new.pages in
+    let def = c.args.def.now in
+    let out = c.in_ok-take_row.ensures.takes owners forests ready (has_row g.P.Pages before old def c.args.rid c.args.was.now owners forests has) in
+    let took = took_this g.P.Pages before mid old middle def owners forests ready.stands _ c.args.was.now out.0 c.args.rid has out.1 in
+    let then = ready_then g.P.Pages before mid _ _ old middle def c.args.was.now c.args.rid owners forests ready took in
+    let first = c.in_ok-take_row.ensures.runs in
+    let second = c.place_row.ensures.runs in
+    sound_moved g.P.Pages before mid _ _ old middle def c.args.was.now c.args.rid owners forests ready took c.place_row.new.ext _ c.place_row.new.pages c.args.is.now to
+    (places took.owners_now took.forests_now then) c.requires.defined c.requires.no_indexes c.requires.number (touches_wider first.touches (λ p mine. in_space g.P.Pages before old def p mine)) second.touches
+    first.works.no_shorter second.works.no_shorter between)
+    c.place_row.ensures.places
+
+pub returns-clause-full : goal.returns-clause-full
+returns-clause-full g c =
+    IfErr-weaker c.place_row.result _ _ (λ fault. full_as fault _ _ (λ cap is. (
+      is.0 ∙ c.take_row.ensures.shape.cap,
+      λ owners forests ready has.
+          let before = c.args.ext.now in
+          let mid = c.take_row.new.ext in
+          let old = c.args.pages.now in
+          let middle = c.take_row.new.pages in
+          let def = c.args.def.now in
+          let out = c.in_ok-take_row.ensures.takes owners forests ready (has_row g.P.Pages before old def c.args.rid c.args.was.now owners forests has) in
+          let took = took_this g.P.Pages before mid old middle def owners forests ready.stands _ c.args.was.now out.0 c.args.rid has out.1 in
+          let no_place = is.1 took.owners_now took.forests_now (ready_then g.P.Pages before mid _ _ old middle def c.args.was.now c.args.rid owners forests ready took) in
+          (λ cell. let yes = c.are_of_one_cell.ensures.1 cell in let no = c.if-are_of_one_cell.false in cc, no_place.none_free),
+    )))
+    c.place_row.ensures.full
+
+pub returns-clause-runs : goal.returns-clause-runs
+returns-clause-runs g c =
+    runs_left g.P.Pages c.args.ext.now c.take_row.new.ext c.args.pages.now c.take_row.new.pages c.place_row.new.pages c.args.def.now c.args.rid c.args.was.now _ (store_fault_in store_part_of c.place_row.result)
+    c.take_row.ensures.shape
+    (λ owners forests st. let left = c.in_ok-take_row.ensures.leaves owners forests st in record { owners_now = left.0; forests_now = left.1; changes = left.2 })
+    c.in_ok-take_row.ensures.runs c.place_row.ensures.runs

@@ -1,0 +1,28 @@
+use Rattle.std.proofs.Common.{arith, ◌≡◌, ◌<◌, ◌≤◌, length, ap, sym}
+use Rattle.std.proofs.lemmas.Result.{IfOk-weaker}
+use Rattle.store_api.specs.Causes.{fault_of}
+use Rattle.store_api.proofs.FrameLemmas.{touches_wider}
+use Rattle.cell_change.proofs.RowChangesLemmas.{deletes, has_row, sound_deleted, took_this}
+use Rattle.cell_change.proofs.ChangeRunsLemmas.{in_space, runs_this}
+use Rattle.cell_change.proofs.deleting.delete_row.Goals as goal
+
+pub returns-clause-deletes : goal.returns-clause-deletes
+returns-clause-deletes g c =
+    IfOk-weaker c.take_row.result _ _ (λ done takes owners forests ready has.
+    let out = takes owners forests ready (has_row g.P.Pages c.args.ext.now c.args.pages.now c.args.def.now c.args.rid c.args.row.now owners forests has) in
+    deletes g.P.Pages c.args.ext.now c.take_row.new.ext c.args.pages.now c.take_row.new.pages c.args.def.now owners forests ready.stands _ c.args.row.now c.args.rid
+    (took_this g.P.Pages c.args.ext.now c.take_row.new.ext c.args.pages.now c.take_row.new.pages c.args.def.now owners forests ready.stands _ c.args.row.now out.0 c.args.rid has out.1))
+    c.take_row.ensures.takes
+
+pub returns-clause-sound : goal.returns-clause-sound
+returns-clause-sound g c =
+    IfOk-weaker c.take_row.result _ _ (λ done takes owners forests ready has between.
+    let out = takes owners forests ready (has_row g.P.Pages c.args.ext.now c.args.pages.now c.args.def.now c.args.rid c.args.row.now owners forests has) in
+    let took = took_this g.P.Pages c.args.ext.now c.take_row.new.ext c.args.pages.now c.take_row.new.pages c.args.def.now owners forests ready.stands _ c.args.row.now out.0 c.args.rid has out.1 in
+    sound_deleted g.P.Pages c.args.ext.now c.take_row.new.ext c.args.pages.now c.take_row.new.pages c.args.def.now owners forests ready.stands _ c.args.row.now c.args.rid took
+    c.requires.no_indexes (touches_wider c.take_row.ensures.runs.touches (λ p mine. in_space g.P.Pages c.args.ext.now c.args.pages.now c.args.def.now p mine)) c.take_row.ensures.runs.works.no_shorter between)
+    c.take_row.ensures.takes
+
+pub returns-clause-runs : goal.returns-clause-runs
+returns-clause-runs g c =
+    runs_this g.P.Pages c.args.ext.now c.args.pages.now c.take_row.new.pages c.args.def.now c.args.rid c.args.row.now (fault_of c.take_row.result) c.take_row.ensures.runs

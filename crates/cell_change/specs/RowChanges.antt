@@ -1,0 +1,48 @@
+-- What a change of one row makes of a table: where the row lies, and which rows there are.
+use Rattle.std.specs.Prelude.{◌≡◌, ℕ, List, ◌∷◌, Option, IsPermutation}
+use Rattle.mdc_words.specs.ByteOrder.{Entry}
+use Rattle.mdc_values.specs.declared.rid.Rid.{Rid}
+use Rattle.mdc_ast.specs.declared.definition.TableDef.{TableDef}
+use Rattle.mdc_ast.specs.declared.row.Row.{Row}
+use Rattle.store_api.specs.declared.pages.Pages.{Ghosts}
+use Rattle.extent_map.specs.declared.extents.Extents.{Extents}
+use Rattle.extent_map.specs.declared.kind.Kind.{Kind}
+use Rattle.mdc_sound.specs.Placing.{ChangesRow, IsRowAt, Spot, SpotsAfterClaims, block_slot_count}
+use Rattle.mdc_sound.specs.StandingTable.{AreRightRooms, ChangesTable, PlacesRow, TableForests, TakesRowOut, pages_of, spots_of}
+use Rattle.mdc_sound.specs.TableRows.{PlacedRow, rows_in_table}
+
+-- the rows of a table as a store has them now
+abbrev pub rows_now : {S : Type 0} → Ghosts S → Extents → S → TableDef → TableForests → List PlacedRow
+rows_now g ext s def forests = rows_in_table ext (pages_of g s) def forests.map
+
+-- a row in a place
+abbrev pub row_in_place : Rid → Row → PlacedRow
+row_in_place rid row = record { rid = rid; row = row }
+
+-- this row lies in a place
+pub record HasThisRow {S : Type 0} (g : Ghosts S) (ext : Extents) (s : S) (def : TableDef) (rid : Rid) (row : Row) (owners : List Kind) (forests : TableForests) : Type 0 where
+  pub slots : List (Option Row)
+  pub lies : IsRowAt (spots_of g ext s def owners forests) rid row slots
+
+-- The row was placed, and the rows are those that there were with this one.
+pub record InsertsRow {S : Type 0} (g : Ghosts S) (before ext : Extents) (room_from : Entry → ℕ) (old new : S) (def : TableDef) (row : Row) (rid : Rid) (owners : List Kind) (forests : TableForests) : Type 0 where
+  pub places : PlacesRow g before ext room_from old new def owners forests row rid
+  pub rows : IsPermutation (row_in_place rid row ∷ rows_now g before old def forests) (rows_now g ext new def places.forests_now)
+
+-- The row was taken out, and the rows are those that there were without it.
+pub record DeletesRow {S : Type 0} (g : Ghosts S) (before ext : Extents) (room_from : Entry → ℕ) (old new : S) (def : TableDef) (row : Row) (rid : Rid) (owners : List Kind) (forests : TableForests) : Type 0 where
+  pub takes : TakesRowOut g before ext room_from old new def owners forests row rid
+  pub rows : IsPermutation (row_in_place rid row ∷ rows_now g ext new def takes.forests_now) (rows_now g before old def forests)
+
+-- The row became another, in its place where it keeps its cell; the other rows stay. After that trees may have taken free extents.
+pub record ChangesOneRow {S : Type 0} (g : Ghosts S) (before ext : Extents) (room_from : Entry → ℕ) (old new : S) (def : TableDef) (row other : Row) (rid to : Rid) (owners : List Kind) (forests : TableForests) : Type 0 where
+  pub owners_now : List Kind
+  pub forests_now : TableForests
+  pub changes : ChangesTable g before ext old new def owners forests owners_now forests_now
+  pub rooms : AreRightRooms def room_from (spots_of g ext new def owners_now forests_now)
+  pub mid : List Spot
+  pub turns : ChangesRow def (block_slot_count before def) (spots_of g before old def owners forests) rid row other mid to
+  pub claims : SpotsAfterClaims mid (spots_of g ext new def owners_now forests_now)
+  pub stay : List PlacedRow
+  pub were : IsPermutation (row_in_place rid row ∷ stay) (rows_now g before old def forests)
+  pub are : IsPermutation (row_in_place to other ∷ stay) (rows_now g ext new def forests_now)

@@ -1,0 +1,63 @@
+// A row becomes another.
+ghost use Rattle.std.specs.Prelude.{◌≡◌, [], List, false, IfErr, IfOk, OnOk};
+ghost use Rattle.store_api.specs.Causes.{store_fault_in};
+ghost use Rattle.store_api.specs.RunsOverPages.{RunsOverPages};
+ghost use Rattle.extent_map.specs.Damages.{IfFull, store_part_of};
+ghost use Rattle.extent_map.specs.Owners.{IsSameShape};
+ghost use Rattle.extent_map.specs.declared.kind.Kind.{Kind};
+ghost use Rattle.table_page.specs.TableLimits.{IsTableDef};
+ghost use Rattle.table_trees.specs.RowCells.{AreOfOneCell};
+ghost use Rattle.block_rows.specs.HeldRows.{HasReadValues};
+ghost use Rattle.mdc_sound.specs.FittingRows.{RowFits};
+ghost use Rattle.mdc_sound.specs.SoundDatabase.{IsSoundBetweenChanges};
+ghost use Rattle.mdc_sound.specs.StandingTable.{BreaksExpected, IsReadyTable, IsTableSpace, MeetsNoFree, TableForests, pages_of};
+ghost use Rattle.cell_rooms.specs.RoomNotes.{room_from};
+ghost use Rattle.cell_change.specs.RowChanges.{ChangesOneRow, HasThisRow};
+
+use crate::cells::are_of_one_cell;
+use extent_map::{Extents, SpaceFault};
+use mdc_ast::{Row, TableDef};
+use mdc_table::{Rooms, overwrite_row, place_row, take_row};
+use mdc_values::Rid;
+use std::alloc::Global;
+use store_api::Pages;
+
+/// Makes the row in a place, which is given, another one that fits the definition and has its number, and answers where that
+/// lies: in the same place where the cell is the same, else where placing puts it once the old one is out. `Full` says that it
+/// moves, and a claim met no free extent. After a fault `undo` goes back to a mark, and the notes of the extents and of the rooms are to be
+/// forgotten.
+pub fn change_row<P: Pages>(
+    alloc: Global,
+    def: &TableDef,
+    ext: &mut Extents,
+    rooms: &mut Rooms,
+    pages: &mut P,
+    rid: Rid,
+    was: &Row,
+    is: &Row,
+) -> Result<Rid, SpaceFault>
+    requires defined { IsTableDef def.now.number def.now }
+    requires no_indexes { def.now.indexes ≡ [] }
+    requires was { HasReadValues def.now.columns was.now }
+    requires fits { RowFits def.now is.now }
+    requires number { is.now.number ≡ was.now.number }
+    requires going { (P.state pages.old).ended ≡ false }
+    ensures changes { IfOk result (λ to. (owners : List Kind) (forests : TableForests) → IsReadyTable P.Pages ext.old (room_from rooms.old) pages.old def.now owners forests
+        → HasThisRow P.Pages ext.old pages.old def.now rid was.now owners forests
+        → ChangesOneRow P.Pages ext.old ext.new (room_from rooms.new) pages.old pages.new def.now was.now is.now rid to owners forests) }
+    ensures sound { OnOk result ((owners : List Kind) (forests : TableForests) → IsReadyTable P.Pages ext.old (room_from rooms.old) pages.old def.now owners forests
+        → HasThisRow P.Pages ext.old pages.old def.now rid was.now owners forests
+        → IsSoundBetweenChanges ext.old def.now (pages_of P.Pages pages.old) → IsSoundBetweenChanges ext.new def.now (pages_of P.Pages pages.new)) }
+    ensures full { IfErr result (λ fault. IfFull fault (λ cap. (cap ≡ ext.old.cap) × ((owners : List Kind) (forests : TableForests) → IsReadyTable P.Pages ext.old (room_from rooms.old) pages.old def.now owners forests
+        → HasThisRow P.Pages ext.old pages.old def.now rid was.now owners forests → (AreOfOneCell def.now was.now.values is.now.values → ⊥) × MeetsNoFree P.Pages ext.new pages.new))) }
+    ensures shape { IsSameShape ext.old ext.new }
+    ensures runs { RunsOverPages P.Pages (IsTableSpace P.Pages ext.old pages.old def.now) (IsTableSpace P.Pages ext.old pages.old def.now)
+        (BreaksExpected P.Pages ext.old pages.old def.now (HasThisRow P.Pages ext.old pages.old def.now rid was.now)) pages.old pages.new (store_fault_in store_part_of result) }
+{
+    if are_of_one_cell(def, &was.values, &is.values) {
+        overwrite_row(alloc, def, ext, rooms, pages, rid, is)?;
+        return Ok(rid);
+    }
+    take_row(alloc, def, ext, rooms, pages, rid)?;
+    place_row(alloc, def, ext, rooms, pages, is)
+}

@@ -1,0 +1,56 @@
+// A row more.
+ghost use Rattle.std.specs.Prelude.{◌≡◌, ◌+◌, ◌<◌, ◌^◌, [], List, false, IfErr, IfOk, OnErr, OnOk};
+ghost use Rattle.store_api.specs.Causes.{store_fault_in};
+ghost use Rattle.store_api.specs.RunsOverPages.{RunsOverPages};
+ghost use Rattle.extent_map.specs.Damages.{IfFull, store_part_of};
+ghost use Rattle.extent_map.specs.Owners.{IsSameShape};
+ghost use Rattle.extent_map.specs.declared.kind.Kind.{Kind};
+ghost use Rattle.table_page.specs.TableLimits.{IsTableDef};
+ghost use Rattle.mdc_sound.specs.FittingRows.{RowFits};
+ghost use Rattle.mdc_sound.specs.SoundDatabase.{IsSoundBetweenChanges};
+ghost use Rattle.mdc_sound.specs.StandingTable.{BreaksTable, IsReadyTable, IsTableSpace, TableForests, pages_of};
+ghost use Rattle.cell_rooms.specs.RoomNotes.{room_from};
+ghost use Rattle.mdc_table.specs.NextBlock.{FindsNoPlace};
+ghost use Rattle.cell_change.specs.RowChanges.{InsertsRow};
+
+use extent_map::{Extents, SpaceFault};
+use mdc_ast::{Row, TableDef};
+use mdc_table::{Rooms, place_row};
+use mdc_values::Rid;
+use std::alloc::Global;
+use store_api::Pages;
+
+/// Inserts a row that fits the definition and whose number is the table's next one, which it raises, and answers where the row
+/// lies. `Full` says that no Used block of its cell has room, and a
+/// claim met no free extent. After a fault the definition is as it was, `undo` goes back to a mark, and
+/// the notes of the extents and of the rooms are to be forgotten.
+pub fn insert_row<P: Pages>(
+    alloc: Global,
+    def: &mut TableDef,
+    ext: &mut Extents,
+    rooms: &mut Rooms,
+    pages: &mut P,
+    row: &Row,
+) -> Result<Rid, SpaceFault>
+    requires defined { IsTableDef def.old.number def.old }
+    requires no_indexes { def.old.indexes ≡ [] }
+    requires fits { RowFits def.old row.now }
+    requires number { row.now.number ≡ def.old.next }
+    requires more { def.old.next + 1 < 2 ^ 64 }
+    requires going { (P.state pages.old).ended ≡ false }
+    ensures inserts { IfOk result (λ rid. (owners : List Kind) (forests : TableForests) → IsReadyTable P.Pages ext.old (room_from rooms.old) pages.old def.old owners forests
+        → InsertsRow P.Pages ext.old ext.new (room_from rooms.new) pages.old pages.new def.old row.now rid owners forests) }
+    ensures sound { OnOk result ((owners : List Kind) (forests : TableForests) → IsReadyTable P.Pages ext.old (room_from rooms.old) pages.old def.old owners forests
+        → IsSoundBetweenChanges ext.old def.old (pages_of P.Pages pages.old) → IsSoundBetweenChanges ext.new def.new (pages_of P.Pages pages.new)) }
+    ensures next { OnOk result (def.new ≡ record def.old { next = def.old.next + 1 }) }
+    ensures kept { OnErr result (def.new ≡ def.old) }
+    ensures full { IfErr result (λ fault. IfFull fault (λ cap. (cap ≡ ext.old.cap) × ((owners : List Kind) (forests : TableForests) → IsReadyTable P.Pages ext.old (room_from rooms.old) pages.old def.old owners forests
+        → FindsNoPlace P.Pages ext.old ext.new pages.old pages.new def.old row.now owners forests))) }
+    ensures shape { IsSameShape ext.old ext.new }
+    ensures runs { RunsOverPages P.Pages (IsTableSpace P.Pages ext.old pages.old def.old) (IsTableSpace P.Pages ext.old pages.old def.old)
+        (BreaksTable P.Pages ext.old pages.old def.old) pages.old pages.new (store_fault_in store_part_of result) }
+{
+    let rid = place_row(alloc, def, ext, rooms, pages, row)?;
+    def.next += 1;
+    Ok(rid)
+}

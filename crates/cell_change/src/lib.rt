@@ -1,0 +1,18 @@
+//! One change of a table's rows: one is inserted, deleted or changed.
+//!
+//! `insert_row` puts a row whose number is the table's next one, and raises that. `delete_row` takes one out. `change_row` makes
+//! one another: in its place where it keeps its cell, and else it takes the old one out before it puts the new one. Each places
+//! exactly, makes the one change of the table's rows that its name says, and keeps all pages sound as they are between two
+//! changes of rows. They are for tables without record indexes today.
+//!
+//! It stands on `mdc_table` and on the words of `mdc_sound`.
+#![tactic(auto)]
+
+mod cells;
+mod changing;
+mod deleting;
+mod inserting;
+
+pub use changing::change_row;
+pub use deleting::delete_row;
+pub use inserting::insert_row;
