@@ -1,0 +1,204 @@
+// Hundreds of changes of a table beside a plain list of the rows that should be there.
+ghost use Rattle.std.specs.Prelude.{◌≡◌, [], false};
+ghost use Rattle.table_page.specs.TableLimits.{IsTableDef};
+
+use crate::changes::{blocks_of, change, delete, insert};
+use crate::plain_list::{PlainList, any_row, no_rows, put_last, row_in, take_out};
+use crate::rows::{cell_of, is_same_row, row_of, seed_of};
+use crate::stores::fresh_store;
+use crate::tables::{Shape, Table, table_of};
+use mdc_table::{Hit, row_at, rows_of_used_block, used_blocks};
+use std::alloc::Global;
+use std::test::Fail;
+use store_api::Pages;
+
+// How many extents there are, and after how many changes all rows are looked at.
+const EXTENTS: u32 = 32;
+
+const CHANGES: u32 = 10;
+
+// The next number of a row of numbers without a pattern.
+fn next_number(number: u64) -> u64 {
+    number
+        .wrapping_mul(6_364_136_223_846_793_005)
+        .wrapping_add(1_442_695_040_888_963_407)
+}
+
+// Changes one row: every second time one comes, and else one leaves or becomes another.
+fn change_one<P: Pages>(
+    alloc: Global,
+    table: &mut Table,
+    pages: &mut P,
+    list: &mut PlainList,
+    any: u64,
+) -> Result<(), Fail>
+    requires defined { IsTableDef table.old.def.number table.old.def }
+    requires no_indexes { table.old.def.indexes ≡ [] }
+    requires going { (P.state pages.old).ended ≡ false }
+    ensures defined { IsTableDef table.new.def.number table.new.def }
+    ensures no_indexes { table.new.def.indexes ≡ [] }
+    ensures going { (P.state pages.new).ended ≡ false }
+{
+    let seed = seed_of(table.shape, any / 64);
+    let place = any_row(list, any / 4);
+    let Some(place) = place else {
+        return put_last(list, insert(alloc, table, pages, seed)?);
+    };
+    match any % 4 {
+        0 => delete(alloc, table, pages, take_out(list, place)?),
+        1 => move_one(alloc, table, pages, list, place, seed),
+        _ => put_last(list, insert(alloc, table, pages, seed)?),
+    }
+}
+
+// Makes some changes, told by the numbers behind one, and answers the last of these.
+fn change_some<P: Pages>(
+    alloc: Global,
+    table: &mut Table,
+    pages: &mut P,
+    list: &mut PlainList,
+    first: u64,
+) -> Result<u64, Fail>
+    requires defined { IsTableDef table.old.def.number table.old.def }
+    requires no_indexes { table.old.def.indexes ≡ [] }
+    requires going { (P.state pages.old).ended ≡ false }
+    ensures defined { IsTableDef table.new.def.number table.new.def }
+    ensures no_indexes { table.new.def.indexes ≡ [] }
+    ensures going { (P.state pages.new).ended ≡ false }
+{
+    let mut number = first;
+    for _ in 0..CHANGES {
+        number = next_number(number);
+        change_one(alloc, table, pages, list, number >> 20)?;
+    }
+    Ok(number)
+}
+
+// Makes a row of the list another one.
+fn move_one<P: Pages>(
+    alloc: Global,
+    table: &mut Table,
+    pages: &mut P,
+    list: &mut PlainList,
+    place: usize,
+    seed: u64,
+) -> Result<(), Fail>
+    requires defined { IsTableDef table.old.def.number table.old.def }
+    requires no_indexes { table.old.def.indexes ≡ [] }
+    requires going { (P.state pages.old).ended ≡ false }
+    ensures defined { IsTableDef table.new.def.number table.new.def }
+    ensures no_indexes { table.new.def.indexes ≡ [] }
+    ensures going { (P.state pages.new).ended ≡ false }
+{
+    let was = take_out(list, place)?;
+    let is = change(alloc, table, pages, was, seed)?;
+    if cell_of(table.shape, was.seed) != cell_of(table.shape, seed) {
+        return put_last(list, is);
+    }
+    if is.rid != was.rid {
+        return Err("a row left its place")?;
+    }
+    list.rows.push(is)?;
+    Ok(())
+}
+
+// Whether the rows of a block are those of the list, and of one cell.
+fn are_right(alloc: Global, shape: Shape, list: &PlainList, hits: &[Hit]) -> Result<bool, Fail> {
+    let mut cell = None;
+    for hit in hits {
+        let Some(held) = row_in(list, hit.rid) else {
+            return Ok(false);
+        };
+        if !is_same_row(&hit.row, &row_of(alloc, shape, held.number, held.seed)?) {
+            return Ok(false);
+        }
+        let its = cell_of(shape, held.seed);
+        if cell.is_some_and(|cell| cell != its) {
+            return Ok(false);
+        }
+        cell = Some(its);
+    }
+    Ok(true)
+}
+
+// Looks at all Used blocks: their rows are those of the list.
+fn check<P: Pages>(
+    alloc: Global,
+    table: &Table,
+    pages: &mut P,
+    list: &PlainList,
+) -> Result<(), Fail>
+    requires defined { IsTableDef table.now.def.number table.now.def }
+    requires going { (P.state pages.old).ended ≡ false }
+    ensures going { (P.state pages.new).ended ≡ false }
+{
+    let (def, ext) = (&table.def, &table.ext);
+    let blocks = used_blocks(alloc, def, ext, pages)?;
+    let mut many: usize = 0;
+    for block in blocks.as_slice() {
+        if *block >= ext.cap {
+            return Err("a block that there isn't")?;
+        }
+        let hits = rows_of_used_block(alloc, def, ext, pages, *block)?;
+        if hits.len() == 0 || !are_right(alloc, table.shape, list, hits.as_slice())? {
+            return Err("other rows")?;
+        }
+        many = many.wrapping_add(hits.len());
+    }
+    let account = blocks_of(alloc, table, pages)?;
+    if many != list.rows.len() || account.used != blocks.len() as u64 || account.pending != 0 {
+        return Err("another number of rows")?;
+    }
+    Ok(())
+}
+
+// Looks at each row of the list by its place.
+fn look_each<P: Pages>(
+    alloc: Global,
+    table: &Table,
+    pages: &mut P,
+    list: &PlainList,
+) -> Result<(), Fail>
+    requires defined { IsTableDef table.now.def.number table.now.def }
+    requires going { (P.state pages.old).ended ≡ false }
+{
+    for held in &list.rows {
+        let row = row_of(alloc, table.shape, held.number, held.seed)?;
+        let Some(found) = row_at(alloc, &table.def, &table.ext, pages, held.rid)? else {
+            return Err("no row")?;
+        };
+        if !is_same_row(&found, &row) {
+            return Err("another row")?;
+        }
+    }
+    Ok(())
+}
+
+// So many changes of an empty table, looked at again and again. Answers how many rows there are at last.
+fn run<P: Pages>(alloc: Global, shape: Shape, pages: &mut P, rounds: u32) -> Result<usize, Fail>
+    requires going { (P.state pages.old).ended ≡ false }
+{
+    let mut table = table_of(alloc, shape, EXTENTS, pages)?;
+    let mut list = no_rows(alloc, shape);
+    let mut number: u64 = 1;
+    for _ in 0..rounds {
+        number = change_some(alloc, &mut table, pages, &mut list, number)?;
+        check(alloc, &table, pages, &list)?;
+    }
+    look_each(alloc, &table, pages, &list)?;
+    Ok(list.rows.len())
+}
+
+#[test]
+fn rows_of_many_cells_are_those_of_a_list(rt: HostRuntime) -> Result<(), Fail> {
+    let many = run(rt.alloc(), Shape::Mixed, &mut fresh_store(rt.alloc())?, 40)?;
+    assert!(rt; many > 18);
+    Ok(())
+}
+
+#[test]
+fn rows_of_full_blocks_are_those_of_a_list(rt: HostRuntime) -> Result<(), Fail> {
+    let many = run(rt.alloc(), Shape::Wide, &mut fresh_store(rt.alloc())?, 40)?;
+    assert!(rt; many > 40);
+    Ok(())
+}

@@ -1,0 +1,128 @@
+// The rows of these tests, each told by its number in the table and by a seed.
+ghost use Rattle.std.specs.Prelude.{◌≡◌, IfOk};
+
+use crate::tables::Shape;
+use mdc_ast::Row;
+use mdc_values::{Chars, List, Memory, Value};
+use std::alloc::Global;
+
+/// The days that rows have.
+pub const LEAP_DAY: u32 = 20_240_229;
+
+pub const LAST_DAY: u32 = 19_991_231;
+
+// How many cells seeds tell apart.
+const WIDE_CELLS: u64 = 100;
+
+const MIXED_CELLS: u64 = 18;
+
+/// The number of the cell that the row of a seed is of.
+pub fn cell_of(shape: Shape, seed: u64) -> u64 {
+    match shape {
+        Shape::Wide => seed % WIDE_CELLS,
+        Shape::Mixed => seed % MIXED_CELLS,
+    }
+}
+
+/// A seed for any number: of four cells in the wide table, and of all in the mixed one.
+pub fn seed_of(shape: Shape, any: u64) -> u64 {
+    match shape {
+        Shape::Wide => any % 4 + WIDE_CELLS * (any / 4 % 26),
+        Shape::Mixed => any % (MIXED_CELLS * 30),
+    }
+}
+
+/// How many rows a block of the table has.
+pub fn slots_of(shape: Shape) -> u16 {
+    match shape {
+        Shape::Wide => 10,
+        Shape::Mixed => 192,
+    }
+}
+
+/// The row of a number and a seed.
+pub fn row_of(alloc: Global, shape: Shape, number: u64, seed: u64) -> Result<Row, Memory>
+    ensures number { IfOk result (λ row. row.number ≡ number) }
+{
+    let values = match shape {
+        Shape::Wide => wide_values(alloc, number, seed)?,
+        Shape::Mixed => mixed_values(alloc, number, seed)?,
+    };
+    Ok(Row { number, values })
+}
+
+// D is the cell, and X, Y and Z tell rows of one cell apart.
+fn wide_values(alloc: Global, number: u64, seed: u64) -> Result<List<Value>, Memory> {
+    let letter = b'A' + (seed / WIDE_CELLS % 26) as u8;
+    let mut values = List::new(alloc);
+    values.push(Value::Int((seed % WIDE_CELLS) as i64))?;
+    values.push(Value::Int((number % 1_000_000) as i64))?;
+    values.push(Value::Text(Chars::of(alloc, b"NORTH")?))?;
+    values.push(Value::Text(Chars::of(alloc, &[letter])?))?;
+    values.push(Value::Null)?;
+    Ok(values)
+}
+
+// D, R and T are of the cell, with nulls and an empty text among them; V and S tell rows of one cell apart.
+fn mixed_values(alloc: Global, number: u64, seed: u64) -> Result<List<Value>, Memory> {
+    let cell = seed % MIXED_CELLS;
+    let mut values = List::new(alloc);
+    values.push(Value::Int((number % 1_000_000) as i64))?;
+    values.push(number_or_null(cell % 3))?;
+    values.push(number_or_null(cell / 3 % 2))?;
+    values.push(Value::Int((seed % 1_000) as i64 - 5_000_000_000))?;
+    values.push(text_or_null(alloc, cell / 6)?)?;
+    values.push(day_or_null(seed / MIXED_CELLS % 3))?;
+    Ok(values)
+}
+
+fn number_or_null(which: u64) -> Value {
+    match which {
+        0 => Value::Null,
+        1 => Value::Int(-7),
+        _ => Value::Int(2_000_000_000),
+    }
+}
+
+fn text_or_null(alloc: Global, which: u64) -> Result<Value, Memory> {
+    match which {
+        0 => Ok(Value::Text(Chars::of(alloc, b"")?)),
+        1 => Ok(Value::Text(Chars::of(alloc, b"A SOUTH")?)),
+        _ => Ok(Value::Null),
+    }
+}
+
+fn day_or_null(which: u64) -> Value {
+    match which {
+        0 => Value::Null,
+        1 => Value::Day(LEAP_DAY),
+        _ => Value::Day(LAST_DAY),
+    }
+}
+
+/// Whether a row is another one.
+pub fn is_same_row(a: &Row, b: &Row) -> bool {
+    a.number == b.number && are_same(a.values.as_slice(), b.values.as_slice())
+}
+
+fn are_same(a: &[Value], b: &[Value]) -> bool {
+    if a.len() != b.len() {
+        return false;
+    }
+    for i in 0..a.len() {
+        if i < b.len() && !is_same(&a[i], &b[i]) {
+            return false;
+        }
+    }
+    true
+}
+
+fn is_same(a: &Value, b: &Value) -> bool {
+    match (a, b) {
+        (Value::Null, Value::Null) => true,
+        (Value::Int(a), Value::Int(b)) => a == b,
+        (Value::Text(a), Value::Text(b)) => a.bytes() == b.bytes(),
+        (Value::Day(a), Value::Day(b)) => a == b,
+        _ => false,
+    }
+}

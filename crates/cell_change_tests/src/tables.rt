@@ -1,0 +1,132 @@
+// The tables of these tests: their trees, and their definitions by the bytes of table pages.
+ghost use Rattle.std.specs.Prelude.{◌≡◌, [], false, IfOk};
+ghost use Rattle.table_page.specs.TableLimits.{IsTableDef};
+
+use crate::stores::extents_of;
+use entry_tree::Tree;
+use extent_map::Extents;
+use mdc_ast::TableDef;
+use mdc_table::Rooms;
+use std::alloc::Global;
+use std::test::Fail;
+use store_api::{Page, Pages, blank_page, put};
+use table_page::def_of;
+
+/// Which table.
+#[derive(Clone, Copy, Debug, PartialEq, Eq)]
+pub enum Shape {
+    /// `W (D INTEGER, K INTEGER, X CHAR(254), Y CHAR(254), Z CHAR(254))` by D. A row has 780 bytes, so a block has 10.
+    Wide,
+    /// `W (K INTEGER NOT NULL, D INTEGER, R INTEGER, V BIGINT, T CHAR(8), S DATE)` by D and (R, T). A row has 42 bytes, so a
+    /// block has 192.
+    Mixed,
+}
+
+/// A table that is changed, and the notes that go with it.
+#[derive(Debug, Drop)]
+pub struct Table {
+    pub shape: Shape,
+    pub def: TableDef,
+    pub ext: Extents,
+    pub rooms: Rooms,
+}
+
+/// An empty table in a database of so many extents of two pages.
+pub fn table_of<P: Pages>(
+    alloc: Global,
+    shape: Shape,
+    cap: u32,
+    pages: &mut P,
+) -> Result<Table, Fail>
+    requires going { (P.state pages.old).ended ≡ false }
+    ensures defined { IfOk result (λ table. IsTableDef table.def.number table.def) }
+    ensures no_indexes { IfOk result (λ table. table.def.indexes ≡ []) }
+    ensures going { (P.state pages.new).ended ≡ false }
+    ensures marked { (P.state pages.new).marked ≡ (P.state pages.old).marked }
+{
+    let mut ext = extents_of(cap)?;
+    let page = page_of(alloc, shape, &mut ext, pages)?;
+    Ok(Table {
+        shape,
+        def: definition_on(alloc, &page)?,
+        ext,
+        rooms: Rooms::new(alloc),
+    })
+}
+
+// Makes the trees of a table, and its page.
+fn page_of<P: Pages>(
+    alloc: Global,
+    shape: Shape,
+    ext: &mut Extents,
+    pages: &mut P,
+) -> Result<Page, Fail>
+    requires going { (P.state pages.old).ended ≡ false }
+    ensures going { (P.state pages.new).ended ≡ false }
+    ensures marked { (P.state pages.new).marked ≡ (P.state pages.old).marked }
+{
+    let map = Tree::make(alloc, ext, pages, 7)?.root;
+    match shape {
+        Shape::Wide => {
+            let all = Tree::make(alloc, ext, pages, 9)?.root;
+            let by_d = Tree::make(alloc, ext, pages, 9)?.root;
+            Ok(wide_page(map, all, by_d))
+        }
+        Shape::Mixed => {
+            let all = Tree::make(alloc, ext, pages, 23)?.root;
+            let by_d = Tree::make(alloc, ext, pages, 9)?.root;
+            let by_rt = Tree::make(alloc, ext, pages, 18)?.root;
+            Ok(mixed_page(map, all, by_d, by_rt))
+        }
+    }
+}
+
+// The definition on a page of the table 0, which has no indexes.
+fn definition_on(alloc: Global, page: &Page) -> Result<TableDef, Fail>
+    ensures defined { IfOk result (λ def. IsTableDef def.number def) }
+    ensures no_indexes { IfOk result (λ def. def.indexes ≡ []) }
+{
+    let found = def_of(alloc, page, 0)?;
+    let Some(def) = found else {
+        return Err("a page of zeros")?;
+    };
+    if def.indexes.len() > 0 {
+        return Err("a table with indexes")?;
+    }
+    Ok(def)
+}
+
+// The page of the wide table with these roots.
+fn wide_page(map: u32, all: u32, by_d: u32) -> Page {
+    let mut page = *blank_page();
+    put(&mut page, 0, b"\x54W                 \x05\x01\x00");
+    put(&mut page, 30, &map.to_be_bytes());
+    put(&mut page, 34, &all.to_be_bytes());
+    put(&mut page, 38, &by_d.to_be_bytes());
+    put(&mut page, 54, b"D                 \x01\x00\x00");
+    put(&mut page, 85, b"K                 \x01\x00\x00");
+    put(&mut page, 116, b"X                 \x03\xfe\x00");
+    put(&mut page, 147, b"Y                 \x03\xfe\x00");
+    put(&mut page, 178, b"Z                 \x03\xfe\x00");
+    put(&mut page, 550, b"\x01\x00");
+    page
+}
+
+// The page of the mixed table with these roots.
+fn mixed_page(map: u32, all: u32, by_d: u32, by_rt: u32) -> Page {
+    let mut page = *blank_page();
+    put(&mut page, 0, b"\x54W                 \x06\x02\x00");
+    put(&mut page, 30, &map.to_be_bytes());
+    put(&mut page, 34, &all.to_be_bytes());
+    put(&mut page, 38, &by_d.to_be_bytes());
+    put(&mut page, 42, &by_rt.to_be_bytes());
+    put(&mut page, 54, b"K                 \x01\x00\x01");
+    put(&mut page, 85, b"D                 \x01\x00\x00");
+    put(&mut page, 116, b"R                 \x01\x00\x00");
+    put(&mut page, 147, b"V                 \x02\x00\x00");
+    put(&mut page, 178, b"T                 \x03\x08\x00");
+    put(&mut page, 209, b"S                 \x04\x00\x00");
+    put(&mut page, 550, b"\x01\x01");
+    put(&mut page, 567, b"\x02\x02\x04");
+    page
+}
