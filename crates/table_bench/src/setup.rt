@@ -1,5 +1,5 @@
 // The file that is looked at.
-ghost use Rattle.std.specs.Prelude.{◌≡◌, false, IfOk};
+ghost use Rattle.std.specs.Prelude.{◌≡◌, false, None, IfOk};
 
 use crate::stop::Stop;
 use extent_map::Extents;
@@ -14,6 +14,7 @@ const CACHE: usize = 1024;
 /// Opens the database in a file.
 pub fn opened<H: Host + Drop>(alloc: Global, mut host: H, path: &str) -> Result<FileStore<H>, Stop>
     ensures going { IfOk result (λ store. (⟦<FileStore<H> as Pages>⟧.state store).ended ≡ false) }
+    ensures unmarked { IfOk result (λ store. (⟦<FileStore<H> as Pages>⟧.state store).marked ≡ None) }
 {
     host.attach(path, false)?;
     match FileStore::open(alloc, host, CACHE) {
