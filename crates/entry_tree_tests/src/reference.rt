@@ -81,19 +81,19 @@ fn step<S: Store>(
     save(store)
 }
 
-// Fills a tree and empties it, in several orders.
-fn fill_and_empty<S: Store>(
+// Fills a tree whole, after some entries came in two orders and went again.
+fn fill<S: Store>(
     alloc: Global,
     tree: &Tree,
     ext: &mut Extents,
     store: &mut S,
+    there: &mut [bool],
 ) -> Result<(), Fail>
     requires going { (S.state store.old).ended ≡ false }
     requires unmarked { (S.state store.old).marked ≡ None }
     ensures going { OnOk result ((S.state store.new).ended ≡ false) }
+    ensures unmarked { OnOk result ((S.state store.new).marked ≡ None) }
 {
-    let mut all = vec![in alloc; false; NUMBERS]?;
-    let there = all.as_mut_slice();
     step(
         alloc,
         tree,
@@ -118,7 +118,22 @@ fn fill_and_empty<S: Store>(
         store,
         there,
         Change::Add(Order::Rising, NUMBERS),
-    )?;
+    )
+}
+
+// Empties a tree, with some entries put back in between.
+fn empty<S: Store>(
+    alloc: Global,
+    tree: &Tree,
+    ext: &mut Extents,
+    store: &mut S,
+    there: &mut [bool],
+) -> Result<(), Fail>
+    requires going { (S.state store.old).ended ≡ false }
+    requires unmarked { (S.state store.old).marked ≡ None }
+    ensures going { OnOk result ((S.state store.new).ended ≡ false) }
+    ensures unmarked { OnOk result ((S.state store.new).marked ≡ None) }
+{
     step(
         alloc,
         tree,
@@ -144,6 +159,23 @@ fn fill_and_empty<S: Store>(
         there,
         Change::Remove(Order::Rising, NUMBERS),
     )
+}
+
+// Fills a tree and empties it, in several orders.
+fn fill_and_empty<S: Store>(
+    alloc: Global,
+    tree: &Tree,
+    ext: &mut Extents,
+    store: &mut S,
+) -> Result<(), Fail>
+    requires going { (S.state store.old).ended ≡ false }
+    requires unmarked { (S.state store.old).marked ≡ None }
+    ensures going { OnOk result ((S.state store.new).ended ≡ false) }
+{
+    let mut all = vec![in alloc; false; NUMBERS]?;
+    let there = all.as_mut_slice();
+    fill(alloc, tree, ext, store, there)?;
+    empty(alloc, tree, ext, store, there)
 }
 
 // How many pages a tree of a width has in use once it was filled and emptied, and after it has given all back.
