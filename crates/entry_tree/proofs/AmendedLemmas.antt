@@ -17,6 +17,7 @@ use Rattle.entry_tree.specs.Forest.Forest.{Fork, Leaf, Nil}
 use Rattle.entry_tree.specs.HeldTrees.{nodes_in, HoldsTree, IsTreePage, BreaksTree}
 use Rattle.entry_tree.specs.Reading.{AreAtLeast, entries_from}
 use Rattle.entry_tree.specs.Spots.{IsAtSpot, IsSpot, fence_bound, high_fence, high_fence_in, low_fence, low_fence_in}
+use Rattle.entry_tree.specs.TreeChanges.{KeepsLeafCounts}
 use Rattle.entry_tree.specs.TreePlaces.{Frame, entries_behind, high_of, low_of, plug}
 use Rattle.entry_tree.specs.declared.spot.Fence.{Fence}
 use Rattle.entry_tree.specs.declared.tree.Tree.{Tree}
@@ -244,6 +245,7 @@ module _ {S : Type 0} {g : Ghosts S} where
         was = ap leaf_entries whole ∙ a.was;
         is = a.is;
         pages = λ p. a.pages p ∙ sym (ap (times p) whole);
+        leaves = subst (λ (u : Forest). KeepsLeafCounts u a.after) (sym whole) a.leaves;
       }
 
   -- the separator that is moved is one of the tree

@@ -1,5 +1,5 @@
 -- An entry is replaced by another one in its leaf.
-use Rattle.std.proofs.Common.{◌≡◌, ◌≢◌, ℕ, suc, List, [], ◌∷◌, ◌++◌, refl, ap, arith, sym, ◌∙◌, subst, append_assoc, append-nil, take, drop, set, inl, inr}
+use Rattle.std.proofs.Common.{◌≡◌, ◌≢◌, ℕ, suc, List, [], ◌∷◌, ◌++◌, refl, ap, arith, sym, ◌∙◌, subst, append_assoc, append-nil, take, drop, set, inl, inr, length-append}
 use Rattle.std.specs.Prelude.{Some, None, true, false}
 use Rattle.std.proofs.Math.Seq.{drop-cons, set-append_seam}
 use Rattle.std.proofs.lemmas.List.{length-take-le, take-append-drop}
@@ -12,12 +12,14 @@ use Rattle.entry_tree.specs.Forest.{EachNode, Forest, HoldsEntry, IsTree, IsTrim
 use Rattle.entry_tree.specs.Forest.Forest.{Leaf, Nil}
 use Rattle.entry_tree.specs.Reading.{AreAtLeast, AreUnder}
 use Rattle.entry_tree.specs.Spots.{IsAtSpot, fence_bound, high_fence, low_fence}
+use Rattle.entry_tree.specs.TreeChanges.{KeepsLeafCounts}
 use Rattle.entry_tree.specs.TreePlaces.{AreMatched, Frame, entries_before, entries_behind, high_of, low_of, plug}
 use Rattle.entry_tree.specs.declared.spot.Fence.{Fence}
 use Rattle.entry_tree.proofs.AlikeLemmas.{AllAbove-alike, AllBelow-alike, alone_left, alone_right}
 use Rattle.entry_tree.proofs.DescentLemmas.{outside}
 use Rattle.entry_tree.proofs.EntryBoundsLemmas.{AllAbove, AllAbove-and, AllBelow, AllBelow-and, Climbs-above, Climbs-and, Rises-below, Under-up, below_itself, below_trans, put_between, up_to}
 use Rattle.entry_tree.proofs.FencesLemmas.{IsSamePlace, SetsFence, high_moved, high_of-with_high, high_of-with_low, holds_plug, low_moved, low_of-with_high, low_of-with_low, with_high, with_high-place, with_low, with_low-place}
+use Rattle.entry_tree.proofs.LeafCountsLemmas.{KeepsLeafCounts-plug}
 use Rattle.entry_tree.proofs.LeavesLemmas.{EachBeside-from_plug, fork_trim, trim_fork}
 use Rattle.entry_tree.proofs.ReadingLemmas.{AllAbove-least, AreAtLeast-and, AreAtLeast-down, AreBehind, AreUnder-and, behind_place, least_of, Rises-least, Rises-under}
 use Rattle.entry_tree.proofs.ReadLeafLemmas.{high_fence-bound, low_fence-bound}
@@ -133,7 +135,7 @@ trim_moved nodes root f above fs here k p w =
     fork_trim (plug fs here) root w.head (holds_plug fs here (p.beside (EachBeside-from_plug HoldsEntry (f ∷ above) here each)) (EachNode-from_plug HoldsEntry (f ∷ above) here each))
 
 same_place : (fs : List Frame) → IsSamePlace fs fs
-same_place fs = record { matched = λ m. m; before = refl; behind = refl; counts = λ n. refl; beside = λ b. b }
+same_place fs = record { matched = λ m. m; before = refl; behind = refl; counts = λ n. refl; beside = λ b. b; leaves = KeepsLeafCounts-plug fs }
 
 -- there is room as it is
 pub roomy_still : (old new : ℕ → Node) (root page : ℕ) (above : List Frame) (front : List Entry) (x : Entry) (back : List Entry) (y : Entry) → IsTwin old root above page front x back y
@@ -222,6 +224,7 @@ pub record IsAmendedTree (new : ℕ → Node) (root : ℕ) (t : Forest) (x y : E
   pub was : leaf_entries t ≡ with_entry x rest
   pub is : leaf_entries after ≡ with_entry y rest
   pub pages : (p : ℕ) → times p after ≡ times p t
+  pub leaves : KeepsLeafCounts t after
 
 with_at : (v : Entry) (before front back behind : List Entry) → AllBelow v before → AllBelow v front → AllAbove v back → AllAbove v behind
     → before ++ (((front ++ v ∷ back) ++ []) ++ behind) ≡ with_entry v ((before ++ front) ++ (back ++ behind))
@@ -253,6 +256,7 @@ amended old mid new root page above front x back y w r e o =
           ∙ ap (λ (b : List Entry). entries_before above ++ (((front ++ y ∷ back) ++ []) ++ b)) r.place.behind
           ∙ with_at y (entries_before above) front back (entries_behind above) w.before w.fore w.after w.behind;
       pages = λ n. omega (arith, times-plug n r.fs there, times-plug n above here, r.place.counts n);
+      leaves = r.place.leaves here there (refl, omega (arith, length-append front (x ∷ back), length-append front (y ∷ back)), tt);
     }
   where
     some : (xs : List Entry) → EachNode HoldsEntry (Leaf page (xs ++ y ∷ back) Nil)

@@ -11,9 +11,11 @@ use Rattle.entry_tree.specs.Forest.{EachNode, Forest, HasNode, HoldsEntry, IsTre
 use Rattle.entry_tree.specs.Forest.Forest.{Fork, Leaf, Nil}
 use Rattle.entry_tree.specs.Reading.{AreAtLeast, AreUnder}
 use Rattle.entry_tree.specs.Spots.{high_fence, high_fence_in, low_fence, low_fence_in}
+use Rattle.entry_tree.specs.TreeChanges.{KeepsLeafCounts}
 use Rattle.entry_tree.specs.TreePlaces.{AreMatched, Frame, entries_before, entries_behind, first_or, high_of, last_or, low_of, plug, times_beside}
 use Rattle.entry_tree.specs.declared.spot.Fence.{Fence}
 use Rattle.entry_tree.proofs.ForestLemmas.{EachNode-and, and_assoc, and_nil, heads-and, leaf_entries-and}
+use Rattle.entry_tree.proofs.LeafCountsLemmas.{KeepsLeafCounts-around, KeepsLeafCounts-plug}
 use Rattle.entry_tree.proofs.LeavesLemmas.{EachBeside}
 use Rattle.entry_tree.proofs.ReadingLemmas.{AreAtLeast-from_and, AreUnder-from_and, RightRow, right_row}
 use Rattle.entry_tree.proofs.RefitLemmas.{separator_moved}
@@ -57,9 +59,10 @@ pub record IsSamePlace (above fs : List Frame) : Type 0 where
   pub behind : entries_behind fs ≡ entries_behind above
   pub counts : (n : ℕ) → times_beside n fs ≡ times_beside n above
   pub beside : EachBeside HoldsEntry above → EachBeside HoldsEntry fs
+  pub leaves : (t u : Forest) → KeepsLeafCounts t u → KeepsLeafCounts (plug above t) (plug fs u)
 
 with_low-same : (s : Entry) (fs : List Frame) → IsSamePlace fs (with_low s fs)
-with_low-same s [] = record { matched = λ m. m; before = refl; behind = refl; counts = λ n. refl; beside = λ b. b }
+with_low-same s [] = record { matched = λ m. m; before = refl; behind = refl; counts = λ n. refl; beside = λ b. b; leaves = λ t u k. k }
 with_low-same s (f ∷ fs) = go f.lows refl (with_low-same s fs)
   where
     go : (lows : List Entry) → f.lows ≡ lows → IsSamePlace fs (with_low s fs) → IsSamePlace (f ∷ fs) (with_low_in s f lows fs (with_low s fs))
@@ -69,6 +72,8 @@ with_low-same s (f ∷ fs) = go f.lows refl (with_low-same s fs)
       behind = ap (λ (l : List Entry). leaf_entries f.right ++ l) r.behind;
       counts = λ n. omega (arith, r.counts n);
       beside = λ b. (b.0, b.1, r.beside b.2);
+      leaves = λ t u k. r.leaves (Fork f.page (f.lows ++ f.highs) (f.left & (t & f.right)) Nil) (Fork f.page (f.lows ++ f.highs) (f.left & (u & f.right)) Nil)
+          (refl, KeepsLeafCounts-around f t u k, tt);
     }
     go (l ∷ ls) e r = record {
       matched = λ m. (omega (arith, m.0, ap length e, length-lasts l ls, length-append (lasts l ls) (s ∷ [])), m.1);
@@ -76,10 +81,12 @@ with_low-same s (f ∷ fs) = go f.lows refl (with_low-same s fs)
       behind = refl;
       counts = λ n. refl;
       beside = λ b. b;
+      leaves = λ t u k. KeepsLeafCounts-plug fs (Fork f.page (f.lows ++ f.highs) (f.left & (t & f.right)) Nil)
+          (Fork f.page ((lasts l ls ++ s ∷ []) ++ f.highs) (f.left & (u & f.right)) Nil) (refl, KeepsLeafCounts-around f t u k, tt);
     }
 
 with_high-same : (s : Entry) (fs : List Frame) → IsSamePlace fs (with_high s fs)
-with_high-same s [] = record { matched = λ m. m; before = refl; behind = refl; counts = λ n. refl; beside = λ b. b }
+with_high-same s [] = record { matched = λ m. m; before = refl; behind = refl; counts = λ n. refl; beside = λ b. b; leaves = λ t u k. k }
 with_high-same s (f ∷ fs) = go f.highs (with_high-same s fs)
   where
     go : (highs : List Entry) → IsSamePlace fs (with_high s fs) → IsSamePlace (f ∷ fs) (with_high_in s f highs fs (with_high s fs))
@@ -89,8 +96,18 @@ with_high-same s (f ∷ fs) = go f.highs (with_high-same s fs)
       behind = ap (λ (l : List Entry). leaf_entries f.right ++ l) r.behind;
       counts = λ n. omega (arith, r.counts n);
       beside = λ b. (b.0, b.1, r.beside b.2);
+      leaves = λ t u k. r.leaves (Fork f.page (f.lows ++ f.highs) (f.left & (t & f.right)) Nil) (Fork f.page (f.lows ++ f.highs) (f.left & (u & f.right)) Nil)
+          (refl, KeepsLeafCounts-around f t u k, tt);
     }
-    go (h ∷ hs) r = record { matched = λ m. m; before = refl; behind = refl; counts = λ n. refl; beside = λ b. b }
+    go (h ∷ hs) r = record {
+      matched = λ m. m;
+      before = refl;
+      behind = refl;
+      counts = λ n. refl;
+      beside = λ b. b;
+      leaves = λ t u k. KeepsLeafCounts-plug fs (Fork f.page (f.lows ++ f.highs) (f.left & (t & f.right)) Nil)
+          (Fork f.page (f.lows ++ s ∷ hs) (f.left & (u & f.right)) Nil) (refl, KeepsLeafCounts-around f t u k, tt);
+    }
 
 pub with_low-place : (s : Entry) (fs : List Frame) → IsSamePlace fs (with_low s fs)
 with_low-place s fs = with_low-same s fs

@@ -21,6 +21,7 @@ pub mod FreeingLemmas
 pub mod GoingDownLemmas
 pub mod GoingUpLemmas
 pub mod HeldTreesLemmas
+pub mod LeafCountsLemmas
 pub mod LeafFromLemmas
 pub mod LeafSpotsLemmas
 pub mod LeavesLemmas

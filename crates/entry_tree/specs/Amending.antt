@@ -9,6 +9,7 @@ use Rattle.entry_tree.specs.Forest.{Forest, leaf_entries, times}
 use Rattle.entry_tree.specs.HeldTrees.{nodes_in, HoldsTree}
 use Rattle.entry_tree.specs.Reading.{entries_from, IsFirstFrom}
 use Rattle.entry_tree.specs.Spots.{fence_bound}
+use Rattle.entry_tree.specs.TreeChanges.{KeepsLeafCounts}
 use Rattle.entry_tree.specs.declared.spot.Fence.{Fence}
 use Rattle.entry_tree.specs.declared.tree.Tree.{Tree}
 
@@ -16,7 +17,7 @@ use Rattle.entry_tree.specs.declared.tree.Tree.{Tree}
 abbrev pub HasOwnFront : Entry → List Entry → Type 0
 HasOwnFront x xs = (y : Entry) → IsEntryOf y xs → take 4 y ≡ take 4 x → y ≡ x
 
--- the tree with y in the place of x, on the same pages
+-- the tree with y in the place of x, on the same pages, and each leaf with as many entries as it had
 pub record AmendsEntry {S : Type 0} (g : Ghosts S) (new : S) (tree : Tree) (x y : Entry) (t : Forest) : Type 0 where
   pub after : Forest
   pub rest : List Entry
@@ -24,6 +25,7 @@ pub record AmendsEntry {S : Type 0} (g : Ghosts S) (new : S) (tree : Tree) (x y 
   pub was : leaf_entries t ≡ with_entry x rest
   pub is : leaf_entries after ≡ with_entry y rest
   pub pages : (p : ℕ) → times p after ≡ times p t
+  pub leaves : KeepsLeafCounts t after
 
 -- x was there, and it was done where no other entry has the first four bytes of x; or x wasn't there, and the work stays
 abbrev pub IsAmended : {S : Type 0} → Ghosts S → S → S → Tree → Entry → Entry → Forest → Bool → Type 0

@@ -33,6 +33,13 @@ KeepsLeaf width old t page (LeafNode items) =
 KeepsLeaf width old t page (InnerNode seps children) = ⊤
 KeepsLeaf width old t page NoNode = ⊤
 
+-- the same nodes on the same pages, and each leaf has as many entries as it had
+abbrev pub KeepsLeafCounts : Forest → Forest → Type 0
+KeepsLeafCounts Nil Nil = ⊤
+KeepsLeafCounts (Leaf page items next) (Leaf other others behind) = (page ≡ other) × (length items ≡ length others) × KeepsLeafCounts next behind
+KeepsLeafCounts (Fork page seps kids next) (Fork other bounds children behind) = (page ≡ other) × KeepsLeafCounts kids children × KeepsLeafCounts next behind
+KeepsLeafCounts t u = ⊥
+
 -- how often a page stands among those that were claimed
 abbrev pub times_among : ℕ → List ℕ → ℕ
 times_among n [] = 0

@@ -19,7 +19,8 @@ use store_api::{Page, Pages, StoreFault};
 
 impl Tree {
     /// Replaces an entry by another one with the same first four bytes. Answers whether it was there. Where these bytes begin
-    /// no other entry, the tree is as before but for that entry. It claims no page. Damaged names the root.
+    /// no other entry, the tree is as before but for that entry, and each leaf keeps its number of entries. It claims no page.
+    /// Damaged names the root.
     pub fn amend<P: Pages>(&self, pages: &mut P, old: &[u8], new: &[u8]) -> Result<bool, StoreFault>
         requires old_width { length old.now ≡ self.now.width }
         requires new_width { length new.now ≡ self.now.width }
