@@ -1,6 +1,6 @@
 -- What claims and returns of index pages leave of the owners.
 use Rattle.std.proofs.Common.{◌≡◌, ◌≢◌, ◌<◌, ◌+◌, ℕ, List, [], ◌∷◌, length, length-set, set, sum_by, refl, ap, arith, sym, ◌∙◌, subst, inl, inr, ◌⊎◌, IsTrue, get_or-set_same, get_or-set_other}
-use Rattle.std.specs.Prelude.{None, if◌then◌else◌}
+use Rattle.std.specs.Prelude.{None, Some, if◌then◌else◌}
 use Rattle.std.specs.Int.{bit_at}
 use Rattle.std.proofs.lemmas.Bool.{cases_eq, cases_lt, eq-eqb, ne_eqb}
 use Rattle.std.proofs.lemmas.Nat.Bits.{bit_at-lt}
@@ -20,6 +20,12 @@ use Rattle.entry_tree.proofs.UsedPagesLemmas.{length-with_pages, used_after, use
 use Rattle.table_trees.specs.TreesBeside.{KeepsOwners, table_of_block}
 
 -- ---- blocks
+
+-- the kind that is a block of a table
+pub block_of_table : (kind : Kind) (t : ℕ) → table_of_block kind ≡ Some t → kind ≡ Block t
+block_of_table Free t is = absurd cc
+block_of_table (Block table) t is = cc
+block_of_table (Index used) t is = absurd cc
 
 block_set : (owners : List Kind) (e i : ℕ) (kind : Kind) → table_of_block kind ≡ table_of_block (owner_of owners e) → table_of_block (owner_of (set owners e kind) i) ≡ table_of_block (owner_of owners i)
 block_set owners e i kind same = elim (cases_eq i e) [
@@ -47,7 +53,7 @@ block_without_place j (Block table) = refl
 block_without_place j (Index used) = block_index_or_free _
 
 module _ (ext : Extents) where
-  blocks-with_pages : (owners : List Kind) (claimed : List ℕ) (e : ℕ) → table_of_block (owner_of (with_pages ext owners claimed) e) ≡ table_of_block (owner_of owners e)
+  pub blocks-with_pages : (owners : List Kind) (claimed : List ℕ) (e : ℕ) → table_of_block (owner_of (with_pages ext owners claimed) e) ≡ table_of_block (owner_of owners e)
   blocks-with_pages owners [] e = refl
   blocks-with_pages owners (p ∷ claimed) e =
       blocks-with_pages (with_used_page ext owners p) claimed e

@@ -1,6 +1,16 @@
+pub mod ExtentCountsLemmas
+pub mod GrowingPagesLemmas
 pub mod KeptOwnersLemmas
 pub mod PageCountLemmas
+pub mod PlaceCountsLemmas
+pub mod SameSpaceLemmas
+pub mod ShapedSpaceLemmas
 pub mod SideBySideLemmas
+pub mod SpaceChainsLemmas
+pub mod SpaceStepsLemmas
 pub mod TableTreesLemmas
+pub mod ToldNodesLemmas
+pub mod ToldPagesLemmas
 pub mod TreeListsLemmas
 pub mod TreesBesideLemmas
+pub mod TurningTreesLemmas

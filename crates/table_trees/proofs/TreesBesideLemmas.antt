@@ -41,7 +41,7 @@ claimed_among p (q ∷ claimed) some = elim (cases_eq p q) [
 module _ {S : Type 0} {g : Ghosts S} where
   -- ---- a tree alone
 
-  one_stands : (ext : Extents) (s : S) (tree : Tree) (owners : List Kind) (t : Forest) → StandsTree g ext s tree owners t → StandTrees g ext s owners (place_of_tree tree ∷ []) (t ∷ [])
+  pub one_stands : (ext : Extents) (s : S) (tree : Tree) (owners : List Kind) (t : Forest) → StandsTree g ext s tree owners t → StandTrees g ext s owners (place_of_tree tree ∷ []) (t ∷ [])
   one_stands ext s tree owners t st = record {
     map = st.map;
     held = (record { is_tree = st.held.is_tree; trim = st.held.trim }, tt);
@@ -82,7 +82,7 @@ module _ {S : Type 0} {g : Ghosts S} where
 
   -- ---- an entry more
 
-  adds_alone : (before ext : Extents) (old new : S) (tree : Tree) (x : Entry) (owners : List Kind) (t : Forest) → IsSameShape before ext → StandsTree g before old tree owners t
+  pub adds_alone : (before ext : Extents) (old new : S) (tree : Tree) (x : Entry) (owners : List Kind) (t : Forest) → IsSameShape before ext → StandsTree g before old tree owners t
       → (a : AddsEntry g before ext old new tree x owners t)
       → ChangesTrees g before ext new (place_of_tree tree ∷ []) owners (t ∷ []) (with_pages before owners a.claimed) (a.after ∷ [])
   adds_alone before ext old new tree x owners t shape st a = record {
@@ -106,7 +106,7 @@ module _ {S : Type 0} {g : Ghosts S} where
 
   -- ---- an entry less
 
-  removes_alone : (before ext : Extents) (old new : S) (tree : Tree) (x : Entry) (owners : List Kind) (t : Forest) → IsSameShape before ext → StandsTree g before old tree owners t
+  pub removes_alone : (before ext : Extents) (old new : S) (tree : Tree) (x : Entry) (owners : List Kind) (t : Forest) → IsSameShape before ext → StandsTree g before old tree owners t
       → (r : RemovesEntry g before ext new tree x owners t) → ChangesTrees g before ext new (place_of_tree tree ∷ []) owners (t ∷ []) (without_pages before owners r.gone) (r.after ∷ [])
   removes_alone before ext old new tree x owners t shape st r = record {
     stand = one_stands ext new tree (without_pages before owners r.gone) r.after r.stands;
@@ -127,7 +127,7 @@ module _ {S : Type 0} {g : Ghosts S} where
 
   -- ---- an entry in the place of another
 
-  amends_alone : (ext : Extents) (old new : S) (tree : Tree) (x y : Entry) (owners : List Kind) (t : Forest) → StandsTree g ext old tree owners t → Touches g (IsTreePage g old tree) old new
+  pub amends_alone : (ext : Extents) (old new : S) (tree : Tree) (x y : Entry) (owners : List Kind) (t : Forest) → StandsTree g ext old tree owners t → Touches g (IsTreePage g old tree) old new
       → length (g.state old).work ≤ length (g.state new).work → (a : AmendsEntry g new tree x y t) → ChangesTrees g ext ext new (place_of_tree tree ∷ []) owners (t ∷ []) owners (a.after ∷ [])
   amends_alone ext old new tree x y owners t st touched longer a = record {
     stand = one_stands ext new tree owners a.after (record {
