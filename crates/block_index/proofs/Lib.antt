@@ -1,6 +1,8 @@
 pub mod CellsLemmas
 pub mod LeavesLemmas
+pub mod ListedCellsLemmas
 pub mod ListingLemmas
+pub mod ListingSpaceLemmas
 pub mod PartRangesLemmas
 pub mod ReadingRunsLemmas
 pub mod RisingLemmas

@@ -1,5 +1,5 @@
 -- Listing a block index by index: what one entry more or less makes of what was done so far.
-use Rattle.std.proofs.Common.{◌≡◌, ◌≤◌, ◌+◌, arith, ℕ, zero, suc, List, [], ◌∷◌, length, take, drop, set, sum_by, refl, ap, sym, ◌∙◌, subst}
+use Rattle.std.proofs.Common.{◌≡◌, ◌≤◌, ◌+◌, arith, ℕ, zero, suc, List, [], ◌∷◌, IsTrue, length, take, drop, set, sum_by, refl, ap, sym, ◌∙◌, subst}
 use Rattle.std.specs.Prelude.{Bool, true, false, MatchBool, Option, Some, None, slice_get}
 use Rattle.std.proofs.lemmas.Option.{same_Some}
 use Rattle.mdc_words.specs.ByteOrder.{Entry}
@@ -11,7 +11,7 @@ use Rattle.store_api.specs.declared.fault.StoreFault.{StoreFault}
 use Rattle.store_api.specs.declared.pages.Pages.{Ghosts}
 use Rattle.store_api.proofs.RunsOverPagesLemmas.{runs_none, runs_then}
 use Rattle.extent_map.specs.Damages.{IfFull}
-use Rattle.extent_map.specs.Owners.{IsSameShape}
+use Rattle.extent_map.specs.Owners.{AreRightNotes, IsSameShape}
 use Rattle.extent_map.specs.declared.extents.Extents.{Extents}
 use Rattle.extent_map.specs.declared.fault.SpaceFault.{SpaceFault}
 use Rattle.extent_map.specs.declared.fault.SpaceFault.TheVariants.{Full, Store}
@@ -20,14 +20,17 @@ use Rattle.entry_tree.specs.Forest.{Forest, times}
 use Rattle.entry_tree.specs.Pruning.{IsTreeOrMapPage, RemovesEntry, without_pages}
 use Rattle.entry_tree.specs.Standing.{AddsEntry, FindsFull, IsTreeSpace, StandsTree, with_pages}
 use Rattle.entry_tree.specs.declared.tree.Tree.{Tree}
+use Rattle.table_trees.specs.SpaceChanges.{MakesChanges, RunsFull, added_entries, removed_entries}
+use Rattle.table_trees.specs.SpaceChanges.SpaceChange.{AddEntry, RemoveEntry}
 use Rattle.table_trees.specs.TableTrees.{block_index_places, place_of_tree}
 use Rattle.table_trees.specs.TreesBeside.{GrowsPages, IsSpaceOfTrees, IsTreesOrMapPage, StandTrees}
 use Rattle.table_trees.proofs.PageCountLemmas.{grows_pages_none, grows_pages_then, grows_pages_with}
 use Rattle.table_trees.proofs.SideBySideLemmas.{changes_none, changes_then, place_space, place_trees_or_map, space_back, sum_no_less, sum_no_more, tree_among, trees_or_map_back}
 use Rattle.table_trees.proofs.TreeListsLemmas.{cut_at, set_at_cut, times-one, times-parts}
 use Rattle.table_trees.proofs.TreesBesideLemmas.{adds_beside, removes_beside, space_of_tree, trees_or_map_of_removal}
-use Rattle.block_index.specs.Cells.{cell_entries}
+use Rattle.block_index.specs.Cells.{cell_entries, index_listings}
 use Rattle.block_index.specs.Listing.{BreaksEntering, BreaksLeaving, BreaksListing, BreaksUnlisting, ChangesFirst, ComesTo, FillsListing, GainsEntry, GainsFirst, LosesEntry, LosesFirst, ListsBlock, MoveFirst, UnlistsBlock}
+use Rattle.block_index.proofs.ListingSpaceLemmas.{HaveAdded, HaveRemoved, added_full, added_next, added_none, made_all, removed_next, removed_none}
 
 -- an answer of a call that is a truth value
 pub if_false : {B : Type 0} (A : Type 0) (b : Bool) → b ≡ false → MatchBool b A B → B
@@ -137,6 +140,7 @@ module _ {S : Type 0} (g : Ghosts S) (before : Extents) (old : S) (def : TableDe
 -- the loop over the indexes that enters: the first n gained an entry each
 pub record IsListing {S : Type 0} (g : Ghosts S) (before now : Extents) (old mid : S) (def : TableDef) (values : List Value) (block n : ℕ) : Type 0 where
   pub done : HaveGained g before old def values block now mid n
+  pub makes : HaveAdded g before old (block_index_places def) (cell_entries def values block) mid n
   pub grows : (owners : List Kind) (trees : List Forest) → StandTrees g before old owners (block_index_places def) trees → GrowsPages g before old mid
   pub shape : IsSameShape before now
   pub runs : RunsOverPages g (IsSpaceOfTrees g before old (block_index_places def)) (IsSpaceOfTrees g before old (block_index_places def)) (BreaksListing g before old def values block) old mid None
@@ -144,6 +148,7 @@ pub record IsListing {S : Type 0} (g : Ghosts S) (before now : Extents) (old mid
 -- the loop that takes out: the first n lost an entry each
 pub record IsUnlisting {S : Type 0} (g : Ghosts S) (before now : Extents) (old mid : S) (def : TableDef) (values : List Value) (block n : ℕ) : Type 0 where
   pub done : HaveLost g before old def values block now mid n
+  pub makes : HaveRemoved g before old (block_index_places def) (cell_entries def values block) mid n
   pub count : length (g.state mid).work ≡ length (g.state old).work
   pub shape : IsSameShape before now
   pub runs : RunsOverPages g (IsTreesOrMapPage g before old (block_index_places def)) (IsTreesOrMapPage g before old (block_index_places def)) (BreaksUnlisting g before old def values block) old mid None
@@ -154,6 +159,7 @@ listing_none g before old def values block = record {
     first = record { owners_now = owners; trees_now = trees; changes = changes_none before old (block_index_places def) owners trees st; moves = refl };
     pages = λ q. omega arith;
   };
+  makes = added_none g before old (block_index_places def) (cell_entries def values block);
   grows = λ owners trees st. grows_pages_none before old;
   shape = record { cap = refl; extent_pages = refl };
   runs = runs_none;
@@ -165,6 +171,7 @@ unlisting_none g before old def values block = record {
     first = record { owners_now = owners; trees_now = trees; changes = changes_none before old (block_index_places def) owners trees st; moves = refl };
     pages = λ q. omega arith;
   };
+  makes = removed_none g before old (block_index_places def) (cell_entries def values block);
   count = refl;
   shape = record { cap = refl; extent_pages = refl };
   runs = runs_none;
@@ -180,6 +187,10 @@ module _ {S : Type 0} {g : Ghosts S} (before now ext : Extents) (old mid new : S
   enters_next so shape adds more = record {
     done = subst (HaveGained g before old def values block ext new) (omega arith)
         (gained_next g before old def values block now ext mid new n tree x at is shape more.works.steady.is_told so.done more.touches adds);
+    makes = λ owners trees st told notes.
+        let d = (so.done owners trees st).first in
+        added_next g before old (block_index_places def) (cell_entries def values block) now ext mid new n tree x at is so.runs.works.steady.is_told owners d.owners_now trees d.trees_now d.changes told notes
+        (so.makes owners trees st told notes) shape more.works.steady.is_told more.touches adds;
     grows = λ owners trees st.
         let d = (so.done owners trees st).first in
         let one = tree_among now mid d.owners_now (block_index_places def) d.trees_now tree n d.changes.stand at in
@@ -196,6 +207,10 @@ module _ {S : Type 0} {g : Ghosts S} (before now ext : Extents) (old mid new : S
   leaves_next so shape count removes more = record {
     done = subst (HaveLost g before old def values block ext new) (omega arith)
         (lost_next g before old def values block now ext mid new n tree x at is shape more.works.steady.is_told so.done more.touches removes);
+    makes = λ owners trees st told.
+        let d = (so.done owners trees st).first in
+        removed_next g before old (block_index_places def) (cell_entries def values block) now ext mid new n tree x at is so.runs.works.steady.is_told owners d.owners_now trees d.trees_now d.changes told
+        (so.makes owners trees st told) shape more.works.steady.is_told count more.touches removes;
     count = count ∙ so.count;
     shape = record { cap = shape.cap ∙ so.shape.cap; extent_pages = shape.extent_pages ∙ so.shape.extent_pages };
     runs = leaving_runs g before old def values block now mid n tree x at is new None so.shape so.done so.runs more;
@@ -208,6 +223,17 @@ module _ {S : Type 0} {g : Ghosts S} (before now ext : Extents) (old mid new : S
   fills_there (Full cap) so full = (full.0 ∙ so.shape.cap, record { now = now; mid = mid; tree = tree; x = x; comes = comes_to g before old def values block now mid n tree x at is GainsEntry so.shape (gained_changed g before old def values block now mid n so.done); full = full.1 })
   fills_there (Store fault) so full = tt
 
+  -- and where the listing runs full
+  pub runs_full_there : (fault : SpaceFault) → IsListing g before now old mid def values block n
+      → IfFull fault (λ cap. (cap ≡ now.cap) × ((owners : List Kind) (t : Forest) → StandsTree g now mid tree owners t → FindsFull g now ext mid new tree x owners t))
+      → IfFull fault (λ cap. (owners : List Kind) (trees : List Forest) → StandTrees g before old owners (block_index_places def) trees → IsTrue (g.state old).is_told → AreRightNotes before owners
+      → RunsFull before (g.state old).work (added_entries (index_listings def values block)))
+  runs_full_there (Full cap) so full = λ owners trees st told notes.
+      let d = (so.done owners trees st).first in
+      added_full g before old (block_index_places def) (cell_entries def values block) now ext mid new n tree x at is so.runs.works.steady.is_told owners d.owners_now trees d.trees_now d.changes told notes
+      (so.makes owners trees st told notes) full.1
+  runs_full_there (Store fault) so full = tt
+
 -- all indexes were changed
 module _ {S : Type 0} {g : Ghosts S} (before now : Extents) (old mid : S) (def : TableDef) (values : List Value) (block n : ℕ) (all : n ≡ length (cell_entries def values block)) where
   pub all_listed : IsListing g before now old mid def values block n → (owners : List Kind) (trees : List Forest) → StandTrees g before old owners (block_index_places def) trees → ListsBlock g before now mid def values block owners trees
@@ -215,3 +241,12 @@ module _ {S : Type 0} {g : Ghosts S} (before now : Extents) (old mid : S) (def :
 
   pub all_unlisted : IsUnlisting g before now old mid def values block n → (owners : List Kind) (trees : List Forest) → StandTrees g before old owners (block_index_places def) trees → UnlistsBlock g before now mid def values block owners trees
   all_unlisted so = subst (HaveLost g before old def values block now mid) all so.done
+
+  -- as changes of space
+  pub all_added : IsListing g before now old mid def values block n → (owners : List Kind) (trees : List Forest) → StandTrees g before old owners (block_index_places def) trees → IsTrue (g.state old).is_told → AreRightNotes before owners
+      → MakesChanges before (g.state old).work (added_entries (index_listings def values block)) (g.state mid).work
+  all_added so owners trees st told notes = made_all (λ listing. AddEntry listing.0 listing.1) before _ _ (block_index_places def) (cell_entries def values block) n (omega (arith, all)) (so.makes owners trees st told notes)
+
+  pub all_removed : IsUnlisting g before now old mid def values block n → (owners : List Kind) (trees : List Forest) → StandTrees g before old owners (block_index_places def) trees → IsTrue (g.state old).is_told
+      → MakesChanges before (g.state old).work (removed_entries (index_listings def values block)) (g.state mid).work
+  all_removed so owners trees st told = made_all (λ listing. RemoveEntry listing.0 listing.1) before _ _ (block_index_places def) (cell_entries def values block) n (omega (arith, all)) (so.makes owners trees st told)

@@ -212,20 +212,21 @@ walk_of_first width range all at within wide rises =
     let same : below x start ≡ below x range.low = ap (below x) filled ∙ below_filled range.low x width within (wide_entry width all x wide i) in
     ap (λ b. not b && not (reaches range.high x)) same ∙ ap (λ n. is_in_range range.low range.high (drop n x)) (sym at))))
 
+-- entries from zeros on are all entries
+pub from_zeros : (width : ℕ) (xs : List Entry) → AreOfWidth width xs → entries_from (replicate width 0) xs ≡ xs
+from_zeros width [] h = refl
+from_zeros width (x ∷ xs) h = ap (λ b. if b then entries_from (replicate width 0) xs else x ∷ entries_from (replicate width 0) xs) (not_below_zeros width x h.0) ∙ ap (λ ys. x ∷ ys) (from_zeros width xs h.1)
+
 -- at another part they are all entries
 pub walk_of_other : (width : ℕ) (range : PartRange) (all : List Entry) → (range.at == 0) ≡ false → AreOfWidth width all → walked width range all ≡ all
 walk_of_other width range all other wide =
     let start = start_of_walk width range in
     let zeros : start ≡ replicate width 0 = ap (λ b. if b then range.low ++ replicate (width - length range.low) 0 else replicate width 0) other in
-    until_all (entries_from start all) ∙ (ap (λ v. entries_from v all) zeros ∙ from_zeros all wide)
+    until_all (entries_from start all) ∙ (ap (λ v. entries_from v all) zeros ∙ from_zeros width all wide)
   where
     until_all : (xs : List Entry) → entries_until range xs ≡ xs
     until_all [] = refl
     until_all (x ∷ xs) = ap (λ b. if b && reaches range.high x then [] else x ∷ entries_until range xs) other ∙ ap (λ ys. x ∷ ys) (until_all xs)
-
-    from_zeros : (xs : List Entry) → AreOfWidth width xs → entries_from (replicate width 0) xs ≡ xs
-    from_zeros [] h = refl
-    from_zeros (x ∷ xs) h = ap (λ b. if b then entries_from (replicate width 0) xs else x ∷ entries_from (replicate width 0) xs) (not_below_zeros width x h.0) ∙ ap (λ ys. x ∷ ys) (from_zeros xs h.1)
 
 pub at_cases : (n : ℕ) → (n ≡ 0) ⊎ ((n == 0) ≡ false)
 at_cases n = elim (cases_eq n 0) [ inl same ↦ inl same | inr other ↦ inr (ne_eqb n 0 other) ]

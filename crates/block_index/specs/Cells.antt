@@ -1,5 +1,5 @@
 -- Cells: the values of the dimension columns, and the entries of a block in the block indexes under them.
-use Rattle.std.specs.Prelude.{◌≡◌, ◌<◌, ℕ, false, List, [], ◌∷◌, ◌++◌, length, drop, IsTrue}
+use Rattle.std.specs.Prelude.{◌≡◌, ◌<◌, ℕ, false, List, [], ◌∷◌, ◌++◌, length, drop, zip, IsTrue}
 use Rattle.std.specs.List.{AllByRecursion}
 use Rattle.byteorder.specs.Endian.{big_bytes}
 use Rattle.mdc_words.specs.ByteOrder.{Entry}
@@ -9,6 +9,7 @@ use Rattle.mdc_ast.specs.declared.definition.ColumnDef.{ColumnDef}
 use Rattle.mdc_ast.specs.declared.definition.TableDef.{TableDef}
 use Rattle.key_codec.specs.Keys.{has_key, part_bytes, type_of_column}
 use Rattle.table_trees.specs.RowCells.{cell_places}
+use Rattle.table_trees.specs.TableTrees.{TreePlace, block_index_places}
 
 -- the first values have keys in the columns in these places
 abbrev pub FitPlaces : List ColumnDef → List ℕ → List Value → Type 0
@@ -43,3 +44,7 @@ dimension_entries columns (dim ∷ dims) values block = entry_under (key_of_valu
 -- the entries of a block in the composite index and in those of the dimensions, under the values of its cell
 abbrev pub cell_entries : TableDef → List Value → ℕ → List Entry
 cell_entries def values block = entry_under (key_of_values def.columns (cell_places def) values) block ∷ dimension_entries def.columns def.dims values block
+
+-- each of these entries with the index that it is of
+abbrev pub index_listings : TableDef → List Value → ℕ → List (TreePlace × Entry)
+index_listings def values block = zip (block_index_places def) (cell_entries def values block)

@@ -6,14 +6,16 @@
 //! or isn't there, the root of that index is named by rule 10.
 //!
 //! `first_block_from`, `blocks_of` and `blocks_in` read them: they answer exactly for whatever tree an index is told to hold,
-//! bring pages of that index alone to hand, and name its root by rule 4 only where it hasn't the form of a tree. It stands on
-//! `table_trees` and `key_codec`, and on `mdc_steps` for how many entries a search goes over.
+//! bring pages of that index alone to hand, and name its root by rule 4 only where it hasn't the form of a tree. `cells` reads
+//! the whole composite index: where each entry lists a block under a cell, it gives exactly these cells and blocks, in the
+//! order of the index. It stands on `table_trees` and `key_codec`, and on `mdc_steps` for how many entries a search goes over.
 #![tactic(auto)]
 
 mod entries;
 mod in_span;
 mod keys;
 mod leaves;
+mod listed_cells;
 mod listing;
 mod part_range;
 mod under_key;
@@ -21,6 +23,7 @@ mod unlisting;
 
 pub use in_span::blocks_in;
 pub use keys::cell_key;
+pub use listed_cells::{CellBlock, cells};
 pub use listing::list_block;
 pub use under_key::{blocks_of, first_block_from};
 pub use unlisting::unlist_block;

@@ -1,15 +1,16 @@
 // A block comes into the block indexes.
-ghost use Rattle.std.specs.Prelude.{◌≡◌, ℕ, List, false, length, IfErr, OnOk};
+ghost use Rattle.std.specs.Prelude.{◌≡◌, ℕ, List, false, length, IfErr, IsTrue, OnOk};
 ghost use Rattle.store_api.specs.Causes.{store_fault_in};
 ghost use Rattle.store_api.specs.RunsOverPages.{RunsOverPages};
 ghost use Rattle.extent_map.specs.Damages.{IfFull, store_part_of};
-ghost use Rattle.extent_map.specs.Owners.{IsSameShape};
+ghost use Rattle.extent_map.specs.Owners.{AreRightNotes, IsSameShape};
 ghost use Rattle.extent_map.specs.declared.kind.Kind.{Kind};
 ghost use Rattle.entry_tree.specs.Forest.{Forest};
 ghost use Rattle.entry_tree.specs.Standing.{AddsEntry, FindsFull, IsTreeSpace, StandsTree};
+ghost use Rattle.table_trees.specs.SpaceChanges.{MakesChanges, RunsFull, added_entries};
 ghost use Rattle.table_trees.specs.TableTrees.{HasBlockIndexes, block_index_places};
 ghost use Rattle.table_trees.specs.TreesBeside.{GrowsPages, IsSpaceOfTrees, StandTrees};
-ghost use Rattle.block_index.specs.Cells.{FitsCell};
+ghost use Rattle.block_index.specs.Cells.{FitsCell, index_listings};
 ghost use Rattle.block_index.specs.Listing.{BreaksEntering, BreaksListing, FillsListing, ListsBlock};
 
 use crate::entries::cell_entries;
@@ -23,8 +24,9 @@ use table_trees::block_index_tree;
 /// The rule that damage of a block index names: it is exactly the blocks under their cells' values.
 const INDEX_RULE: u16 = 10;
 
-/// Lists a block under the values of its cell: in the composite index, and then in that of each dimension. Where an index has
-/// the entry already, its root is damaged by rule 10. After a fault `undo` goes back, and the notes of the extents are to be
+/// Lists a block under the values of its cell: in the composite index, and then in that of each dimension. It claims no more
+/// pages than these entries ask for, and `Full` says that one of them asks for more than there are. Where an index has the entry
+/// already, its root is damaged by rule 10. After a fault `undo` goes back, and the notes of the extents are to be
 /// forgotten.
 pub fn list_block<P: Pages>(
     alloc: Global,
@@ -40,6 +42,10 @@ pub fn list_block<P: Pages>(
     ensures lists { OnOk result ((owners : List Kind) (trees : List Forest) → StandTrees P.Pages ext.old pages.old owners (block_index_places def.now) trees
         → ListsBlock P.Pages ext.old ext.new pages.new def.now cell.now.values block owners trees) }
     ensures full { IfErr result (λ fault. IfFull fault (λ cap. (cap ≡ ext.old.cap) × FillsListing P.Pages ext.old ext.new pages.old pages.new def.now cell.now.values block)) }
+    ensures makes { OnOk result ((owners : List Kind) (trees : List Forest) → StandTrees P.Pages ext.old pages.old owners (block_index_places def.now) trees
+        → IsTrue (P.state pages.old).is_told → AreRightNotes ext.old owners → MakesChanges ext.old (P.state pages.old).work (added_entries (index_listings def.now cell.now.values block)) (P.state pages.new).work) }
+    ensures runs_full { IfErr result (λ fault. IfFull fault (λ cap. (owners : List Kind) (trees : List Forest) → StandTrees P.Pages ext.old pages.old owners (block_index_places def.now) trees
+        → IsTrue (P.state pages.old).is_told → AreRightNotes ext.old owners → RunsFull ext.old (P.state pages.old).work (added_entries (index_listings def.now cell.now.values block)))) }
     ensures grows { OnOk result ((owners : List Kind) (trees : List Forest) → StandTrees P.Pages ext.old pages.old owners (block_index_places def.now) trees
         → GrowsPages P.Pages ext.old pages.old pages.new) }
     ensures shape { IsSameShape ext.old ext.new }

@@ -1,5 +1,5 @@
 // A block leaves the block indexes.
-ghost use Rattle.std.specs.Prelude.{◌≡◌, ℕ, List, false, length, OnOk};
+ghost use Rattle.std.specs.Prelude.{◌≡◌, ℕ, List, false, length, IsTrue, OnOk};
 ghost use Rattle.store_api.specs.Causes.{fault_of};
 ghost use Rattle.store_api.specs.RunsOverPages.{RunsOverPages};
 ghost use Rattle.extent_map.specs.Owners.{IsSameShape};
@@ -7,9 +7,10 @@ ghost use Rattle.extent_map.specs.declared.kind.Kind.{Kind};
 ghost use Rattle.entry_tree.specs.Forest.{Forest};
 ghost use Rattle.entry_tree.specs.Pruning.{IsTreeOrMapPage, RemovesEntry};
 ghost use Rattle.entry_tree.specs.Standing.{StandsTree};
+ghost use Rattle.table_trees.specs.SpaceChanges.{MakesChanges, removed_entries};
 ghost use Rattle.table_trees.specs.TableTrees.{HasBlockIndexes, block_index_places};
 ghost use Rattle.table_trees.specs.TreesBeside.{IsTreesOrMapPage, StandTrees};
-ghost use Rattle.block_index.specs.Cells.{FitsCell};
+ghost use Rattle.block_index.specs.Cells.{FitsCell, index_listings};
 ghost use Rattle.block_index.specs.Listing.{BreaksLeaving, BreaksUnlisting, UnlistsBlock};
 
 use crate::entries::cell_entries;
@@ -36,6 +37,8 @@ pub fn unlist_block<P: Pages>(
     requires going { (P.state pages.old).ended ≡ false }
     ensures unlists { OnOk result ((owners : List Kind) (trees : List Forest) → StandTrees P.Pages ext.old pages.old owners (block_index_places def.now) trees
         → UnlistsBlock P.Pages ext.old ext.new pages.new def.now cell.now.values block owners trees) }
+    ensures makes { OnOk result ((owners : List Kind) (trees : List Forest) → StandTrees P.Pages ext.old pages.old owners (block_index_places def.now) trees
+        → IsTrue (P.state pages.old).is_told → MakesChanges ext.old (P.state pages.old).work (removed_entries (index_listings def.now cell.now.values block)) (P.state pages.new).work) }
     ensures count { length (P.state pages.new).work ≡ length (P.state pages.old).work }
     ensures shape { IsSameShape ext.old ext.new }
     ensures runs { RunsOverPages P.Pages (IsTreesOrMapPage P.Pages ext.old pages.old (block_index_places def.now)) (IsTreesOrMapPage P.Pages ext.old pages.old (block_index_places def.now))

@@ -9,7 +9,7 @@ use Rattle.table_trees.specs.TreesBeside.{IsSpaceOfTrees}
 use Rattle.block_index.specs.Cells.{cell_entries}
 use Rattle.block_index.specs.Listing.{BreaksListing}
 use Rattle.block_index.proofs.CellsLemmas.{entry_at, entry_width, length-dimension_entries}
-use Rattle.block_index.proofs.ListingLemmas.{all_listed, entering_runs, enters_next, fills_there, listing_none}
+use Rattle.block_index.proofs.ListingLemmas.{all_listed, all_added, entering_runs, enters_next, fills_there, listing_none, runs_full_there}
 use Rattle.block_index.proofs.listing.list_block.Goals as goal
 
 pub returns-in_err-entries-clause-runs : goal.returns-in_err-entries-clause-runs
@@ -32,6 +32,12 @@ returns-in_err-enter-clause-full g c =
     (fills_there c.args.ext.now c.loop-i.ext c.enter.new.ext c.args.pages.now c.loop-i.pages c.enter.new.pages c.args.def.now c.args.cell.now.values c.args.block c.loop-i.i c.block_index_tree-tree.result c.bytes.result.now c.block_index_tree-tree.ensures (entry_at c.in_ok-entries.entries.items (cell_entries c.args.def.now c.args.cell.now.values c.args.block) c.loop-i.i c.index.result.now c.bytes.result.now c.in_ok-entries.ensures.entries (omega (arith, c.loop-i-test.true, c.len-i-end.ensures)) c.index.ensures c.bytes.ensures)
     c.in_err-enter.field-0.0 c.loop-i.invariant c.in_err-enter.ensures.full)
 
+pub returns-in_err-enter-clause-runs_full : goal.returns-in_err-enter-clause-runs_full
+returns-in_err-enter-clause-runs_full g c =
+    if_err_by c.from_residual-in_err-enter.result c.in_err-enter.field-0.0 _ c.from_residual-in_err-enter.ensures.1
+    (runs_full_there c.args.ext.now c.loop-i.ext c.enter.new.ext c.args.pages.now c.loop-i.pages c.enter.new.pages c.args.def.now c.args.cell.now.values c.args.block c.loop-i.i c.block_index_tree-tree.result c.bytes.result.now c.block_index_tree-tree.ensures (entry_at c.in_ok-entries.entries.items (cell_entries c.args.def.now c.args.cell.now.values c.args.block) c.loop-i.i c.index.result.now c.bytes.result.now c.in_ok-entries.ensures.entries (omega (arith, c.loop-i-test.true, c.len-i-end.ensures)) c.index.ensures c.bytes.ensures)
+    c.in_err-enter.field-0.0 c.loop-i.invariant c.in_err-enter.ensures.full)
+
 pub returns-in_err-enter-clause-runs : goal.returns-in_err-enter-clause-runs
 returns-in_err-enter-clause-runs g c =
     runs_exit_as store_part_of c.from_residual-in_err-enter.result c.from_residual-in_err-enter.ensures.1
@@ -46,6 +52,11 @@ loop-i-preserved g c =
 pub returns-clause-lists : goal.returns-clause-lists
 returns-clause-lists g c =
     all_listed c.args.ext.now c.loop-i.ext c.args.pages.now c.loop-i.pages c.args.def.now c.args.cell.now.values c.args.block c.loop-i.i
+    (omega (arith, c.loop-i-test.false, c.loop-i.auto.i-end, c.len-i-end.ensures, ap length c.in_ok-entries.ensures.entries)) c.loop-i.invariant
+
+pub returns-clause-makes : goal.returns-clause-makes
+returns-clause-makes g c =
+    all_added c.args.ext.now c.loop-i.ext c.args.pages.now c.loop-i.pages c.args.def.now c.args.cell.now.values c.args.block c.loop-i.i
     (omega (arith, c.loop-i-test.false, c.loop-i.auto.i-end, c.len-i-end.ensures, ap length c.in_ok-entries.ensures.entries)) c.loop-i.invariant
 
 pub loop-i-init : goal.loop-i-init

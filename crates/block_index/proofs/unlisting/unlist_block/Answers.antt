@@ -7,7 +7,7 @@ use Rattle.table_trees.specs.TreesBeside.{IsTreesOrMapPage}
 use Rattle.block_index.specs.Cells.{cell_entries}
 use Rattle.block_index.specs.Listing.{BreaksUnlisting}
 use Rattle.block_index.proofs.CellsLemmas.{entry_at, entry_width, length-dimension_entries}
-use Rattle.block_index.proofs.ListingLemmas.{all_unlisted, leaves_next, leaving_runs, unlisting_none}
+use Rattle.block_index.proofs.ListingLemmas.{all_unlisted, all_removed, leaves_next, leaving_runs, unlisting_none}
 use Rattle.block_index.proofs.unlisting.unlist_block.Goals as goal
 
 pub returns-in_err-entries-clause-runs : goal.returns-in_err-entries-clause-runs
@@ -38,6 +38,11 @@ loop-i-preserved g c =
 pub returns-clause-unlists : goal.returns-clause-unlists
 returns-clause-unlists g c =
     all_unlisted c.args.ext.now c.loop-i.ext c.args.pages.now c.loop-i.pages c.args.def.now c.args.cell.now.values c.args.block c.loop-i.i
+    (omega (arith, c.loop-i-test.false, c.loop-i.auto.i-end, c.len-i-end.ensures, ap length c.in_ok-entries.ensures.entries)) c.loop-i.invariant
+
+pub returns-clause-makes : goal.returns-clause-makes
+returns-clause-makes g c =
+    all_removed c.args.ext.now c.loop-i.ext c.args.pages.now c.loop-i.pages c.args.def.now c.args.cell.now.values c.args.block c.loop-i.i
     (omega (arith, c.loop-i-test.false, c.loop-i.auto.i-end, c.len-i-end.ensures, ap length c.in_ok-entries.ensures.entries)) c.loop-i.invariant
 
 pub loop-i-init : goal.loop-i-init
