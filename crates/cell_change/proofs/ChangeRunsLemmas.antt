@@ -28,7 +28,7 @@ use Rattle.cell_change.proofs.TableStepsLemmas.{space_before}
 first_page_at : (before mid : Extents) (block : ℕ) → IsSameShape before mid → first_page_of mid.cap mid.extent_pages block ≡ first_page_of before.cap before.extent_pages block
 first_page_at before mid block s = rw (s.cap, s.extent_pages) refl
 
-extent_at : (before mid : Extents) (p : ℕ) → IsSameShape before mid → extent_of before p ≡ extent_of mid p
+pub extent_at : (before mid : Extents) (p : ℕ) → IsSameShape before mid → extent_of before p ≡ extent_of mid p
 extent_at before mid p s = rw (s.cap, s.extent_pages) refl
 
 names_at : (before mid : Extents) (def : TableDef) (damage : Damage) → IsSameShape before mid → NamesTablePart mid def damage → NamesTablePart before def damage

@@ -34,7 +34,7 @@ pub full_as : (fault : SpaceFault) (P Q : ℕ → Type 0) → ((cap : ℕ) → P
 full_as (Full cap) P Q as_well is = as_well cap is
 full_as (Store fault) P Q as_well is = tt
 
-same_claims : (spots : List Spot) → SpotsAfterClaims spots spots
+pub same_claims : (spots : List Spot) → SpotsAfterClaims spots spots
 same_claims [] = tt
 same_claims (spot ∷ spots) = (claims_change.stays spot, same_claims spots)
 
@@ -43,7 +43,7 @@ same_returns [] = tt
 same_returns (spot ∷ spots) = (returns_change.stays spot, same_returns spots)
 
 -- blocks have as many slots in extents of the same shape
-slots_same : (before ext : Extents) (def : TableDef) → IsSameShape before ext → block_slot_count ext def ≡ block_slot_count before def
+pub slots_same : (before ext : Extents) (def : TableDef) → IsSameShape before ext → block_slot_count ext def ≡ block_slot_count before def
 slots_same before ext def shape = ap (λ n. n * slot_count def.columns) shape.extent_pages
 
 module _ {S : Type 0} (g : Ghosts S) where

@@ -1,5 +1,8 @@
 pub mod ChangeRunsLemmas
 pub mod ChangedRowLemmas
+pub mod ChangedSpaceLemmas
+pub mod KeptOthersLemmas
 pub mod RowChangesLemmas
 pub mod SameValuesLemmas
+pub mod StandsForRowLemmas
 pub mod TableStepsLemmas

@@ -1,7 +1,7 @@
 -- What one row more, one less and one that became another make of all rows of a table, and of pages that are sound between two
 -- changes of rows.
-use Rattle.std.proofs.Common.{◌≡◌, ◌<◌, ◌≤◌, ◌+◌, ℕ, List, [], ◌∷◌, Some, None, length, ap, arith, sym, ◌∙◌, subst}
-use Rattle.std.specs.Prelude.{IsPermutation, Option, slice_index_or}
+use Rattle.std.proofs.Common.{◌≡◌, ◌<◌, ◌≤◌, ◌+◌, ℕ, List, [], ◌∷◌, length, arith, sym, subst}
+use Rattle.std.specs.Prelude.{IsPermutation}
 use Rattle.std.proofs.lemmas.List.Sorted.{IsPermutation-sym}
 use Rattle.mdc_words.specs.ByteOrder.{Entry}
 use Rattle.mdc_values.specs.declared.rid.Rid.{Rid}
@@ -14,11 +14,9 @@ use Rattle.extent_map.specs.declared.kind.Kind.{Kind}
 use Rattle.entry_tree.specs.Forest.{Forest}
 use Rattle.table_page.specs.TableLimits.{IsTableDef}
 use Rattle.mdc_sound.specs.BlockRules.{AreRowNumbersSound}
-use Rattle.mdc_sound.specs.Placing.{IsRowAt, Spot}
-use Rattle.mdc_sound.specs.Placing.Spot.{OtherBlock, UsedBlock}
 use Rattle.mdc_sound.specs.SoundDatabase.{IsSoundBetweenChanges, with_table_page}
 use Rattle.mdc_sound.specs.StandingTable.{ChangesTable, HasRowAt, IsTableSpace, OverwritesRow, PlacesRow, StandsTable, TableForests, TakesRowOut, forests_in_order, pages_of, spots_of}
-use Rattle.mdc_sound.specs.TableRows.{PlacedRow, rows_in_table}
+use Rattle.mdc_sound.specs.TableRows.{rows_in_table}
 use Rattle.mdc_sound.specs.TableViews.{TableView, trees_of_table}
 use Rattle.mdc_sound.proofs.ChangedRowsLemmas.{rows_after_overwriting, rows_after_placing, rows_after_taking}
 use Rattle.mdc_sound.proofs.ChangedTablesLemmas.{between_with_next, between_without_indexes}
@@ -27,15 +25,8 @@ use Rattle.mdc_sound.proofs.RowNumbersLemmas.{numbers_in_order, numbers_over, nu
 use Rattle.mdc_sound.proofs.SoundDatabaseLemmas.{rows_with_table_page}
 use Rattle.mdc_sound.proofs.SpaceRulesLemmas.{there_at}
 use Rattle.mdc_sound.proofs.StandingTableLemmas.{forests_of, number_of_place, one_standing, stands_of_sound}
+use Rattle.mdc_table.proofs.RowSpaceLemmas.{same_row}
 use Rattle.cell_change.specs.RowChanges.{DeletesRow, HasThisRow, InsertsRow, row_in_place, rows_now}
-
--- one row alone lies in a place
-pub same_row : (spots : List Spot) (rid : Rid) (row other : Row) (slots more : List (Option Row)) → IsRowAt spots rid row slots → IsRowAt spots rid other more → row ≡ other
-same_row spots rid row other slots more one two =
-    let found : UsedBlock slots ≡ UsedBlock more = sym (one.block OtherBlock) ∙ two.block OtherBlock in
-    let same : slots ≡ more = cc in
-    let rows : Some row ≡ Some other = sym one.slot ∙ (ap (λ s. slice_index_or s rid.slot None) same ∙ two.slot) in
-    cc
 
 module _ {S : Type 0} (g : Ghosts S) where
   -- a row that is known lies in a place
@@ -69,7 +60,7 @@ module _ {S : Type 0} (g : Ghosts S) where
         → Touches g (IsTableSpace g before old def) old new → length (pages_of g old) ≤ length (pages_of g new) → IsSoundBetweenChanges before def (pages_of g old)
         → AreRowNumbersSound def (rows_now g ext new def forests_now) → IsSoundBetweenChanges ext def (pages_of g new)
     sound_after owners_now forests_now changes none touched longer between numbers =
-        between_without_indexes g before ext old new def owners owners_now forests forests_now between.sound st changes touched longer between.rule11 between.numbers none numbers
+        between_without_indexes g before ext old new def owners owners_now forests forests_now between.sound st changes touched longer between.rule11 between.numbers between.other_keys none numbers
 
     -- ---- a row more
 
@@ -84,7 +75,7 @@ module _ {S : Type 0} (g : Ghosts S) where
         let now = rows_now g ext new def places.forests_now in
         let rows = rows_after_placing g before ext room_from old new def owners forests st def.number row rid defined places in
         let more = numbers_with def (def.next + 1) (row_in_place rid row) (rows_now g before old def forests) (numbers_here before old def owners forests between st) (omega (arith, number)) (omega (arith, number)) in
-        between_with_next g before ext old new def owners places.owners_now forests places.forests_now between.sound st places.changes touched longer between.rule11 between.numbers none (def.next + 1) small
+        between_with_next g before ext old new def owners places.owners_now forests places.forests_now between.sound st places.changes touched longer between.rule11 between.numbers between.other_keys none (def.next + 1) small
         (numbers_in_order (with_next def (def.next + 1)) (row_in_place rid row ∷ rows_now g before old def forests) now rows more)
 
     -- ---- a row less

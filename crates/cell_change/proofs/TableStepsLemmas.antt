@@ -26,11 +26,11 @@ use Rattle.block_map.specs.MapLines.{map_lines, mapped_state}
 use Rattle.table_trees.specs.TreesBeside.{table_of_block}
 use Rattle.table_trees.proofs.KeptOwnersLemmas.{idle_no_block, used_no_block}
 use Rattle.table_trees.proofs.PageCountLemmas.{grows_pages_then}
+use Rattle.table_trees.specs.ToldPages.{PageList}
 use Rattle.mdc_sound.specs.Placing.{AfterReturns, Spot, left_with, spot_of_kind, spot_of_state}
 use Rattle.mdc_sound.specs.Placing.Spot.{FreeExtent, IndexExtent, OtherBlock, FreeBlock, PendingBlock, UsedBlock}
 use Rattle.mdc_sound.specs.StandingTable.{ChangesTable, IsBlockPageOf, StandsTable, TableForests, TakesRowOut, forests_in_order, pages_of, spots_of}
 use Rattle.mdc_sound.specs.TableRows.{block_slots}
-use Rattle.mdc_sound.specs.ToldPages.{PageList}
 use Rattle.mdc_sound.proofs.SpaceRulesLemmas.{used_or_not}
 use Rattle.mdc_sound.proofs.TableSpotsLemmas.{length-spots, spot_at}
 
@@ -98,7 +98,7 @@ idle_at one other owners p s idle = record {
   idle = elim idle.idle [ inl unused ↦ inl (unused_same one other owners p s unused) | inr free ↦ inr (ap (owner_of owners) (extent_same one other p s) ∙ free) ];
 }
 
-block_page_at : (one other : Extents) (owners : List Kind) (t p : ℕ) → IsSameShape one other → IsBlockPageOf other owners t p → IsBlockPageOf one owners t p
+pub block_page_at : (one other : Extents) (owners : List Kind) (t p : ℕ) → IsSameShape one other → IsBlockPageOf other owners t p → IsBlockPageOf one owners t p
 block_page_at one other owners t p s of = record { page = extent_page_same one other p s of.page; block = ap (owner_of owners) (extent_same one other p s) ∙ of.block }
 
 -- a page is idle where its extent is no block and it isn't used

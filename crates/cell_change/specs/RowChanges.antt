@@ -1,5 +1,5 @@
 -- What a change of one row makes of a table: where the row lies, and which rows there are.
-use Rattle.std.specs.Prelude.{◌≡◌, ℕ, List, ◌∷◌, Option, IsPermutation}
+use Rattle.std.specs.Prelude.{◌≡◌, ℕ, List, [], ◌∷◌, Option, IsPermutation}
 use Rattle.mdc_words.specs.ByteOrder.{Entry}
 use Rattle.mdc_values.specs.declared.rid.Rid.{Rid}
 use Rattle.mdc_ast.specs.declared.definition.TableDef.{TableDef}
@@ -7,7 +7,9 @@ use Rattle.mdc_ast.specs.declared.row.Row.{Row}
 use Rattle.store_api.specs.declared.pages.Pages.{Ghosts}
 use Rattle.extent_map.specs.declared.extents.Extents.{Extents}
 use Rattle.extent_map.specs.declared.kind.Kind.{Kind}
+use Rattle.table_trees.specs.SpaceChanges.{MakesChanges, SpaceChange}
 use Rattle.mdc_sound.specs.Placing.{ChangesRow, IsRowAt, Spot, SpotsAfterClaims, block_slot_count}
+use Rattle.mdc_sound.specs.RunningFull.{UpdatingChanges}
 use Rattle.mdc_sound.specs.StandingTable.{AreRightRooms, ChangesTable, PlacesRow, TableForests, TakesRowOut, pages_of, spots_of}
 use Rattle.mdc_sound.specs.TableRows.{PlacedRow, rows_in_table}
 
@@ -33,6 +35,12 @@ pub record InsertsRow {S : Type 0} (g : Ghosts S) (before ext : Extents) (room_f
 pub record DeletesRow {S : Type 0} (g : Ghosts S) (before ext : Extents) (room_from : Entry → ℕ) (old new : S) (def : TableDef) (row : Row) (rid : Rid) (owners : List Kind) (forests : TableForests) : Type 0 where
   pub takes : TakesRowOut g before ext room_from old new def owners forests row rid
   pub rows : IsPermutation (row_in_place rid row ∷ rows_now g ext new def takes.forests_now) (rows_now g before old def forests)
+
+-- An UPDATE of that one row makes these changes of space.
+pub record MakesOneChange {S : Type 0} (g : Ghosts S) (ext : Extents) (old new : S) (def : TableDef) (row other : Row) (rid : Rid) (owners : List Kind) (forests : TableForests) : Type 0 where
+  pub changes : List SpaceChange
+  pub updating : UpdatingChanges def (block_slot_count ext def) (spots_of g ext old def owners forests) ((row_in_place rid row, other) ∷ []) changes
+  pub makes : MakesChanges ext (pages_of g old) changes (pages_of g new)
 
 -- The row became another, in its place where it keeps its cell; the other rows stay. After that trees may have taken free extents.
 pub record ChangesOneRow {S : Type 0} (g : Ghosts S) (before ext : Extents) (room_from : Entry → ℕ) (old new : S) (def : TableDef) (row other : Row) (rid to : Rid) (owners : List Kind) (forests : TableForests) : Type 0 where

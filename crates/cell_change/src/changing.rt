@@ -1,18 +1,20 @@
 // A row becomes another.
-ghost use Rattle.std.specs.Prelude.{◌≡◌, [], List, false, IfErr, IfOk, OnOk};
+ghost use Rattle.std.specs.Prelude.{◌≡◌, ◌⊎◌, [], ◌∷◌, List, false, IfErr, IfOk, OnOk};
 ghost use Rattle.store_api.specs.Causes.{store_fault_in};
 ghost use Rattle.store_api.specs.RunsOverPages.{RunsOverPages};
 ghost use Rattle.extent_map.specs.Damages.{IfFull, store_part_of};
 ghost use Rattle.extent_map.specs.Owners.{IsSameShape};
 ghost use Rattle.extent_map.specs.declared.kind.Kind.{Kind};
+ghost use Rattle.mdc_ast.specs.meaning.Database.{Database, changed_at};
 ghost use Rattle.table_page.specs.TableLimits.{IsTableDef};
-ghost use Rattle.table_trees.specs.RowCells.{AreOfOneCell};
 ghost use Rattle.block_rows.specs.HeldRows.{HasReadValues};
 ghost use Rattle.mdc_sound.specs.FittingRows.{RowFits};
-ghost use Rattle.mdc_sound.specs.SoundDatabase.{IsSoundBetweenChanges};
-ghost use Rattle.mdc_sound.specs.StandingTable.{BreaksExpected, IsReadyTable, IsTableSpace, MeetsNoFree, TableForests, pages_of};
+ghost use Rattle.mdc_sound.specs.RunningFull.{UpdateRunsFull};
+ghost use Rattle.mdc_sound.specs.SoundDatabase.{IsSoundBetweenChanges, with_table_page};
+ghost use Rattle.mdc_sound.specs.StandingTable.{BreaksExpected, IsReadyTable, IsTableSpace, KeepsBlocksBut, TableForests, pages_of};
+ghost use Rattle.mdc_sound.specs.StandsForDatabase.{PagesStandFor, with_row};
 ghost use Rattle.cell_rooms.specs.RoomNotes.{room_from};
-ghost use Rattle.cell_change.specs.RowChanges.{ChangesOneRow, HasThisRow};
+ghost use Rattle.cell_change.specs.RowChanges.{ChangesOneRow, HasThisRow, MakesOneChange, row_in_place};
 
 use crate::cells::are_of_one_cell;
 use extent_map::{Extents, SpaceFault};
@@ -23,9 +25,10 @@ use std::alloc::Global;
 use store_api::Pages;
 
 /// Makes the row in a place, which is given, another one that fits the definition and has its number, and answers where that
-/// lies: in the same place where the cell is the same, else where placing puts it once the old one is out. `Full` says that it
-/// moves, and a claim met no free extent. After a fault `undo` goes back to a mark, and the notes of the extents and of the rooms are to be
-/// forgotten.
+/// lies: in the same place where the cell is the same, else where placing puts it once the old one is out. It claims
+/// no more pages than the row asks for, and `Full` says that an UPDATE of this row runs full: it moves, and what it needs then asks
+/// for more extents than are free. After a fault `undo` goes back to a mark, and the notes of the extents and of the rooms are to
+/// be forgotten.
 pub fn change_row<P: Pages>(
     alloc: Global,
     def: &TableDef,
@@ -45,11 +48,19 @@ pub fn change_row<P: Pages>(
     ensures changes { IfOk result (λ to. (owners : List Kind) (forests : TableForests) → IsReadyTable P.Pages ext.old (room_from rooms.old) pages.old def.now owners forests
         → HasThisRow P.Pages ext.old pages.old def.now rid was.now owners forests
         → ChangesOneRow P.Pages ext.old ext.new (room_from rooms.new) pages.old pages.new def.now was.now is.now rid to owners forests) }
+    ensures makes { IfOk result (λ to. (owners : List Kind) (forests : TableForests) → IsReadyTable P.Pages ext.old (room_from rooms.old) pages.old def.now owners forests
+        → HasThisRow P.Pages ext.old pages.old def.now rid was.now owners forests → MakesOneChange P.Pages ext.old pages.old pages.new def.now was.now is.now rid owners forests) }
+    ensures stay { IfOk result (λ to. (owners : List Kind) (forests : TableForests) → IsReadyTable P.Pages ext.old (room_from rooms.old) pages.old def.now owners forests
+        → KeepsBlocksBut P.Pages ext.old pages.old pages.new def.now owners (λ block. (block ≡ rid.block) ⊎ (block ≡ to.block))) }
     ensures sound { OnOk result ((owners : List Kind) (forests : TableForests) → IsReadyTable P.Pages ext.old (room_from rooms.old) pages.old def.now owners forests
         → HasThisRow P.Pages ext.old pages.old def.now rid was.now owners forests
         → IsSoundBetweenChanges ext.old def.now (pages_of P.Pages pages.old) → IsSoundBetweenChanges ext.new def.now (pages_of P.Pages pages.new)) }
+    ensures stands_for { OnOk result ((owners : List Kind) (forests : TableForests) → IsReadyTable P.Pages ext.old (room_from rooms.old) pages.old def.now owners forests
+        → HasThisRow P.Pages ext.old pages.old def.now rid was.now owners forests → IsSoundBetweenChanges ext.old def.now (pages_of P.Pages pages.old)
+        → (db : Database) → PagesStandFor ext.old (with_table_page def.now (pages_of P.Pages pages.old)) db
+        → PagesStandFor ext.new (with_table_page def.now (pages_of P.Pages pages.new)) (changed_at db def.now.number (with_row is.now))) }
     ensures full { IfErr result (λ fault. IfFull fault (λ cap. (cap ≡ ext.old.cap) × ((owners : List Kind) (forests : TableForests) → IsReadyTable P.Pages ext.old (room_from rooms.old) pages.old def.now owners forests
-        → HasThisRow P.Pages ext.old pages.old def.now rid was.now owners forests → (AreOfOneCell def.now was.now.values is.now.values → ⊥) × MeetsNoFree P.Pages ext.new pages.new))) }
+        → HasThisRow P.Pages ext.old pages.old def.now rid was.now owners forests → UpdateRunsFull ext.old (pages_of P.Pages pages.old) def.now ((row_in_place rid was.now, is.now) ∷ [])))) }
     ensures shape { IsSameShape ext.old ext.new }
     ensures runs { RunsOverPages P.Pages (IsTableSpace P.Pages ext.old pages.old def.now) (IsTableSpace P.Pages ext.old pages.old def.now)
         (BreaksExpected P.Pages ext.old pages.old def.now (HasThisRow P.Pages ext.old pages.old def.now rid was.now)) pages.old pages.new (store_fault_in store_part_of result) }

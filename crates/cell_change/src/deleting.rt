@@ -1,12 +1,19 @@
 // A row less.
-ghost use Rattle.std.specs.Prelude.{◌≡◌, [], List, false, length, OnOk};
+ghost use Rattle.std.specs.Prelude.{◌≡◌, [], List, Option, false, length, OnOk};
 ghost use Rattle.store_api.specs.Causes.{fault_of};
 ghost use Rattle.store_api.specs.RunsOverPages.{RunsOverPages};
 ghost use Rattle.extent_map.specs.Owners.{IsSameShape};
 ghost use Rattle.extent_map.specs.declared.kind.Kind.{Kind};
+ghost use Rattle.mdc_ast.specs.declared.row.Row.{Row};
+ghost use Rattle.mdc_ast.specs.meaning.Database.{Database, changed_at};
+ghost use Rattle.row_page.specs.RowPage.{count_rows};
 ghost use Rattle.table_page.specs.TableLimits.{IsTableDef};
-ghost use Rattle.mdc_sound.specs.SoundDatabase.{IsSoundBetweenChanges};
-ghost use Rattle.mdc_sound.specs.StandingTable.{BreaksExpected, IsReadyTable, IsTableOrMapPage, TableForests, pages_of};
+ghost use Rattle.table_trees.specs.SpaceChanges.{MakesChanges};
+ghost use Rattle.mdc_sound.specs.Placing.{IsRowAt};
+ghost use Rattle.mdc_sound.specs.RunningFull.{taking_changes};
+ghost use Rattle.mdc_sound.specs.SoundDatabase.{IsSoundBetweenChanges, with_table_page};
+ghost use Rattle.mdc_sound.specs.StandingTable.{BreaksExpected, IsReadyTable, IsTableOrMapPage, KeepsBlocksBut, TableForests, pages_of, spots_of};
+ghost use Rattle.mdc_sound.specs.StandsForDatabase.{PagesStandFor, without_row};
 ghost use Rattle.cell_rooms.specs.RoomNotes.{room_from};
 ghost use Rattle.cell_change.specs.RowChanges.{DeletesRow, HasThisRow};
 
@@ -33,9 +40,17 @@ pub fn delete_row<P: Pages>(
     requires going { (P.state pages.old).ended ≡ false }
     ensures deletes { OnOk result ((owners : List Kind) (forests : TableForests) → IsReadyTable P.Pages ext.old (room_from rooms.old) pages.old def.now owners forests
         → HasThisRow P.Pages ext.old pages.old def.now rid row.now owners forests → DeletesRow P.Pages ext.old ext.new (room_from rooms.new) pages.old pages.new def.now row.now rid owners forests) }
+    ensures makes { OnOk result ((owners : List Kind) (forests : TableForests) → IsReadyTable P.Pages ext.old (room_from rooms.old) pages.old def.now owners forests
+        → (slots : List (Option Row)) → IsRowAt (spots_of P.Pages ext.old pages.old def.now owners forests) rid row.now slots
+        → MakesChanges ext.old (pages_of P.Pages pages.old) (taking_changes def.now row.now rid (count_rows slots)) (pages_of P.Pages pages.new)) }
+    ensures stay { (owners : List Kind) (forests : TableForests) → IsReadyTable P.Pages ext.old (room_from rooms.old) pages.old def.now owners forests → KeepsBlocksBut P.Pages ext.old pages.old pages.new def.now owners (λ block. block ≡ rid.block) }
     ensures sound { OnOk result ((owners : List Kind) (forests : TableForests) → IsReadyTable P.Pages ext.old (room_from rooms.old) pages.old def.now owners forests
         → HasThisRow P.Pages ext.old pages.old def.now rid row.now owners forests
         → IsSoundBetweenChanges ext.old def.now (pages_of P.Pages pages.old) → IsSoundBetweenChanges ext.new def.now (pages_of P.Pages pages.new)) }
+    ensures stands_for { OnOk result ((owners : List Kind) (forests : TableForests) → IsReadyTable P.Pages ext.old (room_from rooms.old) pages.old def.now owners forests
+        → HasThisRow P.Pages ext.old pages.old def.now rid row.now owners forests → IsSoundBetweenChanges ext.old def.now (pages_of P.Pages pages.old)
+        → (db : Database) → PagesStandFor ext.old (with_table_page def.now (pages_of P.Pages pages.old)) db
+        → PagesStandFor ext.new (with_table_page def.now (pages_of P.Pages pages.new)) (changed_at db def.now.number (without_row row.now.number))) }
     ensures count { length (P.state pages.new).work ≡ length (P.state pages.old).work }
     ensures shape { IsSameShape ext.old ext.new }
     ensures runs { RunsOverPages P.Pages (IsTableOrMapPage P.Pages ext.old pages.old def.now) (IsTableOrMapPage P.Pages ext.old pages.old def.now)

@@ -1,16 +1,21 @@
 // A row more.
-ghost use Rattle.std.specs.Prelude.{◌≡◌, ◌+◌, ◌<◌, ◌^◌, [], List, false, IfErr, IfOk, OnErr, OnOk};
+ghost use Rattle.std.specs.Prelude.{◌≡◌, ◌+◌, ◌<◌, ◌^◌, [], ◌∷◌, List, false, slice_index_or, IfErr, IfOk, OnErr, OnOk};
 ghost use Rattle.store_api.specs.Causes.{store_fault_in};
 ghost use Rattle.store_api.specs.RunsOverPages.{RunsOverPages};
 ghost use Rattle.extent_map.specs.Damages.{IfFull, store_part_of};
 ghost use Rattle.extent_map.specs.Owners.{IsSameShape};
 ghost use Rattle.extent_map.specs.declared.kind.Kind.{Kind};
+ghost use Rattle.mdc_ast.specs.meaning.Database.{Database, changed_at};
+ghost use Rattle.mdc_ast.specs.meaning.Doing.{appended};
 ghost use Rattle.table_page.specs.TableLimits.{IsTableDef};
+ghost use Rattle.table_trees.specs.SpaceChanges.{MakesChanges};
 ghost use Rattle.mdc_sound.specs.FittingRows.{RowFits};
-ghost use Rattle.mdc_sound.specs.SoundDatabase.{IsSoundBetweenChanges};
-ghost use Rattle.mdc_sound.specs.StandingTable.{BreaksTable, IsReadyTable, IsTableSpace, TableForests, pages_of};
+ghost use Rattle.mdc_sound.specs.Placing.Spot.{OtherBlock};
+ghost use Rattle.mdc_sound.specs.RunningFull.{InsertRunsFull, putting_changes};
+ghost use Rattle.mdc_sound.specs.SoundDatabase.{IsSoundBetweenChanges, with_table_page};
+ghost use Rattle.mdc_sound.specs.StandingTable.{BreaksTable, IsReadyTable, IsTableSpace, KeepsBlocksBut, TableForests, pages_of, spots_of};
+ghost use Rattle.mdc_sound.specs.StandsForDatabase.{PagesStandFor};
 ghost use Rattle.cell_rooms.specs.RoomNotes.{room_from};
-ghost use Rattle.mdc_table.specs.NextBlock.{FindsNoPlace};
 ghost use Rattle.cell_change.specs.RowChanges.{InsertsRow};
 
 use extent_map::{Extents, SpaceFault};
@@ -21,9 +26,9 @@ use std::alloc::Global;
 use store_api::Pages;
 
 /// Inserts a row that fits the definition and whose number is the table's next one, which it raises, and answers where the row
-/// lies. `Full` says that no Used block of its cell has room, and a
-/// claim met no free extent. After a fault the definition is as it was, `undo` goes back to a mark, and
-/// the notes of the extents and of the rooms are to be forgotten.
+/// lies. It claims no more pages than the row asks for. `Full` says that an INSERT of the row runs full: no Used block of its
+/// cell has room, and what it needs asks for more extents than are free. After a fault the definition is as it was, `undo` goes
+/// back to a mark, and the notes of the extents and of the rooms are to be forgotten.
 pub fn insert_row<P: Pages>(
     alloc: Global,
     def: &mut TableDef,
@@ -40,12 +45,18 @@ pub fn insert_row<P: Pages>(
     requires going { (P.state pages.old).ended ≡ false }
     ensures inserts { IfOk result (λ rid. (owners : List Kind) (forests : TableForests) → IsReadyTable P.Pages ext.old (room_from rooms.old) pages.old def.old owners forests
         → InsertsRow P.Pages ext.old ext.new (room_from rooms.new) pages.old pages.new def.old row.now rid owners forests) }
+    ensures makes { IfOk result (λ rid. (owners : List Kind) (forests : TableForests) → IsReadyTable P.Pages ext.old (room_from rooms.old) pages.old def.old owners forests
+        → MakesChanges ext.old (pages_of P.Pages pages.old) (putting_changes def.old row.now rid (slice_index_or (spots_of P.Pages ext.old pages.old def.old owners forests) rid.block OtherBlock)) (pages_of P.Pages pages.new)) }
+    ensures stay { IfOk result (λ rid. (owners : List Kind) (forests : TableForests) → IsReadyTable P.Pages ext.old (room_from rooms.old) pages.old def.old owners forests → KeepsBlocksBut P.Pages ext.old pages.old pages.new def.old owners (λ block. block ≡ rid.block)) }
     ensures sound { OnOk result ((owners : List Kind) (forests : TableForests) → IsReadyTable P.Pages ext.old (room_from rooms.old) pages.old def.old owners forests
         → IsSoundBetweenChanges ext.old def.old (pages_of P.Pages pages.old) → IsSoundBetweenChanges ext.new def.new (pages_of P.Pages pages.new)) }
+    ensures stands_for { OnOk result ((owners : List Kind) (forests : TableForests) → IsReadyTable P.Pages ext.old (room_from rooms.old) pages.old def.old owners forests
+        → IsSoundBetweenChanges ext.old def.old (pages_of P.Pages pages.old) → (db : Database) → PagesStandFor ext.old (with_table_page def.old (pages_of P.Pages pages.old)) db
+        → PagesStandFor ext.new (with_table_page def.new (pages_of P.Pages pages.new)) (changed_at db def.old.number (appended (row.now.values ∷ [])))) }
     ensures next { OnOk result (def.new ≡ record def.old { next = def.old.next + 1 }) }
     ensures kept { OnErr result (def.new ≡ def.old) }
     ensures full { IfErr result (λ fault. IfFull fault (λ cap. (cap ≡ ext.old.cap) × ((owners : List Kind) (forests : TableForests) → IsReadyTable P.Pages ext.old (room_from rooms.old) pages.old def.old owners forests
-        → FindsNoPlace P.Pages ext.old ext.new pages.old pages.new def.old row.now owners forests))) }
+        → InsertRunsFull ext.old (pages_of P.Pages pages.old) def.old (row.now ∷ [])))) }
     ensures shape { IsSameShape ext.old ext.new }
     ensures runs { RunsOverPages P.Pages (IsTableSpace P.Pages ext.old pages.old def.old) (IsTableSpace P.Pages ext.old pages.old def.old)
         (BreaksTable P.Pages ext.old pages.old def.old) pages.old pages.new (store_fault_in store_part_of result) }

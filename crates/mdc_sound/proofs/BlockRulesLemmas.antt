@@ -18,9 +18,9 @@ use Rattle.table_trees.specs.RowCells.{AreOfOneCell}
 use Rattle.mdc_sound.specs.FittingRows.{RowFits}
 use Rattle.mdc_sound.specs.SpaceRules.{IsBlockMapSound, IsMapLineSound}
 use Rattle.mdc_sound.specs.TableRows.{PlacedRow, rows_in_table}
-use Rattle.mdc_sound.specs.ToldPages.{PageList}
 use Rattle.mdc_sound.proofs.TableRowsLemmas.{KeepsBlockPages, rows_in_block-kept, rows_in_table-kept}
 use Rattle.table_trees.specs.TableTrees.{cell_parts, rising_parts}
+use Rattle.table_trees.specs.ToldPages.{PageList}
 
 -- ---- what holds of each element
 

@@ -20,15 +20,15 @@ use Rattle.table_page.specs.TableLimits.{IsTableDef}
 use Rattle.table_page.specs.TablePage.{table_page}
 use Rattle.table_trees.specs.TableTrees.{dimension_place, dimension_places, record_place, record_places, rising_parts, tree_places}
 use Rattle.table_trees.specs.TreesBeside.{HoldsTreeAt}
+use Rattle.table_trees.specs.ToldPages.{PageList, told_pages}
 use Rattle.block_map.specs.MapLines.{pending_blocks}
-use Rattle.mdc_sound.specs.BlockRules.{AreNumbersSound, AreRowNumbersSound, AreSoundIndexes, AreTableIndexesSound, IsBlockIndexSound, IsSoundIndex}
+use Rattle.mdc_sound.specs.BlockRules.{AreNumbersSound, AreOtherKeysSound, AreRowNumbersSound, AreSoundIndexes, AreTableIndexesSound, IsBlockIndexSound, IsSoundIndex, IsUniqueSound}
 use Rattle.mdc_sound.specs.SoundDatabase.{IsSoundBetweenChanges, IsSoundWith, with_table_page}
 use Rattle.mdc_sound.specs.SpaceRules.{IsRootSound, IsTablePlaceSound, stated_root, tables_there}
 use Rattle.mdc_sound.specs.StandingTable.{ChangesTable, IsTableSpace, StandsTable, TableForests, forests_in_order, pages_of, view_of}
 use Rattle.mdc_sound.specs.TablePages.{DefinesTable}
 use Rattle.mdc_sound.specs.TableRows.{PlacedRow, rows_in_table}
 use Rattle.mdc_sound.specs.TableViews.{TableView, trees_of_table}
-use Rattle.mdc_sound.specs.ToldPages.{PageList, told_pages}
 use Rattle.mdc_sound.proofs.NextNumberLemmas.{limits_next, stands_next, with_next}
 use Rattle.mdc_sound.proofs.SoundChangeLemmas.{ChangesPlace, IsPlaceSpace, each_table_now, first_rules_now}
 use Rattle.mdc_sound.proofs.SoundDatabaseLemmas.{length-with_table_page, page_at-with_table_page, put_table_page, rows_with_table_page}
@@ -102,11 +102,19 @@ module _ {S : Type 0} (g : Ghosts S) (before ext : Extents) (old new : S) (def :
   enough_pages : 17 ≤ length (pages_of g old)
   enough_pages = omega (arith, sound.first.rule1.count.count, length-with_table_page def (pages_of g old))
 
-  limits : IsTableDef def.number def
+  pub limits : IsTableDef def.number def
   limits =
       let here = range_at (IsTablePlaceSound before (with_table_page def (pages_of g old)) sound.view.owners) 0 16 sound.view.places def.number (Some sound.table) sound.first.rule3.each sound.there in
       let same : 0 + def.number ≡ def.number = omega arith in
       subst (λ d. IsTableDef def.number d) sound.same (subst (λ t. IsTableDef t sound.table.def) same here.1.0.limits)
+
+  -- the rows of the table in the view are those of the trees at hand
+  pub rows_then : rows_in_table before (with_table_page def (pages_of g old)) sound.table.def sound.table.map ≡ rows_in_table before (pages_of g old) def forests.map
+  rows_then =
+      let trees = same_standing.1 in
+      let map : sound.table.map ≡ forests.map = cc in
+      ap (λ (d : TableDef). rows_in_table before (with_table_page def (pages_of g old)) d sound.table.map) sound.same
+      ∙ (rows_with_table_page before def (pages_of g old) low def sound.table.map ∙ ap (λ (m : Forest). rows_in_table before (pages_of g old) def m) map)
 
   -- page 0 states how many pages there are now
   root_then : HoldsPage g old 0 (stated_root (length (pages_of g old)))
@@ -211,13 +219,17 @@ module _ {S : Type 0} (g : Ghosts S) (before ext : Extents) (old new : S) (def :
       touched = touched_now;
     }
 
+    -- the same with the owners of the view
+    pub changes_in_view : ChangesPlace before ext (with_table_page def (pages_of g old)) (with_table_page def_now (pages_of g new)) sound.view.owners sound.table def_now owners_now forests_now def.number
+    unfolding pages_now
+    changes_in_view = subst (λ o. ChangesPlace before ext (with_table_page def (pages_of g old)) pages_now o sound.table def_now owners_now forests_now def.number) same_owners changes_place
+
     pub sound_of_change : IsSoundWith ext def_now (pages_of g new)
     unfolding pages_now
     sound_of_change = record {
       view = record { owners = owners_now; places = slice_set sound.view.places def.number (Some (view_of def_now forests_now)) };
       table = view_of def_now forests_now;
-      first = first_rules_now before ext (with_table_page def (pages_of g old)) pages_now sound.view sound.table def_now owners_now forests_now def.number sound.first sound.there
-          (subst (λ o. ChangesPlace before ext (with_table_page def (pages_of g old)) pages_now o sound.table def_now owners_now forests_now def.number) same_owners changes_place);
+      first = first_rules_now before ext (with_table_page def (pages_of g old)) pages_now sound.view sound.table def_now owners_now forests_now def.number sound.first sound.there changes_in_view;
       there = subst (λ n. slice_get (slice_set sound.view.places def.number (Some (view_of def_now forests_now))) n ≡ Some (Some (view_of def_now forests_now))) (sym same_number)
           (slice_get-set_same sound.view.places def.number (Some (view_of def_now forests_now))
           (omega (arith, low, range_length (IsTablePlaceSound before (with_table_page def (pages_of g old)) sound.view.owners) 0 16 sound.view.places sound.first.rule3.each)));
@@ -232,18 +244,20 @@ module _ {S : Type 0} (g : Ghosts S) (before ext : Extents) (old new : S) (def :
         → AllByRecursion (λ x. P x (rows_in_table ext (with_table_page def_now (pages_of g new)) x.def x.map)) (tables_there (slice_set sound.view.places def.number (Some (view_of def_now forests_now))))
     unfolding pages_now
     each_table_between P were is =
-        each_table_now before ext (with_table_page def (pages_of g old)) pages_now sound.view sound.table def_now owners_now forests_now def.number sound.first sound.there
-        (subst (λ o. ChangesPlace before ext (with_table_page def (pages_of g old)) pages_now o sound.table def_now owners_now forests_now def.number) same_owners changes_place)
+        each_table_now before ext (with_table_page def (pages_of g old)) pages_now sound.view sound.table def_now owners_now forests_now def.number sound.first sound.there changes_in_view
         P were (subst (P (view_of def_now forests_now)) (sym (rows_with_table_page ext def_now (pages_of g new) low_now def_now forests_now.map)) is)
 
     pub between_of_change : AreSoundIndexes before (with_table_page def (pages_of g old)) sound.view → AreNumbersSound before (with_table_page def (pages_of g old)) sound.view
+        → AreOtherKeysSound before (with_table_page def (pages_of g old)) sound.view def.number
         → AreTableIndexesSound ext (pages_of g new) (view_of def_now forests_now) → AreRowNumbersSound def_now (rows_in_table ext (pages_of g new) def_now forests_now.map)
         → IsSoundBetweenChanges ext def_now (pages_of g new)
     unfolding pages_now sound_of_change
-    between_of_change indexed numbered indexes_now numbers_now = record {
+    between_of_change indexed numbered others indexes_now numbers_now = record {
       sound = sound_of_change;
       rule11 = each_table_between (λ x rows. AllZip (IsSoundIndex x.def rows (pending_blocks x.map)) x.def.indexes x.indexes) indexed indexes_now;
       numbers = each_table_between (λ x rows. AreRowNumbersSound x.def rows) numbered numbers_now;
+      other_keys = subst (AreOtherKeysSound ext (with_table_page def_now (pages_of g new)) sound_of_change.view) (sym same_number)
+          (each_table_between (λ x rows. x.def.number ≢ def.number → AllByRecursion (IsUniqueSound rows) x.def.indexes) others (λ apart. absurd (apart same_number)));
     }
 
   -- the definition is as it was, or its next row number is another one
@@ -254,15 +268,17 @@ module _ {S : Type 0} (g : Ghosts S) (before ext : Extents) (old new : S) (def :
   sound_with_next next small = sound_of_change (with_next def next) refl refl refl (limits_next def.number def next small limits) (stands_next g ext new def next owners_now forests_now changes.stands)
 
   -- the same between two changes of a table without record indexes
-  pub between_without_indexes : AreSoundIndexes before (with_table_page def (pages_of g old)) sound.view → AreNumbersSound before (with_table_page def (pages_of g old)) sound.view → def.indexes ≡ []
+  pub between_without_indexes : AreSoundIndexes before (with_table_page def (pages_of g old)) sound.view → AreNumbersSound before (with_table_page def (pages_of g old)) sound.view
+      → AreOtherKeysSound before (with_table_page def (pages_of g old)) sound.view def.number → def.indexes ≡ []
       → AreRowNumbersSound def (rows_in_table ext (pages_of g new) def forests_now.map) → IsSoundBetweenChanges ext def (pages_of g new)
-  between_without_indexes indexed numbered none numbers_now =
-      between_of_change def refl refl refl limits changes.stands indexed numbered
+  between_without_indexes indexed numbered others none numbers_now =
+      between_of_change def refl refl refl limits changes.stands indexed numbered others
       (no_indexes_sound ext (pages_of g new) def forests_now none (no_index_trees g ext new def owners_now forests_now changes.stands limits.roots.one_each none)) numbers_now
 
-  pub between_with_next : AreSoundIndexes before (with_table_page def (pages_of g old)) sound.view → AreNumbersSound before (with_table_page def (pages_of g old)) sound.view → def.indexes ≡ []
+  pub between_with_next : AreSoundIndexes before (with_table_page def (pages_of g old)) sound.view → AreNumbersSound before (with_table_page def (pages_of g old)) sound.view
+      → AreOtherKeysSound before (with_table_page def (pages_of g old)) sound.view def.number → def.indexes ≡ []
       → (next : ℕ) → next < 18446744073709551616 → AreRowNumbersSound (with_next def next) (rows_in_table ext (pages_of g new) def forests_now.map) → IsSoundBetweenChanges ext (with_next def next) (pages_of g new)
-  between_with_next indexed numbered none next small numbers_now =
+  between_with_next indexed numbered others none next small numbers_now =
       let stands = stands_next g ext new def next owners_now forests_now changes.stands in
-      between_of_change (with_next def next) refl refl refl (limits_next def.number def next small limits) stands indexed numbered
+      between_of_change (with_next def next) refl refl refl (limits_next def.number def next small limits) stands indexed numbered others
       (no_indexes_sound ext (pages_of g new) (with_next def next) forests_now none (no_index_trees g ext new (with_next def next) owners_now forests_now stands limits.roots.one_each none)) numbers_now

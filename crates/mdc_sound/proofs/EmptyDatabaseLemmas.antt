@@ -9,11 +9,11 @@ use Rattle.extent_map.specs.Map.{HoldsMap}
 use Rattle.extent_map.specs.Owners.{IsUsedPage, extent_of, place_in_extent}
 use Rattle.extent_map.specs.declared.kind.Kind.TheVariants.{Free}
 use Rattle.extent_map.proofs.LawsOfTheMap.{fresh_map, owner_of-fresh}
+use Rattle.table_trees.specs.ToldPages.{told_pages}
 use Rattle.mdc_sound.specs.EmptyDatabase.{few_extents, empty_pages, empty_view}
 use Rattle.mdc_sound.specs.SoundDatabase.{IsSoundDatabase, KeepAllRules}
 use Rattle.mdc_sound.specs.SpaceRules.{IsRootSound, IsMapSound, AreTablePagesSound, IsTreePageSound, IsOwnerThere, stated_root}
 use Rattle.mdc_sound.specs.StandsForDatabase.{PagesStandFor}
-use Rattle.mdc_sound.specs.ToldPages.{told_pages}
 
 root_is : page_at empty_pages 0 ≡ stated_root (length empty_pages)
 root_is = refl

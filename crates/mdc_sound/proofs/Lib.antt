@@ -1,5 +1,6 @@
 pub mod BlockRulesLemmas
 pub mod CellKeysLemmas
+pub mod ChangedDatabaseLemmas
 pub mod ChangedRowsLemmas
 pub mod ChangedTablesLemmas
 pub mod DefinitionTreesLemmas
@@ -8,6 +9,8 @@ pub mod EmptyDatabaseLemmas
 pub mod MappedBlocksLemmas
 pub mod NextNumberLemmas
 pub mod PlacingLemmas
+pub mod PlainTableLemmas
+pub mod RisingRowsLemmas
 pub mod RowNumbersLemmas
 pub mod SlotRowsLemmas
 pub mod SmallDatabaseLemmas
@@ -19,4 +22,3 @@ pub mod StandsForLemmas
 pub mod TableRowsLemmas
 pub mod TableSpotRowsLemmas
 pub mod TableSpotsLemmas
-pub mod ToldPagesLemmas

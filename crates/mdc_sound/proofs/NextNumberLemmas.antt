@@ -9,13 +9,13 @@ use Rattle.entry_tree.specs.Forest.{Forest}
 use Rattle.block_map.specs.MapLines.{map_lines, used_blocks}
 use Rattle.table_page.specs.TableLimits.{IsTableDef}
 use Rattle.table_trees.specs.TableTrees.{cell_parts, rising_parts}
+use Rattle.table_trees.specs.ToldPages.{PageList}
 use Rattle.mdc_ast.specs.declared.definition.KeyPart.{KeyPart}
 use Rattle.mdc_sound.specs.BlockRules.{AreBlockRowsSound, IsBlockIndexSound, IsUsedCountSound}
 use Rattle.mdc_sound.specs.FittingRows.{RowFits}
 use Rattle.mdc_sound.specs.SpaceRules.{IsBlockMapSound, IsMapLineSound}
 use Rattle.mdc_sound.specs.StandingTable.{StandsTable, TableForests, pages_of}
 use Rattle.mdc_sound.specs.TableRows.{PlacedRow, rows_in_block, rows_in_table}
-use Rattle.mdc_sound.specs.ToldPages.{PageList}
 use Rattle.mdc_sound.proofs.BlockRulesLemmas.{each_as}
 
 -- the definition with another next row number

@@ -13,9 +13,9 @@ use Rattle.extent_map.specs.declared.extents.Extents.{Extents}
 use Rattle.extent_map.proofs.ExtentsLemmas.{extent_limits}
 use Rattle.row_page.specs.RowPage.{count_rows, rows_of, slot_count, slot_row}
 use Rattle.row_page.proofs.RowPageLemmas.{slot_count-le}
+use Rattle.table_trees.specs.ToldPages.{PageList}
 use Rattle.block_map.proofs.MapLinesLemmas.{contains_cases, contains_more}
 use Rattle.mdc_sound.specs.TableRows.{PlacedRow, block_page, block_slots, rows_from_slot}
-use Rattle.mdc_sound.specs.ToldPages.{PageList}
 
 -- ---- slots
 

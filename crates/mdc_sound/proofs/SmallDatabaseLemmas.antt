@@ -36,6 +36,7 @@ use Rattle.table_trees.specs.TableTrees.{TreePlace}
 use Rattle.mdc_sound.specs.BlockRules.{AreBlockRowsSound, AreRowNumbersSound, AreTableBlockIndexesSound, AreTableIndexesSound, IsBlockIndexSound, IsBlockPageSound, IsOfOneCell, IsSoundIndex, IsUniqueSound, IsUsedCountSound}
 use Rattle.key_codec.specs.KeyOrder.{AreSameAtParts}
 use Rattle.table_trees.specs.RowCells.{AreOfOneCell}
+use Rattle.table_trees.specs.ToldPages.{HasTree}
 use Rattle.mdc_sound.specs.EmptyDatabase.{few_extents}
 use Rattle.mdc_sound.specs.FittingRows.{RowFits}
 use Rattle.mdc_sound.specs.SmallDatabase.{cells_t, cells_u, def_t, def_u, lines_t, lines_u, row_five, row_null, row_ten, row_without, rows_t, small_database, small_owners, small_pages, small_view, view_t, view_u}
@@ -44,7 +45,6 @@ use Rattle.mdc_sound.specs.SpaceRules.{AreRootsInIndexes, AreTablePagesSound, Is
 use Rattle.mdc_sound.specs.StandsForDatabase.{HoldsTable, PagesStandFor}
 use Rattle.mdc_sound.specs.TablePages.{DefinesTable}
 use Rattle.mdc_sound.specs.TableRows.{PlacedRow, rows_in_block, rows_in_table}
-use Rattle.mdc_sound.specs.TableViews.{HasTree}
 
 -- ---- tests that are computed
 

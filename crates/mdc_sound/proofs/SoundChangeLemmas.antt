@@ -27,6 +27,7 @@ use Rattle.entry_tree.proofs.UsedPagesLemmas.{shape_back, used_not_idle, used_sa
 use Rattle.table_page.specs.TablePage.{IsTablePageOf}
 use Rattle.table_page.proofs.TablePageLemmas.{no_blank_table}
 use Rattle.table_trees.specs.TableTrees.{TreePlace, tree_places}
+use Rattle.table_trees.specs.ToldPages.{HasTree, PageList, told_pages}
 use Rattle.block_map.specs.MapLines.{map_lines, used_blocks}
 use Rattle.mdc_sound.specs.BlockRules.{AreBlockRowsSound, AreTableBlockIndexesSound, IsIdleCountSound, IsOfOneCell, IsUsedCountSound}
 use Rattle.mdc_sound.specs.SoundDatabase.{KeepFirstRules}
@@ -34,8 +35,7 @@ use Rattle.mdc_sound.specs.SpaceRules.{AreTablePagesSound, AreTreePagesSound, Da
 use Rattle.mdc_sound.specs.StandingTable.{IsBlockPageOf, StandsTable, TableForests, forests_in_order, view_of}
 use Rattle.mdc_sound.specs.TablePages.{DefinesTable, IsTableThere, table_page_at}
 use Rattle.mdc_sound.specs.TableRows.{PlacedRow, rows_in_table}
-use Rattle.mdc_sound.specs.TableViews.{HasTree, TableView, trees_of_table}
-use Rattle.mdc_sound.specs.ToldPages.{PageList, told_pages}
+use Rattle.mdc_sound.specs.TableViews.{TableView, trees_of_table}
 use Rattle.mdc_sound.proofs.BlockRulesLemmas.{table_rows_kept}
 use Rattle.mdc_sound.proofs.SpaceRulesLemmas.{each_there, range_at, range_each, range_length, same_table, set_there_sum, there_at, two_there_sum, used_or_not}
 use Rattle.mdc_sound.proofs.StandingTableLemmas.{block_below, block_kept, forests_of, number_of_place, stands_kept, stands_of_rules, times_of_table, times_once, trees_used}
@@ -178,7 +178,7 @@ module _ (before ext : Extents) (old new : PageList) (view : DatabaseView) (tabl
 
   -- ---- all tables stand
 
-  other_stands : (u : ℕ) (other : TableView) → u ≢ t → slice_get view.places u ≡ Some (Some other) → StandsTable told_pages ext new other.def owners_now (forests_of other)
+  pub other_stands : (u : ℕ) (other : TableView) → u ≢ t → slice_get view.places u ≡ Some (Some other) → StandsTable told_pages ext new other.def owners_now (forests_of other)
   other_stands u other apart at =
       let number : other.def.number ≡ u = (number_of_place before old view keeps u other at).1 in
       let differs : other.def.number ≢ t = λ same. apart (sym number ∙ same) in
@@ -216,7 +216,7 @@ module _ (before ext : Extents) (old new : PageList) (view : DatabaseView) (tabl
   view_now : DatabaseView
   view_now = record { owners = owners_now; places = places_now }
 
-  table_page_kept : (u : ℕ) → u < 16 → u ≢ t → table_page_at new u ≡ table_page_at old u
+  pub table_page_kept : (u : ℕ) → u < 16 → u ≢ t → table_page_at new u ≡ table_page_at old u
   table_page_kept u few apart =
       let count = keeps.rule1.count in
       let was : HoldsPage told_pages old (1 + u) (table_page_at old u) = record { is_told = refl; within = omega (arith, count.count, few); bytes_are = refl } in

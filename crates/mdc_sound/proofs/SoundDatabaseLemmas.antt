@@ -8,10 +8,10 @@ use Rattle.table_page.specs.TablePage.{table_page}
 use Rattle.store_api.specs.Extents.{first_page_of}
 use Rattle.extent_map.specs.declared.extents.Extents.{Extents}
 use Rattle.entry_tree.specs.Forest.{Forest}
+use Rattle.table_trees.specs.ToldPages.{PageList, told_pages}
 use Rattle.mdc_sound.specs.SoundDatabase.{KeepAllRules, IsSoundInParts, with_table_page}
 use Rattle.mdc_sound.specs.SpaceRules.{DatabaseView}
 use Rattle.mdc_sound.specs.TableRows.{rows_in_table}
-use Rattle.mdc_sound.specs.ToldPages.{PageList, told_pages}
 use Rattle.mdc_sound.proofs.TableRowsLemmas.{rows_in_table-kept}
 
 pub parts_of_rules : (ext : Extents) (pages : PageList) (view : DatabaseView) → KeepAllRules ext pages view → IsSoundInParts ext pages view

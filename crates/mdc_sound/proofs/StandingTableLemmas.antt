@@ -30,13 +30,13 @@ use Rattle.mdc_sound.specs.BlockRules.{AreBlockRowsSound, AreTableBlockIndexesSo
 use Rattle.mdc_sound.specs.SoundDatabase.{IsSoundWith, KeepFirstRules, with_table_page}
 use Rattle.mdc_sound.specs.SpaceRules.{DatabaseView, IsBlockMapSound, IsTablePlaceSound, times_in_trees}
 use Rattle.mdc_sound.specs.StandingTable.{IsBlockPageOf, StandsTable, TableForests, forests_in_order, pages_of}
-use Rattle.mdc_sound.specs.TableViews.{HasTree, TableView, trees_of_table}
-use Rattle.mdc_sound.specs.ToldPages.{PageList, told_pages}
+use Rattle.mdc_sound.specs.TableViews.{TableView, trees_of_table}
 use Rattle.mdc_sound.proofs.BlockRulesLemmas.{block_map_kept, cells_kept, indexes_kept, rows_kept, used_counts_kept}
 use Rattle.mdc_sound.proofs.SoundDatabaseLemmas.{length-with_table_page, without_table_page}
 use Rattle.mdc_sound.proofs.SpaceRulesLemmas.{range_at, there_at, there_sum, used_or_not}
 use Rattle.mdc_sound.proofs.TableRowsLemmas.{KeepsBlockPages}
-use Rattle.mdc_sound.proofs.ToldPagesLemmas.{map_of_told, told_of_map, told_of_tree, tree_of_told}
+use Rattle.table_trees.proofs.ToldPagesLemmas.{map_of_told, told_of_map, told_of_tree, tree_of_told}
+use Rattle.table_trees.specs.ToldPages.{HasTree, PageList, told_pages}
 
 -- a block lies within the list of owners
 pub block_below : (owners : List Kind) (e t : ℕ) → owner_of owners e ≡ Block t → e < length owners

@@ -15,8 +15,7 @@ use Rattle.mdc_sound.specs.TablePages.{table_page_at}
 use Rattle.table_page.specs.TablePage.{IsTablePageOf}
 use Rattle.mdc_sound.specs.TableRows.{rows_in_table}
 use Rattle.table_trees.specs.TableTrees.{TreePlace, map_place}
-use Rattle.mdc_sound.specs.TableViews.{HasTree}
-use Rattle.mdc_sound.specs.ToldPages.{PageList, telling}
+use Rattle.table_trees.specs.ToldPages.{HasTree, PageList, telling}
 use Rattle.table_page.proofs.TablePageLemmas.{no_blank_table, one_definition}
 
 -- a place has one tree
@@ -27,23 +26,23 @@ one_tree_at pages place t u h k =
 -- ---- lists of rows that rise
 
 -- the first row is below all others
-above_first : (x : Row) (xs : List Row) → AllPairs (λ a b. a.number < b.number) (x ∷ xs) → (z : Row) → Contains xs z → x.number < z.number
+pub above_first : (x : Row) (xs : List Row) → AllPairs (λ a b. a.number < b.number) (x ∷ xs) → (z : Row) → Contains xs z → x.number < z.number
 above_first x xs pairs z (k, low, at) =
     let below : x.number < (slice_index_or xs k z).number = pairs 0 (suc k) z (omega arith) (omega (arith, low)) in
     subst (λ row. x.number < row.number) at below
 
-rest_rises : (x : Row) (xs : List Row) → AllPairs (λ a b. a.number < b.number) (x ∷ xs) → AllPairs (λ a b. a.number < b.number) xs
+pub rest_rises : (x : Row) (xs : List Row) → AllPairs (λ a b. a.number < b.number) (x ∷ xs) → AllPairs (λ a b. a.number < b.number) xs
 rest_rises x xs pairs i j d low high = pairs (suc i) (suc j) d (omega (arith, low)) (omega (arith, high))
 
 -- an element is the first, or one of the others
-first_or_later : (x z : Row) (xs : List Row) → Contains (x ∷ xs) z → (x ≡ z) ⊎ Contains xs z
+pub first_or_later : (x z : Row) (xs : List Row) → Contains (x ∷ xs) z → (x ≡ z) ⊎ Contains xs z
 first_or_later x z xs (zero, low, at) = inl at
 first_or_later x z xs (suc k, low, at) = inr (k, omega (arith, low), at)
 
-is_first : (x : Row) (xs : List Row) → Contains (x ∷ xs) x
+pub is_first : (x : Row) (xs : List Row) → Contains (x ∷ xs) x
 is_first x xs = (0, omega arith, refl)
 
-is_later : (x z : Row) (xs : List Row) → Contains xs z → Contains (x ∷ xs) z
+pub is_later : (x z : Row) (xs : List Row) → Contains xs z → Contains (x ∷ xs) z
 is_later x z xs (k, low, at) = (suc k, omega (arith, low), at)
 
 same_first : (x y : Row) (xs ys : List Row) → AllPairs (λ a b. a.number < b.number) (x ∷ xs) → AllPairs (λ a b. a.number < b.number) (y ∷ ys)

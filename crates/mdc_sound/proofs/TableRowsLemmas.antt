@@ -7,10 +7,10 @@ use Rattle.extent_map.specs.Owners.{IsSameShape}
 use Rattle.extent_map.specs.declared.extents.Extents.{Extents}
 use Rattle.row_page.specs.RowPage.{rows_of}
 use Rattle.entry_tree.specs.Forest.{Forest}
+use Rattle.table_trees.specs.ToldPages.{PageList}
 use Rattle.block_map.specs.MapLines.{used_blocks}
 use Rattle.block_map.proofs.MapLinesLemmas.{contains_more}
 use Rattle.mdc_sound.specs.TableRows.{block_page, block_slots, rows_from_slot, rows_in_block, rows_in_table}
-use Rattle.mdc_sound.specs.ToldPages.{PageList}
 
 -- functions that agree on the numbers of a range
 flat_map_range : {A : Type 0} (f h : ℕ → List A) (a n : ℕ) → ((k : ℕ) → a ≤ k → k < a + n → f k ≡ h k) → flat_map f (range_with_len a n) ≡ flat_map h (range_with_len a n)

@@ -10,13 +10,13 @@ use Rattle.mdc_ast.specs.declared.row.Row.{Row}
 use Rattle.extent_map.specs.declared.extents.Extents.{Extents}
 use Rattle.extent_map.specs.declared.kind.Kind.{Kind}
 use Rattle.entry_tree.specs.Forest.{Forest}
+use Rattle.table_trees.specs.ToldPages.{PageList}
 use Rattle.block_map.specs.MapLines.{MapLine, map_lines, mapped_blocks, used_blocks}
 use Rattle.block_map.proofs.MapLinesLemmas.{contains_cases, contains_more}
 use Rattle.mdc_sound.specs.Placing.{Spot, rows_from_spot, rows_in_spot, table_spots}
 use Rattle.mdc_sound.specs.Placing.Spot.{FreeExtent, IndexExtent, OtherBlock, FreeBlock, PendingBlock, UsedBlock}
 use Rattle.mdc_sound.specs.SpaceRules.{IsBlockMapSound}
 use Rattle.mdc_sound.specs.TableRows.{block_slots, rows_in_block, rows_in_table}
-use Rattle.mdc_sound.specs.ToldPages.{PageList}
 use Rattle.mdc_sound.proofs.BlockRulesLemmas.{named_owned}
 use Rattle.mdc_sound.proofs.PlacingLemmas.{cut_rows}
 use Rattle.mdc_sound.proofs.TableSpotsLemmas.ShownSpot.{free_block, free_extent, index_extent, other_block, pending_block, used_block}

@@ -13,13 +13,13 @@ use Rattle.extent_map.specs.declared.kind.Kind.{Kind}
 use Rattle.extent_map.specs.declared.kind.Kind.TheVariants.{Free, Block, Index}
 use Rattle.entry_tree.specs.EntryBounds.{IsEntryOf}
 use Rattle.entry_tree.specs.Forest.{Forest, leaf_entries}
+use Rattle.table_trees.specs.ToldPages.{PageList}
 use Rattle.block_map.specs.MapLines.{MapLine, blocks_of_state, free_blocks, map_line, map_lines, mapped_state, pending_blocks, used_blocks}
 use Rattle.block_map.proofs.MapLinesLemmas.{NamesInState, contains_more, in_state_named, named_entry, named_in_state}
 use Rattle.mdc_sound.specs.Placing.{Spot, spot_of_kind, spot_of_state, table_spots}
 use Rattle.mdc_sound.specs.Placing.Spot.{FreeExtent, IndexExtent, OtherBlock, FreeBlock, PendingBlock, UsedBlock}
 use Rattle.mdc_sound.specs.SpaceRules.{IsBlockMapSound, IsMapLineSound}
 use Rattle.mdc_sound.specs.TableRows.{block_slots}
-use Rattle.mdc_sound.specs.ToldPages.{PageList}
 use Rattle.mdc_sound.proofs.BlockRulesLemmas.{line_at, named_owned}
 
 -- ---- lists whose elements differ

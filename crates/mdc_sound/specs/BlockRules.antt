@@ -18,8 +18,8 @@ use Rattle.mdc_sound.specs.FittingRows.{RowFits}
 use Rattle.mdc_sound.specs.SpaceRules.{DatabaseView, EachTable}
 use Rattle.mdc_sound.specs.TableRows.{PlacedRow, block_page, rows_in_block, rows_in_table}
 use Rattle.table_trees.specs.TableTrees.{block_entry, cell_parts, record_entry, rising_parts}
+use Rattle.table_trees.specs.ToldPages.{PageList}
 use Rattle.mdc_sound.specs.TableViews.{TableView}
-use Rattle.mdc_sound.specs.ToldPages.{PageList}
 
 -- P holds of each Used block of each table
 abbrev pub EachUsedBlock : DatabaseView → (TableDef → ℕ → Type 0) → Type 0
@@ -130,7 +130,14 @@ abbrev pub IsUniqueSound : List PlacedRow → IndexDef → Type 0
 IsUniqueSound rows index =
     IsTrue index.unique → AllPairs (λ a b. AreSameAtParts index.parts a.row.values b.row.values → ⊥) rows
 
--- so is each of each table
+-- so is each of a table
+abbrev pub AreTableKeysSound : Extents → PageList → TableView → Type 0
+AreTableKeysSound ext pages table = AllByRecursion (IsUniqueSound (rows_in_table ext pages table.def table.map)) table.def.indexes
+
+-- and each of each table
 abbrev pub AreUniqueKeysSound : Extents → PageList → DatabaseView → Type 0
-AreUniqueKeysSound ext pages view =
-    EachTable view (λ table. AllByRecursion (IsUniqueSound (rows_in_table ext pages table.def table.map)) table.def.indexes)
+AreUniqueKeysSound ext pages view = EachTable view (AreTableKeysSound ext pages)
+
+-- and each of each table but one
+abbrev pub AreOtherKeysSound : Extents → PageList → DatabaseView → ℕ → Type 0
+AreOtherKeysSound ext pages view t = EachTable view (λ table. table.def.number ≢ t → AreTableKeysSound ext pages table)

@@ -20,8 +20,7 @@ use Rattle.mdc_sound.specs.SpaceRules.{IsMapPageSound, IsIndexPage, stated_root}
 use Rattle.mdc_sound.specs.TablePages.{DefinesTable, table_page_at}
 use Rattle.mdc_sound.specs.TableRows.{PlacedRow, rows_in_block, rows_in_table}
 use Rattle.table_trees.specs.TableTrees.{TreePlace, cell_parts, composite_place, dimension_place, map_place, record_place, rising_parts, tree_places}
-use Rattle.mdc_sound.specs.TableViews.{HasTree}
-use Rattle.mdc_sound.specs.ToldPages.{PageList, told_pages}
+use Rattle.table_trees.specs.ToldPages.{HasTree, PageList, told_pages}
 
 -- so many pages are those before the extents and some number of whole extents
 abbrev pub IsWholeOf : Extents → ℕ → Type 0

@@ -3,8 +3,8 @@ use Rattle.std.specs.Prelude.{◌∷◌, replicate, None, refl}
 use Rattle.store_api.specs.StoreState.{zero_page}
 use Rattle.extent_map.specs.declared.extents.Extents.{Extents}
 use Rattle.extent_map.specs.declared.kind.Kind.TheVariants.{Free}
+use Rattle.table_trees.specs.ToldPages.{PageList}
 use Rattle.mdc_sound.specs.SpaceRules.{DatabaseView, stated_root}
-use Rattle.mdc_sound.specs.ToldPages.{PageList}
 
 -- 16 extents of 2 pages
 abbrev pub few_extents : Extents

@@ -13,4 +13,3 @@ pub mod TablePages
 pub mod TableRows
 pub mod TableViews
 pub mod TightPages
-pub mod ToldPages

@@ -15,9 +15,9 @@ use Rattle.extent_map.specs.declared.kind.Kind.TheVariants as kind
 use Rattle.row_page.specs.RowPage.{slot_count}
 use Rattle.entry_tree.specs.Forest.{Forest}
 use Rattle.table_trees.specs.RowCells.{AreOfOneCell}
+use Rattle.table_trees.specs.ToldPages.{PageList}
 use Rattle.mdc_sound.specs.TableRows.{PlacedRow, block_slots, rows_from_slot}
 use Rattle.block_map.specs.MapLines.{map_lines, mapped_state}
-use Rattle.mdc_sound.specs.ToldPages.{PageList}
 
 -- What an extent is to a table: one that is free, one that has pages of trees, a block of another table, or a block of this
 -- one, which is Free, Pending or Used; a Used block has slots, each empty or with a row.

@@ -1,7 +1,6 @@
--- When a statement runs full: the changes of space that it makes, what each asks for, and where no room is left for the next
--- (docs/FORMAT.md, "Running full"). Rows in slots don't occur here.
-use Rattle.std.specs.Prelude.{◌≡◌, ◌≢◌, ◌≤◌, ◌<◌, ◌⊎◌, ◌↔◌, ℕ, ◌+◌, ◌-◌, ◌/◌, ◌==◌, if◌then◌else◌, slice_index_or, zip, List, [], ◌∷◌, ◌++◌, length, map, filter, not, count_by, sum_by, Option, AllPairs, IsPermutation}
-use Rattle.std.specs.List.{FoldsTo, range_with_len}
+-- When a statement runs full: the changes of space that it makes one after the other, up to one that asks for more extents than
+-- are free (docs/FORMAT.md, "Running full").
+use Rattle.std.specs.Prelude.{◌≡◌, ◌<◌, ℕ, ◌+◌, ◌-◌, ◌==◌, if◌then◌else◌, slice_index_or, zip, List, [], ◌∷◌, ◌++◌, map, filter, not, Option, AllPairs, IsPermutation}
 use Rattle.std.specs.Str.{bytes_eq}
 use Rattle.mdc_words.specs.ByteOrder.{Entry}
 use Rattle.mdc_values.specs.declared.rid.Rid.{Rid}
@@ -9,154 +8,21 @@ use Rattle.mdc_ast.specs.declared.definition.IndexDef.{IndexDef}
 use Rattle.mdc_ast.specs.declared.definition.Roots.{Roots}
 use Rattle.mdc_ast.specs.declared.definition.TableDef.{TableDef}
 use Rattle.mdc_ast.specs.declared.row.Row.{Row}
-use Rattle.store_api.specs.StoreState.{page_at}
-use Rattle.extent_map.specs.Kinds.{is_free_kind, is_used_place, is_unused_place}
 use Rattle.extent_map.specs.Map.{HoldsMap}
-use Rattle.extent_map.specs.Owners.{IsLowestFree, IsUsedPage, owner_of}
 use Rattle.extent_map.specs.declared.extents.Extents.{Extents}
 use Rattle.extent_map.specs.declared.kind.Kind.{Kind}
-use Rattle.extent_map.specs.declared.kind.Kind.TheVariants as kind
 use Rattle.key_codec.specs.Keys.{key_bytes}
-use Rattle.node_page.specs.Node.{Node}
-use Rattle.node_page.specs.Node.Node.{LeafNode, InnerNode, NoNode}
 use Rattle.row_page.specs.RowPage.{count_rows}
-use Rattle.entry_tree.specs.EntryBounds.{IsEntryOf, with_entry}
-use Rattle.entry_tree.specs.Forest.{EachNode, Forest, leaf_entries, times}
-use Rattle.entry_tree.specs.HeldTrees.{nodes_in}
-use Rattle.entry_tree.specs.Standing.{AsksPages}
-use Rattle.entry_tree.specs.TreeChanges.{KeepsLeaf}
+use Rattle.entry_tree.specs.Forest.{Forest}
+use Rattle.block_map.specs.MapLines.{map_entry}
 use Rattle.table_trees.specs.RowCells.{AreOfOneCell}
+use Rattle.table_trees.specs.SpaceChanges.{RunsFull, SpaceChange, added_entries, removed_entries}
+use Rattle.table_trees.specs.SpaceChanges.SpaceChange.{AddEntry, AmendEntry, ClaimBlock, MakeTree}
+use Rattle.table_trees.specs.TableTrees.{TreePlace, block_entry, cell_parts, composite_place, dimension_place, dimension_places, map_place, record_entry, record_place, rising_parts}
+use Rattle.table_trees.specs.ToldPages.{HasTree, PageList, told_pages}
 use Rattle.mdc_sound.specs.Placing.{Spot, ChangesRow, IsRowAt, PutsRow, TakesRow, SpotsAfterClaims, SpotsAfterReturns, HoldsNowhere, HasRoomFor, IsFreeBlock, IsFreeExtent, block_slot_count, rows_from_spot, table_spots}
 use Rattle.mdc_sound.specs.Placing.Spot.{FreeExtent, FreeBlock, UsedBlock, OtherBlock}
 use Rattle.mdc_sound.specs.TableRows.{PlacedRow}
-use Rattle.mdc_sound.specs.TableViews.{HasTree}
-use Rattle.table_trees.specs.TableTrees.{TreePlace, block_entry, cell_parts, composite_place, dimension_place, dimension_places, map_place, record_entry, record_place, rising_parts}
-use Rattle.block_map.specs.MapLines.{map_entry}
-use Rattle.mdc_sound.specs.ToldPages.{PageList, telling, told_pages}
-
--- ---- what there is
-
--- how many extents are free
-abbrev pub free_extents : List Kind → ℕ
-free_extents owners = count_by is_free_kind owners
-
--- how many pages of index extents are used, and how many aren't
-abbrev pub used_index_pages : Extents → List Kind → ℕ
-used_index_pages ext owners = sum_by (λ owner. count_by (λ j. is_used_place j owner) (range_with_len 0 ext.extent_pages)) owners
-
-abbrev pub unused_index_pages : Extents → List Kind → ℕ
-unused_index_pages ext owners = sum_by (λ owner. count_by (λ j. is_unused_place j owner) (range_with_len 0 ext.extent_pages)) owners
-
--- how many extents so many index pages fill, beyond the pages of index extents that aren't used
-abbrev pub extents_for : Extents → List Kind → ℕ → ℕ
-extents_for ext owners n = (n - unused_index_pages ext owners + ext.extent_pages - 1) / ext.extent_pages
-
--- ---- changes
-
--- One change of space: a free extent becomes a block of a table; an entry is added to a tree, taken out, or changed in place;
--- a tree is made. What gives pages back as a whole, as DROP TABLE does, asks for nothing and stands in no list.
-pub data SpaceChange : Type 0 where
-  ClaimBlock : (table block : ℕ) → SpaceChange
-  AddEntry : (place : TreePlace) (entry : Entry) → SpaceChange
-  RemoveEntry : (place : TreePlace) (entry : Entry) → SpaceChange
-  AmendEntry : (place : TreePlace) (before after : Entry) → SpaceChange
-  MakeTree : (place : TreePlace) → SpaceChange
-
--- the pages hold a tree in this place, in which the entry isn't, and where it asks for n pages
-pub record AsksInTree (pages : PageList) (place : TreePlace) (entry : Entry) (n : ℕ) : Type 0 where
-  pub tree : Forest
-  pub has : HasTree pages place tree
-  pub absent : IsEntryOf entry (leaf_entries tree) → ⊥
-  pub asks : AsksPages place.width (nodes_in place.width (telling pages)) tree entry n
-
--- a change asks for so many extents as blocks, and so many index pages; what is taken out asks for none
-abbrev pub AsksSpace : PageList → SpaceChange → ℕ → ℕ → Type 0
-AsksSpace pages (ClaimBlock t block) blocks n = (blocks ≡ 1) × (n ≡ 0)
-AsksSpace pages (AddEntry place entry) blocks n = (blocks ≡ 0) × AsksInTree pages place entry n
-AsksSpace pages (MakeTree place) blocks n = (blocks ≡ 0) × (n ≡ 1)
-AsksSpace pages change blocks n = (blocks ≡ 0) × (n ≡ 0)
-
--- each used index page that isn't one of this tree stays as it is, and in use
-pub record KeepsIndexPages (ext : Extents) (old_owners new_owners : List Kind) (old new : PageList) (tree : Forest) : Type 0 where
-  pub bytes : (p : ℕ) → IsUsedPage ext old_owners p → times p tree ≡ 0 → page_at new p ≡ page_at old p
-  pub used : (p : ℕ) → IsUsedPage ext old_owners p → times p tree ≡ 0 → IsUsedPage ext new_owners p
-
--- each extent is a block of the same table as before
-abbrev pub KeepsBlocks : List Kind → List Kind → Type 0
-KeepsBlocks old new = (t e : ℕ) → (owner_of old e ≡ kind.Block t) ↔ (owner_of new e ≡ kind.Block t)
-
--- each extent but one is as it was
-abbrev pub KeepsOtherExtents : List Kind → List Kind → ℕ → Type 0
-KeepsOtherExtents old new e = (other : ℕ) → other ≢ e → owner_of new other ≡ owner_of old other
-
--- A tree becomes another in its place, and the pages of all other trees and all blocks stay. Its pages are in use afterwards,
--- those that it no longer has aren't, and those that are new to it weren't.
-pub record TurnsTree (ext : Extents) (old_owners new_owners : List Kind) (old new : PageList) (place : TreePlace) (before after : Forest) : Type 0 where
-  pub had : HasTree old place before
-  pub has : HasTree new place after
-  pub used : (p : ℕ) → IsUsedPage ext new_owners p ↔ ((0 < times p after) ⊎ (IsUsedPage ext old_owners p × (times p before ≡ 0)))
-  pub fresh : (p : ℕ) → 0 < times p after → times p before ≡ 0 → IsUsedPage ext old_owners p → ⊥
-  pub others : KeepsIndexPages ext old_owners new_owners old new before
-  pub blocks : KeepsBlocks old_owners new_owners
-
--- a leaf has as many entries as it had
-abbrev pub KeepsLeafCount : (ℕ → Node) → ℕ → Node → Type 0
-KeepsLeafCount was page (LeafNode items) = (were : List Entry) × (was page ≡ LeafNode were) × (length were ≡ length items)
-KeepsLeafCount was page (InnerNode separators children) = Unit {0}
-KeepsLeafCount was page NoNode = Unit {0}
-
--- what a change does to the extents and the trees
-abbrev pub ChangesSpace : Extents → SpaceChange → List Kind → List Kind → PageList → PageList → Type 0
-ChangesSpace ext (ClaimBlock t block) old_owners new_owners old new =
-    IsLowestFree old_owners block × (owner_of new_owners block ≡ kind.Block t) × KeepsOtherExtents old_owners new_owners block
-    × KeepsIndexPages ext old_owners new_owners old new Forest.Nil
-ChangesSpace ext (AddEntry place entry) old_owners new_owners old new =
-    (before : Forest) × (after : Forest) × TurnsTree ext old_owners new_owners old new place before after
-    × (leaf_entries after ≡ with_entry entry (leaf_entries before))
-    × EachNode (KeepsLeaf place.width (nodes_in place.width (telling old)) before) after
-ChangesSpace ext (RemoveEntry place entry) old_owners new_owners old new =
-    (before : Forest) × (after : Forest) × TurnsTree ext old_owners new_owners old new place before after
-    × (leaf_entries before ≡ with_entry entry (leaf_entries after))
-ChangesSpace ext (AmendEntry place was is) old_owners new_owners old new =
-    (before : Forest) × (after : Forest) × (rest : List Entry) × TurnsTree ext old_owners new_owners old new place before after
-    × (leaf_entries before ≡ with_entry was rest) × (leaf_entries after ≡ with_entry is rest)
-    × EachNode (KeepsLeafCount (nodes_in place.width (telling old))) after
-ChangesSpace ext (MakeTree place) old_owners new_owners old new =
-    HasTree new place (Forest.Leaf place.root [] Forest.Nil) × (IsUsedPage ext old_owners place.root → ⊥) × IsUsedPage ext new_owners place.root
-    × KeepsIndexPages ext old_owners new_owners old new Forest.Nil × KeepsBlocks old_owners new_owners
-
--- a change is made, and takes no more extents and index pages than it asks for
-pub record MakesChange (ext : Extents) (old : PageList) (change : SpaceChange) (new : PageList) : Type 0 where
-  pub old_owners : List Kind
-  pub new_owners : List Kind
-  pub old_map : HoldsMap told_pages ext old old_owners
-  pub new_map : HoldsMap told_pages ext new new_owners
-  pub blocks : ℕ
-  pub asked : ℕ
-  pub asks : AsksSpace old change blocks asked
-  pub effect : ChangesSpace ext change old_owners new_owners old new
-  pub few_extents : free_extents old_owners ≤ free_extents new_owners + (blocks + extents_for ext old_owners asked)
-  pub few_pages : used_index_pages ext new_owners ≤ used_index_pages ext old_owners + asked
-
--- a change asks for more extents than are free
-pub record AsksTooMuch (ext : Extents) (pages : PageList) (change : SpaceChange) : Type 0 where
-  pub owners : List Kind
-  pub has_map : HoldsMap told_pages ext pages owners
-  pub blocks : ℕ
-  pub asked : ℕ
-  pub asks : AsksSpace pages change blocks asked
-  pub short : free_extents owners < blocks + extents_for ext owners asked
-
--- A statement of these changes runs full: the first of them, one after the other, reach pages on which the next one asks for
--- more extents than are free.
-pub record RunsFull (ext : Extents) (work : PageList) (changes : List SpaceChange) : Type 0 where
-  pub done : List SpaceChange
-  pub next : SpaceChange
-  pub rest : List SpaceChange
-  pub reached : PageList
-  pub split : changes ≡ done ++ next ∷ rest
-  pub goes : FoldsTo (MakesChange ext) work done reached
-  pub short : AsksTooMuch ext reached next
 
 -- ---- the changes of a row that is put or taken
 
@@ -178,13 +44,6 @@ row_listings def row rid = listings_in def def.indexes row rid
 abbrev pub differing_indexes : TableDef → Row → Row → List IndexDef
 differing_indexes def a b =
     filter (λ index. not (bytes_eq (key_bytes def.columns index.parts a.values) (key_bytes def.columns index.parts b.values))) def.indexes
-
--- each of these entries is added, or removed
-abbrev pub added_entries : List (TreePlace × Entry) → List SpaceChange
-added_entries listings = map (λ listing. AddEntry listing.0 listing.1) listings
-
-abbrev pub removed_entries : List (TreePlace × Entry) → List SpaceChange
-removed_entries listings = map (λ listing. RemoveEntry listing.0 listing.1) listings
 
 -- what the block of a row that is put needs, by what it was: first the block, then its entry in the block map, and then those
 -- in the composite and dimension indexes
@@ -249,6 +108,12 @@ pub data UpdatingChanges (def : TableDef) (n : ℕ) : List Spot → List (Placed
       → SpotsAfterReturns left free → HasNoSpot def free other
       → UpdatingChanges def n old ((record { rid = rid; row = row }, other) ∷ rows)
       (taking_changes def row rid (count_rows slots) ++ ClaimBlock def.number 0 ∷ [])
+
+-- The put of a row runs full: what it needs where placing puts it, or, where there is no spot for it, a block.
+pub data RowRunsFull (ext : Extents) (work : PageList) (def : TableDef) (spots : List Spot) (row : Row) : Type 0 where
+  placed : (rid : Rid) (mid : List Spot) → PutsRow def (block_slot_count ext def) spots row mid rid
+      → RunsFull ext work (block_changes def row rid.block (slice_index_or spots rid.block OtherBlock)) → RowRunsFull ext work def spots row
+  stuck : HasNoSpot def spots row → RunsFull ext work (ClaimBlock def.number 0 ∷ []) → RowRunsFull ext work def spots row
 
 -- the changes of a CREATE TABLE: its block map, its composite index and its dimension indexes are made
 abbrev pub creating_changes : TableDef → List SpaceChange

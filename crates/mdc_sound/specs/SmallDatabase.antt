@@ -15,10 +15,10 @@ use Rattle.node_page.specs.Node.{filled_page, node_bytes}
 use Rattle.node_page.specs.Node.Node.{LeafNode}
 use Rattle.entry_tree.specs.Forest.Forest.{Leaf, Nil}
 use Rattle.table_page.specs.TablePage.{table_page}
+use Rattle.table_trees.specs.ToldPages.{PageList}
 use Rattle.mdc_sound.specs.SpaceRules.{DatabaseView, stated_root}
 use Rattle.mdc_sound.specs.StandsForDatabase.{rootless}
 use Rattle.mdc_sound.specs.TableViews.{TableView}
-use Rattle.mdc_sound.specs.ToldPages.{PageList}
 
 -- ---- the tables
 

@@ -2,11 +2,11 @@
 use Rattle.std.specs.Prelude.{◌≡◌, ◌+◌, Some, slice_get, slice_set}
 use Rattle.mdc_ast.specs.declared.definition.TableDef.{TableDef}
 use Rattle.extent_map.specs.declared.extents.Extents.{Extents}
-use Rattle.mdc_sound.specs.BlockRules.{AreRowPagesSound, AreUsedCountsSound, AreIdleCountsSound, AreCellsSound, AreBlockIndexesSound, AreSoundIndexes, AreNumbersSound, AreUniqueKeysSound}
+use Rattle.table_trees.specs.ToldPages.{PageList}
+use Rattle.mdc_sound.specs.BlockRules.{AreRowPagesSound, AreUsedCountsSound, AreIdleCountsSound, AreCellsSound, AreBlockIndexesSound, AreSoundIndexes, AreNumbersSound, AreOtherKeysSound, AreUniqueKeysSound}
 use Rattle.mdc_sound.specs.SpaceRules.{DatabaseView, IsRootSound, IsMapSound, AreTablePagesSound, AreTreesSound, AreTreePagesSound, AreBlockMapsSound}
 use Rattle.table_page.specs.TablePage.{table_page}
 use Rattle.mdc_sound.specs.TableViews.{TableView}
-use Rattle.mdc_sound.specs.ToldPages.{PageList}
 
 -- ---- the twelve rules
 
@@ -86,8 +86,9 @@ pub record IsSoundWith (ext : Extents) (def : TableDef) (pages : PageList) : Typ
   pub there : slice_get view.places def.number ≡ Some (Some table)
   pub same : table.def ≡ def
 
--- sound between two changes of rows: UNIQUE indexes alone may have two rows of equal key
+-- sound between two changes of rows: UNIQUE indexes of that table alone may have two rows of equal key
 pub record IsSoundBetweenChanges (ext : Extents) (def : TableDef) (pages : PageList) : Type 0 where
   pub sound : IsSoundWith ext def pages
   pub rule11 : AreSoundIndexes ext (with_table_page def pages) sound.view
   pub numbers : AreNumbersSound ext (with_table_page def pages) sound.view
+  pub other_keys : AreOtherKeysSound ext (with_table_page def pages) sound.view def.number

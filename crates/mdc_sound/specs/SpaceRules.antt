@@ -16,8 +16,8 @@ use Rattle.entry_tree.specs.Forest.{Forest, times}
 use Rattle.mdc_sound.specs.TablePages.{DefinesTable, IsTableThere, table_page_at}
 use Rattle.block_map.specs.MapLines.{AreMapEntries, MapLine, map_lines, mapped_blocks}
 use Rattle.table_trees.specs.TableTrees.{tree_places}
-use Rattle.mdc_sound.specs.TableViews.{HasTree, TableView, trees_of_table}
-use Rattle.mdc_sound.specs.ToldPages.{PageList, told_pages}
+use Rattle.table_trees.specs.ToldPages.{HasTree, PageList, told_pages}
+use Rattle.mdc_sound.specs.TableViews.{TableView, trees_of_table}
 
 -- What the pages of a database show: who owns each extent, and the table with its trees in each of the 16 places.
 pub record DatabaseView : Type 0 where

@@ -8,6 +8,7 @@ use Rattle.mdc_values.specs.declared.rid.Rid.{Rid}
 use Rattle.mdc_ast.specs.declared.definition.TableDef.{TableDef}
 use Rattle.mdc_ast.specs.declared.row.Row.{Row}
 use Rattle.store_api.specs.Extents.{first_page_of}
+use Rattle.store_api.specs.StoreState.{page_at}
 use Rattle.store_api.specs.declared.fault.Damage.{Damage}
 use Rattle.store_api.specs.declared.pages.Pages.{Ghosts}
 use Rattle.extent_map.specs.Map.{HoldsMap, IsMapPage, IsSpacePage}
@@ -21,12 +22,12 @@ use Rattle.entry_tree.specs.Standing.{IsIdlePage}
 use Rattle.block_map.specs.MapLines.{map_lines, used_blocks}
 use Rattle.table_trees.specs.TableTrees.{TreePlace, block_index_places, cell_parts, tree_places}
 use Rattle.table_trees.specs.TreesBeside.{GrowsPages, StandTrees}
+use Rattle.table_trees.specs.ToldPages.{PageList}
 use Rattle.mdc_sound.specs.BlockRules.{AreBlockRowsSound, AreTableBlockIndexesSound, IsIdleCountSound, IsOfOneCell, IsUsedCountSound}
 use Rattle.mdc_sound.specs.Placing.{IsRowAt, PutsRow, Spot, SpotsAfterClaims, SpotsAfterReturns, TakesRow, block_slot_count, table_spots}
 use Rattle.mdc_sound.specs.Placing.Spot.{OtherBlock, UsedBlock}
 use Rattle.mdc_sound.specs.SpaceRules.{IsBlockMapSound}
 use Rattle.mdc_sound.specs.TableViews.{TableView}
-use Rattle.mdc_sound.specs.ToldPages.{PageList}
 
 -- ---- the table
 
@@ -95,6 +96,11 @@ pub record IsBlockPageOf (ext : Extents) (owners : List Kind) (t p : ℕ) : Type
 abbrev pub IsPageOfBlock : Extents → ℕ → ℕ → Type 0
 IsPageOfBlock ext block p = IsExtentPage ext p × (extent_of ext p ≡ block)
 
+-- a page of one block, which is the table's
+pub record IsPageOfOwnBlock (ext : Extents) (owners : List Kind) (t block p : ℕ) : Type 0 where
+  pub page : IsPageOfBlock ext block p
+  pub own : owner_of owners block ≡ Block t
+
 -- The pages that a call on a table's rows may change and bring to hand, where the table was told to stand: those of its trees
 -- and its blocks, those of the extent map with page 0, and idle ones.
 abbrev pub IsTableSpace : {S : Type 0} → Ghosts S → Extents → S → TableDef → ℕ → Type 0
@@ -107,6 +113,29 @@ abbrev pub IsTableOrMapPage : {S : Type 0} → Ghosts S → Extents → S → Ta
 IsTableOrMapPage g ext s def p =
     (owners : List Kind) (forests : TableForests) → StandsTable g ext s def owners forests
     → 0 < sum_by (times p) (forests_in_order forests) ⊎ (IsBlockPageOf ext owners def.number p ⊎ IsMapPage ext p)
+
+-- the pages of the table's blocks, but of those that may change, are as they were
+pub record KeepsBlocksBut {S : Type 0} (g : Ghosts S) (ext : Extents) (old new : S) (def : TableDef) (owners : List Kind) (May : ℕ → Type 0) : Type 0 where
+  pub stay : (p : ℕ) → IsBlockPageOf ext owners def.number p → (May (extent_of ext p) → ⊥) → page_at (pages_of g new) p ≡ page_at (pages_of g old) p
+
+-- The pages that a call on one block of a table may change, where the table was told to stand: those of its trees and of the
+-- block, those of the extent map with page 0, and idle ones.
+abbrev pub IsSpaceOfBlock : {S : Type 0} → Ghosts S → Extents → S → TableDef → ℕ → ℕ → Type 0
+IsSpaceOfBlock g ext s def block p =
+    (owners : List Kind) (forests : TableForests) → StandsTable g ext s def owners forests
+    → 0 < sum_by (times p) (forests_in_order forests) ⊎ (IsPageOfOwnBlock ext owners def.number block p ⊎ (IsSpacePage ext p ⊎ IsIdlePage ext owners p))
+
+-- the same of a call that claims nothing
+abbrev pub IsBlockOrMapPage : {S : Type 0} → Ghosts S → Extents → S → TableDef → ℕ → ℕ → Type 0
+IsBlockOrMapPage g ext s def block p =
+    (owners : List Kind) (forests : TableForests) → StandsTable g ext s def owners forests
+    → 0 < sum_by (times p) (forests_in_order forests) ⊎ (IsPageOfOwnBlock ext owners def.number block p ⊎ IsMapPage ext p)
+
+-- and of one that claims a block, which changes none that there is
+abbrev pub IsTreeSpaceOfTable : {S : Type 0} → Ghosts S → Extents → S → TableDef → ℕ → Type 0
+IsTreeSpaceOfTable g ext s def p =
+    (owners : List Kind) (forests : TableForests) → StandsTable g ext s def owners forests
+    → 0 < sum_by (times p) (forests_in_order forests) ⊎ (IsSpacePage ext p ⊎ IsIdlePage ext owners p)
 
 -- the pages of a table's own trees, where it was told to stand
 abbrev pub IsTableTreePage : {S : Type 0} → Ghosts S → Extents → S → TableDef → ℕ → Type 0

@@ -1,8 +1,9 @@
 -- What pages stand for: a plain database. It looks at no block index and no record index.
-use Rattle.std.specs.Prelude.{◌≡◌, ◌<◌, ℕ, [], map, Option, Some, None, IsPermutation, AllPairs}
+use Rattle.std.specs.Prelude.{◌≡◌, ◌<◌, ◌==◌, if◌then◌else◌, ℕ, [], filter, map, not, Option, Some, None, IsPermutation, AllPairs}
 use Rattle.std.specs.List.{AllZip, range_with_len}
 use Rattle.mdc_ast.specs.declared.definition.IndexDef.{IndexDef}
 use Rattle.mdc_ast.specs.declared.definition.TableDef.{TableDef}
+use Rattle.mdc_ast.specs.declared.row.Row.{Row}
 use Rattle.mdc_ast.specs.meaning.Database.{Database, PlainTable}
 use Rattle.store_api.specs.StoreState.{zero_page}
 use Rattle.extent_map.specs.declared.extents.Extents.{Extents}
@@ -10,8 +11,7 @@ use Rattle.entry_tree.specs.Forest.{Forest}
 use Rattle.mdc_sound.specs.TablePages.{DefinesTable, table_page_at}
 use Rattle.mdc_sound.specs.TableRows.{rows_in_table}
 use Rattle.table_trees.specs.TableTrees.{map_place}
-use Rattle.mdc_sound.specs.TableViews.{HasTree}
-use Rattle.mdc_sound.specs.ToldPages.{PageList}
+use Rattle.table_trees.specs.ToldPages.{HasTree, PageList}
 
 -- a record index without its root
 abbrev pub rootless_index : IndexDef → IndexDef
@@ -40,3 +40,13 @@ HoldsPlace ext pages t (Some table) = HoldsTable ext pages t table
 -- the pages stand for this database, whose 16 places are their table pages
 abbrev pub PagesStandFor : Extents → PageList → Database → Type 0
 PagesStandFor ext pages db = AllZip (HoldsPlace ext pages) (range_with_len 0 16) db
+
+-- ---- one row more, less, or another, in the words of plain tables
+
+-- the table without the row of this number
+abbrev pub without_row : ℕ → PlainTable → PlainTable
+without_row number table = record table { rows = filter (λ row. not (row.number == number)) table.rows }
+
+-- the table with this row in the place of the one that has its number
+abbrev pub with_row : Row → PlainTable → PlainTable
+with_row other table = record table { rows = map (λ row. if row.number == other.number then other else row) table.rows }

@@ -3,7 +3,7 @@ use Rattle.std.specs.Prelude.{◌≢◌, ◌<◌, ℕ, ◌+◌, List}
 use Rattle.mdc_ast.specs.declared.definition.TableDef.{TableDef}
 use Rattle.store_api.specs.StoreState.{page_at, zero_page}
 use Rattle.table_page.specs.TablePage.{IsTablePageOf}
-use Rattle.mdc_sound.specs.ToldPages.{PageList}
+use Rattle.table_trees.specs.ToldPages.{PageList}
 
 -- the page on which table t is
 abbrev pub table_page_at : PageList → ℕ → List ℕ

@@ -9,8 +9,8 @@ use Rattle.store_api.specs.StoreState.{page_at}
 use Rattle.extent_map.specs.declared.extents.Extents.{Extents}
 use Rattle.row_page.specs.RowPage.{rows_of}
 use Rattle.entry_tree.specs.Forest.{Forest}
+use Rattle.table_trees.specs.ToldPages.{PageList}
 use Rattle.block_map.specs.MapLines.{used_blocks}
-use Rattle.mdc_sound.specs.ToldPages.{PageList}
 
 -- a row and where it lies
 pub record PlacedRow : Type 0 where

@@ -2,13 +2,6 @@
 use Rattle.std.specs.Prelude.{List, ◌∷◌, ◌++◌}
 use Rattle.mdc_ast.specs.declared.definition.TableDef.{TableDef}
 use Rattle.entry_tree.specs.Forest.{Forest}
-use Rattle.table_trees.specs.TableTrees.{TreePlace}
-use Rattle.table_trees.specs.TreesBeside.{HoldsTreeAt}
-use Rattle.mdc_sound.specs.ToldPages.{PageList, told_pages}
-
--- the pages hold this tree in this place
-abbrev pub HasTree : PageList → TreePlace → Forest → Type 0
-HasTree pages place t = HoldsTreeAt told_pages pages place t
 
 -- a table with its trees
 pub record TableView : Type 0 where

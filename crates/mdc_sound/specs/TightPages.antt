@@ -16,11 +16,11 @@ use Rattle.entry_tree.specs.Forest.{EachNode, Forest}
 use Rattle.entry_tree.specs.Forest.Forest.{Nil, Leaf, Fork}
 use Rattle.mdc_sound.specs.Placing.{HasRoomFor, Spot, block_slot_count, table_spots}
 use Rattle.mdc_sound.specs.Placing.Spot.{OtherBlock}
-use Rattle.mdc_sound.specs.RunningFull.{unused_index_pages}
 use Rattle.mdc_sound.specs.SpaceRules.{DatabaseView, EachTable}
 use Rattle.mdc_sound.specs.TableViews.{TableView, trees_of_table}
+use Rattle.table_trees.specs.SpaceChanges.{unused_index_pages}
 use Rattle.table_trees.specs.TableTrees.{cell_parts, rising_parts, tree_places}
-use Rattle.mdc_sound.specs.ToldPages.{PageList}
+use Rattle.table_trees.specs.ToldPages.{PageList}
 
 -- ---- tight
 

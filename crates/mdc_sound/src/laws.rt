@@ -9,6 +9,7 @@ ghost use Rattle.entry_tree.specs.Forest.{Forest};
 ghost use Rattle.table_page.specs.TableLimits.{IsTableDef};
 ghost use Rattle.table_trees.specs.TableTrees.{AreIndexParts, HasBlockIndexes, TreePlace};
 ghost use Rattle.table_trees.specs.TreesBeside.{HoldsTreeAt};
+ghost use Rattle.table_trees.specs.ToldPages.{HasTree, PageList, told_pages};
 ghost use Rattle.mdc_ast.specs.declared.definition.TableDef.{TableDef};
 ghost use Rattle.mdc_ast.specs.meaning.Database.{Database, empty_database};
 ghost use Rattle.mdc_sound.specs.BlockRules.{AreRowNumbersSound};
@@ -19,8 +20,6 @@ ghost use Rattle.mdc_sound.specs.SpaceRules.{DatabaseView};
 ghost use Rattle.mdc_sound.specs.StandingTable.{ChangesTable, IsTableSpace, StandsTable, TableForests, pages_of};
 ghost use Rattle.mdc_sound.specs.StandsForDatabase.{PagesStandFor};
 ghost use Rattle.mdc_sound.specs.TableRows.{rows_in_table};
-ghost use Rattle.mdc_sound.specs.TableViews.{HasTree};
-ghost use Rattle.mdc_sound.specs.ToldPages.{PageList, told_pages};
 
 use store_api::Pages;
 

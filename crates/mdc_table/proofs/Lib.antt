@@ -1,5 +1,7 @@
+pub mod KeptBlocksLemmas
 pub mod KeptRoomsLemmas
 pub mod NextBlocksLemmas
 pub mod PlacingRowsLemmas
+pub mod RowSpaceLemmas
 pub mod StandingBlocksLemmas
 pub mod TakingRowsLemmas

@@ -18,10 +18,12 @@ use Rattle.mdc_ast.specs.declared.row.Row.{Row}
 use Rattle.block_map.specs.BlockMaps.{FindsFree, IsLowestFreeBlock}
 use Rattle.block_map.specs.MapLines.{free_blocks}
 use Rattle.mdc_sound.specs.Placing.{AfterClaims, begun_with, block_slot_count, HasRoomFor, HoldsNowhere}
-use Rattle.mdc_sound.specs.StandingTable.{BreaksExpected, BreaksTable, IsReadyTable, IsTableOrMapPage, IsTableSpace, IsTableTreePage, MeetsNoFree, NamesTablePart, spots_of, StandsTable, TableForests}
+use Rattle.mdc_sound.specs.RunningFull.{RowRunsFull}
+use Rattle.mdc_sound.specs.StandingTable.{BreaksExpected, BreaksTable, IsBlockOrMapPage, IsReadyTable, IsTableOrMapPage, IsTableSpace, IsTableTreePage, MeetsNoFree, NamesTablePart, StandsTable, TableForests, pages_of, spots_of}
 use Rattle.mdc_sound.proofs.StandingTableLemmas.{stands_same}
 use Rattle.table_blocks.specs.BlockSteps.{BeginsBlock}
 use Rattle.mdc_table.specs.NextBlock.{BeginsNext, FindsNoPlace, IsNextBlock}
+use Rattle.mdc_table.proofs.KeptBlocksLemmas.{runs_of_block}
 use Rattle.mdc_table.proofs.PlacingRowsLemmas.{turns_along}
 use Rattle.mdc_table.proofs.StandingBlocksLemmas.{free_within}
 
@@ -89,9 +91,11 @@ full_ready g before ext old new def from (Store fault) full = tt
 pub full_no_place : {S : Type 0} (g : Ghosts S) (before ext : Extents) (old new : S) (def : TableDef) (row : Row) (from : Entry → ℕ) (fault : SpaceFault)
     → ((owners : List Kind) (forests : TableForests) → IsReadyTable g before from old def owners forests → HoldsNowhere (HasRoomFor def row) (spots_of g before old def owners forests))
     → IfFull fault (λ cap. (cap ≡ before.cap) × ((owners : List Kind) (forests : TableForests) → IsReadyTable g before from old def owners forests → MeetsNoFree g ext new))
+    → IfFull fault (λ cap. (owners : List Kind) (forests : TableForests) → IsReadyTable g before from old def owners forests → RowRunsFull before (pages_of g old) def (spots_of g before old def owners forests) row)
     → IfFull fault (λ cap. (cap ≡ before.cap) × ((owners : List Kind) (forests : TableForests) → IsReadyTable g before from old def owners forests → FindsNoPlace g before ext old new def row owners forests))
-full_no_place g before ext old new def row from (Full cap) no_room full = (full.0, λ owners forests ready. record { no_room = no_room owners forests ready; none_free = full.1 owners forests ready })
-full_no_place g before ext old new def row from (Store fault) no_room full = tt
+full_no_place g before ext old new def row from (Full cap) no_room full runs =
+    (full.0, λ owners forests ready. record { no_room = no_room owners forests ready; runs_full = runs owners forests ready; none_free = full.1 owners forests ready })
+full_no_place g before ext old new def row from (Store fault) no_room full runs = tt
 
 -- ---- runs
 
@@ -125,10 +129,10 @@ module _ {S : Type 0} {g : Ghosts S} (ext : Extents) (def : TableDef) where
       (λ damage b. record { names = b.names; broken = λ owners forests st. b.broken owners forests (stands_same ext old mid def owners forests told same st) (expected owners forests st) })
 
   -- the pages of a call that claims nothing
-  pub runs_of_place : {old new : S} {fault : Option StoreFault} (Expected : List Kind → TableForests → Type 0)
-      → RunsOverPages g (IsTableOrMapPage g ext old def) (IsTableOrMapPage g ext old def) (BreaksExpected g ext old def Expected) old new fault
+  pub runs_of_place : {old new : S} {fault : Option StoreFault} (block : ℕ) (Expected : List Kind → TableForests → Type 0)
+      → RunsOverPages g (IsBlockOrMapPage g ext old def block) (IsBlockOrMapPage g ext old def block) (BreaksExpected g ext old def Expected) old new fault
       → RunsOverPages g (IsTableSpace g ext old def) (IsTableSpace g ext old def) (BreaksExpected g ext old def Expected) old new fault
-  runs_of_place {old} {new} Expected run = runs_wider run (λ p there is. in_space p is) in_space (λ damage b. b)
+  runs_of_place {old} {new} {fault} block Expected run = runs_wider (runs_of_block ext def {fault = fault} block run) (λ p there is. in_space p is) in_space (λ damage b. b)
     where
       in_space : (p : ℕ) → IsTableOrMapPage g ext old def p → IsTableSpace g ext old def p
       in_space p is owners forests st = elim (is owners forests st) [

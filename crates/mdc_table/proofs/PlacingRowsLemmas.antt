@@ -1,6 +1,6 @@
 -- A row that was put into a block of its cell, or into one that came into use, as a call on a table says it.
 use Rattle.std.proofs.Common.{◌≡◌, ◌≢◌, ◌<◌, ◌≤◌, ℕ, List, [], ◌∷◌, length, replicate, refl, ap, arith, sym, ◌∙◌, subst, inl, inr}
-use Rattle.std.specs.Prelude.{Option, Some, None, slice_index_or, slice_set}
+use Rattle.std.specs.Prelude.{Contains, Option, Some, None, slice_index_or, slice_set}
 use Rattle.std.specs.List.{AllZip}
 use Rattle.std.proofs.Math.Nat.{mul-pos}
 use Rattle.std.proofs.lemmas.Bool.{cases_lt}
@@ -10,6 +10,7 @@ use Rattle.mdc_values.specs.declared.rid.Rid.{Rid}
 use Rattle.mdc_ast.specs.declared.definition.TableDef.{TableDef}
 use Rattle.mdc_ast.specs.declared.row.Row.{Row}
 use Rattle.store_api.specs.declared.pages.Pages.{Ghosts}
+use Rattle.extent_map.specs.Owners.{HasNoFree}
 use Rattle.extent_map.specs.declared.extents.Extents.{Extents}
 use Rattle.extent_map.specs.declared.kind.Kind.{Kind}
 use Rattle.extent_map.proofs.ExtentsLemmas.{extent_limits}
@@ -17,16 +18,18 @@ use Rattle.extent_map.proofs.GrowthLemmas.{growth_along}
 use Rattle.table_page.specs.TableLimits.{IsTableDef}
 use Rattle.row_page.proofs.RowPageLemmas.{slot_count-ge}
 use Rattle.block_map.specs.BlockMaps.{HasRow}
+use Rattle.block_map.specs.MapLines.{free_blocks}
 use Rattle.block_map.specs.declared.row.BlockRow.{BlockRow}
 use Rattle.block_map.specs.declared.state.BlockState.{BlockState}
 use Rattle.block_map.specs.declared.state.BlockState.TheVariants as state
 use Rattle.table_trees.specs.TreesBeside.{GrowsPages}
+use Rattle.table_trees.specs.ToldPages.{PageList}
 use Rattle.entry_tree.specs.Forest.{Forest}
 use Rattle.mdc_sound.specs.FittingRows.{RowFits}
 use Rattle.mdc_sound.specs.Placing.{AfterClaims, HasRoomFor, HoldsNowhere, IsFreeBlock, IsFreeExtent, IsLowestAt, PutsRow, Spot, begun_with, block_slot_count, table_spots}
 use Rattle.mdc_sound.specs.Placing.Spot.{FreeBlock, FreeExtent, IndexExtent, OtherBlock, PendingBlock, UsedBlock}
-use Rattle.mdc_sound.specs.StandingTable.{AreRightRooms, ChangesTable, IsReadyTable, pages_of, PlacesRow, spots_of, TableForests}
-use Rattle.mdc_sound.specs.ToldPages.{PageList}
+use Rattle.mdc_sound.specs.RunningFull.{HasNoSpot}
+use Rattle.mdc_sound.specs.StandingTable.{AreRightRooms, ChangesTable, IsReadyTable, pages_of, PlacesRow, spots_of, StandsTable, TableForests}
 use Rattle.mdc_sound.proofs.ChangedRowsLemmas.{some_slots}
 use Rattle.mdc_sound.proofs.TableSpotsLemmas.{free_block_of_spot, free_block_spot, free_of_spot, free_spot, length-spots}
 use Rattle.table_blocks.specs.BlockChanges.{SameSpot, TurnsSpot}
@@ -170,6 +173,46 @@ module _ {spots : List Spot} (map_tree : Forest) {def : TableDef} (row : Row) (f
   pub no_room_found : HoldsNowhere (HasRoomFor def row) spots
   no_room_found = nowhere (HasRoomFor def row) spots no_room_at
 
+-- where no block has room for a row
+module _ {S : Type 0} {g : Ghosts S} (ext : Extents) (s : S) (def : TableDef) (owners : List Kind) (forests : TableForests) (st : StandsTable g ext s def owners forests) (row : Row)
+    (no_room : HoldsNowhere (HasRoomFor def row) (spots_of g ext s def owners forests)) where
+  -- no block is Free where the block map names none
+  no_free_block : ((other : ℕ) → Contains (free_blocks forests.map) other → ⊥) → HoldsNowhere IsFreeBlock (spots_of g ext s def owners forests)
+  no_free_block none = nowhere IsFreeBlock (spots_of g ext s def owners forests)
+      (λ k holds. none k (free_block_of_spot ext (pages_of g s) def owners forests.map st.map k (free_block_is (slice_index_or (spots_of g ext s def owners forests) k OtherBlock) holds)))
+
+  -- it goes into the next block
+  pub puts_next : (block : ℕ) → IsNextBlock owners forests.map block
+      → PutsRow def (block_slot_count ext def) (spots_of g ext s def owners forests) row (slice_set (spots_of g ext s def owners forests) block (begun_with (block_slot_count ext def) row)) (record { block = block; slot = 0 })
+  puts_next block (IsNextBlock.free_block lowest) =
+      PutsRow.in_free_block block no_room
+      (lowest_at IsFreeBlock (spots_of g ext s def owners forests) block FreeBlock (omega (arith, free_within ext s def owners forests st block lowest.free, length-spots ext (pages_of g s) def owners forests.map))
+      (free_block_spot ext (pages_of g s) def owners forests.map block OtherBlock st.map lowest.free) tt
+      (λ k less holds.
+      let free = free_block_of_spot ext (pages_of g s) def owners forests.map st.map k (free_block_is (slice_index_or (spots_of g ext s def owners forests) k OtherBlock) holds) in
+      omega (arith, lowest.lowest k free (omega arith), less)))
+      refl
+  puts_next block (IsNextBlock.free_extent none lowest) =
+      let low : block < ext.cap = omega (arith, lowest.within, st.trees.map.count) in
+      PutsRow.in_free_extent block no_room (no_free_block none)
+      (lowest_at IsFreeExtent (spots_of g ext s def owners forests) block FreeExtent (omega (arith, low, length-spots ext (pages_of g s) def owners forests.map))
+      (free_spot ext (pages_of g s) def owners forests.map block OtherBlock low lowest.free) tt
+      (λ k less holds.
+      let free = free_of_spot ext (pages_of g s) def owners forests.map st.map k (free_extent_is (slice_index_or (spots_of g ext s def owners forests) k OtherBlock) holds) in
+      lowest.lowest k less free.1))
+      refl
+
+  -- and where no extent is free either there is no spot for it
+  pub no_spot : ((other : ℕ) → Contains (free_blocks forests.map) other → ⊥) → HasNoFree owners → HasNoSpot def (spots_of g ext s def owners forests) row
+  no_spot none none_free = (
+    no_room,
+    no_free_block none,
+    nowhere IsFreeExtent (spots_of g ext s def owners forests)
+        (λ k holds.
+        let free = free_of_spot ext (pages_of g s) def owners forests.map st.map k (free_extent_is (slice_index_or (spots_of g ext s def owners forests) k OtherBlock) holds) in
+        none_free k (omega (arith, free.0, st.trees.map.count)) free.1),
+  )
+
 module _ {S : Type 0} {g : Ghosts S} (before ext : Extents) (old mid new : S) (def : TableDef) (owners : List Kind) (forests : TableForests) (row : Row) (from now : Entry → ℕ)
     (defined : IsTableDef def.number def) (fits : RowFits def row) (told : (g.state mid).is_told ≡ (g.state old).is_told) (same : (g.state mid).work ≡ (g.state old).work)
     (ready : IsReadyTable g before from old def owners forests) where
@@ -179,6 +222,8 @@ module _ {S : Type 0} {g : Ghosts S} (before ext : Extents) (old mid new : S) (d
       → PlacesRow g before ext now old new def owners forests row (record { block = block; slot = 0 })
   placed_in_next block key is found next noted others =
       let begins = next.begins in
+      let spots = spots_of g before old def owners forests in
+      let no_room : (b : ℕ) → HasRoomFor def row (slice_index_or spots b OtherBlock) → ⊥ = no_room_at forests.map row from key is ready.rooms found in
       let turns = turns_along before ext old mid new def owners forests told same AfterClaims block (begun_with (block_slot_count before def) row) begins.owners_now begins.forests_now begins.turns in
       record {
         owners_now = begins.owners_now;
@@ -190,34 +235,6 @@ module _ {S : Type 0} {g : Ghosts S} (before ext : Extents) (old mid new : S) (d
             (in_set (replicate (block_slot_count before def) None) 0 (Some row) (omega (arith, some_slots before def.number def defined, length-empty (block_slot_count before def) None)))
             (λ b low. no_room b) (omega (arith, noted, ap now is)) (λ other differ. others other (λ e. differ (e ∙ is)));
         mid = slice_set spots block (begun_with (block_slot_count before def) row);
-        puts = puts (next.next ready.notes);
+        puts = puts_next before old def owners forests ready.stands row (nowhere (HasRoomFor def row) (spots_of g before old def owners forests) no_room) block (next.next ready.notes);
         claims = turns.spots;
       }
-    where
-      spots : List Spot
-      spots = spots_of g before old def owners forests
-
-      no_room : (b : ℕ) → HasRoomFor def row (slice_index_or (spots_of g before old def owners forests) b OtherBlock) → ⊥
-      no_room = no_room_at forests.map row from key is ready.rooms found
-
-      puts : IsNextBlock owners forests.map block
-          → PutsRow def (block_slot_count before def) (spots_of g before old def owners forests) row (slice_set (spots_of g before old def owners forests) block (begun_with (block_slot_count before def) row)) (record { block = block; slot = 0 })
-      puts (IsNextBlock.free_block lowest) =
-          PutsRow.in_free_block block (nowhere (HasRoomFor def row) (spots_of g before old def owners forests) no_room)
-          (lowest_at IsFreeBlock (spots_of g before old def owners forests) block FreeBlock (omega (arith, free_within before old def owners forests ready.stands block lowest.free, length-spots before (pages_of g old) def owners forests.map))
-          (free_block_spot before (pages_of g old) def owners forests.map block OtherBlock ready.stands.map lowest.free) tt
-          (λ k less holds.
-          let free = free_block_of_spot before (pages_of g old) def owners forests.map ready.stands.map k (free_block_is (slice_index_or (spots_of g before old def owners forests) k OtherBlock) holds) in
-          omega (arith, lowest.lowest k free (omega arith), less)))
-          refl
-      puts (IsNextBlock.free_extent none lowest) =
-          let low : block < before.cap = omega (arith, lowest.within, ready.stands.trees.map.count) in
-          PutsRow.in_free_extent block (nowhere (HasRoomFor def row) (spots_of g before old def owners forests) no_room)
-          (nowhere IsFreeBlock (spots_of g before old def owners forests)
-          (λ k holds. none k (free_block_of_spot before (pages_of g old) def owners forests.map ready.stands.map k (free_block_is (slice_index_or (spots_of g before old def owners forests) k OtherBlock) holds))))
-          (lowest_at IsFreeExtent (spots_of g before old def owners forests) block FreeExtent (omega (arith, low, length-spots before (pages_of g old) def owners forests.map))
-          (free_spot before (pages_of g old) def owners forests.map block OtherBlock low lowest.free) tt
-          (λ k less holds.
-          let free = free_of_spot before (pages_of g old) def owners forests.map ready.stands.map k (free_extent_is (slice_index_or (spots_of g before old def owners forests) k OtherBlock) holds) in
-          lowest.lowest k less free.1))
-          refl

@@ -37,7 +37,6 @@ use Rattle.mdc_sound.specs.Placing.{IsRowAt, Spot, block_slot_count, row_at_spot
 use Rattle.mdc_sound.specs.Placing.Spot.{FreeBlock, FreeExtent, IndexExtent, OtherBlock, PendingBlock, UsedBlock}
 use Rattle.mdc_sound.specs.StandingTable.{BreaksExpected, BreaksTable, IsPageOfBlock, IsTableOrMapPage, IsTableTreePage, NamesTablePart, StandsTable, TableForests, pages_of, spots_of}
 use Rattle.mdc_sound.specs.TableRows.{block_slots, rows_from_slot, rows_in_block}
-use Rattle.mdc_sound.specs.ToldPages.{PageList}
 use Rattle.mdc_sound.proofs.BlockRulesLemmas.{each_of, named_owned}
 use Rattle.mdc_sound.proofs.PlacingLemmas.{filled_below}
 use Rattle.mdc_sound.proofs.StandingTableLemmas.{stands_same}
@@ -49,6 +48,7 @@ use Rattle.table_trees.specs.TreesBeside.{IsTreePageAt}
 use Rattle.table_trees.proofs.TreesBesideLemmas.{holds_at}
 use Rattle.table_trees.proofs.SideBySideLemmas.{tree_still}
 use Rattle.table_trees.proofs.TableTreesLemmas.{same_tree_place}
+use Rattle.table_trees.specs.ToldPages.{PageList}
 use Rattle.store_api.proofs.FrameLemmas.{touches_same}
 use Rattle.mdc_table.specs.TableReading.{HasUsedBlock, IsRowLook}
 

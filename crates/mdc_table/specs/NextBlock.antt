@@ -9,9 +9,13 @@ use Rattle.extent_map.specs.declared.kind.Kind.{Kind}
 use Rattle.entry_tree.specs.Forest.{Forest}
 use Rattle.block_map.specs.BlockMaps.{IsLowestFreeBlock}
 use Rattle.block_map.specs.MapLines.{free_blocks}
+use Rattle.table_trees.specs.SpaceChanges.{RunsFull}
+use Rattle.table_trees.specs.ToldPages.{PageList}
 use Rattle.mdc_sound.specs.Placing.{HasRoomFor, HoldsNowhere}
-use Rattle.mdc_sound.specs.StandingTable.{MeetsNoFree, TableForests, spots_of}
-use Rattle.table_blocks.specs.BlockSteps.{BeginsBlock}
+use Rattle.mdc_sound.specs.Placing.Spot.{FreeBlock}
+use Rattle.mdc_sound.specs.RunningFull.{RowRunsFull, block_changes}
+use Rattle.mdc_sound.specs.StandingTable.{MeetsNoFree, TableForests, pages_of, spots_of}
+use Rattle.table_blocks.specs.BlockSteps.{BeginsBlock, NewBlockRunsFull}
 
 -- the block that comes into use next: the table's lowest Free block, else the lowest free extent
 pub data IsNextBlock (owners : List Kind) (map_tree : Forest) (block : ℕ) : Type 0 where
@@ -24,7 +28,13 @@ pub record BeginsNext {S : Type 0} (g : Ghosts S) (before ext : Extents) (old ne
   pub next : AreRightNotes before owners → IsNextBlock owners forests.map block
   pub begins : BeginsBlock g before ext old new def block row owners forests
 
--- Why a row isn't placed: no Used block of its cell has room, and there was no free extent for what it needs.
+-- The next block for the row runs full: what a Free block needs, or a new one.
+pub data NextBlockRunsFull (ext : Extents) (work : PageList) (def : TableDef) (row : Row) (owners : List Kind) (map_tree : Forest) : Type 0 where
+  free_block : (block : ℕ) → IsLowestFreeBlock map_tree 0 block → RunsFull ext work (block_changes def row block FreeBlock) → NextBlockRunsFull ext work def row owners map_tree
+  new_block : ((other : ℕ) → Contains (free_blocks map_tree) other → ⊥) → NewBlockRunsFull ext work def row owners → NextBlockRunsFull ext work def row owners map_tree
+
+-- Why a row isn't placed: no Used block of its cell has room, and what it needs asks for more extents than are free.
 pub record FindsNoPlace {S : Type 0} (g : Ghosts S) (before ext : Extents) (old new : S) (def : TableDef) (row : Row) (owners : List Kind) (forests : TableForests) : Type 0 where
   pub no_room : HoldsNowhere (HasRoomFor def row) (spots_of g before old def owners forests)
+  pub runs_full : RowRunsFull before (pages_of g old) def (spots_of g before old def owners forests) row
   pub none_free : MeetsNoFree g ext new

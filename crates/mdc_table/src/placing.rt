@@ -1,15 +1,18 @@
 // A row is put where placing says.
-ghost use Rattle.std.specs.Prelude.{◌≡◌, List, false, IfErr, IfOk};
+ghost use Rattle.std.specs.Prelude.{◌≡◌, List, false, slice_index_or, IfErr, IfOk};
 ghost use Rattle.store_api.specs.Causes.{store_fault_in};
 ghost use Rattle.store_api.specs.RunsOverPages.{RunsOverPages};
 ghost use Rattle.extent_map.specs.Damages.{IfFull, store_part_of};
 ghost use Rattle.extent_map.specs.Owners.{AreRightNotes, IsSameShape};
 ghost use Rattle.extent_map.specs.declared.kind.Kind.{Kind};
 ghost use Rattle.table_page.specs.TableLimits.{IsTableDef};
+ghost use Rattle.table_trees.specs.SpaceChanges.{MakesChanges};
 ghost use Rattle.mdc_sound.specs.FittingRows.{RowFits};
-ghost use Rattle.mdc_sound.specs.StandingTable.{BreaksTable, IsReadyTable, IsTableSpace, MeetsNoFree, PlacesRow, StandsTable, TableForests};
+ghost use Rattle.mdc_sound.specs.Placing.Spot.{OtherBlock};
+ghost use Rattle.mdc_sound.specs.RunningFull.{block_changes};
+ghost use Rattle.mdc_sound.specs.StandingTable.{BreaksTable, IsReadyTable, IsTableSpace, KeepsBlocksBut, MeetsNoFree, PlacesRow, StandsTable, TableForests, pages_of, spots_of};
 ghost use Rattle.cell_rooms.specs.RoomNotes.{room_from};
-ghost use Rattle.mdc_table.specs.NextBlock.{BeginsNext, FindsNoPlace};
+ghost use Rattle.mdc_table.specs.NextBlock.{BeginsNext, FindsNoPlace, NextBlockRunsFull};
 
 use crate::faults::unmapped;
 use block_index::cell_key;
@@ -22,8 +25,9 @@ use std::alloc::Global;
 use store_api::Pages;
 use table_blocks::{begin_free_block, begin_new_block, put_in_block};
 
-/// Puts a row that fits the definition where placing says, and answers where it lies. `Full` says that no Used block of its cell
-/// has room, and a claim met no free extent. After a fault `undo` goes back to a mark, and the notes of the extents and of the rooms are to be forgotten.
+/// Puts a row that fits the definition where placing says, and answers where it lies. The table's other blocks stay, whatever
+/// their state, and it claims no more pages than the row asks for. `Full` says that no Used block of its cell has room, and that
+/// it asks for more extents than are free. After a fault `undo` goes back to a mark, and the notes of the extents and of the rooms are to be forgotten.
 pub fn place_row<P: Pages>(
     alloc: Global,
     def: &TableDef,
@@ -39,6 +43,10 @@ pub fn place_row<P: Pages>(
         → PlacesRow P.Pages ext.old ext.new (room_from rooms.new) pages.old pages.new def.now owners forests row.now rid) }
     ensures full { IfErr result (λ fault. IfFull fault (λ cap. (cap ≡ ext.old.cap) × ((owners : List Kind) (forests : TableForests) → IsReadyTable P.Pages ext.old (room_from rooms.old) pages.old def.now owners forests
         → FindsNoPlace P.Pages ext.old ext.new pages.old pages.new def.now row.now owners forests))) }
+    ensures makes { IfOk result (λ rid. (owners : List Kind) (forests : TableForests) → IsReadyTable P.Pages ext.old (room_from rooms.old) pages.old def.now owners forests
+        → MakesChanges ext.old (pages_of P.Pages pages.old) (block_changes def.now row.now rid.block (slice_index_or (spots_of P.Pages ext.old pages.old def.now owners forests) rid.block OtherBlock)) (pages_of P.Pages pages.new)) }
+    ensures stay { IfOk result (λ rid. (owners : List Kind) (forests : TableForests) → IsReadyTable P.Pages ext.old (room_from rooms.old) pages.old def.now owners forests
+        → KeepsBlocksBut P.Pages ext.old pages.old pages.new def.now owners (λ block. block ≡ rid.block)) }
     ensures shape { IsSameShape ext.old ext.new }
     ensures runs { RunsOverPages P.Pages (IsTableSpace P.Pages ext.old pages.old def.now) (IsTableSpace P.Pages ext.old pages.old def.now)
         (BreaksTable P.Pages ext.old pages.old def.now) pages.old pages.new (store_fault_in store_part_of result) }
@@ -76,6 +84,11 @@ fn begin_block<P: Pages>(
         → BeginsNext P.Pages ext.old ext.new pages.old pages.new def.now block row.now owners forests) }
     ensures full { IfErr result (λ fault. IfFull fault (λ cap. (cap ≡ ext.old.cap) × ((owners : List Kind) (forests : TableForests) → StandsTable P.Pages ext.old pages.old def.now owners forests
         → AreRightNotes ext.old owners → MeetsNoFree P.Pages ext.new pages.new))) }
+    ensures makes { IfOk result (λ block. (owners : List Kind) (forests : TableForests) → StandsTable P.Pages ext.old pages.old def.now owners forests → AreRightNotes ext.old owners
+        → MakesChanges ext.old (pages_of P.Pages pages.old) (block_changes def.now row.now block (slice_index_or (spots_of P.Pages ext.old pages.old def.now owners forests) block OtherBlock)) (pages_of P.Pages pages.new)) }
+    ensures runs_full { IfErr result (λ fault. IfFull fault (λ cap. (owners : List Kind) (forests : TableForests) → StandsTable P.Pages ext.old pages.old def.now owners forests → AreRightNotes ext.old owners
+        → NextBlockRunsFull ext.old (pages_of P.Pages pages.old) def.now row.now owners forests.map)) }
+    ensures stay { IfOk result (λ block. (owners : List Kind) (forests : TableForests) → StandsTable P.Pages ext.old pages.old def.now owners forests → KeepsBlocksBut P.Pages ext.old pages.old pages.new def.now owners (λ other. other ≡ block)) }
     ensures shape { IsSameShape ext.old ext.new }
     ensures runs { RunsOverPages P.Pages (IsTableSpace P.Pages ext.old pages.old def.now) (IsTableSpace P.Pages ext.old pages.old def.now)
         (BreaksTable P.Pages ext.old pages.old def.now) pages.old pages.new (store_fault_in store_part_of result) }

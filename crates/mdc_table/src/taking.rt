@@ -1,12 +1,16 @@
 // A row is taken out.
-ghost use Rattle.std.specs.Prelude.{◌≡◌, List, false, length, OnOk};
+ghost use Rattle.std.specs.Prelude.{◌≡◌, List, Option, false, length, OnOk};
 ghost use Rattle.store_api.specs.Causes.{fault_of};
 ghost use Rattle.store_api.specs.RunsOverPages.{RunsOverPages};
 ghost use Rattle.extent_map.specs.Owners.{IsSameShape};
 ghost use Rattle.extent_map.specs.declared.kind.Kind.{Kind};
 ghost use Rattle.mdc_ast.specs.declared.row.Row.{Row};
+ghost use Rattle.row_page.specs.RowPage.{count_rows};
 ghost use Rattle.table_page.specs.TableLimits.{IsTableDef};
-ghost use Rattle.mdc_sound.specs.StandingTable.{BreaksExpected, ChangesTable, HasRowAt, IsReadyTable, IsTableOrMapPage, StandsTable, TableForests, TakesRowOut};
+ghost use Rattle.table_trees.specs.SpaceChanges.{MakesChanges};
+ghost use Rattle.mdc_sound.specs.Placing.{IsRowAt};
+ghost use Rattle.mdc_sound.specs.RunningFull.{left_changes};
+ghost use Rattle.mdc_sound.specs.StandingTable.{BreaksExpected, ChangesTable, HasRowAt, IsReadyTable, IsTableOrMapPage, KeepsBlocksBut, StandsTable, TableForests, TakesRowOut, pages_of, spots_of};
 ghost use Rattle.cell_rooms.specs.RoomNotes.{room_from};
 
 use crate::faults::unmapped;
@@ -31,10 +35,14 @@ pub fn take_row<P: Pages>(
 ) -> Result<(), StoreFault>
     requires defined { IsTableDef def.now.number def.now }
     requires going { (P.state pages.old).ended ≡ false }
-    ensures takes { OnOk result ((owners : List Kind) (forests : TableForests) → IsReadyTable P.Pages ext.old (room_from rooms.old) pages.old def.now owners forests → HasRowAt P.Pages ext.old pages.old def.now rid owners forests
+    ensures takes { OnOk result ((owners : List Kind) (forests : TableForests) → IsReadyTable P.Pages ext.old (room_from rooms.old) pages.old def.now owners forests
         → (row : Row) × TakesRowOut P.Pages ext.old ext.new (room_from rooms.new) pages.old pages.new def.now owners forests row rid) }
     ensures leaves { OnOk result ((owners : List Kind) (forests : TableForests) → StandsTable P.Pages ext.old pages.old def.now owners forests
         → (owners_now : List Kind) × (forests_now : TableForests) × ChangesTable P.Pages ext.old ext.new pages.old pages.new def.now owners forests owners_now forests_now) }
+    ensures makes { OnOk result ((owners : List Kind) (forests : TableForests) → IsReadyTable P.Pages ext.old (room_from rooms.old) pages.old def.now owners forests
+        → (row : Row) (slots : List (Option Row)) → IsRowAt (spots_of P.Pages ext.old pages.old def.now owners forests) rid row slots
+        → MakesChanges ext.old (pages_of P.Pages pages.old) (left_changes def.now row rid.block (count_rows slots)) (pages_of P.Pages pages.new)) }
+    ensures stay { (owners : List Kind) (forests : TableForests) → IsReadyTable P.Pages ext.old (room_from rooms.old) pages.old def.now owners forests → KeepsBlocksBut P.Pages ext.old pages.old pages.new def.now owners (λ block. block ≡ rid.block) }
     ensures count { length (P.state pages.new).work ≡ length (P.state pages.old).work }
     ensures shape { IsSameShape ext.old ext.new }
     ensures runs { RunsOverPages P.Pages (IsTableOrMapPage P.Pages ext.old pages.old def.now) (IsTableOrMapPage P.Pages ext.old pages.old def.now)

@@ -9,8 +9,8 @@ use Rattle.extent_map.specs.declared.extents.Extents.{Extents}
 use Rattle.row_page.specs.RowPage.{IsRowPage, row_page_head}
 use Rattle.table_page.specs.TablePage.{table_page}
 use Rattle.table_page.specs.PageAnswers.{IsNoTablePage}
+use Rattle.table_trees.specs.ToldPages.{PageList}
 use Rattle.mdc_sound.specs.Breaks.{BreaksRule}
-use Rattle.mdc_sound.specs.ToldPages.{PageList}
 
 -- behind the last page there are no bytes
 pub page_at-past : (pages : PageList) (p : ℕ) → length pages ≤ p → page_at pages p ≡ []

@@ -19,10 +19,9 @@ use Rattle.block_map.specs.BlockMaps.{AnyMap, BreaksMapTree}
 use Rattle.block_map.specs.MapLines.{MapLine, map_lines, used_blocks}
 use Rattle.table_trees.specs.TableTrees.{map_place}
 use Rattle.table_trees.specs.TreesBeside.{HoldsTreeAt}
+use Rattle.table_trees.specs.ToldPages.{HasTree, PageList}
 use Rattle.mdc_sound.specs.BlockRules.{IsBlockPageSound}
 use Rattle.mdc_sound.specs.Breaks.{BreaksRule}
-use Rattle.mdc_sound.specs.TableViews.{HasTree}
-use Rattle.mdc_sound.specs.ToldPages.{PageList}
 use Rattle.mdc_sound.proofs.StandsForLemmas.{one_tree_at}
 use Rattle.plain_reading.specs.ReadPages.{BreaksBlock, BreaksTableRows, IsMappedTable, IsRowsPage}
 

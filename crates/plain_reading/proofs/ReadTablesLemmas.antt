@@ -19,12 +19,11 @@ use Rattle.block_map.specs.MapLines.{used_blocks}
 use Rattle.table_page.specs.PageAnswers.{IsNoTablePage}
 use Rattle.table_page.specs.TablePage.{IsTablePageOf}
 use Rattle.table_trees.specs.TableTrees.{map_place}
+use Rattle.table_trees.specs.ToldPages.{HasTree, PageList}
 use Rattle.mdc_sound.specs.Breaks.{BreaksRule}
 use Rattle.mdc_sound.specs.StandsForDatabase.{HoldsPlace, PagesStandFor}
 use Rattle.mdc_sound.specs.TablePages.{DefinesTable, table_page_at}
 use Rattle.mdc_sound.specs.TableRows.{rows_in_table}
-use Rattle.mdc_sound.specs.TableViews.{HasTree}
-use Rattle.mdc_sound.specs.ToldPages.{PageList}
 use Rattle.plain_reading.specs.ReadPages.{BreaksDefinition, BreaksReading, BreaksTableRows, HasRowPages, HaveMapTrees, HaveRowPages, IsMappedTable, IsPlainPage, IsPlainPageOf, IsRowsPage}
 use Rattle.plain_reading.specs.ReadTables.{IsNumberTwice, ReadsPlace, plain_database, plain_table, rows_as_they_lie}
 use Rattle.plain_reading.specs.declared.table.ReadTable.{ReadTable}

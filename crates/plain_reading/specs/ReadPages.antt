@@ -9,11 +9,10 @@ use Rattle.row_page.specs.RowPage.{IsRowPage, rows_of}
 use Rattle.entry_tree.specs.Forest.{Forest, times}
 use Rattle.block_map.specs.MapLines.{used_blocks}
 use Rattle.table_trees.specs.TableTrees.{map_place}
+use Rattle.table_trees.specs.ToldPages.{HasTree, PageList}
 use Rattle.mdc_sound.specs.BlockRules.{IsBlockPageSound}
 use Rattle.mdc_sound.specs.Breaks.{BreaksRule}
 use Rattle.mdc_sound.specs.TablePages.{DefinesTable}
-use Rattle.mdc_sound.specs.TableViews.{HasTree}
-use Rattle.mdc_sound.specs.ToldPages.{PageList}
 
 -- table t, whose block map is this tree
 pub record IsMappedTable (pages : PageList) (t : ℕ) (def : TableDef) (map_tree : Forest) : Type 0 where

@@ -9,11 +9,10 @@ use Rattle.extent_map.specs.declared.extents.Extents.{Extents}
 use Rattle.entry_tree.specs.Forest.{Forest}
 use Rattle.block_map.specs.MapLines.{used_blocks}
 use Rattle.table_trees.specs.TableTrees.{map_place}
+use Rattle.table_trees.specs.ToldPages.{HasTree, PageList}
 use Rattle.mdc_sound.specs.StandsForDatabase.{rootless}
 use Rattle.mdc_sound.specs.TablePages.{DefinesTable, table_page_at}
 use Rattle.mdc_sound.specs.TableRows.{rows_in_table}
-use Rattle.mdc_sound.specs.TableViews.{HasTree}
-use Rattle.mdc_sound.specs.ToldPages.{PageList}
 use Rattle.plain_reading.specs.ReadPages.{HasRowPages}
 use Rattle.plain_reading.specs.declared.table.ReadTable.{ReadTable}
 

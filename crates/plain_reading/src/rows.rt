@@ -7,7 +7,7 @@ ghost use Rattle.entry_tree.specs.Forest.{Forest};
 ghost use Rattle.row_page.specs.Row.{AreRowColumns};
 ghost use Rattle.block_map.specs.MapLines.{used_blocks};
 ghost use Rattle.table_trees.specs.TableTrees.{map_place};
-ghost use Rattle.mdc_sound.specs.TableViews.{HasTree};
+ghost use Rattle.table_trees.specs.ToldPages.{HasTree};
 ghost use Rattle.plain_reading.specs.ReadPages.{BreaksTableRows, HasRowPages, IsRowsPage};
 ghost use Rattle.plain_reading.specs.ReadTables.{rows_as_they_lie};
 

@@ -40,7 +40,7 @@ use Rattle.table_trees.specs.RowCells.{AreOfOneCell}
 use Rattle.mdc_sound.specs.FittingRows.{RowFits}
 use Rattle.mdc_sound.specs.Placing.{Spot, spot_of_kind, spot_of_state}
 use Rattle.mdc_sound.specs.Placing.Spot.{OtherBlock}
-use Rattle.mdc_sound.specs.StandingTable.{BreaksExpected, IsBlockPageOf, IsPageOfBlock, IsTableOrMapPage, IsTableSpace, NamesTablePart, StandsTable, TableForests, forests_in_order, pages_of}
+use Rattle.mdc_sound.specs.StandingTable.{BreaksExpected, IsPageOfBlock, NamesTablePart, StandsTable, TableForests, forests_in_order, pages_of}
 use Rattle.mdc_sound.specs.TableRows.{PlacedRow, block_page, rows_in_block}
 use Rattle.mdc_sound.proofs.StandingTableLemmas.{block_below}
 use Rattle.mdc_sound.proofs.TableRowsLemmas.{KeepsBlockPages, block_slots-kept, rows_in_block-kept}
@@ -97,10 +97,6 @@ names_back before mid_ext def damage shape (NamesTablePart.row_page block rule p
 names_back before mid_ext def damage shape (NamesTablePart.row_count block rule page) =
     NamesTablePart.row_count block rule (let same : first_page_of mid_ext.cap mid_ext.extent_pages block ≡ first_page_of before.cap before.extent_pages block = rw (shape.cap, shape.extent_pages) refl in page ∙ same)
 names_back before mid_ext def damage shape (NamesTablePart.block_index rule page) = NamesTablePart.block_index rule page
-
--- a page of a block is one of a block of its table
-block_page_of : (ext : Extents) (owners : List Kind) (def : TableDef) (block p : ℕ) → IsOwnBlock ext owners def block → IsPageOfBlock ext block p → IsBlockPageOf ext owners def.number p
-block_page_of ext owners def block p own of = record { page = of.0; block = ap (owner_of owners) of.1 ∙ own.owned }
 
 -- ---- where pages of one block alone are touched
 
@@ -384,17 +380,3 @@ module _ {S : Type 0} {g : Ghosts S} where
     names = breaks.names;
     broken = λ owners forests st whole. let o = opens owners forests st whole in breaks.broken owners forests o.0 o.1 o.2;
   }
-
-  pub space_of_table : (ext : Extents) (s : S) (def : TableDef) (block p : ℕ)
-      → ((owners : List Kind) (forests : TableForests) → StandsTable g ext s def owners forests → StandsAround g ext s def owners forests block × IsOwnBlock ext owners def block)
-      → IsSpaceAround g ext s def block p → IsTableSpace g ext s def p
-  space_of_table ext s def block p opens is owners forests st =
-      let o = opens owners forests st in
-      elim (is owners forests o.0 o.1) [ inl here ↦ inl here | inr rest ↦ elim rest [ inl of_block ↦ inr (inl (block_page_of ext owners def block p o.1 of_block)) | inr other ↦ inr (inr other) ] ]
-
-  pub place_of_table : (ext : Extents) (s : S) (def : TableDef) (block p : ℕ)
-      → ((owners : List Kind) (forests : TableForests) → StandsTable g ext s def owners forests → StandsAround g ext s def owners forests block × IsOwnBlock ext owners def block)
-      → IsPlaceAround g ext s def block p → IsTableOrMapPage g ext s def p
-  place_of_table ext s def block p opens is owners forests st =
-      let o = opens owners forests st in
-      elim (is owners forests o.0 o.1) [ inl here ↦ inl here | inr rest ↦ elim rest [ inl of_block ↦ inr (inl (block_page_of ext owners def block p o.1 of_block)) | inr on_map ↦ inr (inr on_map) ] ]

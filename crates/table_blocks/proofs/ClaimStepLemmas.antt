@@ -36,7 +36,7 @@ use Rattle.table_trees.specs.RowCells.{AreOfOneCell}
 use Rattle.mdc_sound.specs.FittingRows.{RowFits}
 use Rattle.mdc_sound.specs.Placing.{AfterClaims, Spot, spot_of_kind, spot_of_state}
 use Rattle.mdc_sound.specs.Placing.Spot.{OtherBlock, UsedBlock}
-use Rattle.mdc_sound.specs.StandingTable.{BreaksTable, ChangesTable, IsBlockPageOf, NamesTablePart, StandsTable, TableForests, forests_in_order, pages_of}
+use Rattle.mdc_sound.specs.StandingTable.{BreaksTable, ChangesTable, NamesTablePart, StandsTable, TableForests, forests_in_order, pages_of}
 use Rattle.mdc_sound.specs.TableRows.{PlacedRow, block_slots, rows_in_block}
 use Rattle.mdc_sound.proofs.BlockRulesLemmas.{named_owned}
 use Rattle.mdc_sound.proofs.StandingTableLemmas.{block_below, block_kept}
@@ -285,22 +285,22 @@ module _ {S : Type 0} {g : Ghosts S} (before mid_ext : Extents) (old mid : S) (d
   -- the pages that may be touched since, after a change
   pub space_since_change : (claims : ClaimsBlock g before mid_ext old mid def block owners forests) (ext : Extents) (new : S) (owners_now : List Kind) (forests_now : TableForests)
       → ChangesAround g AfterClaims mid_ext ext mid new def block (with_block owners block def.number) forests owners_now forests_now → (p : ℕ) → IsSpaceAround g ext new def block p
-      → 0 < sum_by (times p) (forests_in_order forests) ⊎ (IsBlockPageOf before owners def.number p ⊎ (IsSpacePage before p ⊎ IsIdlePage before owners p))
+      → 0 < sum_by (times p) (forests_in_order forests) ⊎ (IsSpacePage before p ⊎ IsIdlePage before owners p)
   space_since_change claims ext new owners_now forests_now changes p is =
       let shape = shape_now claims ext new owners_now forests_now changes in
       let own = own_still mid_ext ext mid new def block (with_block owners block def.number) owners_now forests forests_now changes claims.own in
       elim (is owners_now forests_now changes.stands own) [
-        | inl mine ↦ elim (changes.trees.pages p mine) [ inl was ↦ inl was | inr idle ↦ inr (inr (inr (idle_was claims p idle))) ]
+        | inl mine ↦ elim (changes.trees.pages p mine) [ inl was ↦ inl was | inr idle ↦ inr (inr (idle_was claims p idle)) ]
         | inr rest ↦ elim rest [
-          | inl here ↦ inr (inr (inr (record {
+          | inl here ↦ inr (inr (record {
             page = extent_page_same before ext p shape here.0;
             idle = inr (ap (owner_of owners) (sym (same_extent before ext p shape) ∙ here.1) ∙ claims.free);
-          })))
+          }))
           | inr more ↦ elim more [
-            | inl space ↦ inr (inr (inl (space_same before ext p shape space)))
+            | inl space ↦ inr (inl (space_same before ext p shape space))
             | inr idle ↦ elim (idle_back mid_ext (with_block owners block def.number) owners_now (forests_in_order forests) (forests_in_order forests_now) p changes.trees.kept (idle_same mid_ext ext owners_now p changes.trees.shape idle)) [
               | inl was ↦ inl was
-              | inr idle_then ↦ inr (inr (inr (idle_was claims p idle_then)))
+              | inr idle_then ↦ inr (inr (idle_was claims p idle_then))
             ]
           ]
         ]
@@ -308,7 +308,7 @@ module _ {S : Type 0} {g : Ghosts S} (before mid_ext : Extents) (old mid : S) (d
 
   -- and right behind the claim
   pub space_since_claim : (p : ℕ) → ClaimsBlock g before mid_ext old mid def block owners forests → IsSpaceAround g mid_ext mid def block p
-      → 0 < sum_by (times p) (forests_in_order forests) ⊎ (IsBlockPageOf before owners def.number p ⊎ (IsSpacePage before p ⊎ IsIdlePage before owners p))
+      → 0 < sum_by (times p) (forests_in_order forests) ⊎ (IsSpacePage before p ⊎ IsIdlePage before owners p)
   space_since_claim p claims is =
       space_since_change claims mid_ext mid (with_block owners block def.number) forests (around_none claims_change mid_ext mid def block (with_block owners block def.number) forests claims.stands) p is
 

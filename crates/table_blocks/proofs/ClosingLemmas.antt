@@ -30,6 +30,7 @@ use Rattle.block_index.specs.Cells.{entry_under}
 use Rattle.table_page.specs.TableLimits.{IsTableDef}
 use Rattle.table_trees.specs.TableTrees.{block_entry, cell_parts, rising_parts}
 use Rattle.table_trees.specs.TreesBeside.{table_of_block}
+use Rattle.table_trees.specs.ToldPages.{PageList}
 use Rattle.mdc_sound.specs.BlockRules.{AreBlockRowsSound, IsBlockIndexSound, IsIdleCountSound, IsOfOneCell, IsUsedCountSound, entry_of_block}
 use Rattle.mdc_sound.specs.FittingRows.{RowFits}
 use Rattle.mdc_sound.specs.Placing.{Spot}
@@ -37,7 +38,6 @@ use Rattle.mdc_sound.specs.Placing.Spot.{FreeBlock, OtherBlock, UsedBlock}
 use Rattle.mdc_sound.specs.SpaceRules.{IsMapLineSound}
 use Rattle.mdc_sound.specs.StandingTable.{ChangesTable, StandsTable, TableForests, pages_of, spots_of}
 use Rattle.mdc_sound.specs.TableRows.{PlacedRow, block_slots, rows_in_block, rows_in_table}
-use Rattle.mdc_sound.specs.ToldPages.{PageList}
 use Rattle.mdc_sound.proofs.TableSpotsLemmas.{free_block_spot, length-spots, spot_at, used_spot}
 use Rattle.mdc_sound.proofs.CellKeysLemmas.{cell_key-same, dimension_key-same}
 use Rattle.mdc_sound.proofs.ElementsLemmas.{contains_entry, contains_flat, each_in, each_line, entry_in, flat_contains, in_map, named_block, zip_of}

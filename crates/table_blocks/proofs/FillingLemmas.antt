@@ -33,15 +33,16 @@ use Rattle.table_trees.specs.RowCells.{AreOfOneCell}
 use Rattle.mdc_sound.specs.FittingRows.{RowFits}
 use Rattle.mdc_sound.specs.Placing.{HasRoomFor, Spot}
 use Rattle.mdc_sound.specs.Placing.Spot.{FreeBlock, FreeExtent, IndexExtent, OtherBlock, PendingBlock, UsedBlock}
-use Rattle.mdc_sound.specs.StandingTable.{BreaksExpected, IsPageOfBlock, IsTableOrMapPage, NamesTablePart, StandsTable, TableForests, forests_in_order, pages_of, spots_of}
+use Rattle.mdc_sound.specs.StandingTable.{BreaksExpected, IsBlockOrMapPage, IsPageOfBlock, NamesTablePart, StandsTable, TableForests, forests_in_order, pages_of, spots_of}
 use Rattle.mdc_sound.proofs.MappedBlocksLemmas.{entry_rows, small_block}
 use Rattle.mdc_sound.proofs.SlotRowsLemmas.{count_slot, few_rows, few_slots}
 use Rattle.table_blocks.specs.AroundBlock.{StandsAround}
 use Rattle.table_blocks.specs.BlockChanges.{BreaksAround, IsPlaceAround, SameSpot, TurnsSpot}
 use Rattle.table_blocks.specs.BlockNow.{AreOfCell, IsListedIn, IsOwnBlock, IsUsedNow, used_line}
 use Rattle.table_blocks.specs.BlockSteps.{FillsSlot, HasRoomAt, MovesLine, StepsTo}
+use Rattle.table_blocks.proofs.BlockPagesLemmas.{place_of_block}
 use Rattle.table_blocks.proofs.BrokenRunsLemmas.{runs_broken}
-use Rattle.table_blocks.proofs.AroundLemmas.{around_then, breaks_of_table, breaks_rows, own_still, place_of_table, rows_step, runs_place_then}
+use Rattle.table_blocks.proofs.AroundLemmas.{around_then, breaks_of_table, breaks_rows, own_still, rows_step, runs_place_then}
 use Rattle.table_blocks.proofs.ClosingLemmas.{turns_used}
 use Rattle.table_blocks.proofs.LineStepLemmas.{breaks_replacing, map_around, place_of_map, replaces_line}
 use Rattle.table_blocks.proofs.OpeningLemmas.{around_block, own_of_line, used_spot_now}
@@ -94,7 +95,7 @@ miscount ext block = record { page = first_page_of ext.cap ext.extent_pages bloc
 -- ---- the block
 
 -- a block that has the line, and room: what it is
-record IsRoomOpen {S : Type 0} (g : Ghosts S) (ext : Extents) (s : S) (def : TableDef) (line : BlockRow) (row : Row) (owners : List Kind) (forests : TableForests) : Type 0 where
+pub record IsRoomOpen {S : Type 0} (g : Ghosts S) (ext : Extents) (s : S) (def : TableDef) (line : BlockRow) (row : Row) (owners : List Kind) (forests : TableForests) : Type 0 where
   pub slots : List (Option Row)
   pub values : List Value
   pub around : StandsAround g ext s def owners forests line.block
@@ -117,7 +118,7 @@ record ExpectsEmpty {S : Type 0} (g : Ghosts S) (ext : Extents) (s : S) (def : T
   pub empty : Contains slots None
 
 module _ {S : Type 0} {g : Ghosts S} (ext : Extents) (old : S) (def : TableDef) (line : BlockRow) (row : Row) (defined : IsTableDef def.number def) (low : line.block < ext.cap) (few : line.rows < 2 ^ 16) where
-  opens : (owners : List Kind) (forests : TableForests) → StandsTable g ext old def owners forests → HasRoomAt g ext old def line row owners forests → IsRoomOpen g ext old def line row owners forests
+  pub opens : (owners : List Kind) (forests : TableForests) → StandsTable g ext old def owners forests → HasRoomAt g ext old def line row owners forests → IsRoomOpen g ext old def line row owners forests
   opens owners forests st at =
       let block = line.block in
       let r = has_room def row (slice_index_or (spots_of g ext old def owners forests) block OtherBlock) at.room in
@@ -154,7 +155,7 @@ module _ {S : Type 0} {g : Ghosts S} (ext : Extents) (old : S) (def : TableDef) 
   -- ---- the line
 
   module _ (tree : Tree) (root : tree.root ≡ def.roots.map) (width : tree.width ≡ 7) where
-    map_page_of_table : (p : ℕ) → IsTreePage g old tree p → IsTableOrMapPage g ext old def p
+    map_page_of_table : (p : ℕ) → IsTreePage g old tree p → IsBlockOrMapPage g ext old def line.block p
     map_page_of_table p is owners forests st =
         let held = (map_around tree def root width ext old owners forests line.block (around_block ext old def owners forests defined st line.block)).held in
         inl (omega (arith, is forests.map held, sum_by-cons (times p) forests.map (forests.composite ∷ forests.dims ++ forests.indexes)))
@@ -166,7 +167,7 @@ module _ {S : Type 0} {g : Ghosts S} (ext : Extents) (old : S) (def : TableDef) 
 
     -- the line wasn't replaced
     pub runs_line : {fault : Option StoreFault} {mid : S} → RunsOverPages g (IsTreePage g old tree) (IsTreePage g old tree) (BreaksMapTree g old tree (HasRow line)) old mid fault
-        → RunsOverPages g (IsTableOrMapPage g ext old def) (IsTableOrMapPage g ext old def) (BreaksExpected g ext old def (HasRoomAt g ext old def line row)) old mid fault
+        → RunsOverPages g (IsBlockOrMapPage g ext old def line.block) (IsBlockOrMapPage g ext old def line.block) (BreaksExpected g ext old def (HasRoomAt g ext old def line row)) old mid fault
     runs_line run = runs_wider run (λ p there is. map_page_of_table p is) map_page_of_table breaks_line
 
     -- it was
@@ -179,7 +180,7 @@ module _ {S : Type 0} {g : Ghosts S} (ext : Extents) (old : S) (def : TableDef) 
           let held = (map_around tree def root width ext old owners forests line.block around).held in
           (around, own_of_line ext old def owners forests defined st line (there forests.map held) low)
 
-      moves : (owners : List Kind) (forests : TableForests) → StandsAround g ext old def owners forests line.block → IsOwnBlock ext owners def line.block
+      pub moves : (owners : List Kind) (forests : TableForests) → StandsAround g ext old def owners forests line.block → IsOwnBlock ext owners def line.block
           → (moves : MovesLine g SameSpot ext ext old mid def line.block (used_line line.block rows) owners forests) × (moves.owners_now ≡ owners)
           × ((p : ℕ) → sum_by (times p) (forests_in_order moves.forests_now) ≡ sum_by (times p) (forests_in_order forests))
       moves owners forests around own =
@@ -204,13 +205,13 @@ module _ {S : Type 0} {g : Ghosts S} (ext : Extents) (old : S) (def : TableDef) 
       -- a call on the rows behind it
       after_line : {fault : Option StoreFault} (new : S)
           → RunsOverPages g (IsPlaceAround g ext mid def line.block) (IsPlaceAround g ext mid def line.block) (BreaksAround g ext mid def line.block (ExpectsEmpty g ext mid def line.block)) mid new fault
-          → RunsOverPages g (IsTableOrMapPage g ext old def) (IsTableOrMapPage g ext old def) (BreaksExpected g ext old def (HasRoomAt g ext old def line row)) old new fault
+          → RunsOverPages g (IsBlockOrMapPage g ext old def line.block) (IsBlockOrMapPage g ext old def line.block) (BreaksExpected g ext old def (HasRoomAt g ext old def line row)) old new fault
       after_line {fault} new run =
           let first : RunsOverPages g (IsPlaceAround g ext old def line.block) (IsPlaceAround g ext old def line.block) (BreaksAround g ext old def line.block (ExpectsRoom g ext old def line)) old mid None =
           runs_on (runs_wider replaced (λ p within is. place_of_map tree def root width ext old line.block p is) (λ p is. place_of_map tree def root width ext old line.block p is)
           (λ damage breaks. breaks_replacing tree def root width ext old line.block line damage breaks)) in
           let whole = runs_place_then ext ext old mid new def line.block (ExpectsRoom g ext old def line) (ExpectsEmpty g ext mid def line.block) fault (record { cap = refl; extent_pages = refl }) steps first run in
-          runs_wider whole (λ p within is. place_of_table ext old def line.block p block_owned is) (λ p is. place_of_table ext old def line.block p block_owned is)
+          runs_wider whole (λ p within is. place_of_block ext old def line.block p block_owned is) (λ p is. place_of_block ext old def line.block p block_owned is)
           (λ damage breaks. breaks_of_table ext old def line.block (ExpectsRoom g ext old def line) (HasRoomAt g ext old def line row) damage breaks
           (λ owners forests st at.
           let o = opens owners forests st at in
@@ -225,14 +226,14 @@ module _ {S : Type 0} {g : Ghosts S} (ext : Extents) (old : S) (def : TableDef) 
           record { names = b.names; broken = λ owners forests st own e. b.broken owners forests st own (e.slots, e.rows) })
 
       pub runs_rows : {fault : Option StoreFault} (new : S) → RunsOverPages g (IsPageOfBlock ext line.block) (IsPageOfBlock ext line.block) (BreaksRows g ext mid def line.block) mid new fault
-          → RunsOverPages g (IsTableOrMapPage g ext old def) (IsTableOrMapPage g ext old def) (BreaksExpected g ext old def (HasRoomAt g ext old def line row)) old new fault
+          → RunsOverPages g (IsBlockOrMapPage g ext old def line.block) (IsBlockOrMapPage g ext old def line.block) (BreaksExpected g ext old def (HasRoomAt g ext old def line row)) old new fault
       runs_rows new run = after_line new (rows_run new run)
 
       -- no slot was empty
       pub runs_full : (new : S) (fault : StoreFault) → fault ≡ Damaged (miscount ext line.block)
           → RunsOverPages g (IsPageOfBlock ext line.block) (IsPageOfBlock ext line.block) (BreaksRows g ext mid def line.block) mid new None
           → ((slots : List (Option Row)) → HoldsRows g ext mid def line.block slots → PutsFirst g ext mid new def line.block row slots None)
-          → RunsOverPages g (IsTableOrMapPage g ext old def) (IsTableOrMapPage g ext old def) (BreaksExpected g ext old def (HasRoomAt g ext old def line row)) old new (Some fault)
+          → RunsOverPages g (IsBlockOrMapPage g ext old def line.block) (IsBlockOrMapPage g ext old def line.block) (BreaksExpected g ext old def (HasRoomAt g ext old def line row)) old new (Some fault)
       runs_full new fault is run puts =
           after_line new (runs_broken {damage = miscount ext line.block} fault is (rows_run new run) (record {
             names = NamesTablePart.row_count line.block refl refl;

@@ -32,14 +32,14 @@ use Rattle.table_trees.specs.TableTrees.{cell_parts, rising_parts}
 use Rattle.table_trees.specs.RowCells.{cell_values}
 use Rattle.mdc_sound.specs.FittingRows.{RowFits}
 use Rattle.mdc_sound.specs.Placing.{AfterClaims, block_slot_count}
-use Rattle.mdc_sound.specs.StandingTable.{BreaksExpected, IsTableSpace, MeetsNoFree, StandsTable, TableForests}
+use Rattle.mdc_sound.specs.StandingTable.{BreaksExpected, IsSpaceOfBlock, MeetsNoFree, StandsTable, TableForests}
 use Rattle.mdc_sound.proofs.ChangedRowsLemmas.{some_slots}
 use Rattle.table_blocks.specs.AroundBlock.{StandsAround}
 use Rattle.table_blocks.specs.BlockChanges.{BreaksAround, IsSpaceAround}
 use Rattle.table_blocks.specs.BlockNow.{AreOfCell, IsOwnBlock, IsUnlisted, IsUnlistedIn, IsUsedNow, free_line, used_line}
 use Rattle.table_blocks.specs.BlockSteps.{BeginsBlock, FillsBegun, HasFreeBlock, MovesLine, StepsTo}
 use Rattle.table_blocks.proofs.BegunSlotsLemmas.{begun_cell, begun_count}
-use Rattle.table_blocks.proofs.AroundLemmas.{around_then, breaks_of_table, own_still, runs_around_then, space_of_table}
+use Rattle.table_blocks.proofs.AroundLemmas.{around_then, breaks_of_table, own_still, runs_around_then}
 use Rattle.table_blocks.proofs.ClosingLemmas.{turns_used}
 use Rattle.table_blocks.proofs.LineStepLemmas.{breaks_replacing, map_around, page_of_map, replaces_line}
 use Rattle.table_blocks.proofs.OpeningLemmas.{around_block, free_now, own_of_line}
@@ -51,12 +51,19 @@ module _ {S : Type 0} {g : Ghosts S} (ext : Extents) (old : S) (def : TableDef) 
   tree_page_around : (p : ℕ) → IsTreePage g old tree p → IsSpaceAround g ext old def block p
   tree_page_around p is owners forests st own = inl (page_of_map tree def root width ext old block p is owners forests st)
 
-  tree_page_of_table : (p : ℕ) → IsTreePage g old tree p → IsTableSpace g ext old def p
+  tree_page_of_table : (p : ℕ) → IsTreePage g old tree p → IsSpaceOfBlock g ext old def block p
   tree_page_of_table p is owners forests st = inl (page_of_map tree def root width ext old block p is owners forests (around_block ext old def owners forests defined st block))
+
+  -- what is touched around the block is so of a table that stands
+  space_of_block : (p : ℕ) → ((owners : List Kind) (forests : TableForests) → StandsTable g ext old def owners forests → StandsAround g ext old def owners forests block × IsOwnBlock ext owners def block)
+      → IsSpaceAround g ext old def block p → IsSpaceOfBlock g ext old def block p
+  space_of_block p opens is owners forests st =
+      let o = opens owners forests st in
+      elim (is owners forests o.0 o.1) [ inl here ↦ inl here | inr rest ↦ elim rest [ inl of_block ↦ inr (inl (record { page = of_block; own = o.1.owned })) | inr other ↦ inr (inr other) ] ]
 
   -- where the call on the block map ended
   pub line_run : {mid : S} {fault : Option StoreFault} → RunsOverPages g (IsTreePage g old tree) (IsTreePage g old tree) (BreaksMapTree g old tree (HasRow (free_line block))) old mid fault
-      → RunsOverPages g (IsTableSpace g ext old def) (IsTableSpace g ext old def) (BreaksExpected g ext old def (HasFreeBlock block)) old mid fault
+      → RunsOverPages g (IsSpaceOfBlock g ext old def block) (IsSpaceOfBlock g ext old def block) (BreaksExpected g ext old def (HasFreeBlock block)) old mid fault
   line_run run =
       runs_wider run (λ p there is. tree_page_of_table p is) (λ p is. tree_page_of_table p is)
       (λ damage b. breaks_of_table ext old def block (λ owners forests. HasRow (free_line block) forests.map) (HasFreeBlock block) damage (breaks_replacing tree def root width ext old block (free_line block) damage b)
@@ -75,7 +82,7 @@ module _ {S : Type 0} {g : Ghosts S} (ext : Extents) (old : S) (def : TableDef) 
         let around = around_block ext old def owners forests defined st block in
         (around, own_of_line ext old def owners forests defined st (free_line block) (line_there owners forests around) low)
 
-    takes_line : (owners : List Kind) (forests : TableForests) → StandsAround g ext old def owners forests block → IsOwnBlock ext owners def block → MovesLine g AfterClaims ext ext old mid def block line owners forests
+    pub takes_line : (owners : List Kind) (forests : TableForests) → StandsAround g ext old def owners forests block → IsOwnBlock ext owners def block → MovesLine g AfterClaims ext ext old mid def block line owners forests
     takes_line owners forests st own =
         let one = map_around tree def root width ext old owners forests block st in
         let moved = replaces_line tree def root width claims_change ext old mid block (free_line block) line owners forests st own refl (ap (λ (l : BlockRow). l.block) is) (line_there owners forests st)
@@ -106,10 +113,10 @@ module _ {S : Type 0} {g : Ghosts S} (ext : Extents) (old : S) (def : TableDef) 
 
     pub filled_run : (new : S) (fault : Option StoreFault)
         → RunsOverPages g (IsSpaceAround g ext mid def block) (IsSpaceAround g ext mid def block) (BreaksAround g ext mid def block (λ owners forests. IsUnlisted def forests block)) mid new fault
-        → RunsOverPages g (IsTableSpace g ext old def) (IsTableSpace g ext old def) (BreaksExpected g ext old def (HasFreeBlock block)) old new fault
+        → RunsOverPages g (IsSpaceOfBlock g ext old def block) (IsSpaceOfBlock g ext old def block) (BreaksExpected g ext old def (HasFreeBlock block)) old new fault
     filled_run new fault second =
         runs_wider (runs_around_then ext ext old mid new def block Expected (λ owners forests. IsUnlisted def forests block) fault (record { cap = refl; extent_pages = refl }) steps first_run second)
-        (λ p there is. space_of_table ext old def block p opens is) (λ p is. space_of_table ext old def block p opens is)
+        (λ p there is. space_of_block p opens is) (λ p is. space_of_block p opens is)
         (λ damage b. breaks_of_table ext old def block Expected (HasFreeBlock block) damage b
         (λ owners forests st free. let now = free_now ext old def owners forests defined st block free.free in (around_block ext old def owners forests defined st block, now.own, (now.line, now.unlisted))))
 

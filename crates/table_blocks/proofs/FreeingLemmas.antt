@@ -74,7 +74,7 @@ module _ {S : Type 0} {g : Ghosts S} where
 
     module _ (mid : S) (there : (t : Forest) → HoldsTree g old tree t → HasRow line t) (changes : (t : Forest) → HoldsTree g old tree t → IsMapForm t → ChangesRowTo g mid tree line (free_line line.block) t)
         (count : length (g.state mid).work ≡ length (g.state old).work) (first : RunsOverPages g (IsTreePage g old tree) (IsTreePage g old tree) (BreaksMapTree g old tree (HasRow line)) old mid None) where
-      moves_line : (owners : List Kind) (forests : TableForests) → StandsAround g ext old def owners forests line.block → IsOwnBlock ext owners def line.block
+      pub moves_line : (owners : List Kind) (forests : TableForests) → StandsAround g ext old def owners forests line.block → IsOwnBlock ext owners def line.block
           → (moves : MovesLine g AfterReturns ext ext old mid def line.block (free_line line.block) owners forests) × (moves.owners_now ≡ owners)
           × ((p : ℕ) → sum_by (times p) (forests_in_order moves.forests_now) ≡ sum_by (times p) (forests_in_order forests))
       moves_line owners forests st own =

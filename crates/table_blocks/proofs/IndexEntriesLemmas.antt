@@ -14,11 +14,11 @@ use Rattle.entry_tree.specs.Forest.{Forest, leaf_entries}
 use Rattle.key_codec.specs.Keys.{key_bytes}
 use Rattle.table_trees.specs.TableTrees.{AreIndexParts, block_entry, rising_parts}
 use Rattle.table_trees.proofs.TableTreesLemmas.{places_in}
+use Rattle.table_trees.specs.ToldPages.{PageList}
 use Rattle.block_index.specs.Cells.{HaveKeys}
 use Rattle.block_index.specs.Listing.{GainsEntry, LosesEntry, MoveFirst}
 use Rattle.mdc_sound.specs.BlockRules.{entry_of_block}
 use Rattle.mdc_sound.specs.TableRows.{PlacedRow}
-use Rattle.mdc_sound.specs.ToldPages.{PageList}
 use Rattle.table_blocks.specs.AroundBlock.{IsIndexAround, IsOtherRow, block_in_entry}
 use Rattle.table_blocks.specs.BlockNow.{IsListedIn, IsUnlistedIn}
 use Rattle.table_blocks.proofs.BlockEntriesLemmas.{same_named}

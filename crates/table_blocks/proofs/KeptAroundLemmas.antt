@@ -25,12 +25,12 @@ use Rattle.table_trees.specs.TreesBeside.{ChangesTrees, GrowsPages, IsSpaceOfTre
 use Rattle.table_trees.proofs.SideBySideLemmas.{block_page_apart}
 use Rattle.mdc_sound.specs.BlockRules.{IsBlockPageSound}
 use Rattle.table_trees.specs.RowCells.{AreOfOneCell}
+use Rattle.table_trees.specs.ToldPages.{PageList}
 use Rattle.mdc_sound.specs.FittingRows.{RowFits}
 use Rattle.mdc_sound.specs.Placing.{AfterClaims, Spot, spot_of_kind, spot_of_state}
 use Rattle.mdc_sound.specs.Placing.Spot.{OtherBlock}
 use Rattle.mdc_sound.specs.StandingTable.{TableForests, forests_in_order, pages_of}
 use Rattle.mdc_sound.specs.TableRows.{PlacedRow, block_slots}
-use Rattle.mdc_sound.specs.ToldPages.{PageList}
 use Rattle.mdc_sound.proofs.StandingTableLemmas.{block_below, block_kept}
 use Rattle.mdc_sound.proofs.TableRowsLemmas.{KeepsBlockPages, block_slots-kept, rows_in_block-kept}
 use Rattle.block_rows.specs.HeldRows.{HoldsRows}

@@ -33,7 +33,7 @@ use Rattle.table_trees.specs.TableTrees.{cell_parts, rising_parts}
 use Rattle.table_trees.specs.RowCells.{cell_values}
 use Rattle.mdc_sound.specs.FittingRows.{RowFits}
 use Rattle.mdc_sound.specs.Placing.{AfterClaims, begun_with, block_slot_count}
-use Rattle.mdc_sound.specs.StandingTable.{BreaksTable, IsTableSpace, MeetsNoFree, StandsTable, TableForests}
+use Rattle.mdc_sound.specs.StandingTable.{BreaksTable, IsTreeSpaceOfTable, MeetsNoFree, StandsTable, TableForests}
 use Rattle.mdc_sound.proofs.ChangedRowsLemmas.{some_slots}
 use Rattle.table_blocks.specs.AroundBlock.{StandsAround}
 use Rattle.table_blocks.specs.BlockChanges.{BreaksAround, IsSpaceAround, TurnsSpot}
@@ -44,8 +44,6 @@ use Rattle.table_blocks.proofs.AroundLemmas.{around_then, own_still}
 use Rattle.table_blocks.proofs.ClaimStepLemmas.{breaks_claiming, breaks_since_claim, claims_block, names_same, space_since_change, space_since_claim, turns_claimed}
 use Rattle.table_blocks.proofs.LineStepLemmas.{breaks_entering, enters_line, map_around, space_of_map}
 use Rattle.table_blocks.proofs.SpotChangesLemmas.{claims_change}
-
--- ---- a full map
 
 -- ---- the claim
 
@@ -62,9 +60,9 @@ module _ {S : Type 0} {g : Ghosts S} (before mid_ext : Extents) (old mid : S) (d
 
 module _ {S : Type 0} {g : Ghosts S} (before : Extents) (old : S) (def : TableDef) where
   pub claim_run : {mid : S} {fault : Option StoreFault} → RunsOverPages g (IsSpacePage before) (IsSpacePage before) (BreaksSpace g before old) old mid fault
-      → RunsOverPages g (IsTableSpace g before old def) (IsTableSpace g before old def) (BreaksTable g before old def) old mid fault
+      → RunsOverPages g (IsTreeSpaceOfTable g before old def) (IsTreeSpaceOfTable g before old def) (BreaksTable g before old def) old mid fault
   claim_run run =
-      runs_wider run (λ p low space owners forests st. inr (inr (inl space))) (λ p space owners forests st. inr (inr (inl space))) (breaks_claiming g before old def)
+      runs_wider run (λ p low space owners forests st. inr (inl space)) (λ p space owners forests st. inr (inl space)) (breaks_claiming g before old def)
 
 -- ---- the line
 
@@ -74,15 +72,15 @@ module _ {S : Type 0} {g : Ghosts S} (before mid_ext : Extents) (old mid : S) (d
   own_line : line.block ≡ block
   own_line = ap (λ (other : BlockRow). other.block) is
 
-  pub enter_run : {two : S} {fault : Option StoreFault} → RunsOverPages g (IsTableSpace g before old def) (IsTableSpace g before old def) (BreaksTable g before old def) old mid None
+  pub enter_run : {two : S} {fault : Option StoreFault} → RunsOverPages g (IsTreeSpaceOfTable g before old def) (IsTreeSpaceOfTable g before old def) (BreaksTable g before old def) old mid None
       → RunsOverPages g (IsTreeSpace g mid_ext mid tree) (IsTreeSpace g mid_ext mid tree) (BreaksEntering g mid_ext mid tree line) mid two fault
-      → RunsOverPages g (IsTableSpace g before old def) (IsTableSpace g before old def) (BreaksTable g before old def) old two fault
+      → RunsOverPages g (IsTreeSpaceOfTable g before old def) (IsTreeSpaceOfTable g before old def) (BreaksTable g before old def) old two fault
   enter_run first second =
       runs_then first second (λ p low mine. space p mine) space
       (λ damage breaks. breaks_since_claim g before mid_ext old mid def block (λ owners forests. IsUnnamed forests.map block) damage shape claims (λ owners forests st. (claims owners forests st).unnamed)
       (breaks_entering tree def root width mid_ext mid block line damage own_line breaks))
     where
-      space : (p : ℕ) → IsTreeSpace g mid_ext mid tree p → IsTableSpace g before old def p
+      space : (p : ℕ) → IsTreeSpace g mid_ext mid tree p → IsTreeSpaceOfTable g before old def p
       space p mine owners forests st = space_since_claim before mid_ext old mid def block owners forests defined st p (claims owners forests st) (space_of_map tree def root width mid_ext mid block p mine)
 
   -- the tree met no free extent
@@ -107,14 +105,14 @@ module _ {S : Type 0} {g : Ghosts S} (before mid_ext : Extents) (old mid : S) (d
   module _ (two_ext : Extents) (two : S) (same : IsSameShape mid_ext two_ext)
       (adds : (owners : List Kind) (t : Forest) → StandsTree g mid_ext mid tree owners t → AddsEntry g mid_ext two_ext mid two tree (row_entry line) owners t)
       (run : RunsOverPages g (IsTreeSpace g mid_ext mid tree) (IsTreeSpace g mid_ext mid tree) (BreaksEntering g mid_ext mid tree line) mid two None) where
-    where_entered : (owners : List Kind) (forests : TableForests) → StandsTable g before old def owners forests → MovesLine g AfterClaims mid_ext two_ext mid two def block line (with_block owners block def.number) forests
+    pub where_entered : (owners : List Kind) (forests : TableForests) → StandsTable g before old def owners forests → MovesLine g AfterClaims mid_ext two_ext mid two def block line (with_block owners block def.number) forests
     where_entered owners forests st =
         let claim = claims owners forests st in
         enters_line tree def root width mid_ext two_ext mid two block line (with_block owners block def.number) forests claim.stands claim.own own_line claim.unnamed
         (adds (with_block owners block def.number) forests.map (map_around tree def root width mid_ext mid (with_block owners block def.number) forests block claim.stands))
         same run.touches run.works.steady.is_told run.works.no_shorter
 
-    own_then : (owners : List Kind) (forests : TableForests) (st : StandsTable g before old def owners forests) → IsOwnBlock two_ext (where_entered owners forests st).owners_now def block
+    pub own_then : (owners : List Kind) (forests : TableForests) (st : StandsTable g before old def owners forests) → IsOwnBlock two_ext (where_entered owners forests st).owners_now def block
     own_then owners forests st =
         let moves = where_entered owners forests st in
         own_still mid_ext two_ext mid two def block (with_block owners block def.number) moves.owners_now forests moves.forests_now moves.changes (claims owners forests st).own
@@ -128,9 +126,9 @@ module _ {S : Type 0} {g : Ghosts S} (before mid_ext : Extents) (old mid : S) (d
           dims = subst (λ (indexes : List Forest). AllZip (λ dim index. IsUnlistedIn def (rising_parts dim) block index) def.dims indexes) (sym moves.dims) was.dims;
         }
 
-    pub fill_run : {new : S} {fault : Option StoreFault} → RunsOverPages g (IsTableSpace g before old def) (IsTableSpace g before old def) (BreaksTable g before old def) old two None
+    pub fill_run : {new : S} {fault : Option StoreFault} → RunsOverPages g (IsTreeSpaceOfTable g before old def) (IsTreeSpaceOfTable g before old def) (BreaksTable g before old def) old two None
         → RunsOverPages g (IsSpaceAround g two_ext two def block) (IsSpaceAround g two_ext two def block) (BreaksAround g two_ext two def block (λ owners forests. IsUnlisted def forests block)) two new fault
-        → RunsOverPages g (IsTableSpace g before old def) (IsTableSpace g before old def) (BreaksTable g before old def) old new fault
+        → RunsOverPages g (IsTreeSpaceOfTable g before old def) (IsTreeSpaceOfTable g before old def) (BreaksTable g before old def) old new fault
     fill_run first second =
         runs_then first second (λ p low mine. space p mine) space
         (λ damage breaks. record {
@@ -140,7 +138,7 @@ module _ {S : Type 0} {g : Ghosts S} (before mid_ext : Extents) (old mid : S) (d
               breaks.broken moves.owners_now moves.forests_now moves.changes.stands (own_then owners forests st) (unlisted_then owners forests st);
         })
       where
-        space : (p : ℕ) → IsSpaceAround g two_ext two def block p → IsTableSpace g before old def p
+        space : (p : ℕ) → IsSpaceAround g two_ext two def block p → IsTreeSpaceOfTable g before old def p
         space p mine owners forests st =
             let moves = where_entered owners forests st in
             space_since_change before mid_ext old mid def block owners forests defined st (claims owners forests st) two_ext two moves.owners_now moves.forests_now moves.changes p mine

@@ -29,12 +29,12 @@ use Rattle.block_map.proofs.MapLinesLemmas.{in_state_named, named_in_state, row_
 use Rattle.table_trees.specs.TableTrees.{AreIndexParts, block_entry, cell_parts, rising_parts}
 use Rattle.mdc_sound.specs.BlockRules.{AreBlockRowsSound, IsBlockIndexSound, IsIdleCountSound, IsOfOneCell, IsUsedCountSound, entry_of_block}
 use Rattle.table_trees.specs.RowCells.{AreOfOneCell}
+use Rattle.table_trees.specs.ToldPages.{PageList}
 use Rattle.mdc_sound.specs.FittingRows.{RowFits}
 use Rattle.mdc_sound.specs.Placing.Spot.{OtherBlock, UsedBlock}
 use Rattle.mdc_sound.specs.SpaceRules.{IsMapLineSound}
 use Rattle.mdc_sound.specs.StandingTable.{StandsTable, TableForests, pages_of, spots_of}
 use Rattle.mdc_sound.specs.TableRows.{PlacedRow, block_slots, rows_in_block, rows_in_table}
-use Rattle.mdc_sound.specs.ToldPages.{PageList}
 use Rattle.mdc_sound.proofs.BlockRulesLemmas.{each_of, line_at, named_owned}
 use Rattle.mdc_sound.proofs.DefinitionTreesLemmas.{has_block_indexes}
 use Rattle.mdc_sound.proofs.TableSpotsLemmas.{state_of_block, used_of_spot}

@@ -28,12 +28,12 @@ use Rattle.block_map.proofs.MapLinesLemmas.{entry_small, named_in_state}
 use Rattle.table_trees.specs.TreesBeside.{table_of_block}
 use Rattle.mdc_sound.specs.BlockRules.{AreBlockRowsSound, IsOfOneCell}
 use Rattle.table_trees.specs.RowCells.{AreOfOneCell}
+use Rattle.table_trees.specs.ToldPages.{PageList}
 use Rattle.mdc_sound.specs.FittingRows.{RowFits}
 use Rattle.mdc_sound.specs.Placing.{Spot, spot_of_kind, spot_of_state}
 use Rattle.mdc_sound.specs.Placing.Spot.{FreeExtent, IndexExtent, OtherBlock}
 use Rattle.mdc_sound.specs.StandingTable.{pages_of}
 use Rattle.mdc_sound.specs.TableRows.{PlacedRow, block_slots, rows_in_block}
-use Rattle.mdc_sound.specs.ToldPages.{PageList}
 use Rattle.mdc_sound.proofs.StandingTableLemmas.{block_below}
 use Rattle.mdc_sound.proofs.TableRowsLemmas.{KeepsBlockPages, block_slots-kept, rows_in_block-kept}
 use Rattle.block_rows.specs.HeldRows.{HoldsRows}

@@ -17,7 +17,6 @@ use Rattle.store_api.specs.declared.fault.StoreFault.TheVariants.{Damaged}
 use Rattle.store_api.specs.declared.pages.Pages.{Ghosts}
 use Rattle.store_api.proofs.FrameLemmas.{touches_same, touches_then}
 use Rattle.store_api.proofs.RunsOverPagesLemmas.{runs_damage, runs_then, runs_wider}
-use Rattle.extent_map.specs.Owners.{owner_of}
 use Rattle.extent_map.specs.declared.extents.Extents.{Extents}
 use Rattle.extent_map.specs.declared.kind.Kind.{Kind}
 use Rattle.table_page.specs.TableLimits.{IsTableDef}
@@ -40,7 +39,7 @@ use Rattle.table_trees.specs.RowCells.{AreOfOneCell}
 use Rattle.mdc_sound.specs.FittingRows.{RowFits}
 use Rattle.mdc_sound.specs.Placing.{IsRowAt}
 use Rattle.mdc_sound.specs.Placing.Spot.{OtherBlock, UsedBlock}
-use Rattle.mdc_sound.specs.StandingTable.{BreaksExpected, HasRowAt, IsPageOfBlock, IsTableOrMapPage, NamesTablePart, StandsTable, TableForests, spots_of}
+use Rattle.mdc_sound.specs.StandingTable.{BreaksExpected, HasRowAt, IsBlockOrMapPage, IsPageOfBlock, NamesTablePart, StandsTable, TableForests, spots_of}
 use Rattle.mdc_sound.proofs.PlacingLemmas.{filled_below}
 use Rattle.mdc_sound.proofs.StandingTableLemmas.{stands_same}
 use Rattle.block_rows.specs.HeldRows.{BreaksRows, HoldsRows}
@@ -136,7 +135,7 @@ module _ {S : Type 0} {g : Ghosts S} where
     }
 
     pub run_of_map : {old new : S} {fault : Option StoreFault} → IsTableDef def.number def → RunsOverPages g NoPage (IsTreePage g old tree) (BreaksMapTree g old tree AnyMap) old new fault
-        → RunsOverPages g (IsTableOrMapPage g ext old def) (IsTableOrMapPage g ext old def) (BreaksExpected g ext old def (HasRowAt g ext old def rid)) old new fault
+        → RunsOverPages g (IsBlockOrMapPage g ext old def rid.block) (IsBlockOrMapPage g ext old def rid.block) (BreaksExpected g ext old def (HasRowAt g ext old def rid)) old new fault
     run_of_map {old} {new} {fault} defined run =
         runs_wider run (λ p there none. absurd none)
         (λ p is owners forests st. inl (omega (arith, is forests.map (holds_map_tree ext old def tree owners forests root width st), sum_by-cons (times p) forests.map (forests.composite ∷ forests.dims ++ forests.indexes))))
@@ -161,9 +160,9 @@ module _ {S : Type 0} {g : Ghosts S} where
     pub run_unmapped : {old new : S} (fault : StoreFault) (found : Option BlockRow) → IsTableDef def.number def → fault ≡ Damaged (record { page = def.roots.map; rule = 6 })
         → RunsOverPages g NoPage (IsTreePage g old tree) (BreaksMapTree g old tree AnyMap) old new None
         → ((t : Forest) → HoldsTree g old tree t → FindsBlock t rid.block found) → ((row : BlockRow) → found ≡ Some row → row.state ≡ state.Used → ⊥)
-        → RunsOverPages g (IsTableOrMapPage g ext old def) (IsTableOrMapPage g ext old def) (BreaksExpected g ext old def (HasRowAt g ext old def rid)) old new (Some fault)
+        → RunsOverPages g (IsBlockOrMapPage g ext old def rid.block) (IsBlockOrMapPage g ext old def rid.block) (BreaksExpected g ext old def (HasRowAt g ext old def rid)) old new (Some fault)
     run_unmapped {old} {new} fault found defined is run finds unused =
-        subst (λ (f : StoreFault). RunsOverPages g (IsTableOrMapPage g ext old def) (IsTableOrMapPage g ext old def) (BreaksExpected g ext old def (HasRowAt g ext old def rid)) old new (Some f)) (sym is)
+        subst (λ (f : StoreFault). RunsOverPages g (IsBlockOrMapPage g ext old def rid.block) (IsBlockOrMapPage g ext old def rid.block) (BreaksExpected g ext old def (HasRowAt g ext old def rid)) old new (Some f)) (sym is)
         (runs_damage (run_of_map defined run) (unmapped_breaks old found (record { page = def.roots.map; rule = 6 }) defined refl refl finds unused))
 
   -- ---- the call on the block, behind one that left the work as it was
@@ -182,13 +181,13 @@ module _ {S : Type 0} {g : Ghosts S} where
         (around_block ext mid def owners forests defined st rid.block, now.1.own, (expected.slots, rows_stay g ext def rid.block told same now.1.rows))) in
         record { names = late.names; broken = λ owners forests st expected. late.broken owners forests (stands_same ext old mid def owners forests told same st) expected }
 
-    page_own : (p : ℕ) → ((owners : List Kind) (forests : TableForests) → StandsTable g ext old def owners forests → IsOwnBlock ext owners def rid.block) → IsPageOfBlock ext rid.block p → IsTableOrMapPage g ext old def p
-    page_own p own is owners forests st = inr (inl (record { page = is.0; block = ap (owner_of owners) is.1 ∙ (own owners forests st).owned }))
+    page_own : (p : ℕ) → ((owners : List Kind) (forests : TableForests) → StandsTable g ext old def owners forests → IsOwnBlock ext owners def rid.block) → IsPageOfBlock ext rid.block p → IsBlockOrMapPage g ext old def rid.block p
+    page_own p own is owners forests st = inr (inl (record { page = is; own = (own owners forests st).owned }))
 
     pub run_behind : {fault : Option StoreFault} → ((owners : List Kind) (forests : TableForests) → StandsTable g ext old def owners forests → IsOwnBlock ext owners def rid.block)
-        → RunsOverPages g (IsTableOrMapPage g ext old def) (IsTableOrMapPage g ext old def) (BreaksExpected g ext old def (HasRowAt g ext old def rid)) old mid None
+        → RunsOverPages g (IsBlockOrMapPage g ext old def rid.block) (IsBlockOrMapPage g ext old def rid.block) (BreaksExpected g ext old def (HasRowAt g ext old def rid)) old mid None
         → RunsOverPages g (IsPageOfBlock ext rid.block) (IsPageOfBlock ext rid.block) (BreaksRows g ext mid def rid.block) mid new fault
-        → RunsOverPages g (IsTableOrMapPage g ext old def) (IsTableOrMapPage g ext old def) (BreaksExpected g ext old def (HasRowAt g ext old def rid)) old new fault
+        → RunsOverPages g (IsBlockOrMapPage g ext old def rid.block) (IsBlockOrMapPage g ext old def rid.block) (BreaksExpected g ext old def (HasRowAt g ext old def rid)) old new fault
     run_behind own first second = runs_then first second (λ p there is. page_own p own is) (λ p is. page_own p own is) (λ damage b. row_breaks damage b)
 
     -- what it makes of a table

@@ -17,7 +17,6 @@ use Rattle.store_api.specs.declared.fault.StoreFault.{StoreFault}
 use Rattle.store_api.specs.declared.fault.StoreFault.TheVariants.{Damaged}
 use Rattle.store_api.specs.declared.pages.Pages.{Ghosts}
 use Rattle.store_api.proofs.RunsOverPagesLemmas.{runs_damage, runs_on, runs_then, runs_wider}
-use Rattle.extent_map.specs.Owners.{owner_of}
 use Rattle.extent_map.specs.declared.extents.Extents.{Extents}
 use Rattle.extent_map.specs.declared.kind.Kind.{Kind}
 use Rattle.row_page.specs.RowPage.{count_rows}
@@ -26,6 +25,7 @@ use Rattle.entry_tree.specs.EntryBounds.{IsEntryOf}
 use Rattle.entry_tree.specs.Forest.{Forest, leaf_entries, times}
 use Rattle.entry_tree.specs.HeldTrees.{HoldsTree, IsTreePage}
 use Rattle.entry_tree.specs.declared.tree.Tree.{Tree}
+use Rattle.table_trees.specs.ToldPages.{PageList}
 use Rattle.block_map.specs.BlockMaps.{AnyMap, BreaksMapTree, FindsBlock, HasRow}
 use Rattle.block_map.specs.MapLines.{map_line, MapLine, mapped_blocks, used_blocks}
 use Rattle.block_map.specs.MapRows.{row_entry, state_number}
@@ -38,9 +38,8 @@ use Rattle.block_rows.specs.HeldRows.{BreaksRows, HoldsRows}
 use Rattle.mdc_sound.specs.BlockRules.{IsBlockPageSound, IsUsedCountSound}
 use Rattle.mdc_sound.specs.Placing.{AfterReturns, Spot, left_with}
 use Rattle.mdc_sound.specs.Placing.Spot.{OtherBlock}
-use Rattle.mdc_sound.specs.StandingTable.{BreaksExpected, HasRowAt, IsPageOfBlock, IsTableOrMapPage, NamesTablePart, StandsTable, TableForests, pages_of}
+use Rattle.mdc_sound.specs.StandingTable.{BreaksExpected, HasRowAt, IsBlockOrMapPage, IsPageOfBlock, NamesTablePart, StandsTable, TableForests, pages_of}
 use Rattle.mdc_sound.specs.TableRows.{block_slots, rows_from_slot, rows_in_block}
-use Rattle.mdc_sound.specs.ToldPages.{PageList}
 use Rattle.mdc_sound.proofs.BlockRulesLemmas.{line_at}
 use Rattle.mdc_sound.proofs.StandingTableLemmas.{stands_same}
 use Rattle.mdc_sound.proofs.ElementsLemmas.{named_block}
@@ -51,12 +50,13 @@ use Rattle.table_blocks.specs.AroundBlock.{StandsAround}
 use Rattle.table_blocks.specs.BlockChanges.{BreaksAround, ChangesAround, IsPlaceAround, TurnsSpot}
 use Rattle.table_blocks.specs.BlockNow.{IsFreeNow, IsListed, IsOwnBlock, IsUnlisted, IsUsedNow, free_line, used_line}
 use Rattle.table_blocks.specs.BlockSteps.{DropsRow, EmptiesSlot, ExpectsFreeing, LeavesFewer, LeavesFree}
-use Rattle.table_blocks.proofs.AroundLemmas.{around_then, breaks_of_table, breaks_rows, own_still, place_of_table, rows_step, runs_place_then}
+use Rattle.table_blocks.proofs.AroundLemmas.{around_then, breaks_of_table, breaks_rows, own_still, rows_step, runs_place_then}
 use Rattle.table_blocks.proofs.ClearedSlotsLemmas.{cleared_cell, count_cleared, left_free, left_used, row_there}
 use Rattle.table_blocks.proofs.ClosingLemmas.{turns_free, turns_used}
 use Rattle.table_blocks.proofs.LineStepLemmas.{map_around, place_of_map}
 use Rattle.table_blocks.proofs.ListedCellsLemmas.{listed_in_cell, listed_still}
 use Rattle.table_blocks.proofs.OpeningLemmas.{around_block, own_of_line, used_now, used_spot_now}
+use Rattle.table_blocks.proofs.BlockPagesLemmas.{place_of_block}
 use Rattle.table_blocks.proofs.BrokenRunsLemmas.{runs_broken}
 use Rattle.table_blocks.proofs.SpotChangesLemmas.{returns_change}
 
@@ -96,7 +96,7 @@ module _ {S : Type 0} (g : Ghosts S) (ext : Extents) (s : S) (def : TableDef) (d
       taken_is_used = used_number line.state (sym (row_state line) ∙ ap (λ (x : Entry). (map_line x).state) line_is)
 
       -- with as many rows as there are
-      taken_counted : line.rows < 65536 → line.rows ≡ count_rows has.slots
+      pub taken_counted : line.rows < 65536 → line.rows ≡ count_rows has.slots
       taken_counted few =
           let counts = line_at (IsUsedCountSound ext (pages_of g s) def) (leaf_entries forests.map) (row_entry line) st.used_counts there in
           let block_is : (map_line (row_entry line)).block ≡ rid.block = row_block line (subst (λ (b : ℕ). b < 2 ^ 32) (sym same) small) ∙ same in
@@ -109,7 +109,7 @@ module _ {S : Type 0} (g : Ghosts S) (ext : Extents) (s : S) (def : TableDef) (d
     pub map_of_table : (owners : List Kind) (forests : TableForests) → StandsTable g ext s def owners forests → HoldsTree g s tree forests.map
     map_of_table owners forests st = (map_around tree def root width ext s owners forests rid.block (around_block ext s def owners forests defined st rid.block)).held
 
-    map_page : (p : ℕ) → IsTreePage g s tree p → IsTableOrMapPage g ext s def p
+    map_page : (p : ℕ) → IsTreePage g s tree p → IsBlockOrMapPage g ext s def rid.block p
     map_page p is owners forests st =
         inl (omega (arith, is forests.map (map_of_table owners forests st), sum_by-cons (times p) forests.map (forests.composite ∷ forests.dims ++ forests.indexes)))
 
@@ -125,7 +125,7 @@ module _ {S : Type 0} (g : Ghosts S) (ext : Extents) (s : S) (def : TableDef) (d
 
     -- the block is looked up
     pub runs_looking : {mid : S} {fault : Option StoreFault} → RunsOverPages g NoPage (IsTreePage g s tree) (BreaksMapTree g s tree AnyMap) s mid fault
-        → RunsOverPages g (IsTableOrMapPage g ext s def) (IsTableOrMapPage g ext s def) (BreaksExpected g ext s def (HasRowAt g ext s def rid)) s mid fault
+        → RunsOverPages g (IsBlockOrMapPage g ext s def rid.block) (IsBlockOrMapPage g ext s def rid.block) (BreaksExpected g ext s def (HasRowAt g ext s def rid)) s mid fault
     runs_looking run = runs_wider run (λ p there none. absurd none) (λ p is. map_page p is) (λ damage b. breaks_map damage b)
 
     pub line_of_table : (line : BlockRow) → ((t : Forest) → HoldsTree g s tree t → FindsBlock t rid.block (Some line)) → (owners : List Kind) (forests : TableForests) → StandsTable g ext s def owners forests → HasRow line forests.map
@@ -138,7 +138,7 @@ module _ {S : Type 0} (g : Ghosts S) (ext : Extents) (s : S) (def : TableDef) (d
 
   -- wherever the table stands, its block map has this line of the block
   module _ (line : BlockRow) (same : line.block ≡ rid.block) (there : (owners : List Kind) (forests : TableForests) → StandsTable g ext s def owners forests → HasRow line forests.map) where
-    own_of : (owners : List Kind) (forests : TableForests) → StandsTable g ext s def owners forests → IsOwnBlock ext owners def rid.block
+    pub own_of : (owners : List Kind) (forests : TableForests) → StandsTable g ext s def owners forests → IsOwnBlock ext owners def rid.block
     own_of owners forests st =
         subst (λ (b : ℕ). IsOwnBlock ext owners def b) same (own_of_line ext s def owners forests defined st line (there owners forests st) (subst (λ (b : ℕ). b < ext.cap) (sym same) low))
 
@@ -158,14 +158,14 @@ module _ {S : Type 0} (g : Ghosts S) (ext : Extents) (s : S) (def : TableDef) (d
 
     -- a call on the rows of the block
     pub runs_on_rows : {mid new : S} {More : ℕ → Type 0} {fault : Option StoreFault} → ((p : ℕ) → More p → IsPageOfBlock ext rid.block p) → (g.state mid).work ≡ (g.state s).work
-        → RunsOverPages g (IsTableOrMapPage g ext s def) (IsTableOrMapPage g ext s def) (BreaksExpected g ext s def (HasRowAt g ext s def rid)) s mid None
+        → RunsOverPages g (IsBlockOrMapPage g ext s def rid.block) (IsBlockOrMapPage g ext s def rid.block) (BreaksExpected g ext s def (HasRowAt g ext s def rid)) s mid None
         → RunsOverPages g More (IsPageOfBlock ext rid.block) (BreaksRows g ext mid def rid.block) mid new fault
-        → RunsOverPages g (IsTableOrMapPage g ext s def) (IsTableOrMapPage g ext s def) (BreaksExpected g ext s def (HasRowAt g ext s def rid)) s new fault
+        → RunsOverPages g (IsBlockOrMapPage g ext s def rid.block) (IsBlockOrMapPage g ext s def rid.block) (BreaksExpected g ext s def (HasRowAt g ext s def rid)) s new fault
     runs_on_rows {mid} mine as_was first second =
         runs_then first second (λ p within more. page p (mine p more)) (λ p is. page p is) (λ damage b. breaks_in_block mid damage first.works.steady.is_told as_was b)
       where
-        page : (p : ℕ) → IsPageOfBlock ext rid.block p → IsTableOrMapPage g ext s def p
-        page p is owners forests st = inr (inl (record { page = is.0; block = ap (owner_of owners) is.1 ∙ (own_of owners forests st).owned }))
+        page : (p : ℕ) → IsPageOfBlock ext rid.block p → IsBlockOrMapPage g ext s def rid.block p
+        page p is owners forests st = inr (inl (record { page = is; own = (own_of owners forests st).owned }))
 
     -- the slot is empty
     pub breaks_miscounted : (mid : S) → (g.state mid).is_told ≡ (g.state s).is_told → (g.state mid).work ≡ (g.state s).work
@@ -187,14 +187,14 @@ module _ {S : Type 0} (g : Ghosts S) (ext : Extents) (s : S) (def : TableDef) (d
         (looked_same : (g.state looked).work ≡ (g.state s).work) (found_same : (g.state found).work ≡ (g.state looked).work) (count : length (g.state cleared).work ≡ length (g.state found).work)
         (finds : (slots : List (Option Row)) → HoldsRows g ext looked def rid.block slots → Some row ≡ slice_index_or slots rid.slot None)
         (clears : (slots : List (Option Row)) → HoldsRows g ext found def rid.block slots → HoldsRows g ext cleared def rid.block (slice_set slots rid.slot None)) where
-      so_far : RunsOverPages g (IsPageOfBlock ext rid.block) (IsPlaceAround g ext s def rid.block) (BreaksAround g ext s def rid.block (ExpectsFreeing def line row)) s cleared None
+      pub so_far : RunsOverPages g (IsPageOfBlock ext rid.block) (IsPlaceAround g ext s def rid.block) (BreaksAround g ext s def rid.block (ExpectsFreeing def line row)) s cleared None
       so_far =
           runs_then
           (runs_then (runs_wider (runs_on {Breaks = NoDamage} first) (λ p within none. absurd none) (λ p is. place_of_map tree def root width ext s rid.block p is) (λ damage none. absurd none)) (runs_on {Breaks = NoDamage} second)
           (λ p within none. absurd none) (λ p is owners forests st own. inr (inl is)) (λ damage none. absurd none))
           (runs_on {Breaks = NoDamage} third) (λ p within is. is) (λ p is owners forests st own. inr (inl is)) (λ damage none. absurd none)
 
-      cleared_change : (owners : List Kind) (forests : TableForests) → StandsAround g ext s def owners forests rid.block → IsOwnBlock ext owners def rid.block
+      pub cleared_change : (owners : List Kind) (forests : TableForests) → StandsAround g ext s def owners forests rid.block → IsOwnBlock ext owners def rid.block
           → ChangesAround g AfterReturns ext ext s cleared def rid.block owners forests owners forests
       cleared_change owners forests st own =
           rows_step returns_change ext s cleared def rid.block owners forests st own so_far.touches so_far.works.steady.is_told (count ∙ ap length found_same ∙ ap length looked_same)
@@ -217,13 +217,13 @@ module _ {S : Type 0} (g : Ghosts S) (ext : Extents) (s : S) (def : TableDef) (d
       -- its block has a row less
       pub runs_dropped : {new : S} {fault : Option StoreFault}
           → RunsOverPages g (IsPlaceAround g ext cleared def line.block) (IsPlaceAround g ext cleared def line.block) (BreaksAround g ext cleared def line.block (ExpectsFreeing def line row)) cleared new fault
-          → RunsOverPages g (IsTableOrMapPage g ext s def) (IsTableOrMapPage g ext s def) (BreaksExpected g ext s def (HasRowAt g ext s def rid)) s new fault
+          → RunsOverPages g (IsBlockOrMapPage g ext s def rid.block) (IsBlockOrMapPage g ext s def rid.block) (BreaksExpected g ext s def (HasRowAt g ext s def rid)) s new fault
       runs_dropped {new} {fault} run =
           let last = subst (λ (b : ℕ). RunsOverPages g (IsPlaceAround g ext cleared def b) (IsPlaceAround g ext cleared def b) (BreaksAround g ext cleared def b (ExpectsFreeing def line row)) cleared new fault) same run in
           let before = runs_wider so_far (λ p within is owners forests st own. inr (inl is)) (λ p is. is) (λ damage b. b) in
           let whole = runs_place_then ext ext s cleared new def rid.block (ExpectsFreeing def line row) (ExpectsFreeing def line row) fault (record { cap = refl; extent_pages = refl })
           (λ owners forests st own. (record { owners_now = owners; forests_now = forests; changes = cleared_change owners forests st own; expects = λ e. e }, λ p l. l)) before last in
-          runs_wider whole (λ p within is. place_of_table ext s def rid.block p opens is) (λ p is. place_of_table ext s def rid.block p opens is)
+          runs_wider whole (λ p within is. place_of_block ext s def rid.block p opens is) (λ p is. place_of_block ext s def rid.block p opens is)
           (λ damage b. breaks_of_table ext s def rid.block (ExpectsFreeing def line row) (HasRowAt g ext s def rid) damage b
           (λ owners forests st has. (around_block ext s def owners forests defined st rid.block, own_of owners forests st, record { line_there = there owners forests st; listed = listed owners forests st has })))
 

@@ -17,11 +17,11 @@ use Rattle.block_map.specs.BlockMaps.{IsMapForm}
 use Rattle.block_map.specs.MapLines.{AreMapEntries, MapLine, map_line, mapped_blocks, used_blocks}
 use Rattle.table_trees.specs.TableTrees.{cell_parts, rising_parts, tree_places}
 use Rattle.table_trees.specs.TreesBeside.{StandTrees}
+use Rattle.table_trees.specs.ToldPages.{PageList}
 use Rattle.mdc_sound.specs.BlockRules.{AreBlockRowsSound, IsIdleCountSound, IsOfOneCell, IsUsedCountSound, entry_of_block}
 use Rattle.mdc_sound.specs.SpaceRules.{IsMapLineSound}
 use Rattle.mdc_sound.specs.StandingTable.{TableForests, forests_in_order, pages_of}
 use Rattle.mdc_sound.specs.TableRows.{PlacedRow, rows_in_block}
-use Rattle.mdc_sound.specs.ToldPages.{PageList}
 
 -- ---- the block map
 

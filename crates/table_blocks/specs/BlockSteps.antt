@@ -1,19 +1,25 @@
 -- What each call on one block says, in the words of a table that stands around it and of one that stands.
-use Rattle.std.specs.Prelude.{◌≡◌, ◌≢◌, ◌<◌, ◌≤◌, ◌-◌, ℕ, List, Contains, Option, Some, None, length, replicate, slice_index_or, slice_set}
+use Rattle.std.specs.Prelude.{◌≡◌, ◌≢◌, ◌<◌, ◌≤◌, ◌-◌, ℕ, List, [], ◌∷◌, Contains, Option, Some, None, length, replicate, slice_index_or, slice_set}
 use Rattle.mdc_values.specs.declared.rid.Rid.{Rid}
 use Rattle.mdc_ast.specs.declared.definition.TableDef.{TableDef}
 use Rattle.mdc_ast.specs.declared.row.Row.{Row}
 use Rattle.store_api.specs.declared.pages.Pages.{Ghosts}
-use Rattle.extent_map.specs.Owners.{AreRightNotes, IsSameShape, owner_of, with_block}
+use Rattle.extent_map.specs.Owners.{AreRightNotes, HasNoFree, IsLowestFree, IsSameShape, owner_of, with_block}
 use Rattle.extent_map.specs.declared.extents.Extents.{Extents}
 use Rattle.extent_map.specs.declared.kind.Kind.{Kind}
 use Rattle.extent_map.specs.declared.kind.Kind.TheVariants.{Free}
 use Rattle.block_map.specs.BlockMaps.{HasRow}
 use Rattle.block_map.specs.MapLines.{free_blocks}
+use Rattle.block_map.specs.MapRows.{row_entry}
 use Rattle.block_map.specs.declared.row.BlockRow.{BlockRow}
+use Rattle.table_trees.specs.SpaceChanges.{MakesChanges, RunsFull, SpaceChange, removed_entries}
+use Rattle.table_trees.specs.SpaceChanges.SpaceChange.{AmendEntry, ClaimBlock}
+use Rattle.table_trees.specs.TableTrees.{map_place}
+use Rattle.table_trees.specs.ToldPages.{PageList}
 use Rattle.table_trees.specs.TreesBeside.{GrowsPages}
 use Rattle.mdc_sound.specs.Placing.{AfterClaims, AfterReturns, HasRoomFor, IsEmptySlot, IsLowestAt, IsRowAt, Spot, begun_with, block_slot_count, left_with}
-use Rattle.mdc_sound.specs.Placing.Spot.{OtherBlock, UsedBlock}
+use Rattle.mdc_sound.specs.Placing.Spot.{FreeExtent, OtherBlock, UsedBlock}
+use Rattle.mdc_sound.specs.RunningFull.{block_changes, block_listings}
 use Rattle.mdc_sound.specs.StandingTable.{TableForests, pages_of, spots_of}
 use Rattle.block_rows.specs.HeldRows.{HoldsRows}
 use Rattle.table_blocks.specs.AroundBlock.{StandsAround}
@@ -36,6 +42,11 @@ pub record BeginsBlock {S : Type 0} (g : Ghosts S) (before ext : Extents) (old n
   pub owners_now : List Kind
   pub forests_now : TableForests
   pub turns : TurnsSpot g AfterClaims before ext old new def block (begun_with (block_slot_count before def) row) owners forests owners_now forests_now
+
+-- A new block for the row runs full: no extent is free, or what the lowest free one needs as a block runs full.
+pub data NewBlockRunsFull (ext : Extents) (work : PageList) (def : TableDef) (row : Row) (owners : List Kind) : Type 0 where
+  no_extent : HasNoFree owners → RunsFull ext work (ClaimBlock def.number 0 ∷ []) → NewBlockRunsFull ext work def row owners
+  at_entry : (block : ℕ) → IsLowestFree owners block → RunsFull ext work (block_changes def row block FreeExtent) → NewBlockRunsFull ext work def row owners
 
 -- ---- a row more, another row, a row less
 
@@ -79,7 +90,16 @@ pub record ExpectsFreeing (def : TableDef) (line : BlockRow) (row : Row) (owners
 pub record HasFreeBlock (block : ℕ) (owners : List Kind) (forests : TableForests) : Type 0 where
   pub free : Contains (free_blocks forests.map) block
 
+-- the changes of space of freeing it: its line, and then its entries under the cell of the row
+abbrev pub free_changes : TableDef → Row → BlockRow → List SpaceChange
+free_changes def row line = AmendEntry (map_place def) (row_entry line) (row_entry (free_line line.block)) ∷ removed_entries (block_listings def row line.block)
+
 -- ---- a block that loses a row
+
+-- what a row that goes from a block with this line changes of space: its line, which has a row less, or all that freeing it does
+pub record DropsSpace (ext : Extents) (old : PageList) (def : TableDef) (line : BlockRow) (row : Row) (new : PageList) : Type 0 where
+  pub fewer : 1 < line.rows → MakesChanges ext old (AmendEntry (map_place def) (row_entry line) (row_entry (used_line line.block (line.rows - 1))) ∷ []) new
+  pub last : line.rows ≤ 1 → MakesChanges ext old (free_changes def row line) new
 
 -- The block is Used in the block map with so many rows; its entries in the block indexes and its pages are as they were.
 pub record LeavesFewer {S : Type 0} (g : Ghosts S) (before ext : Extents) (old new : S) (def : TableDef) (block count : ℕ) (forests forests_now : TableForests) : Type 0 where

@@ -7,12 +7,15 @@ ghost use Rattle.extent_map.specs.Owners.{AreRightNotes, IsLowestFree, IsSameSha
 ghost use Rattle.extent_map.specs.declared.kind.Kind.{Kind};
 ghost use Rattle.table_page.specs.TableLimits.{IsTableDef};
 ghost use Rattle.block_map.specs.MapLines.{free_blocks};
+ghost use Rattle.table_trees.specs.SpaceChanges.{MakesChanges, RunsFull, added_entries};
 ghost use Rattle.mdc_sound.specs.FittingRows.{RowFits};
-ghost use Rattle.mdc_sound.specs.StandingTable.{BreaksExpected, BreaksTable, IsTableSpace, MeetsNoFree, StandsTable, TableForests};
+ghost use Rattle.mdc_sound.specs.Placing.Spot.{FreeBlock, FreeExtent};
+ghost use Rattle.mdc_sound.specs.RunningFull.{block_changes, block_listings};
+ghost use Rattle.mdc_sound.specs.StandingTable.{BreaksExpected, BreaksTable, IsSpaceOfBlock, IsTreeSpaceOfTable, MeetsNoFree, StandsTable, TableForests, pages_of};
 ghost use Rattle.table_blocks.specs.AroundBlock.{StandsAround};
 ghost use Rattle.table_blocks.specs.BlockChanges.{BreaksAround, IsSpaceAround};
 ghost use Rattle.table_blocks.specs.BlockNow.{IsOwnBlock, IsUnlisted};
-ghost use Rattle.table_blocks.specs.BlockSteps.{BeginsBlock, FillsBegun, HasFreeBlock};
+ghost use Rattle.table_blocks.specs.BlockSteps.{BeginsBlock, FillsBegun, HasFreeBlock, NewBlockRunsFull};
 
 use crate::cells::cell_of;
 use block_index::list_block;
@@ -25,7 +28,7 @@ use std::alloc::Global;
 use store_api::Pages;
 
 /// Takes a Free block of the table into use, with a row in its lowest slot, and lists it under the row's cell. Damaged where
-/// the block isn't Free. `Full` says that a block index met no free extent; then `undo` goes back, and the notes of the
+/// the block isn't Free. `Full` says that an entry asks for more pages than there are; then `undo` goes back, and the notes of the
 /// extents are to be forgotten.
 pub fn begin_free_block<P: Pages>(
     alloc: Global,
@@ -43,8 +46,12 @@ pub fn begin_free_block<P: Pages>(
         → BeginsBlock P.Pages ext.old ext.new pages.old pages.new def.now block row.now owners forests) }
     ensures full { IfErr result (λ fault. IfFull fault (λ cap. (cap ≡ ext.old.cap) × ((owners : List Kind) (forests : TableForests) → StandsTable P.Pages ext.old pages.old def.now owners forests
         → AreRightNotes ext.old owners → MeetsNoFree P.Pages ext.new pages.new))) }
+    ensures makes { OnOk result ((owners : List Kind) (forests : TableForests) → StandsTable P.Pages ext.old pages.old def.now owners forests → Contains (free_blocks forests.map) block
+        → AreRightNotes ext.old owners → MakesChanges ext.old (pages_of P.Pages pages.old) (block_changes def.now row.now block FreeBlock) (pages_of P.Pages pages.new)) }
+    ensures runs_full { IfErr result (λ fault. IfFull fault (λ cap. (owners : List Kind) (forests : TableForests) → StandsTable P.Pages ext.old pages.old def.now owners forests → Contains (free_blocks forests.map) block
+        → AreRightNotes ext.old owners → RunsFull ext.old (pages_of P.Pages pages.old) (block_changes def.now row.now block FreeBlock))) }
     ensures shape { IsSameShape ext.old ext.new }
-    ensures runs { RunsOverPages P.Pages (IsTableSpace P.Pages ext.old pages.old def.now) (IsTableSpace P.Pages ext.old pages.old def.now)
+    ensures runs { RunsOverPages P.Pages (IsSpaceOfBlock P.Pages ext.old pages.old def.now block) (IsSpaceOfBlock P.Pages ext.old pages.old def.now block)
         (BreaksExpected P.Pages ext.old pages.old def.now (HasFreeBlock block)) pages.old pages.new (store_fault_in store_part_of result) }
 {
     let map = BlockMap::at(alloc, def.roots.map);
@@ -58,7 +65,7 @@ pub fn begin_free_block<P: Pages>(
 }
 
 /// Claims the lowest free extent as a block of the table, and takes it into use with a row in its lowest slot. It answers the
-/// block's number. `Full` says that there is no free extent, at the claim or at a tree; then `undo` goes back, and the notes of
+/// block's number. `Full` says that there is no free extent, or that an entry asks for more pages than there are; then `undo` goes back, and the notes of
 /// the extents are to be forgotten.
 pub fn begin_new_block<P: Pages>(
     alloc: Global,
@@ -75,8 +82,12 @@ pub fn begin_new_block<P: Pages>(
     ensures lowest { IfOk result (λ block. (owners : List Kind) (forests : TableForests) → StandsTable P.Pages ext.old pages.old def.now owners forests → AreRightNotes ext.old owners → IsLowestFree owners block) }
     ensures full { IfErr result (λ fault. IfFull fault (λ cap. (cap ≡ ext.old.cap) × ((owners : List Kind) (forests : TableForests) → StandsTable P.Pages ext.old pages.old def.now owners forests
         → AreRightNotes ext.old owners → MeetsNoFree P.Pages ext.new pages.new))) }
+    ensures makes { IfOk result (λ block. (owners : List Kind) (forests : TableForests) → StandsTable P.Pages ext.old pages.old def.now owners forests → AreRightNotes ext.old owners
+        → MakesChanges ext.old (pages_of P.Pages pages.old) (block_changes def.now row.now block FreeExtent) (pages_of P.Pages pages.new)) }
+    ensures runs_full { IfErr result (λ fault. IfFull fault (λ cap. (owners : List Kind) (forests : TableForests) → StandsTable P.Pages ext.old pages.old def.now owners forests → AreRightNotes ext.old owners
+        → NewBlockRunsFull ext.old (pages_of P.Pages pages.old) def.now row.now owners)) }
     ensures shape { IsSameShape ext.old ext.new }
-    ensures runs { RunsOverPages P.Pages (IsTableSpace P.Pages ext.old pages.old def.now) (IsTableSpace P.Pages ext.old pages.old def.now)
+    ensures runs { RunsOverPages P.Pages (IsTreeSpaceOfTable P.Pages ext.old pages.old def.now) (IsTreeSpaceOfTable P.Pages ext.old pages.old def.now)
         (BreaksTable P.Pages ext.old pages.old def.now) pages.old pages.new (store_fault_in store_part_of result) }
 {
     let block = ext.claim_block(pages, def.number)?;
@@ -115,6 +126,10 @@ fn fill_begun<P: Pages>(
         → FillsBegun P.Pages ext.old ext.new pages.old pages.new def.now block row.now owners forests) }
     ensures full { IfErr result (λ fault. IfFull fault (λ cap. (cap ≡ ext.old.cap) × ((owners : List Kind) (forests : TableForests) → StandsAround P.Pages ext.old pages.old def.now owners forests block
         → IsOwnBlock ext.old owners def.now block → AreRightNotes ext.old owners → MeetsNoFree P.Pages ext.new pages.new))) }
+    ensures makes { OnOk result ((owners : List Kind) (forests : TableForests) → StandsAround P.Pages ext.old pages.old def.now owners forests block → IsOwnBlock ext.old owners def.now block
+        → AreRightNotes ext.old owners → MakesChanges ext.old (pages_of P.Pages pages.old) (added_entries (block_listings def.now row.now block)) (pages_of P.Pages pages.new)) }
+    ensures runs_full { IfErr result (λ fault. IfFull fault (λ cap. (owners : List Kind) (forests : TableForests) → StandsAround P.Pages ext.old pages.old def.now owners forests block → IsOwnBlock ext.old owners def.now block
+        → AreRightNotes ext.old owners → RunsFull ext.old (pages_of P.Pages pages.old) (added_entries (block_listings def.now row.now block)))) }
     ensures shape { IsSameShape ext.old ext.new }
     ensures runs { RunsOverPages P.Pages (IsSpaceAround P.Pages ext.old pages.old def.now block) (IsSpaceAround P.Pages ext.old pages.old def.now block)
         (BreaksAround P.Pages ext.old pages.old def.now block (λ owners forests. IsUnlisted def.now forests block)) pages.old pages.new (store_fault_in store_part_of result) }

@@ -4,8 +4,11 @@ ghost use Rattle.store_api.specs.Causes.{fault_of};
 ghost use Rattle.store_api.specs.RunsOverPages.{RunsOverPages};
 ghost use Rattle.extent_map.specs.declared.kind.Kind.{Kind};
 ghost use Rattle.table_page.specs.TableLimits.{IsTableDef};
+ghost use Rattle.table_trees.specs.SpaceChanges.{MakesChanges};
 ghost use Rattle.mdc_sound.specs.FittingRows.{RowFits};
-ghost use Rattle.mdc_sound.specs.StandingTable.{BreaksExpected, IsTableOrMapPage, StandsTable, TableForests};
+ghost use Rattle.mdc_sound.specs.Placing.Spot.{OtherBlock};
+ghost use Rattle.mdc_sound.specs.RunningFull.{block_changes};
+ghost use Rattle.mdc_sound.specs.StandingTable.{BreaksExpected, IsBlockOrMapPage, StandsTable, TableForests, pages_of, spots_of};
 ghost use Rattle.table_blocks.specs.BlockSteps.{FillsSlot, HasRoomAt};
 
 use crate::faults::miscounted;
@@ -35,8 +38,11 @@ pub fn put_in_block<P: Pages>(
     ensures block { IfOk result (λ rid. rid.block ≡ line.block) }
     ensures fills { IfOk result (λ rid. (owners : List Kind) (forests : TableForests) → StandsTable P.Pages ext.now pages.old def.now owners forests
         → HasRoomAt P.Pages ext.now pages.old def.now line row.now owners forests → FillsSlot P.Pages ext.now pages.old pages.new def.now rid row.now owners forests) }
+    ensures makes { IfOk result (λ rid. (owners : List Kind) (forests : TableForests) → StandsTable P.Pages ext.now pages.old def.now owners forests
+        → HasRoomAt P.Pages ext.now pages.old def.now line row.now owners forests
+        → MakesChanges ext.now (pages_of P.Pages pages.old) (block_changes def.now row.now line.block (slice_index_or (spots_of P.Pages ext.now pages.old def.now owners forests) line.block OtherBlock)) (pages_of P.Pages pages.new)) }
     ensures count { length (P.state pages.new).work ≡ length (P.state pages.old).work }
-    ensures runs { RunsOverPages P.Pages (IsTableOrMapPage P.Pages ext.now pages.old def.now) (IsTableOrMapPage P.Pages ext.now pages.old def.now)
+    ensures runs { RunsOverPages P.Pages (IsBlockOrMapPage P.Pages ext.now pages.old def.now line.block) (IsBlockOrMapPage P.Pages ext.now pages.old def.now line.block)
         (BreaksExpected P.Pages ext.now pages.old def.now (HasRoomAt P.Pages ext.now pages.old def.now line row.now)) pages.old pages.new (fault_of result) }
 {
     let Some(rows) = line.rows.checked_add(1) else {

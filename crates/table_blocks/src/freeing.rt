@@ -7,11 +7,12 @@ ghost use Rattle.extent_map.specs.declared.kind.Kind.{Kind};
 ghost use Rattle.table_page.specs.TableLimits.{IsTableDef};
 ghost use Rattle.block_map.specs.BlockMaps.{HasRow};
 ghost use Rattle.block_rows.specs.HeldRows.{HasReadValues};
-ghost use Rattle.mdc_sound.specs.StandingTable.{TableForests};
+ghost use Rattle.table_trees.specs.SpaceChanges.{MakesChanges};
+ghost use Rattle.mdc_sound.specs.StandingTable.{TableForests, pages_of};
 ghost use Rattle.table_blocks.specs.AroundBlock.{StandsAround};
 ghost use Rattle.table_blocks.specs.BlockChanges.{BreaksAround, IsPlaceAround};
 ghost use Rattle.table_blocks.specs.BlockNow.{IsListed, IsOwnBlock};
-ghost use Rattle.table_blocks.specs.BlockSteps.{ExpectsFreeing, FreesBlock};
+ghost use Rattle.table_blocks.specs.BlockSteps.{ExpectsFreeing, FreesBlock, free_changes};
 
 use crate::cells::cell_of;
 use block_index::unlist_block;
@@ -35,6 +36,8 @@ pub(crate) fn free_block<P: Pages>(
     requires going { (P.state pages.old).ended ≡ false }
     ensures frees { OnOk result ((owners : List Kind) (forests : TableForests) → StandsAround P.Pages ext.old pages.old def.now owners forests line.block → IsOwnBlock ext.old owners def.now line.block
         → FreesBlock P.Pages ext.old ext.new pages.old pages.new def.now line.block row.now owners forests) }
+    ensures makes { OnOk result ((owners : List Kind) (forests : TableForests) → StandsAround P.Pages ext.old pages.old def.now owners forests line.block → IsOwnBlock ext.old owners def.now line.block
+        → MakesChanges ext.old (pages_of P.Pages pages.old) (free_changes def.now row.now line) (pages_of P.Pages pages.new)) }
     ensures count { length (P.state pages.new).work ≡ length (P.state pages.old).work }
     ensures shape { IsSameShape ext.old ext.new }
     ensures runs { RunsOverPages P.Pages (IsPlaceAround P.Pages ext.old pages.old def.now line.block) (IsPlaceAround P.Pages ext.old pages.old def.now line.block)

@@ -6,10 +6,11 @@ ghost use Rattle.extent_map.specs.declared.kind.Kind.{Kind};
 ghost use Rattle.mdc_ast.specs.declared.row.Row.{Row};
 ghost use Rattle.table_page.specs.TableLimits.{IsTableDef};
 ghost use Rattle.table_trees.specs.RowCells.{AreOfOneCell};
+ghost use Rattle.table_trees.specs.SpaceChanges.{IsSameSpace};
 ghost use Rattle.mdc_sound.specs.FittingRows.{RowFits};
 ghost use Rattle.mdc_sound.specs.Placing.{IsRowAt, block_slot_count};
 ghost use Rattle.mdc_sound.specs.Placing.Spot.{UsedBlock};
-ghost use Rattle.mdc_sound.specs.StandingTable.{BreaksExpected, HasRowAt, IsTableOrMapPage, StandsTable, TableForests, spots_of};
+ghost use Rattle.mdc_sound.specs.StandingTable.{BreaksExpected, HasRowAt, IsBlockOrMapPage, StandsTable, TableForests, pages_of, spots_of};
 ghost use Rattle.table_blocks.specs.BlockChanges.{SameSpot, TurnsSpot};
 
 use crate::faults::unmapped;
@@ -39,8 +40,10 @@ pub fn overwrite_row<P: Pages>(
     ensures overwrites { OnOk result ((owners : List Kind) (forests : TableForests) (was : Row) (slots : List (Option Row)) → StandsTable P.Pages ext.now pages.old def.now owners forests
         → IsRowAt (spots_of P.Pages ext.now pages.old def.now owners forests) rid was slots → AreOfOneCell def.now was.values row.now.values
         → TurnsSpot P.Pages SameSpot ext.now ext.now pages.old pages.new def.now rid.block (UsedBlock (slice_set slots rid.slot (Some row.now))) owners forests owners forests) }
+    ensures makes { OnOk result ((owners : List Kind) (forests : TableForests) → StandsTable P.Pages ext.now pages.old def.now owners forests → HasRowAt P.Pages ext.now pages.old def.now rid owners forests
+        → IsSameSpace ext.now (pages_of P.Pages pages.old) (pages_of P.Pages pages.new)) }
     ensures count { length (P.state pages.new).work ≡ length (P.state pages.old).work }
-    ensures runs { RunsOverPages P.Pages (IsTableOrMapPage P.Pages ext.now pages.old def.now) (IsTableOrMapPage P.Pages ext.now pages.old def.now)
+    ensures runs { RunsOverPages P.Pages (IsBlockOrMapPage P.Pages ext.now pages.old def.now rid.block) (IsBlockOrMapPage P.Pages ext.now pages.old def.now rid.block)
         (BreaksExpected P.Pages ext.now pages.old def.now (HasRowAt P.Pages ext.now pages.old def.now rid)) pages.old pages.new (fault_of result) }
 {
     let map = BlockMap::at(alloc, def.roots.map);

@@ -1,17 +1,21 @@
 // A row less in a Used block.
-ghost use Rattle.std.specs.Prelude.{◌≡◌, ◌<◌, ℕ, List, false, length, IfOk, OnOk};
+ghost use Rattle.std.specs.Prelude.{◌≡◌, ◌<◌, ℕ, List, Option, false, length, IfOk, OnOk};
 ghost use Rattle.store_api.specs.Causes.{fault_of};
 ghost use Rattle.store_api.specs.RunsOverPages.{RunsOverPages};
 ghost use Rattle.extent_map.specs.Owners.{IsSameShape};
 ghost use Rattle.extent_map.specs.declared.kind.Kind.{Kind};
+ghost use Rattle.mdc_ast.specs.declared.row.Row.{Row};
+ghost use Rattle.row_page.specs.RowPage.{count_rows};
 ghost use Rattle.table_page.specs.TableLimits.{IsTableDef};
+ghost use Rattle.table_trees.specs.SpaceChanges.{MakesChanges};
 ghost use Rattle.block_rows.specs.HeldRows.{HasReadValues};
-ghost use Rattle.mdc_sound.specs.Placing.{block_slot_count};
-ghost use Rattle.mdc_sound.specs.StandingTable.{BreaksExpected, HasRowAt, IsTableOrMapPage, StandsTable, TableForests};
+ghost use Rattle.mdc_sound.specs.Placing.{IsRowAt, block_slot_count};
+ghost use Rattle.mdc_sound.specs.RunningFull.{left_changes};
+ghost use Rattle.mdc_sound.specs.StandingTable.{BreaksExpected, HasRowAt, IsBlockOrMapPage, StandsTable, TableForests, pages_of, spots_of};
 ghost use Rattle.table_blocks.specs.AroundBlock.{StandsAround};
 ghost use Rattle.table_blocks.specs.BlockChanges.{BreaksAround, IsPlaceAround};
 ghost use Rattle.table_blocks.specs.BlockNow.{IsOwnBlock};
-ghost use Rattle.table_blocks.specs.BlockSteps.{DropsRow, EmptiesSlot, ExpectsFreeing};
+ghost use Rattle.table_blocks.specs.BlockSteps.{DropsRow, DropsSpace, EmptiesSlot, ExpectsFreeing};
 
 use crate::faults::{miscounted, unmapped};
 use crate::freeing::free_block;
@@ -39,9 +43,12 @@ pub fn take_row<P: Pages>(
     ensures takes { IfOk result (λ row. (owners : List Kind) (forests : TableForests) → StandsTable P.Pages ext.old pages.old def.now owners forests
         → EmptiesSlot P.Pages ext.old ext.new pages.old pages.new def.now rid row owners forests) }
     ensures keyed { IfOk result (HasReadValues def.now.columns) }
+    ensures makes { IfOk result (λ row. (owners : List Kind) (forests : TableForests) → StandsTable P.Pages ext.old pages.old def.now owners forests
+        → (slots : List (Option Row)) → IsRowAt (spots_of P.Pages ext.old pages.old def.now owners forests) rid row slots
+        → MakesChanges ext.old (pages_of P.Pages pages.old) (left_changes def.now row rid.block (count_rows slots)) (pages_of P.Pages pages.new)) }
     ensures count { length (P.state pages.new).work ≡ length (P.state pages.old).work }
     ensures shape { IsSameShape ext.old ext.new }
-    ensures runs { RunsOverPages P.Pages (IsTableOrMapPage P.Pages ext.old pages.old def.now) (IsTableOrMapPage P.Pages ext.old pages.old def.now)
+    ensures runs { RunsOverPages P.Pages (IsBlockOrMapPage P.Pages ext.old pages.old def.now rid.block) (IsBlockOrMapPage P.Pages ext.old pages.old def.now rid.block)
         (BreaksExpected P.Pages ext.old pages.old def.now (HasRowAt P.Pages ext.old pages.old def.now rid)) pages.old pages.new (fault_of result) }
 {
     let map = BlockMap::at(alloc, def.roots.map);
@@ -74,6 +81,8 @@ fn drop_row<P: Pages>(
     requires going { (P.state pages.old).ended ≡ false }
     ensures drops { OnOk result ((owners : List Kind) (forests : TableForests) → StandsAround P.Pages ext.old pages.old def.now owners forests line.block → IsOwnBlock ext.old owners def.now line.block
         → DropsRow P.Pages ext.old ext.new pages.old pages.new def.now line row.now owners forests) }
+    ensures makes { OnOk result ((owners : List Kind) (forests : TableForests) → StandsAround P.Pages ext.old pages.old def.now owners forests line.block → IsOwnBlock ext.old owners def.now line.block
+        → DropsSpace ext.old (pages_of P.Pages pages.old) def.now line row.now (pages_of P.Pages pages.new)) }
     ensures count { length (P.state pages.new).work ≡ length (P.state pages.old).work }
     ensures shape { IsSameShape ext.old ext.new }
     ensures runs { RunsOverPages P.Pages (IsPlaceAround P.Pages ext.old pages.old def.now line.block) (IsPlaceAround P.Pages ext.old pages.old def.now line.block)

@@ -1,4 +1,4 @@
-use Rattle.mdc_sound.proofs.ToldPagesLemmas.{map_of_told, told_of_map, told_of_tree, tree_of_told}
+use Rattle.table_trees.proofs.ToldPagesLemmas.{map_of_told, told_of_map, told_of_tree, tree_of_told}
 use Rattle.mdc_sound.proofs.laws.told_stores_hold_their_pages.Goals as goal
 
 pub returns-clause-trees : goal.returns-clause-trees

@@ -1,7 +1,9 @@
-use Rattle.std.proofs.Common.{arith, inl, inr}
+use Rattle.std.proofs.Common.{arith, inl, inr, refl}
+use Rattle.std.proofs.lemmas.Result.{IfOk-weaker}
 use Rattle.store_api.proofs.RunsOverPagesLemmas.{runs_none}
 use Rattle.cell_rooms.specs.RoomNotes.{room_from}
 use Rattle.cell_rooms.proofs.TableRunsLemmas.{runs_broken}
+use Rattle.mdc_table.proofs.KeptBlocksLemmas.{keeps_in_block, runs_of_block}
 use Rattle.mdc_table.proofs.TakingRowsLemmas.{no_row_there, row_overwritten}
 use Rattle.mdc_table.proofs.overwriting.overwrite_row.Goals.{then-rid-ext-via-then-rid-ext, then-rid-ext-via-else-rid-ext+then-from-block_slots}
 use Rattle.mdc_table.proofs.overwriting.overwrite_row.Goals as goal
@@ -17,3 +19,15 @@ returns-then-rid-ext-clause-runs g c =
 pub returns-clause-overwrites : goal.returns-clause-overwrites
 returns-clause-overwrites g c =
     row_overwritten g.P.Pages c.args.ext.now c.args.pages.now c.overwrite_row.new.pages c.args.def.now c.args.rid c.args.row.now (room_from c.args.rooms.now) c.overwrite_row.result c.overwrite_row.ensures.overwrites
+
+pub returns-clause-makes : goal.returns-clause-makes
+returns-clause-makes g c =
+    IfOk-weaker c.overwrite_row.result _ _ (λ done makes owners forests ready has. makes owners forests ready.stands has) c.overwrite_row.ensures.makes
+
+pub returns-clause-stay : goal.returns-clause-stay
+returns-clause-stay g c owners forests ready =
+    keeps_in_block c.args.ext.now c.args.pages.now c.args.pages.now c.overwrite_row.new.pages c.args.def.now owners forests refl refl ready.stands c.args.rid.block c.overwrite_row.ensures.runs.touches
+
+pub returns-clause-runs : goal.returns-clause-runs
+returns-clause-runs g c =
+    runs_of_block c.args.ext.now c.args.def.now c.args.rid.block c.overwrite_row.ensures.runs

@@ -1,4 +1,4 @@
-use Rattle.std.proofs.Common.{None, Some, subst}
+use Rattle.std.proofs.Common.{◌≡◌, None, Some, subst}
 use Rattle.store_api.proofs.RunsOverPagesLemmas.{runs_exit_as}
 use Rattle.extent_map.specs.Damages.{store_part_of}
 use Rattle.entry_tree.proofs.ClaimsLemmas.{if_err_by}
@@ -6,7 +6,9 @@ use Rattle.block_map.specs.BlockMaps.{FindsFree}
 use Rattle.mdc_sound.proofs.StandingTableLemmas.{stands_same}
 use Rattle.table_blocks.specs.BlockSteps.{HasFreeBlock}
 use Rattle.cell_rooms.proofs.TableRunsLemmas.{holds_block_map, runs_broken}
+use Rattle.mdc_table.proofs.KeptBlocksLemmas.{if_ok_all, keeps_in_space, keeps_in_trees, runs_of_space, runs_of_trees}
 use Rattle.mdc_table.proofs.NextBlocksLemmas.{begins_free, begins_new, full_along, full_result_along, past_breaks, runs_in_space, runs_space_expecting, runs_space_then}
+use Rattle.mdc_table.proofs.RowSpaceLemmas.{free_block_full, free_block_makes, new_block_full, new_block_makes}
 use Rattle.mdc_table.proofs.StandingBlocksLemmas.{runs_map}
 use Rattle.mdc_table.proofs.placing.begin_block.Goals as goal
 
@@ -31,12 +33,34 @@ returns-in_default-clause-full g c =
     full_result_along g.P.Pages c.args.ext.now c.begin_new_block.new.ext c.args.pages.now c.first_free.new.pages c.begin_new_block.new.pages c.args.def.now c.in_ok-block.ensures.runs.works.steady.is_told c.first_free.ensures.same
     c.begin_new_block.result c.begin_new_block.ensures.full
 
+pub returns-in_default-clause-makes : goal.returns-in_default-clause-makes
+returns-in_default-clause-makes g c =
+    new_block_makes g.P.Pages c.args.ext.now c.args.pages.now c.first_free.new.pages c.begin_new_block.new.pages c.args.def.now c.args.row.now c.in_ok-block.ensures.runs.works.steady.is_told c.first_free.ensures.same
+    c.begin_new_block.result c.begin_new_block.ensures.lowest c.begin_new_block.ensures.makes
+
+pub returns-in_default-clause-runs_full : goal.returns-in_default-clause-runs_full
+returns-in_default-clause-runs_full g c =
+    let ext = c.args.ext.now in
+    let def = c.args.def.now in
+    let s = c.args.pages.now in
+    let map = c.at-map.result in
+    new_block_full g.P.Pages ext s c.first_free.new.pages c.begin_new_block.new.pages def c.args.row.now c.in_ok-block.ensures.runs.works.steady.is_told c.first_free.ensures.same c.begin_new_block.result
+    (λ owners forests st. subst (FindsFree forests.map 0) c.in_default.is (c.in_ok-block.ensures.found forests.map (holds_block_map ext s def map.tree owners forests c.at-map.ensures map.seven st) st.map.entries))
+    c.begin_new_block.ensures.runs_full
+
+pub returns-in_default-clause-stay : goal.returns-in_default-clause-stay
+returns-in_default-clause-stay g c =
+    if_ok_all c.begin_new_block.result (λ block owners forests st.
+    keeps_in_trees c.args.ext.now c.args.pages.now c.first_free.new.pages c.begin_new_block.new.pages c.args.def.now owners forests c.in_ok-block.ensures.runs.works.steady.is_told c.first_free.ensures.same st
+    (λ other. other ≡ block) c.begin_new_block.ensures.runs.touches)
+
 pub returns-in_default-clause-runs : goal.returns-in_default-clause-runs
 returns-in_default-clause-runs g c =
     let map = c.at-map.result in
     let ext = c.args.ext.now in
     let def = c.args.def.now in
-    runs_space_then ext def c.first_free.ensures.same (runs_map {fault = None} ext def map.tree c.at-map.ensures map.seven c.in_ok-block.ensures.runs) c.begin_new_block.ensures.runs
+    runs_space_then ext def c.first_free.ensures.same (runs_map {fault = None} ext def map.tree c.at-map.ensures map.seven c.in_ok-block.ensures.runs)
+    (runs_of_trees ext def c.begin_new_block.ensures.runs)
 
 pub returns-then-block-ext-clause-runs : goal.returns-then-block-ext-clause-runs
 returns-then-block-ext-clause-runs g c =
@@ -55,6 +79,18 @@ returns-in_err-begin_free_block-clause-full g c =
     (full_along g.P.Pages c.args.ext.now c.begin_free_block.new.ext c.args.pages.now c.first_free.new.pages c.begin_free_block.new.pages c.args.def.now c.in_ok-block.ensures.runs.works.steady.is_told c.first_free.ensures.same
     c.in_err-begin_free_block.field-0.0 c.in_err-begin_free_block.ensures.full)
 
+pub returns-in_err-begin_free_block-clause-runs_full : goal.returns-in_err-begin_free_block-clause-runs_full
+returns-in_err-begin_free_block-clause-runs_full g c =
+    let ext = c.args.ext.now in
+    let def = c.args.def.now in
+    let s = c.args.pages.now in
+    let map = c.at-map.result in
+    if_err_by c.from_residual-in_err-begin_free_block.result c.in_err-begin_free_block.field-0.0 _ c.from_residual-in_err-begin_free_block.ensures.1
+    (free_block_full g.P.Pages ext s c.first_free.new.pages c.begin_free_block.new.pages def c.args.row.now c.in_ok-block.ensures.runs.works.steady.is_told c.first_free.ensures.same c.in-Some.block
+    c.in_err-begin_free_block.field-0.0
+    (λ owners forests st. subst (FindsFree forests.map 0) c.in-Some.is (c.in_ok-block.ensures.found forests.map (holds_block_map ext s def map.tree owners forests c.at-map.ensures map.seven st) st.map.entries))
+    c.in_err-begin_free_block.ensures.runs_full)
+
 pub returns-in_err-begin_free_block-clause-runs : goal.returns-in_err-begin_free_block-clause-runs
 returns-in_err-begin_free_block-clause-runs g c =
     let map = c.at-map.result in
@@ -66,7 +102,8 @@ returns-in_err-begin_free_block-clause-runs g c =
     (λ owners forests st. record {
       free = (subst (FindsFree forests.map 0) c.in-Some.is (c.in_ok-block.ensures.found forests.map (holds_block_map ext s def map.tree owners forests c.at-map.ensures map.seven st) st.map.entries)).free;
     })
-    (runs_map {fault = None} ext def map.tree c.at-map.ensures map.seven c.in_ok-block.ensures.runs) c.in_err-begin_free_block.ensures.runs)
+    (runs_map {fault = None} ext def map.tree c.at-map.ensures map.seven c.in_ok-block.ensures.runs)
+    (runs_of_space ext def {fault = store_part_of c.in_err-begin_free_block.field-0.0} c.in-Some.block c.in_err-begin_free_block.ensures.runs))
 
 pub returns-clause-begins : goal.returns-clause-begins
 returns-clause-begins g c owners forests st =
@@ -90,4 +127,22 @@ returns-clause-runs g c =
     (λ owners forests st. record {
       free = (subst (FindsFree forests.map 0) c.in-Some.is (c.in_ok-block.ensures.found forests.map (holds_block_map ext s def map.tree owners forests c.at-map.ensures map.seven st) st.map.entries)).free;
     })
-    (runs_map {fault = None} ext def map.tree c.at-map.ensures map.seven c.in_ok-block.ensures.runs) c.in_ok-begin_free_block.ensures.runs
+    (runs_map {fault = None} ext def map.tree c.at-map.ensures map.seven c.in_ok-block.ensures.runs)
+    (runs_of_space ext def {fault = None} c.in-Some.block c.in_ok-begin_free_block.ensures.runs)
+
+pub returns-clause-makes : goal.returns-clause-makes
+returns-clause-makes g c owners forests st notes =
+    let map = c.at-map.result in
+    let ext = c.args.ext.now in
+    let def = c.args.def.now in
+    let s = c.args.pages.now in
+    let told = c.in_ok-block.ensures.runs.works.steady.is_told in
+    let same = c.first_free.ensures.same in
+    let lowest = subst (FindsFree forests.map 0) c.in-Some.is (c.in_ok-block.ensures.found forests.map (holds_block_map ext s def map.tree owners forests c.at-map.ensures map.seven st) st.map.entries) in
+    free_block_makes g.P.Pages ext s c.first_free.new.pages c.begin_free_block.new.pages def c.args.row.now told same owners forests c.in-Some.block st lowest
+    (c.in_ok-begin_free_block.ensures.makes owners forests (stands_same ext s c.first_free.new.pages def owners forests told same st) lowest.free notes)
+
+pub returns-clause-stay : goal.returns-clause-stay
+returns-clause-stay g c owners forests st =
+    keeps_in_space c.args.ext.now c.args.pages.now c.first_free.new.pages c.begin_free_block.new.pages c.args.def.now owners forests c.in_ok-block.ensures.runs.works.steady.is_told c.first_free.ensures.same st
+    c.in-Some.block c.in_ok-begin_free_block.ensures.runs.touches

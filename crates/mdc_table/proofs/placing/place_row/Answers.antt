@@ -1,11 +1,13 @@
-use Rattle.std.proofs.Common.{None, Some, ap, arith, subst, sym, ◌∙◌}
+use Rattle.std.proofs.Common.{◌≡◌, List, None, Some, ap, arith, refl, subst, sym, ◌∙◌}
 use Rattle.store_api.specs.RunsOverPages.{RunsOverPages}
 use Rattle.store_api.proofs.RunsOverPagesLemmas.{runs_exit_as, runs_memory, runs_none}
 use Rattle.extent_map.specs.Damages.{store_part_of}
 use Rattle.entry_tree.proofs.ClaimsLemmas.{if_err_by}
 use Rattle.block_index.proofs.CellsLemmas.{keys_of_fitting}
 use Rattle.table_trees.specs.RowCells.{cell_places}
-use Rattle.mdc_sound.specs.StandingTable.{BreaksTable, IsTableSpace, spots_of}
+use Rattle.extent_map.specs.declared.kind.Kind.{Kind}
+use Rattle.mdc_sound.specs.Placing.{HasRoomFor, HoldsNowhere}
+use Rattle.mdc_sound.specs.StandingTable.{BreaksTable, IsReadyTable, IsTableSpace, KeepsBlocksBut, TableForests, spots_of}
 use Rattle.mdc_sound.proofs.DefinitionTreesLemmas.{has_block_indexes}
 use Rattle.mdc_sound.proofs.StandingTableLemmas.{stands_same}
 use Rattle.table_blocks.specs.BlockSteps.{HasRoomAt}
@@ -13,8 +15,10 @@ use Rattle.block_map.specs.declared.row.BlockRow.{BlockRow}
 use Rattle.block_map.specs.declared.state.BlockState.TheVariants as state
 use Rattle.cell_rooms.specs.FoundRoom.{FindsRoom}
 use Rattle.cell_rooms.specs.RoomNotes.{room_from}
+use Rattle.mdc_table.proofs.KeptBlocksLemmas.{keeps_along, keeps_in_block}
 use Rattle.mdc_table.proofs.NextBlocksLemmas.{full_along, full_no_place, full_ready, runs_in_space, runs_of_place, runs_space_expecting, runs_space_then}
 use Rattle.mdc_table.proofs.PlacingRowsLemmas.{no_room_found, placed_in_cell, placed_in_next, room_at}
+use Rattle.mdc_table.proofs.RowSpaceLemmas.{block_makes_along, row_full}
 use Rattle.mdc_table.proofs.placing.place_row.Goals as goal
 
 pub cell_key-requires-clause-parts : goal.cell_key-requires-clause-parts
@@ -50,15 +54,17 @@ returns-in_err-block-clause-full g c =
     let key = c.in_ok-key.key.items in
     let is = c.in_ok-key.ensures.key in
     let noted_from = c.first-from.ensures ∙ ap (room_from rooms) c.deref.ensures.value in
-    if_err_by c.from_residual-in_err-block.result fault _ c.from_residual-in_err-block.ensures.1
-    (full_no_place g.P.Pages ext c.begin_block.new.ext s c.begin_block.new.pages def row (room_from rooms) fault
-    (λ owners forests ready.
+    let no_room : (owners : List Kind) (forests : TableForests) → IsReadyTable g.P.Pages ext (room_from rooms) s def owners forests → HoldsNowhere (HasRoomFor def row) (spots_of g.P.Pages ext s def owners forests) =
+    λ owners forests ready.
     let spots = spots_of g.P.Pages ext s def owners forests in
     let found : FindsRoom def spots forests.map row c.first-from.result None =
     subst (FindsRoom def spots forests.map row c.first-from.result) c.in_default.is (c.in_ok-line.ensures.finds owners forests row ready.stands c.requires.fits.values (c.deref-2.ensures.value ∙ is)) in
-    no_room_found forests.map row (room_from rooms) key is ready.rooms (subst (λ n. FindsRoom def spots forests.map row n None) noted_from found))
+    no_room_found forests.map row (room_from rooms) key is ready.rooms (subst (λ n. FindsRoom def spots forests.map row n None) noted_from found) in
+    if_err_by c.from_residual-in_err-block.result fault _ c.from_residual-in_err-block.ensures.1
+    (full_no_place g.P.Pages ext c.begin_block.new.ext s c.begin_block.new.pages def row (room_from rooms) fault no_room
     (full_ready g.P.Pages ext c.begin_block.new.ext s c.begin_block.new.pages def (room_from rooms) fault
-    (full_along g.P.Pages ext c.begin_block.new.ext s c.find_room.new.pages c.begin_block.new.pages def c.in_ok-line.ensures.runs.works.steady.is_told c.find_room.ensures.same fault c.in_err-block.ensures.full)))
+    (full_along g.P.Pages ext c.begin_block.new.ext s c.find_room.new.pages c.begin_block.new.pages def c.in_ok-line.ensures.runs.works.steady.is_told c.find_room.ensures.same fault c.in_err-block.ensures.full))
+    (row_full g.P.Pages ext s c.find_room.new.pages c.begin_block.new.pages def row c.in_ok-line.ensures.runs.works.steady.is_told c.find_room.ensures.same (room_from rooms) fault no_room c.in_err-block.ensures.runs_full))
 
 pub returns-in_err-block-clause-runs : goal.returns-in_err-block-clause-runs
 returns-in_err-block-clause-runs g c =
@@ -107,7 +113,7 @@ returns-in_err-put_in_block-clause-runs g c =
     room_at ext s mid def owners forests row c.first-from.result line c.find_room.ensures.same
     (subst (FindsRoom def (spots_of g.P.Pages ext s def owners forests) forests.map row c.first-from.result) c.in-Some.is
     (c.in_ok-line.ensures.finds owners forests row st c.requires.fits.values (c.deref-2.ensures.value ∙ c.in_ok-key.ensures.key))))
-    c.in_ok-line.ensures.runs (runs_of_place ext def {fault = fault} (HasRoomAt g.P.Pages ext mid def used row) c.in_err-put_in_block.ensures.runs))
+    c.in_ok-line.ensures.runs (runs_of_place ext def {fault = fault} line.block (HasRoomAt g.P.Pages ext mid def used row) c.in_err-put_in_block.ensures.runs))
 
 pub returns-clause-places : goal.returns-clause-places
 returns-clause-places g c owners forests ready =
@@ -146,4 +152,53 @@ returns-clause-runs g c =
     room_at ext s mid def owners forests row c.first-from.result line c.find_room.ensures.same
     (subst (FindsRoom def (spots_of g.P.Pages ext s def owners forests) forests.map row c.first-from.result) c.in-Some.is
     (c.in_ok-line.ensures.finds owners forests row st c.requires.fits.values (c.deref-2.ensures.value ∙ c.in_ok-key.ensures.key))))
-    c.in_ok-line.ensures.runs (runs_of_place ext def {fault = None} (HasRoomAt g.P.Pages ext mid def used row) c.in_ok-put_in_block.ensures.runs)
+    c.in_ok-line.ensures.runs (runs_of_place ext def {fault = None} line.block (HasRoomAt g.P.Pages ext mid def used row) c.in_ok-put_in_block.ensures.runs)
+
+pub returns-in_default-clause-makes : goal.returns-in_default-clause-makes
+returns-in_default-clause-makes g c owners forests ready =
+    let ext = c.args.ext.now in
+    let def = c.args.def.now in
+    let s = c.args.pages.now in
+    let mid = c.find_room.new.pages in
+    let told = c.in_ok-line.ensures.runs.works.steady.is_told in
+    let same = c.find_room.ensures.same in
+    block_makes_along g.P.Pages ext s mid c.begin_block.new.pages def c.args.row.now told same owners forests c.in_ok-block.block c.in_ok-block.block refl
+    (c.in_ok-block.ensures.makes owners forests (stands_same ext s mid def owners forests told same ready.stands) ready.notes)
+
+pub returns-in_default-clause-stay : goal.returns-in_default-clause-stay
+returns-in_default-clause-stay g c owners forests ready =
+    let ext = c.args.ext.now in
+    let def = c.args.def.now in
+    let s = c.args.pages.now in
+    let mid = c.find_room.new.pages in
+    let told = c.in_ok-line.ensures.runs.works.steady.is_told in
+    let same = c.find_room.ensures.same in
+    keeps_along ext s mid c.begin_block.new.pages def owners forests told same (λ other. other ≡ c.in_ok-block.block)
+    (c.in_ok-block.ensures.stay owners forests (stands_same ext s mid def owners forests told same ready.stands))
+
+pub returns-clause-makes : goal.returns-clause-makes
+returns-clause-makes g c owners forests ready =
+    let ext = c.args.ext.now in
+    let def = c.args.def.now in
+    let s = c.args.pages.now in
+    let mid = c.find_room.new.pages in
+    let told = c.in_ok-line.ensures.runs.works.steady.is_told in
+    let same = c.find_room.ensures.same in
+    let row = c.args.row.now in
+    let line = c.in-Some.line in
+    let found : FindsRoom def (spots_of g.P.Pages ext s def owners forests) forests.map row c.first-from.result (Some line) =
+    subst (FindsRoom def (spots_of g.P.Pages ext s def owners forests) forests.map row c.first-from.result) c.in-Some.is
+    (c.in_ok-line.ensures.finds owners forests row ready.stands c.requires.fits.values (c.deref-2.ensures.value ∙ c.in_ok-key.ensures.key)) in
+    block_makes_along g.P.Pages ext s mid c.put_in_block.new.pages def row told same owners forests line.block c.in_ok-put_in_block.field-0.block c.in_ok-put_in_block.ensures.block
+    (c.in_ok-put_in_block.ensures.makes owners forests (stands_same ext s mid def owners forests told same ready.stands) (room_at ext s mid def owners forests row c.first-from.result line same found))
+
+pub returns-clause-stay : goal.returns-clause-stay
+returns-clause-stay g c owners forests ready =
+    let ext = c.args.ext.now in
+    let def = c.args.def.now in
+    let s = c.args.pages.now in
+    let mid = c.find_room.new.pages in
+    let told = c.in_ok-line.ensures.runs.works.steady.is_told in
+    let same = c.find_room.ensures.same in
+    subst (λ block. KeepsBlocksBut g.P.Pages ext s c.put_in_block.new.pages def owners (λ other. other ≡ block)) (sym c.in_ok-put_in_block.ensures.block)
+    (keeps_in_block ext s mid c.put_in_block.new.pages def owners forests told same ready.stands c.in-Some.line.block c.in_ok-put_in_block.ensures.runs.touches)

@@ -1,9 +1,12 @@
-use Rattle.std.proofs.Common.{arith, inl, inr, ◌∙◌}
-use Rattle.store_api.proofs.RunsOverPagesLemmas.{runs_none}
+use Rattle.std.proofs.Common.{None, Some, arith, inl, inr, refl, ◌∙◌}
+use Rattle.store_api.proofs.RunsOverPagesLemmas.{runs_exit, runs_none}
 use Rattle.cell_rooms.specs.RoomNotes.{room_from}
 use Rattle.cell_rooms.proofs.TableRunsLemmas.{runs_broken}
 use Rattle.table_trees.specs.RowCells.{cell_places}
 use Rattle.mdc_sound.proofs.DefinitionTreesLemmas.{has_block_indexes}
+use Rattle.mdc_sound.specs.StandingTable.{pages_of, spots_of}
+use Rattle.mdc_table.proofs.KeptBlocksLemmas.{keeps_in_block, runs_of_block}
+use Rattle.mdc_table.proofs.RowSpaceLemmas.{taken_makes}
 use Rattle.mdc_table.proofs.TakingRowsLemmas.{keys_of_read, no_row_there, row_taken, row_taken_forgetting}
 use Rattle.mdc_table.proofs.taking.take_row.Goals.{then-rid-ext-via-then-rid-ext, then-rid-ext-via-else-rid-ext+then-from-block_slots}
 use Rattle.mdc_table.proofs.taking.take_row.Goals as goal
@@ -25,7 +28,7 @@ cell_key-requires-clause-values g c =
     keys_of_read def.columns (cell_places def) c.in_ok-row.row (has_block_indexes def.number def c.requires.defined).composite.key.there c.in_ok-row.ensures.keyed
 
 pub returns-in_default-clause-takes : goal.returns-in_default-clause-takes
-returns-in_default-clause-takes g c owners forests ready has =
+returns-in_default-clause-takes g c owners forests ready =
     let row = c.in_ok-row.row in (
       row,
       row_taken_forgetting c.args.ext.now c.take_row.new.ext c.args.pages.now c.take_row.new.pages c.args.def.now c.args.rid row owners forests (room_from c.args.rooms.now) (room_from c.forget.new.self) ready
@@ -33,7 +36,7 @@ returns-in_default-clause-takes g c owners forests ready has =
     )
 
 pub returns-clause-takes : goal.returns-clause-takes
-returns-clause-takes g c owners forests ready has =
+returns-clause-takes g c owners forests ready =
     let row = c.in_ok-row.row in (
       row,
       row_taken c.args.ext.now c.take_row.new.ext c.args.pages.now c.take_row.new.pages c.args.def.now c.args.rid row owners forests (room_from c.args.rooms.now) (room_from c.lower.new.self) ready
@@ -47,3 +50,39 @@ returns-in_default-clause-leaves g c owners forests st =
 pub returns-clause-leaves : goal.returns-clause-leaves
 returns-clause-leaves g c owners forests st =
     let empties = c.in_ok-row.ensures.takes owners forests st in (empties.owners_now, empties.forests_now, empties.turns.changes)
+
+pub returns-in_err-row-clause-stay : goal.returns-in_err-row-clause-stay
+returns-in_err-row-clause-stay g c owners forests ready =
+    keeps_in_block c.args.ext.now c.args.pages.now c.args.pages.now c.take_row.new.pages c.args.def.now owners forests refl refl ready.stands c.args.rid.block c.in_err-row.ensures.runs.touches
+
+pub returns-in_err-row-clause-runs : goal.returns-in_err-row-clause-runs
+returns-in_err-row-clause-runs g c =
+    runs_exit c.from_residual.result c.from_residual.ensures.1 (runs_of_block c.args.ext.now c.args.def.now {fault = Some c.in_err-row.field-0.0} c.args.rid.block c.in_err-row.ensures.runs)
+
+pub returns-in_default-clause-makes : goal.returns-in_default-clause-makes
+returns-in_default-clause-makes g c owners forests ready row slots lies =
+    let takes = c.in_ok-row.ensures.takes owners forests ready.stands in
+    taken_makes c.args.ext.now (pages_of g.P.Pages c.args.pages.now) (pages_of g.P.Pages c.take_row.new.pages) (spots_of g.P.Pages c.args.ext.now c.args.pages.now c.args.def.now owners forests) c.args.def.now c.args.rid
+    row c.in_ok-row.row slots takes.slots lies takes.lies (c.in_ok-row.ensures.makes owners forests ready.stands)
+
+pub returns-in_default-clause-stay : goal.returns-in_default-clause-stay
+returns-in_default-clause-stay g c owners forests ready =
+    keeps_in_block c.args.ext.now c.args.pages.now c.args.pages.now c.take_row.new.pages c.args.def.now owners forests refl refl ready.stands c.args.rid.block c.in_ok-row.ensures.runs.touches
+
+pub returns-in_default-clause-runs : goal.returns-in_default-clause-runs
+returns-in_default-clause-runs g c =
+    runs_of_block c.args.ext.now c.args.def.now {fault = None} c.args.rid.block c.in_ok-row.ensures.runs
+
+pub returns-clause-makes : goal.returns-clause-makes
+returns-clause-makes g c owners forests ready row slots lies =
+    let takes = c.in_ok-row.ensures.takes owners forests ready.stands in
+    taken_makes c.args.ext.now (pages_of g.P.Pages c.args.pages.now) (pages_of g.P.Pages c.take_row.new.pages) (spots_of g.P.Pages c.args.ext.now c.args.pages.now c.args.def.now owners forests) c.args.def.now c.args.rid
+    row c.in_ok-row.row slots takes.slots lies takes.lies (c.in_ok-row.ensures.makes owners forests ready.stands)
+
+pub returns-clause-stay : goal.returns-clause-stay
+returns-clause-stay g c owners forests ready =
+    keeps_in_block c.args.ext.now c.args.pages.now c.args.pages.now c.take_row.new.pages c.args.def.now owners forests refl refl ready.stands c.args.rid.block c.in_ok-row.ensures.runs.touches
+
+pub returns-clause-runs : goal.returns-clause-runs
+returns-clause-runs g c =
+    runs_of_block c.args.ext.now c.args.def.now {fault = None} c.args.rid.block c.in_ok-row.ensures.runs

@@ -6,8 +6,8 @@ use Rattle.entry_tree.specs.Forest.{Forest}
 use Rattle.entry_tree.specs.HeldTrees.{HoldsTree}
 use Rattle.block_map.specs.MapLines.{used_blocks}
 use Rattle.table_trees.specs.TableTrees.{map_place}
+use Rattle.table_trees.specs.ToldPages.{HasTree}
 use Rattle.mdc_sound.specs.TableRows.{rows_in_block}
-use Rattle.mdc_sound.specs.TableViews.{HasTree}
 use Rattle.std.proofs.Common.{arith, below_more, subst}
 use Rattle.plain_reading.specs.ReadPages.{HasRowPages}
 use Rattle.plain_reading.proofs.ReadBlocksLemmas.{is_listed, judged_block, rows_of_block_more}

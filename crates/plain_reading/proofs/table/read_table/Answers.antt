@@ -6,8 +6,8 @@ use Rattle.store_api.specs.StoreState.{zero_page}
 use Rattle.store_api.proofs.RunsOverPagesLemmas.{runs_exit}
 use Rattle.table_page.specs.TableLimits.{IsTableDef}
 use Rattle.table_trees.specs.TableTrees.{map_place}
+use Rattle.table_trees.specs.ToldPages.{HasTree}
 use Rattle.mdc_sound.specs.TablePages.{DefinesTable, table_page_at}
-use Rattle.mdc_sound.specs.TableViews.{HasTree}
 use Rattle.plain_reading.specs.ReadPages.{HasRowPages}
 use Rattle.plain_reading.specs.ReadTables.{DoNumbersRise, rows_as_they_lie}
 use Rattle.plain_reading.proofs.ReadMapsLemmas.{runs_to_damage, runs_to_memory}

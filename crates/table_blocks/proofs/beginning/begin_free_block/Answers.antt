@@ -3,6 +3,7 @@ use Rattle.std.proofs.lemmas.Result.{IfErr-weaker, on_ok_weaker}
 use Rattle.store_api.specs.Causes.{store_fault_in}
 use Rattle.store_api.proofs.RunsOverPagesLemmas.{runs_exit_as}
 use Rattle.extent_map.specs.Damages.{store_part_of}
+use Rattle.table_blocks.proofs.BeginningSpaceLemmas.{free_full, free_makes}
 use Rattle.table_blocks.proofs.FreeBlockLemmas.{begins_free, filled_run, full_free, line_run}
 use Rattle.table_blocks.proofs.beginning.begin_free_block.Goals as goal
 
@@ -26,6 +27,22 @@ returns-clause-full g c =
     (full_free c.args.ext.now c.args.pages.now c.args.def.now c.args.block c.at-map.result.tree c.at-map.ensures c.at-map.result.seven c.requires.defined c.replace.new.pages c.first_line.result c.requires.within c.first_line.ensures
     done.there done.changes done.count done.runs c.fill_begun.new.ext c.fill_begun.new.pages)
     c.fill_begun.ensures.full
+
+pub returns-clause-makes : goal.returns-clause-makes
+returns-clause-makes g c =
+    let done = c.in_ok-replace.ensures in
+    on_ok_weaker c.fill_begun.result
+    (free_makes c.args.ext.now c.args.pages.now c.args.def.now c.args.block c.at-map.result.tree c.at-map.ensures c.at-map.result.seven c.requires.defined c.replace.new.pages c.first_line.result c.requires.within c.first_line.ensures
+    done.there done.changes done.count done.runs c.args.row.now c.fill_begun.new.pages)
+    c.fill_begun.ensures.makes
+
+pub returns-clause-runs_full : goal.returns-clause-runs_full
+returns-clause-runs_full g c =
+    let done = c.in_ok-replace.ensures in
+    IfErr-weaker c.fill_begun.result _ _
+    (free_full c.args.ext.now c.args.pages.now c.args.def.now c.args.block c.at-map.result.tree c.at-map.ensures c.at-map.result.seven c.requires.defined c.replace.new.pages c.first_line.result c.requires.within c.first_line.ensures
+    done.there done.changes done.count done.runs c.args.row.now)
+    c.fill_begun.ensures.runs_full
 
 pub returns-clause-runs : goal.returns-clause-runs
 returns-clause-runs g c =

@@ -1,8 +1,10 @@
 use Rattle.std.proofs.Common.{Some}
+use Rattle.std.proofs.lemmas.Result.{IfErr-weaker, on_ok_weaker}
 use Rattle.store_api.specs.Causes.{store_fault_in}
 use Rattle.store_api.proofs.RunsOverPagesLemmas.{runs_exit_as}
 use Rattle.extent_map.specs.Damages.{store_part_of}
 use Rattle.mdc_sound.proofs.DefinitionTreesLemmas.{has_block_indexes}
+use Rattle.table_blocks.proofs.BeginningSpaceLemmas.{filling_full, filling_makes}
 use Rattle.table_blocks.proofs.FillBegunLemmas.{PutsFirstRow, fills_listed, full_listed, row_keys, run_before, run_listing, run_putting, run_wiping}
 use Rattle.table_blocks.proofs.beginning.fill_begun.Goals as goal
 
@@ -61,6 +63,42 @@ returns-clause-full g c =
     } in
     full_listed ext def c.args.block c.args.pages.now c.wipe_block.new.pages c.put_slot.new.pages row put c.in_ok-cell.cell c.ranges.block.fits c.requires.defined c.requires.fits c.in_ok-cell.ensures.cell
     c.list_block.new.ext c.list_block.new.pages c.list_block.result c.list_block.ensures.full c.list_block.ensures.shape
+
+pub returns-clause-makes : goal.returns-clause-makes
+returns-clause-makes g c =
+    let ext = c.args.ext.now in
+    let def = c.args.def.now in
+    let row = c.args.row.now in
+    let put : PutsFirstRow g.P.Pages ext c.args.pages.now c.wipe_block.new.pages c.put_slot.new.pages def c.args.block row = record {
+      low = c.requires.within;
+      wipes = c.in_ok-wipe_block.ensures.runs;
+      wipe_count = c.in_ok-wipe_block.ensures.count;
+      empty = c.in_ok-wipe_block.ensures.wipes;
+      puts = c.in_ok-put_slot.ensures.runs;
+      put_count = c.in_ok-put_slot.ensures.count;
+      has = c.in_ok-put_slot.ensures.puts;
+    } in
+    on_ok_weaker c.list_block.result
+    (filling_makes ext def c.args.block c.args.pages.now c.wipe_block.new.pages c.put_slot.new.pages row put c.in_ok-cell.cell c.ranges.block.fits c.requires.defined c.requires.fits c.in_ok-cell.ensures.cell c.list_block.new.pages)
+    c.list_block.ensures.makes
+
+pub returns-clause-runs_full : goal.returns-clause-runs_full
+returns-clause-runs_full g c =
+    let ext = c.args.ext.now in
+    let def = c.args.def.now in
+    let row = c.args.row.now in
+    let put : PutsFirstRow g.P.Pages ext c.args.pages.now c.wipe_block.new.pages c.put_slot.new.pages def c.args.block row = record {
+      low = c.requires.within;
+      wipes = c.in_ok-wipe_block.ensures.runs;
+      wipe_count = c.in_ok-wipe_block.ensures.count;
+      empty = c.in_ok-wipe_block.ensures.wipes;
+      puts = c.in_ok-put_slot.ensures.runs;
+      put_count = c.in_ok-put_slot.ensures.count;
+      has = c.in_ok-put_slot.ensures.puts;
+    } in
+    IfErr-weaker c.list_block.result _ _
+    (filling_full ext def c.args.block c.args.pages.now c.wipe_block.new.pages c.put_slot.new.pages row put c.in_ok-cell.cell c.ranges.block.fits c.requires.defined c.requires.fits c.in_ok-cell.ensures.cell)
+    c.list_block.ensures.runs_full
 
 pub returns-clause-runs : goal.returns-clause-runs
 returns-clause-runs g c =

@@ -3,6 +3,7 @@ use Rattle.store_api.proofs.RunsOverPagesLemmas.{runs_exit, runs_none}
 use Rattle.block_rows.specs.HeldRows.{PutsFirst}
 use Rattle.table_blocks.proofs.BrokenRunsLemmas.{runs_broken}
 use Rattle.table_blocks.proofs.FillingLemmas.{fills, miscount, overfull, runs_full, runs_line, runs_rows}
+use Rattle.table_blocks.proofs.FillingSpaceLemmas.{filling_space}
 use Rattle.table_blocks.proofs.filling.put_in_block.Goals as goal
 
 pub returns-in_default-clause-runs : goal.returns-in_default-clause-runs
@@ -48,3 +49,10 @@ returns-clause-runs g c =
     let replaced = c.in_ok-replace.ensures in
     runs_rows c.args.ext.now c.args.pages.now c.args.def.now c.args.line c.args.row.now c.requires.defined c.requires.within (omega arith) map.tree c.at-map.ensures map.seven
     c.replace.new.pages c.in-Some.rows c.in-Some.ensures.1 replaced.there replaced.changes replaced.count replaced.runs c.put_first.new.pages c.in_ok-slot.ensures.runs
+
+pub returns-clause-makes : goal.returns-clause-makes
+returns-clause-makes g c =
+    let map = c.at-map.result in
+    let replaced = c.in_ok-replace.ensures in
+    filling_space c.args.ext.now c.args.pages.now c.args.def.now c.args.line c.args.row.now c.requires.defined c.requires.within (omega arith) map.tree c.at-map.ensures map.seven
+    c.replace.new.pages c.in-Some.rows c.in-Some.ensures.1 replaced.there replaced.changes replaced.count replaced.runs c.put_first.new.pages c.requires.used c.in_ok-slot.ensures.runs c.in_ok-slot.ensures.count

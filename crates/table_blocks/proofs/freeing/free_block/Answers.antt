@@ -8,6 +8,7 @@ use Rattle.mdc_sound.proofs.DefinitionTreesLemmas.{has_block_indexes}
 use Rattle.table_blocks.specs.BlockChanges.{BreaksAround, IsPlaceAround}
 use Rattle.table_blocks.specs.BlockSteps.{ExpectsFreeing}
 use Rattle.table_blocks.proofs.FreeingLemmas.{cell_keys, frees_block, runs_freed, runs_freeing}
+use Rattle.table_blocks.proofs.FreeingSpaceLemmas.{freeing_space}
 use Rattle.table_blocks.proofs.freeing.free_block.Goals as goal
 
 pub cell_of-requires : goal.cell_of-requires
@@ -43,3 +44,11 @@ returns-clause-runs g c =
     runs_freed c.args.def.now c.requires.defined c.at-map.result.tree c.at-map.ensures c.at-map.result.seven c.args.ext.now c.args.pages.now c.args.line c.args.row.now c.replace.new.pages
     c.in_ok-replace.ensures.there c.in_ok-replace.ensures.changes c.in_ok-replace.ensures.count c.in_ok-replace.ensures.runs small c.requires.keyed c.in_ok-cell.cell c.in_ok-cell.ensures.cell c.unlist_block.new.ext c.unlist_block.new.pages
     (fault_of c.unlist_block.result) c.unlist_block.ensures.runs
+
+pub returns-clause-makes : goal.returns-clause-makes
+returns-clause-makes g c =
+    let small : c.args.line.block < 2 ^ 32 = omega arith in
+    on_ok_weaker c.unlist_block.result
+    (λ leaves. freeing_space c.args.def.now c.requires.defined c.at-map.result.tree c.at-map.ensures c.at-map.result.seven c.args.ext.now c.args.pages.now c.args.line c.args.row.now c.replace.new.pages
+    c.in_ok-replace.ensures.there c.in_ok-replace.ensures.changes c.in_ok-replace.ensures.count c.in_ok-replace.ensures.runs small c.requires.keyed c.in_ok-cell.cell c.in_ok-cell.ensures.cell c.unlist_block.new.pages leaves)
+    c.unlist_block.ensures.makes

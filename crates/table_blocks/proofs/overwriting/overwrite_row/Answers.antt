@@ -4,6 +4,7 @@ use Rattle.std.proofs.lemmas.Result.{on_ok_weaker}
 use Rattle.store_api.proofs.RunsOverPagesLemmas.{runs_exit}
 use Rattle.block_map.specs.declared.row.BlockRow.{BlockRow}
 use Rattle.table_blocks.proofs.OverwritingLemmas.{own_found, row_overwritten, run_behind, run_of_map, run_unmapped}
+use Rattle.table_blocks.proofs.FillingSpaceLemmas.{overwritten_space}
 use Rattle.table_blocks.proofs.overwriting.overwrite_row.Goals as goal
 
 pub returns-in_err-line-clause-runs : goal.returns-in_err-line-clause-runs
@@ -43,3 +44,9 @@ returns-clause-overwrites g c =
     on_ok_weaker c.put_slot.result (λ puts owners forests was slots st lies one.
     row_overwritten c.args.ext.now c.args.pages.now c.get.new.pages c.put_slot.new.pages c.args.def.now c.args.rid c.requires.defined c.requires.within c.in_ok-line.ensures.runs.works.steady.is_told c.get.ensures.same
     c.args.row.now c.put_slot.ensures.runs c.put_slot.ensures.count c.requires.fits puts owners forests was slots st lies one) c.put_slot.ensures.puts
+
+pub returns-clause-makes : goal.returns-clause-makes
+returns-clause-makes g c =
+    on_ok_weaker c.put_slot.result (λ puts owners forests st has.
+    overwritten_space c.args.ext.now c.args.pages.now c.get.new.pages c.put_slot.new.pages c.args.def.now c.args.rid c.requires.defined c.in_ok-line.ensures.runs.works.steady.is_told c.get.ensures.same
+    c.put_slot.ensures.runs c.put_slot.ensures.count owners forests st has) c.put_slot.ensures.puts

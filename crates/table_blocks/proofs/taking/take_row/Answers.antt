@@ -8,6 +8,7 @@ use Rattle.block_map.specs.declared.row.BlockRow.{BlockRow}
 use Rattle.block_map.specs.declared.state.BlockState.TheVariants as state
 use Rattle.table_blocks.proofs.BrokenRunsLemmas.{runs_broken}
 use Rattle.table_blocks.proofs.TakenRowsLemmas.{breaks_miscounted, breaks_unmapped, line_of_table, map_of_table, runs_dropped, runs_looking, runs_on_rows, takes, taken_is_mapped, taken_is_used}
+use Rattle.table_blocks.proofs.TakingSpaceLemmas.{taking_space}
 use Rattle.table_blocks.proofs.taking.take_row.Goals as goal
 
 pub returns-in_err-line-clause-runs : goal.returns-in_err-line-clause-runs
@@ -162,3 +163,23 @@ returns-clause-runs g c =
     c.in_ok-line.ensures.runs c.in_ok-row.ensures.runs c.in_ok-clear_slot.ensures.runs c.get.ensures.same c.row_in_slot.ensures.same c.clear_slot.ensures.count
     (λ (slots : List (Option Row)) held. subst (λ (o : Option Row). o ≡ slice_index_or slots rid.slot None) c.in-Some-2.is (c.in_ok-row.ensures.found slots held)) c.in_ok-clear_slot.ensures.clears
     {fault = None} c.in_ok-drop_row.ensures.runs
+
+pub returns-clause-makes : goal.returns-clause-makes
+returns-clause-makes g c =
+    let map = c.at-map.result in
+    let ext = c.args.ext.now in
+    let s = c.args.pages.now in
+    let def = c.args.def.now in
+    let rid = c.args.rid in
+    let low = c.requires.within in
+    let small : rid.block < 2 ^ 32 = omega arith in
+    let few : c.in-Some.line.rows < 65536 = omega arith in
+    let used : c.in-Some.line.state ≡ state.Used = search rules in
+    let same : c.in-Some.line.block ≡ rid.block = subst (λ (o : Option BlockRow). IfSome o (λ (line : BlockRow). line.block ≡ rid.block)) c.in-Some.is c.in_ok-line.ensures.named in
+    let there =
+    line_of_table g.P.Pages ext s def c.requires.defined rid low map.tree c.at-map.ensures map.seven c.in-Some.line
+    (λ (t : Forest) held. subst (FindsBlock t rid.block) c.in-Some.is (c.in_ok-line.ensures.found t held)) in
+    taking_space g.P.Pages ext s def c.requires.defined rid low c.in-Some.line same there map.tree c.at-map.ensures map.seven c.in-Some-2.row c.get.new.pages c.row_in_slot.new.pages c.clear_slot.new.pages
+    c.in_ok-line.ensures.runs c.in_ok-row.ensures.runs c.in_ok-clear_slot.ensures.runs c.get.ensures.same c.row_in_slot.ensures.same c.clear_slot.ensures.count
+    (λ (slots : List (Option Row)) held. subst (λ (o : Option Row). o ≡ slice_index_or slots rid.slot None) c.in-Some-2.is (c.in_ok-row.ensures.found slots held)) c.in_ok-clear_slot.ensures.clears
+    c.drop_row.new.pages small few used c.in_ok-drop_row.ensures.makes

@@ -1,0 +1,133 @@
+-- The changes of space of a row that is put or taken out, and why a row that is put runs full.
+use Rattle.std.proofs.Common.{◌≡◌, ℕ, List, ap, arith, sym, ◌∙◌, subst}
+use Rattle.std.specs.Prelude.{Contains, IfErr, IfOk, Option, Some, None, Result, Ok, Err, slice_index_or}
+use Rattle.mdc_words.specs.ByteOrder.{Entry}
+use Rattle.mdc_values.specs.declared.rid.Rid.{Rid}
+use Rattle.mdc_ast.specs.declared.definition.TableDef.{TableDef}
+use Rattle.mdc_ast.specs.declared.row.Row.{Row}
+use Rattle.store_api.specs.declared.pages.Pages.{Ghosts}
+use Rattle.extent_map.specs.Damages.{IfFull}
+use Rattle.extent_map.specs.Owners.{AreRightNotes, IsLowestFree}
+use Rattle.extent_map.specs.declared.extents.Extents.{Extents}
+use Rattle.extent_map.specs.declared.fault.SpaceFault.{SpaceFault}
+use Rattle.extent_map.specs.declared.fault.SpaceFault.TheVariants.{Full, Store}
+use Rattle.extent_map.specs.declared.kind.Kind.{Kind}
+use Rattle.block_map.specs.BlockMaps.{FindsFree, IsLowestFreeBlock}
+use Rattle.block_map.specs.MapLines.{free_blocks}
+use Rattle.row_page.specs.RowPage.{count_rows}
+use Rattle.table_trees.specs.SpaceChanges.{MakesChanges, RunsFull}
+use Rattle.table_trees.specs.ToldPages.{PageList}
+use Rattle.mdc_sound.specs.Placing.{HasRoomFor, HoldsNowhere, IsRowAt, Spot, table_spots}
+use Rattle.mdc_sound.specs.Placing.Spot.{FreeBlock, FreeExtent, OtherBlock, UsedBlock}
+use Rattle.mdc_sound.specs.RunningFull.{RowRunsFull, block_changes, left_changes}
+use Rattle.mdc_sound.specs.StandingTable.{IsReadyTable, StandsTable, TableForests, pages_of, spots_of}
+use Rattle.mdc_sound.proofs.StandingTableLemmas.{stands_same}
+use Rattle.mdc_sound.proofs.TableSpotsLemmas.{free_block_spot, free_spot}
+use Rattle.table_blocks.specs.BlockSteps.{NewBlockRunsFull}
+use Rattle.mdc_table.specs.NextBlock.{IsNextBlock, NextBlockRunsFull}
+use Rattle.mdc_table.proofs.PlacingRowsLemmas.{no_spot, puts_next}
+
+-- ---- the spot of the next block
+
+module _ {S : Type 0} {g : Ghosts S} (ext : Extents) (s : S) (def : TableDef) (owners : List Kind) (forests : TableForests) (st : StandsTable g ext s def owners forests) where
+  spot_of_free_block : (block : ℕ) → IsLowestFreeBlock forests.map 0 block → slice_index_or (spots_of g ext s def owners forests) block OtherBlock ≡ FreeBlock
+  spot_of_free_block block lowest = free_block_spot ext (pages_of g s) def owners forests.map block OtherBlock st.map lowest.free
+
+  spot_of_free_extent : (block : ℕ) → IsLowestFree owners block → slice_index_or (spots_of g ext s def owners forests) block OtherBlock ≡ FreeExtent
+  spot_of_free_extent block lowest = free_spot ext (pages_of g s) def owners forests.map block OtherBlock (omega (arith, lowest.within, st.trees.map.count)) lowest.free
+
+  -- what the next block runs full with, the row runs full with where no block has room for it
+  pub row_runs_full : (row : Row) → HoldsNowhere (HasRoomFor def row) (spots_of g ext s def owners forests) → NextBlockRunsFull ext (pages_of g s) def row owners forests.map
+      → RowRunsFull ext (pages_of g s) def (spots_of g ext s def owners forests) row
+  row_runs_full row no_room (NextBlockRunsFull.free_block block lowest full) =
+      RowRunsFull.placed (record { block = block; slot = 0 }) _ (puts_next ext s def owners forests st row no_room block (IsNextBlock.free_block lowest))
+      (subst (λ (spot : Spot). RunsFull ext (pages_of g s) (block_changes def row block spot)) (sym (spot_of_free_block block lowest)) full)
+  row_runs_full row no_room (NextBlockRunsFull.new_block none (NewBlockRunsFull.no_extent none_free full)) = RowRunsFull.stuck (no_spot ext s def owners forests st row no_room none none_free) full
+  row_runs_full row no_room (NextBlockRunsFull.new_block none (NewBlockRunsFull.at_entry block lowest full)) =
+      RowRunsFull.placed (record { block = block; slot = 0 }) _ (puts_next ext s def owners forests st row no_room block (IsNextBlock.free_extent none lowest))
+      (subst (λ (spot : Spot). RunsFull ext (pages_of g s) (block_changes def row block spot)) (sym (spot_of_free_extent block lowest)) full)
+
+-- ---- the next block, behind a call that left the work as it was
+
+module _ {S : Type 0} (g : Ghosts S) (before : Extents) (old mid new : S) (def : TableDef) (row : Row) (told : (g.state mid).is_told ≡ (g.state old).is_told) (same : (g.state mid).work ≡ (g.state old).work) where
+  -- what a block changes, by what it was
+  pub block_makes_along : (owners : List Kind) (forests : TableForests) (block at : ℕ) → at ≡ block
+      → MakesChanges before (pages_of g mid) (block_changes def row block (slice_index_or (spots_of g before mid def owners forests) block OtherBlock)) (pages_of g new)
+      → MakesChanges before (pages_of g old) (block_changes def row at (slice_index_or (spots_of g before old def owners forests) at OtherBlock)) (pages_of g new)
+  block_makes_along owners forests block at is makes =
+      subst (λ (n : ℕ). MakesChanges before (pages_of g old) (block_changes def row n (slice_index_or (spots_of g before old def owners forests) n OtherBlock)) (pages_of g new)) (sym is)
+      (subst (λ (pages : PageList). MakesChanges before pages (block_changes def row block (slice_index_or (table_spots before pages def owners forests.map) block OtherBlock)) (pages_of g new)) same makes)
+
+  -- a Free block that was found
+  pub free_block_makes : (owners : List Kind) (forests : TableForests) (block : ℕ) → StandsTable g before old def owners forests → IsLowestFreeBlock forests.map 0 block
+      → MakesChanges before (pages_of g mid) (block_changes def row block FreeBlock) (pages_of g new)
+      → MakesChanges before (pages_of g old) (block_changes def row block (slice_index_or (spots_of g before old def owners forests) block OtherBlock)) (pages_of g new)
+  free_block_makes owners forests block st lowest makes =
+      subst (λ (spot : Spot). MakesChanges before (pages_of g old) (block_changes def row block spot) (pages_of g new)) (sym (spot_of_free_block before old def owners forests st block lowest))
+      (subst (λ (pages : PageList). MakesChanges before pages (block_changes def row block FreeBlock) (pages_of g new)) same makes)
+
+  -- a free extent
+  pub new_block_makes : (result : Result ℕ SpaceFault)
+      → IfOk result (λ block. (owners : List Kind) (forests : TableForests) → StandsTable g before mid def owners forests → AreRightNotes before owners → IsLowestFree owners block)
+      → IfOk result (λ block. (owners : List Kind) (forests : TableForests) → StandsTable g before mid def owners forests → AreRightNotes before owners
+      → MakesChanges before (pages_of g mid) (block_changes def row block FreeExtent) (pages_of g new))
+      → IfOk result (λ block. (owners : List Kind) (forests : TableForests) → StandsTable g before old def owners forests → AreRightNotes before owners
+      → MakesChanges before (pages_of g old) (block_changes def row block (slice_index_or (spots_of g before old def owners forests) block OtherBlock)) (pages_of g new))
+  new_block_makes (Ok block) lowest makes = λ owners forests st notes.
+      let st_mid = stands_same before old mid def owners forests told same st in
+      subst (λ (spot : Spot). MakesChanges before (pages_of g old) (block_changes def row block spot) (pages_of g new)) (sym (spot_of_free_extent before old def owners forests st block (lowest owners forests st_mid notes)))
+      (subst (λ (pages : PageList). MakesChanges before pages (block_changes def row block FreeExtent) (pages_of g new)) same (makes owners forests st_mid notes))
+  new_block_makes (Err fault) lowest makes = tt
+
+  -- a Free block that runs full
+  pub free_block_full : (block : ℕ) (fault : SpaceFault) → ((owners : List Kind) (forests : TableForests) → StandsTable g before old def owners forests → IsLowestFreeBlock forests.map 0 block)
+      → IfFull fault (λ cap. (owners : List Kind) (forests : TableForests) → StandsTable g before mid def owners forests → Contains (free_blocks forests.map) block
+      → AreRightNotes before owners → RunsFull before (pages_of g mid) (block_changes def row block FreeBlock))
+      → IfFull fault (λ cap. (owners : List Kind) (forests : TableForests) → StandsTable g before old def owners forests → AreRightNotes before owners
+      → NextBlockRunsFull before (pages_of g old) def row owners forests.map)
+  free_block_full block (Full cap) lowest full = λ owners forests st notes.
+      let low = lowest owners forests st in
+      NextBlockRunsFull.free_block block low
+      (subst (λ (pages : PageList). RunsFull before pages (block_changes def row block FreeBlock)) same (full owners forests (stands_same before old mid def owners forests told same st) low.free notes))
+  free_block_full block (Store fault) lowest full = tt
+
+  -- a new block that does, where none is Free
+  pub new_block_full : {X : Type 0} (result : Result X SpaceFault) → ((owners : List Kind) (forests : TableForests) → StandsTable g before old def owners forests → FindsFree forests.map 0 None)
+      → IfErr result (λ fault. IfFull fault (λ cap. (owners : List Kind) (forests : TableForests) → StandsTable g before mid def owners forests → AreRightNotes before owners
+      → NewBlockRunsFull before (pages_of g mid) def row owners))
+      → IfErr result (λ fault. IfFull fault (λ cap. (owners : List Kind) (forests : TableForests) → StandsTable g before old def owners forests → AreRightNotes before owners
+      → NextBlockRunsFull before (pages_of g old) def row owners forests.map))
+  new_block_full (Err (Full cap)) none full = λ owners forests st notes.
+      NextBlockRunsFull.new_block (λ other there. none owners forests st other there (omega arith))
+      (subst (λ (pages : PageList). NewBlockRunsFull before pages def row owners) same (full owners forests (stands_same before old mid def owners forests told same st) notes))
+  new_block_full (Err (Store fault)) none full = tt
+  new_block_full (Ok x) none full = tt
+
+  -- so a row runs full where no block has room for it
+  pub row_full : (from : Entry → ℕ) (fault : SpaceFault)
+      → ((owners : List Kind) (forests : TableForests) → IsReadyTable g before from old def owners forests → HoldsNowhere (HasRoomFor def row) (spots_of g before old def owners forests))
+      → IfFull fault (λ cap. (owners : List Kind) (forests : TableForests) → StandsTable g before mid def owners forests → AreRightNotes before owners
+      → NextBlockRunsFull before (pages_of g mid) def row owners forests.map)
+      → IfFull fault (λ cap. (owners : List Kind) (forests : TableForests) → IsReadyTable g before from old def owners forests
+      → RowRunsFull before (pages_of g old) def (spots_of g before old def owners forests) row)
+  row_full from (Full cap) no_room full = λ owners forests ready.
+      row_runs_full before old def owners forests ready.stands row (no_room owners forests ready)
+      (subst (λ (pages : PageList). NextBlockRunsFull before pages def row owners forests.map) same (full owners forests (stands_same before old mid def owners forests told same ready.stands) ready.notes))
+  row_full from (Store fault) no_room full = tt
+
+-- ---- rows that were taken out
+
+-- one row lies in a place
+pub same_row : (spots : List Spot) (rid : Rid) (row other : Row) (slots more : List (Option Row)) → IsRowAt spots rid row slots → IsRowAt spots rid other more → row ≡ other
+same_row spots rid row other slots more one two =
+    let found : UsedBlock slots ≡ UsedBlock more = sym (one.block OtherBlock) ∙ two.block OtherBlock in
+    let same : slots ≡ more = cc in
+    let rows : Some row ≡ Some other = sym one.slot ∙ (ap (λ s. slice_index_or s rid.slot None) same ∙ two.slot) in
+    cc
+
+-- the row that was taken out is the one that lay there
+pub taken_makes : (ext : Extents) (old new : PageList) (spots : List Spot) (def : TableDef) (rid : Rid) (row taken : Row) (slots there : List (Option Row)) → IsRowAt spots rid row slots → IsRowAt spots rid taken there
+    → ((more : List (Option Row)) → IsRowAt spots rid taken more → MakesChanges ext old (left_changes def taken rid.block (count_rows more)) new) → MakesChanges ext old (left_changes def row rid.block (count_rows slots)) new
+taken_makes ext old new spots def rid row taken slots there lies lay makes =
+    let is : row ≡ taken = same_row spots rid row taken slots there lies lay in
+    subst (λ (r : Row). MakesChanges ext old (left_changes def r rid.block (count_rows slots)) new) (sym is) (makes slots (subst (λ (r : Row). IsRowAt spots rid r slots) is lies))

@@ -1,0 +1,134 @@
+-- What a block that comes into use changes of space: its entries in the block indexes, behind its line where it was Free.
+use Rattle.std.proofs.Common.{◌≡◌, ◌<◌, ◌^◌, ℕ, List, [], ◌∷◌, length, ◌∙◌, subst}
+use Rattle.std.specs.Prelude.{Contains, IsTrue, None}
+use Rattle.mdc_words.specs.ByteOrder.{Entry}
+use Rattle.mdc_ast.specs.declared.definition.TableDef.{TableDef}
+use Rattle.mdc_ast.specs.declared.row.Cell.{Cell}
+use Rattle.mdc_ast.specs.declared.row.Row.{Row}
+use Rattle.store_api.specs.RunsOverPages.{RunsOverPages}
+use Rattle.store_api.specs.declared.pages.Pages.{Ghosts}
+use Rattle.store_api.proofs.FrameLemmas.{touches_then}
+use Rattle.extent_map.specs.Damages.{IfFull}
+use Rattle.extent_map.specs.Owners.{AreRightNotes}
+use Rattle.extent_map.specs.declared.extents.Extents.{Extents}
+use Rattle.extent_map.specs.declared.fault.SpaceFault.{SpaceFault}
+use Rattle.extent_map.specs.declared.fault.SpaceFault.TheVariants.{Full, Store}
+use Rattle.extent_map.specs.declared.kind.Kind.{Kind}
+use Rattle.entry_tree.specs.Forest.{Forest}
+use Rattle.entry_tree.specs.HeldTrees.{HoldsTree, IsTreePage}
+use Rattle.entry_tree.specs.declared.tree.Tree.{Tree}
+use Rattle.table_page.specs.TableLimits.{IsTableDef}
+use Rattle.block_index.specs.Cells.{index_listings}
+use Rattle.block_map.specs.BlockMaps.{BreaksMapTree, HasRow, IsMapForm}
+use Rattle.block_map.specs.MapChanges.{ChangesRowTo}
+use Rattle.block_map.specs.MapLines.{free_blocks, map_entry}
+use Rattle.block_map.specs.MapRows.{row_entry}
+use Rattle.block_map.specs.declared.row.BlockRow.{BlockRow}
+use Rattle.table_trees.specs.RowCells.{IsCellOf}
+use Rattle.table_trees.specs.SpaceChanges.{IsSameSpace, MakesChange, MakesChanges, RunsFull, SpaceChange, added_entries}
+use Rattle.table_trees.specs.SpaceChanges.SpaceChange.{AmendEntry}
+use Rattle.table_trees.specs.TableTrees.{TreePlace, block_index_places, map_place}
+use Rattle.table_trees.specs.TreesBeside.{StandTrees}
+use Rattle.mdc_sound.specs.FittingRows.{RowFits}
+use Rattle.mdc_sound.specs.Placing.Spot.{FreeBlock}
+use Rattle.mdc_sound.specs.RunningFull.{block_changes, block_listings}
+use Rattle.mdc_sound.specs.StandingTable.{StandsTable, TableForests, pages_of}
+use Rattle.mdc_sound.proofs.DefinitionTreesLemmas.{has_block_indexes}
+use Rattle.table_blocks.specs.AroundBlock.{StandsAround}
+use Rattle.table_blocks.specs.BlockNow.{IsOwnBlock, free_line, used_line}
+use Rattle.table_blocks.proofs.AroundLemmas.{own_still}
+use Rattle.table_blocks.proofs.BlockSpaceLemmas.{line_makes, rows_same}
+use Rattle.table_blocks.proofs.FillBegunLemmas.{PutsFirstRow, changes_put, row_keys}
+use Rattle.table_blocks.proofs.FreeBlockLemmas.{takes_line}
+use Rattle.table_blocks.proofs.IndexStepLemmas.{indexes_around}
+use Rattle.table_blocks.proofs.LineStepLemmas.{map_around}
+use Rattle.table_blocks.proofs.ListedSpaceLemmas.{listings_are}
+use Rattle.table_blocks.proofs.OpeningLemmas.{around_block, free_now}
+use Rattle.table_trees.proofs.SpaceChainsLemmas.{changes_from, changes_then, full_then, no_changes, one_change}
+
+-- ---- its first row, and its entries
+
+module _ {S : Type 0} {g : Ghosts S} (ext : Extents) (def : TableDef) (block : ℕ) (old mid new : S) (row : Row) (is : PutsFirstRow g ext old mid new def block row)
+    (cell : Cell) (small : block < 2 ^ 32) (defined : IsTableDef def.number def) (fits : RowFits def row) (of_row : IsCellOf def cell row.values) where
+  -- rows alone are written before the listing
+  rows_put : (owners : List Kind) (forests : TableForests) → StandsAround g ext old def owners forests block → IsOwnBlock ext owners def block → IsSameSpace ext (pages_of g old) (pages_of g new)
+  rows_put owners forests st own =
+      rows_same ext old new def block owners forests st own (touches_then is.wipes.touches is.puts.touches) (is.puts.works.steady.is_told ∙ is.wipes.works.steady.is_told) (is.put_count ∙ is.wipe_count)
+
+  -- where the listing finds the block indexes
+  indexes_put : (owners : List Kind) (forests : TableForests) → StandsAround g ext old def owners forests block → IsOwnBlock ext owners def block
+      → IsTrue (g.state new).is_told × StandTrees g ext new owners (block_index_places def) (forests.composite ∷ forests.dims)
+  indexes_put owners forests st own =
+      let put = changes_put ext def block old mid new row is owners forests st own in
+      (put.stands.told, indexes_around def cell row.values block small (has_block_indexes def.number def defined) of_row (row_keys def row defined fits) ext new owners forests put.stands)
+
+  -- the block is listed
+  pub filling_makes : (now : S)
+      → ((owners : List Kind) (trees : List Forest) → StandTrees g ext new owners (block_index_places def) trees → IsTrue (g.state new).is_told → AreRightNotes ext owners
+      → MakesChanges ext (g.state new).work (added_entries (index_listings def cell.values block)) (g.state now).work)
+      → (owners : List Kind) (forests : TableForests) → StandsAround g ext old def owners forests block → IsOwnBlock ext owners def block → AreRightNotes ext owners
+      → MakesChanges ext (pages_of g old) (added_entries (block_listings def row block)) (pages_of g now)
+  filling_makes now makes owners forests st own notes =
+      let at = indexes_put owners forests st own in
+      let listed = makes owners (forests.composite ∷ forests.dims) at.1 at.0 notes in
+      changes_from ext (pages_of g old) (pages_of g new) (pages_of g now) (added_entries (block_listings def row block)) (rows_put owners forests st own)
+      (subst (λ (listings : List (TreePlace × Entry)). MakesChanges ext (pages_of g new) (added_entries listings) (pages_of g now)) (listings_are def cell row block of_row) listed)
+
+  -- or an entry asks for too much
+  pub filling_full : (fault : SpaceFault)
+      → IfFull fault (λ cap. (owners : List Kind) (trees : List Forest) → StandTrees g ext new owners (block_index_places def) trees → IsTrue (g.state new).is_told → AreRightNotes ext owners
+      → RunsFull ext (g.state new).work (added_entries (index_listings def cell.values block)))
+      → IfFull fault (λ cap. (owners : List Kind) (forests : TableForests) → StandsAround g ext old def owners forests block → IsOwnBlock ext owners def block → AreRightNotes ext owners
+      → RunsFull ext (pages_of g old) (added_entries (block_listings def row block)))
+  filling_full (Full cap) full = λ owners forests st own notes.
+      let at = indexes_put owners forests st own in
+      let listed = full owners (forests.composite ∷ forests.dims) at.1 at.0 notes in
+      full_then ext (pages_of g old) (pages_of g new) [] (added_entries (block_listings def row block)) (no_changes ext (pages_of g old) (pages_of g new) (rows_put owners forests st own))
+      (subst (λ (listings : List (TreePlace × Entry)). RunsFull ext (pages_of g new) (added_entries listings)) (listings_are def cell row block of_row) listed)
+  filling_full (Store fault) full = tt
+
+-- ---- a Free block
+
+module _ {S : Type 0} {g : Ghosts S} (ext : Extents) (old : S) (def : TableDef) (block : ℕ) (tree : Tree) (root : tree.root ≡ def.roots.map) (width : tree.width ≡ 7) (defined : IsTableDef def.number def)
+    (mid : S) (line : BlockRow) (low : block < ext.cap) (is : line ≡ used_line block 1) (there : (t : Forest) → HoldsTree g old tree t → HasRow (free_line block) t)
+    (changes : (t : Forest) → HoldsTree g old tree t → IsMapForm t → ChangesRowTo g mid tree (free_line block) line t) (count : length (g.state mid).work ≡ length (g.state old).work)
+    (run : RunsOverPages g (IsTreePage g old tree) (IsTreePage g old tree) (BreaksMapTree g old tree (HasRow (free_line block))) old mid None) where
+  -- its line becomes that of a block with one row
+  abbrev taken : SpaceChange
+  taken = AmendEntry (map_place def) (map_entry block 0 0) (map_entry block 1 1)
+
+  -- that is a change of the block map
+  line_taken : (owners : List Kind) (forests : TableForests) → StandsTable g ext old def owners forests → MakesChanges ext (pages_of g old) (taken ∷ []) (pages_of g mid)
+  line_taken owners forests st =
+      let around = around_block ext old def owners forests defined st block in
+      let held = (map_around tree def root width ext old owners forests block around).held in
+      let made = line_makes tree def root width ext old mid block (free_line block) line owners forests around (changes forests.map held around.map.form) run.touches run.works.steady.is_told count in
+      one_change ext (pages_of g old) (pages_of g mid) taken
+      (subst (λ (other : BlockRow). MakesChange ext (pages_of g old) (AmendEntry (map_place def) (row_entry (free_line block)) (row_entry other)) (pages_of g mid)) is made)
+
+  -- what is said of the pages behind it
+  behind_line : {Said : Type 0} → ((owners : List Kind) (forests : TableForests) → StandsAround g ext mid def owners forests block → IsOwnBlock ext owners def block → AreRightNotes ext owners → Said)
+      → (owners : List Kind) (forests : TableForests) → StandsTable g ext old def owners forests → Contains (free_blocks forests.map) block → AreRightNotes ext owners → Said
+  behind_line says owners forests st free notes =
+      let own = (free_now ext old def owners forests defined st block free).own in
+      let moves = takes_line ext old def block tree root width defined mid line low is there changes count run owners forests (around_block ext old def owners forests defined st block) own in
+      says moves.owners_now moves.forests_now moves.changes.stands (own_still ext ext old mid def block owners moves.owners_now forests moves.forests_now moves.changes own) (moves.changes.trees.notes notes)
+
+  -- it is filled
+  pub free_makes : (row : Row) (new : S)
+      → ((owners : List Kind) (forests : TableForests) → StandsAround g ext mid def owners forests block → IsOwnBlock ext owners def block → AreRightNotes ext owners
+      → MakesChanges ext (pages_of g mid) (added_entries (block_listings def row block)) (pages_of g new))
+      → (owners : List Kind) (forests : TableForests) → StandsTable g ext old def owners forests → Contains (free_blocks forests.map) block → AreRightNotes ext owners
+      → MakesChanges ext (pages_of g old) (block_changes def row block FreeBlock) (pages_of g new)
+  free_makes row new makes owners forests st free notes =
+      changes_then ext (pages_of g old) (pages_of g mid) (pages_of g new) (taken ∷ []) (added_entries (block_listings def row block)) (line_taken owners forests st) (behind_line makes owners forests st free notes)
+
+  -- or an entry asks for too much
+  pub free_full : (row : Row) (fault : SpaceFault)
+      → IfFull fault (λ cap. (owners : List Kind) (forests : TableForests) → StandsAround g ext mid def owners forests block → IsOwnBlock ext owners def block → AreRightNotes ext owners
+      → RunsFull ext (pages_of g mid) (added_entries (block_listings def row block)))
+      → IfFull fault (λ cap. (owners : List Kind) (forests : TableForests) → StandsTable g ext old def owners forests → Contains (free_blocks forests.map) block → AreRightNotes ext owners
+      → RunsFull ext (pages_of g old) (block_changes def row block FreeBlock))
+  free_full row (Full cap) full = λ owners forests st free notes.
+      full_then ext (pages_of g old) (pages_of g mid) (taken ∷ []) (added_entries (block_listings def row block)) (line_taken owners forests st) (behind_line full owners forests st free notes)
+  free_full row (Store fault) full = tt

@@ -1,0 +1,79 @@
+-- What a row more in a block changes of space, or one in the place of another.
+use Rattle.std.proofs.Common.{◌≡◌, ◌<◌, ◌+◌, ◌^◌, ℕ, List, [], ◌∷◌, length, refl, ap, arith, sym, ◌∙◌, subst}
+use Rattle.std.specs.Prelude.{None, Option, slice_index_or}
+use Rattle.mdc_words.specs.ByteOrder.{Entry}
+use Rattle.mdc_values.specs.declared.rid.Rid.{Rid}
+use Rattle.mdc_ast.specs.declared.definition.TableDef.{TableDef}
+use Rattle.mdc_ast.specs.declared.row.Row.{Row}
+use Rattle.store_api.specs.RunsOverPages.{RunsOverPages}
+use Rattle.store_api.specs.declared.fault.Damage.{Damage}
+use Rattle.store_api.specs.declared.fault.StoreFault.{StoreFault}
+use Rattle.store_api.specs.declared.pages.Pages.{Ghosts}
+use Rattle.store_api.proofs.FrameLemmas.{touches_same, touches_then}
+use Rattle.extent_map.specs.declared.extents.Extents.{Extents}
+use Rattle.extent_map.specs.declared.kind.Kind.{Kind}
+use Rattle.row_page.specs.RowPage.{count_rows}
+use Rattle.entry_tree.specs.Forest.{Forest}
+use Rattle.entry_tree.specs.HeldTrees.{HoldsTree, IsTreePage}
+use Rattle.entry_tree.specs.declared.tree.Tree.{Tree}
+use Rattle.block_map.specs.BlockMaps.{BreaksMapTree, HasRow, IsMapForm}
+use Rattle.block_map.specs.MapChanges.{ChangesRowTo}
+use Rattle.block_map.specs.MapLines.{map_entry}
+use Rattle.block_map.specs.MapRows.{row_entry}
+use Rattle.block_map.specs.declared.row.BlockRow.{BlockRow}
+use Rattle.block_map.specs.declared.state.BlockState.TheVariants as state
+use Rattle.block_rows.specs.HeldRows.{BreaksRows}
+use Rattle.table_page.specs.TableLimits.{IsTableDef}
+use Rattle.table_trees.specs.SpaceChanges.{IsSameSpace, MakesChange, MakesChanges}
+use Rattle.table_trees.specs.SpaceChanges.SpaceChange.{AmendEntry}
+use Rattle.table_trees.specs.TableTrees.{map_place}
+use Rattle.mdc_sound.specs.Placing.{Spot}
+use Rattle.mdc_sound.specs.Placing.Spot.{OtherBlock}
+use Rattle.mdc_sound.specs.RunningFull.{block_changes}
+use Rattle.mdc_sound.specs.StandingTable.{HasRowAt, IsPageOfBlock, StandsTable, TableForests, pages_of, spots_of}
+use Rattle.table_blocks.specs.BlockNow.{used_line}
+use Rattle.table_blocks.specs.BlockSteps.{HasRoomAt}
+use Rattle.table_blocks.proofs.AroundLemmas.{own_still}
+use Rattle.table_blocks.proofs.BlockSpaceLemmas.{line_makes, line_used, rows_same}
+use Rattle.table_blocks.proofs.FillingLemmas.{moves, opens}
+use Rattle.table_blocks.proofs.LineStepLemmas.{map_around}
+use Rattle.table_blocks.proofs.OpeningLemmas.{around_block, used_spot_now}
+use Rattle.table_trees.proofs.SpaceChainsLemmas.{changes_to, one_change}
+
+module _ {S : Type 0} {g : Ghosts S} where
+  -- a row in the place of another
+  pub overwritten_space : {Kinds : ℕ → Type 0} {Breaks : Damage → Type 0} {fault : Option StoreFault} (ext : Extents) (old mid new : S) (def : TableDef) (rid : Rid) → IsTableDef def.number def
+      → (g.state mid).is_told ≡ (g.state old).is_told → (g.state mid).work ≡ (g.state old).work → RunsOverPages g (IsPageOfBlock ext rid.block) Kinds Breaks mid new fault
+      → length (g.state new).work ≡ length (g.state mid).work → (owners : List Kind) (forests : TableForests) → StandsTable g ext old def owners forests → HasRowAt g ext old def rid owners forests
+      → IsSameSpace ext (pages_of g old) (pages_of g new)
+  overwritten_space ext old mid new def rid defined told same run count owners forests st has =
+      let now = (used_spot_now ext old def owners forests defined st rid.block has.slots (has.lies.block OtherBlock)).1 in
+      rows_same ext old new def rid.block owners forests (around_block ext old def owners forests defined st rid.block) now.own
+      (touches_then (touches_same told same) run.touches) (run.works.steady.is_told ∙ told) (count ∙ ap length same)
+
+  -- a row more: the block's line, and then the row
+  module _ (ext : Extents) (old : S) (def : TableDef) (line : BlockRow) (row : Row) (defined : IsTableDef def.number def) (low : line.block < ext.cap) (few : line.rows < 2 ^ 16) (tree : Tree) (root : tree.root ≡ def.roots.map)
+      (width : tree.width ≡ 7) (mid : S) (rows : ℕ) (more : rows ≡ line.rows + 1) (there : (t : Forest) → HoldsTree g old tree t → HasRow line t)
+      (changes : (t : Forest) → HoldsTree g old tree t → IsMapForm t → ChangesRowTo g mid tree line (used_line line.block rows) t) (count : length (g.state mid).work ≡ length (g.state old).work)
+      (replaced : RunsOverPages g (IsTreePage g old tree) (IsTreePage g old tree) (BreaksMapTree g old tree (HasRow line)) old mid None) where
+    pub filling_space : (new : S) → line.state ≡ state.Used → RunsOverPages g (IsPageOfBlock ext line.block) (IsPageOfBlock ext line.block) (BreaksRows g ext mid def line.block) mid new None
+        → length (g.state new).work ≡ length (g.state mid).work
+        → (owners : List Kind) (forests : TableForests) → StandsTable g ext old def owners forests → HasRoomAt g ext old def line row owners forests
+        → MakesChanges ext (pages_of g old) (block_changes def row line.block (slice_index_or (spots_of g ext old def owners forests) line.block OtherBlock)) (pages_of g new)
+    filling_space new used run same_count owners forests st at =
+        let o = opens ext old def line row defined low few owners forests st at in
+        let m = (moves ext old def line row defined low few tree root width mid rows more there changes count replaced owners forests o.around o.now.own).0 in
+        let held = (map_around tree def root width ext old owners forests line.block o.around).held in
+        let n = count_rows o.slots in
+        let was : row_entry line ≡ map_entry line.block 1 n = ap row_entry (line_used line line.block n refl used o.counted) in
+        let is : row_entry (used_line line.block rows) ≡ map_entry line.block 1 (n + 1) = ap (map_entry line.block 1) (omega (arith, more, o.counted)) in
+        let first : MakesChange ext (pages_of g old) (AmendEntry (map_place def) (row_entry line) (row_entry (used_line line.block rows))) (pages_of g mid) =
+        line_makes tree def root width ext old mid line.block line (used_line line.block rows) owners forests o.around (changes forests.map held o.around.map.form) replaced.touches replaced.works.steady.is_told count in
+        let named : MakesChange ext (pages_of g old) (AmendEntry (map_place def) (map_entry line.block 1 n) (map_entry line.block 1 (n + 1))) (pages_of g mid) =
+        subst (λ (y : Entry). MakesChange ext (pages_of g old) (AmendEntry (map_place def) (map_entry line.block 1 n) y) (pages_of g mid)) is
+        (subst (λ (x : Entry). MakesChange ext (pages_of g old) (AmendEntry (map_place def) x (row_entry (used_line line.block rows))) (pages_of g mid)) was first) in
+        let own = own_still ext ext old mid def line.block owners m.owners_now forests m.forests_now m.changes o.now.own in
+        let same = rows_same ext mid new def line.block m.owners_now m.forests_now m.changes.stands own run.touches run.works.steady.is_told same_count in
+        subst (λ (spot : Spot). MakesChanges ext (pages_of g old) (block_changes def row line.block spot) (pages_of g new)) (sym o.was)
+        (changes_to ext (pages_of g old) (pages_of g mid) (pages_of g new) (AmendEntry (map_place def) (map_entry line.block 1 n) (map_entry line.block 1 (n + 1)) ∷ [])
+        (one_change ext (pages_of g old) (pages_of g mid) (AmendEntry (map_place def) (map_entry line.block 1 n) (map_entry line.block 1 (n + 1))) named) same)
