@@ -1,0 +1,111 @@
+-- Blocks and trees of one place that are given back change nothing around it.
+use Rattle.std.proofs.Common.{◌≡◌, ◌≢◌, ℕ, List, [], ◌∷◌, Some, length, sum_by, ap, arith, sym, ◌∙◌, inl, inr}
+use Rattle.std.specs.Prelude.{Contains, IsTrue}
+use Rattle.std.specs.List.{AllZip}
+use Rattle.std.proofs.lemmas.Bool.{cases_lt}
+use Rattle.store_api.specs.Frame.{Touches}
+use Rattle.store_api.specs.declared.pages.Pages.{Ghosts}
+use Rattle.store_api.proofs.FrameLemmas.{touches_wider}
+use Rattle.extent_map.specs.Map.{IsMapPage}
+use Rattle.extent_map.specs.Owners.{IsSameShape, owner_of}
+use Rattle.extent_map.specs.declared.extents.Extents.{Extents}
+use Rattle.extent_map.specs.declared.kind.Kind.{Kind}
+use Rattle.extent_map.specs.declared.kind.Kind.TheVariants.{Free, Block, Index}
+use Rattle.entry_tree.specs.Forest.{Forest, times}
+use Rattle.entry_tree.specs.Pruning.{without_pages}
+use Rattle.table_trees.specs.TableTrees.{TreePlace}
+use Rattle.table_trees.specs.ToldPages.{HasTree}
+use Rattle.table_trees.specs.TreesBeside.{HoldsTreeAt, KeepsOwners, StandTrees, table_of_block}
+use Rattle.table_trees.proofs.KeptOwnersLemmas.{keeps_returns}
+use Rattle.table_trees.proofs.ToldPagesLemmas.{map_of_told, told_of_map, told_of_tree, tree_of_told}
+use Rattle.mdc_sound.specs.SpaceRules.{DatabaseView}
+use Rattle.mdc_sound.specs.StandingTable.{pages_of}
+use Rattle.mdc_sound.proofs.SpaceRulesLemmas.{used_or_not}
+use Rattle.stored_catalog.specs.AroundTable.{HasNoBlocks, StandsBut}
+use Rattle.stored_catalog.specs.TreeRuns.{FreesTrees, GivesBlocks, without_blocks}
+use Rattle.stored_catalog.proofs.AroundTableLemmas.{ChangesAround, root_still, touched_listed}
+use Rattle.stored_catalog.proofs.GivenBlocksLemmas.{block_before, owner_without, trees_after_giving, used_before, used_still}
+
+-- a block of a table, by the table of its kind
+is_block : (kind : Kind) (u : ℕ) → table_of_block kind ≡ Some u → kind ≡ Block u
+is_block Free u is = absurd (cc)
+is_block (Block t) u is = let same : t ≡ u = cc in ap Block same
+is_block (Index used) u is = absurd (cc)
+
+module _ {S : Type 0} (g : Ghosts S) (s : S) (told : IsTrue (g.state s).is_told) where
+  trees_of_list : (places : List TreePlace) (trees : List Forest) → AllZip (HasTree (pages_of g s)) places trees → AllZip (HoldsTreeAt g s) places trees
+  trees_of_list [] [] h = tt
+  trees_of_list [] (t ∷ trees) h = absurd h
+  trees_of_list (place ∷ places) [] h = absurd h
+  trees_of_list (place ∷ places) (t ∷ trees) h = (told_of_tree g s told place t h.0, trees_of_list places trees h.1)
+
+  list_of_trees : (places : List TreePlace) (trees : List Forest) → AllZip (HoldsTreeAt g s) places trees → AllZip (HasTree (pages_of g s)) places trees
+  list_of_trees [] [] h = tt
+  list_of_trees [] (t ∷ trees) h = absurd h
+  list_of_trees (place ∷ places) [] h = absurd h
+  list_of_trees (place ∷ places) (t ∷ trees) h = (tree_of_told g s told place t h.0, list_of_trees places trees h.1)
+
+  -- the trees of a place stand side by side
+  pub trees_beside : (ext : Extents) (view : DatabaseView) (t : ℕ) (places : List TreePlace) (trees : List Forest) → StandsBut ext (pages_of g s) view t places trees → StandTrees g ext s view.owners places trees
+  trees_beside ext view t places trees st = record {
+    map = told_of_map g s told ext view.owners st.extents;
+    held = trees_of_list places trees st.held;
+    used = λ p l. elim (used_or_not ext view.owners p) [ inl used ↦ used | inr off ↦ absurd (omega (arith, l, st.unused p off)) ];
+    apart = λ p. elim (used_or_not ext view.owners p) [ inl used ↦ omega (arith, st.used p used) | inr off ↦ omega (arith, st.unused p off) ];
+  }
+
+module _ {S : Type 0} (g : Ghosts S) (before ext : Extents) (old new : S) (view : DatabaseView) (t : ℕ) (places : List TreePlace) (trees : List Forest) (told : IsTrue (g.state old).is_told)
+    (st : StandsBut before (pages_of g old) view t places trees) (shape : IsSameShape before ext) (count : length (g.state new).work ≡ length (g.state old).work)
+    (same : (g.state new).is_told ≡ (g.state old).is_told) (touched : Touches g (IsMapPage before) old new) where
+  off_root : IsMapPage before 0 → ⊥
+  off_root on = omega (arith, on.0)
+
+  beside : StandTrees g before old view.owners places trees
+  beside = trees_beside g old told before view t places trees st
+
+  pub given_around : (given : List ℕ) → ((e : ℕ) → Contains given e → owner_of view.owners e ≡ Block t) → GivesBlocks g before ext new view.owners given
+      → ChangesAround before ext (pages_of g old) (pages_of g new) view.owners t trees (without_blocks view.owners given) places trees
+  given_around given own gives = record {
+    shape = shape;
+    root = root_still g (IsMapPage before) before ext old new told st.root shape count touched off_root;
+    extents = map_of_told g new (same ∙ told) ext (without_blocks view.owners given) gives.extents;
+    held = list_of_trees g new (same ∙ told) places trees (trees_after_giving g before ext old new places trees view.owners given shape beside gives same touched).held;
+    others_blocks = λ e u apart is. owner_without view.owners given e (λ there. not_both e u apart is (own e there)) ∙ is;
+    no_others_blocks = λ e u apart is. block_before view.owners given e u is;
+    others_pages = λ p used none. used_still before view.owners given p gives.blocks used;
+    used_pages = λ p used. elim (cases_lt 0 (sum_by (times p) trees)) [
+      | inl some ↦ inl some
+      | inr none ↦ inr (used_before before view.owners given p used, omega (arith, none))
+    ];
+    used = λ p l. used_still before view.owners given p gives.blocks (beside.used p l);
+    apart = beside.apart;
+    pages = λ p l. inl l;
+    touched = touches_wider (touched_listed g (IsMapPage before) old new told touched) (λ p on. inr (inr (inl (inr on))));
+  }
+    where
+      not_both : (e u : ℕ) → u ≢ t → owner_of view.owners e ≡ Block u → owner_of view.owners e ≡ Block t → ⊥
+      not_both e u apart is other = let kinds : Block u ≡ Block t = sym is ∙ other in let both : u ≡ t = cc in apart both
+
+  freed_keeps : (freed : FreesTrees g before ext new view.owners trees) → KeepsOwners before view.owners trees (without_pages before view.owners freed.given) []
+  freed_keeps freed = keeps_returns before view.owners freed.given trees [] beside.map.count (λ p l. (beside.used p l).page) (λ p. omega (arith, freed.counts p))
+
+  pub freed_around : (freed : FreesTrees g before ext new view.owners trees)
+      → ChangesAround before ext (pages_of g old) (pages_of g new) view.owners t trees (without_pages before view.owners freed.given) [] []
+  freed_around freed = record {
+    shape = shape;
+    root = root_still g (IsMapPage before) before ext old new told st.root shape count touched off_root;
+    extents = map_of_told g new (same ∙ told) ext (without_pages before view.owners freed.given) freed.extents;
+    held = tt;
+    others_blocks = λ e u apart is. is_block _ u ((freed_keeps freed).blocks e ∙ ap table_of_block is);
+    no_others_blocks = λ e u apart is. is_block _ u (sym ((freed_keeps freed).blocks e) ∙ ap table_of_block is);
+    others_pages = (freed_keeps freed).others;
+    used_pages = (freed_keeps freed).used;
+    used = λ p l. absurd (omega (arith, l));
+    apart = λ p. omega arith;
+    pages = λ p l. absurd (omega (arith, l));
+    touched = touches_wider (touched_listed g (IsMapPage before) old new told touched) (λ p on. inr (inr (inl (inr on))));
+  }
+
+  -- returns of index pages make no block
+  pub no_blocks_freed : (freed : FreesTrees g before ext new view.owners trees) → HasNoBlocks view.owners t → HasNoBlocks (without_pages before view.owners freed.given) t
+  no_blocks_freed freed none e is = none e (is_block _ t (sym ((freed_keeps freed).blocks e) ∙ ap table_of_block is))

@@ -1,0 +1,125 @@
+-- Runs that give the blocks and the trees of a table back and clear its page, one behind the other: which pages they touch, and which
+-- damage they name.
+use Rattle.std.proofs.Common.{◌≡◌, ◌<◌, ◌+◌, ℕ, List, [], ◌∷◌, ◌++◌, None, length, refl, arith, ◌∙◌, inl, inr}
+use Rattle.std.specs.Prelude.{Contains, Option}
+use Rattle.std.proofs.lemmas.List.Elements.{Contains-append_cases}
+use Rattle.mdc_ast.specs.declared.definition.TableDef.{TableDef}
+use Rattle.store_api.specs.Extents.{first_page_of}
+use Rattle.store_api.specs.Frame.{NoPage, OnlyPage}
+use Rattle.store_api.specs.RunsOverPages.{RunsOverPages}
+use Rattle.store_api.specs.declared.fault.Damage.{Damage}
+use Rattle.store_api.specs.declared.fault.StoreFault.{StoreFault}
+use Rattle.store_api.specs.declared.pages.Pages.{Ghosts}
+use Rattle.store_api.proofs.RunsOverPagesLemmas.{runs_as, runs_none, runs_then}
+use Rattle.extent_map.specs.Map.{IsMapPage}
+use Rattle.extent_map.specs.Owners.{IsSameShape, extent_of}
+use Rattle.extent_map.specs.declared.extents.Extents.{Extents}
+use Rattle.extent_map.specs.declared.kind.Kind.{Kind}
+use Rattle.extent_map.proofs.DamagesLemmas.{holds_first_count}
+use Rattle.entry_tree.specs.Forest.{Forest}
+use Rattle.entry_tree.proofs.ClaimsLemmas.{shape_none}
+use Rattle.entry_tree.proofs.ReturnedPagesLemmas.{map_page-shape}
+use Rattle.entry_tree.proofs.UsedPagesLemmas.{extent_page_same}
+use Rattle.block_map.specs.BlockMaps.{IsMapForm}
+use Rattle.block_map.specs.MapLines.{blocks_of_state, free_blocks, used_blocks}
+use Rattle.table_trees.specs.TableTrees.{tree_places}
+use Rattle.table_trees.specs.TreesBeside.{IsTreesOrMapPage, StandTrees}
+use Rattle.mdc_sound.specs.StandingTable.{BreaksTable, NamesTablePart, forests_in_order}
+use Rattle.mdc_sound.proofs.MappedBlocksLemmas.{map_form}
+use Rattle.stored_catalog.specs.StoredDefinitions.{LacksTablePage}
+use Rattle.stored_catalog.specs.TreeRuns.{BreaksGiving, BreaksTrees, GivesBlocks, IsDroppingPage, without_blocks}
+use Rattle.stored_catalog.proofs.BlocksInMapLemmas.{one_state, stands_to_give}
+use Rattle.stored_catalog.proofs.GivenBlocksLemmas.{gives_none, gives_then, trees_after_giving}
+
+-- ---- damage in extents of the same shape
+
+first_page_at : (before mid : Extents) (block : ℕ) → IsSameShape before mid → first_page_of mid.cap mid.extent_pages block ≡ first_page_of before.cap before.extent_pages block
+first_page_at before mid block s = rw (s.cap, s.extent_pages) refl
+
+extent_at : (before mid : Extents) (p : ℕ) → IsSameShape before mid → extent_of before p ≡ extent_of mid p
+extent_at before mid p s = rw (s.cap, s.extent_pages) refl
+
+pub names_at : (before mid : Extents) (def : TableDef) (damage : Damage) → IsSameShape before mid → NamesTablePart mid def damage → NamesTablePart before def damage
+names_at before mid def damage s (NamesTablePart.count rule page) = NamesTablePart.count rule page
+names_at before mid def damage s (NamesTablePart.map_page rule page) = NamesTablePart.map_page rule (map_page-shape before mid damage.page s page)
+names_at before mid def damage s (NamesTablePart.tree rule page) = NamesTablePart.tree rule page
+names_at before mid def damage s (NamesTablePart.tree_page rule) = NamesTablePart.tree_page rule
+names_at before mid def damage s (NamesTablePart.block_map rule page) = NamesTablePart.block_map rule page
+names_at before mid def damage s (NamesTablePart.row_page block rule page) = NamesTablePart.row_page block rule (extent_page_same before mid damage.page s page.0, extent_at before mid damage.page s ∙ page.1)
+names_at before mid def damage s (NamesTablePart.row_count block rule page) = NamesTablePart.row_count block rule (page ∙ first_page_at before mid block s)
+names_at before mid def damage s (NamesTablePart.block_index rule page) = NamesTablePart.block_index rule page
+
+-- ---- states one after the other
+
+-- a block of one state isn't of another
+pub apart_early : (map_tree : Forest) (e : ℕ) → IsMapForm map_tree → Contains (used_blocks map_tree) e → Contains (free_blocks map_tree) e → ⊥
+apart_early map_tree e form used free = one_state map_tree 1 0 e form (λ same. absurd (omega (arith, same))) used free
+
+pub apart_late : (map_tree : Forest) (e : ℕ) → IsMapForm map_tree → Contains (blocks_of_state 2 map_tree) e → Contains (free_blocks map_tree ++ used_blocks map_tree) e → ⊥
+apart_late map_tree e form pending early = elim (Contains-append_cases (free_blocks map_tree) (used_blocks map_tree) e early) [
+  | inl free ↦ one_state map_tree 2 0 e form (λ same. absurd (omega (arith, same))) pending free
+  | inr used ↦ one_state map_tree 2 1 e form (λ same. absurd (omega (arith, same))) pending used
+]
+
+module _ {S : Type 0} (g : Ghosts S) (before mid : Extents) (old middle : S) (def : TableDef) where
+  -- blocks of a table whose trees stand were given back, whatever its block map is
+  abbrev pub LeadsGiving : (Forest → List ℕ) → Type 0
+  LeadsGiving early =
+      (owners : List Kind) (map_tree : Forest) (rest : List Forest) → StandTrees g before old owners (tree_places def) (map_tree ∷ rest) → GivesBlocks g before mid middle owners (early map_tree)
+
+  module _ (shape : IsSameShape before mid) (early : Forest → List ℕ) (leads : LeadsGiving early)
+      (run : RunsOverPages g (IsMapPage before) (IsTreesOrMapPage g before old (tree_places def)) (BreaksTable g before old def) old middle None) where
+    stand_on_giving : (owners : List Kind) (map_tree : Forest) (rest : List Forest) → StandTrees g before old owners (tree_places def) (map_tree ∷ rest)
+        → StandTrees g mid middle (without_blocks owners (early map_tree)) (tree_places def) (map_tree ∷ rest)
+    stand_on_giving owners map_tree rest st =
+        trees_after_giving g before mid old middle (tree_places def) (map_tree ∷ rest) owners (early map_tree) shape st (leads owners map_tree rest st) run.works.steady.is_told run.touches
+
+    page_on_giving : (p : ℕ) → IsTreesOrMapPage g mid middle (tree_places def) p → IsTreesOrMapPage g before old (tree_places def) p
+    page_on_giving p mine owners [] st = absurd st.held
+    page_on_giving p mine owners (map_tree ∷ rest) st = elim (mine _ (map_tree ∷ rest) (stand_on_giving owners map_tree rest st)) [ inl here ↦ inl here | inr map ↦ inr (map_page-shape before mid p shape map) ]
+
+    -- blocks of another state
+    pub giving_on : {new : S} {fault : Option StoreFault} (state : ℕ) → ((map_tree : Forest) (e : ℕ) → IsMapForm map_tree → Contains (blocks_of_state state map_tree) e → Contains (early map_tree) e → ⊥)
+        → RunsOverPages g (IsMapPage mid) (IsTreesOrMapPage g mid middle (tree_places def)) (BreaksGiving g mid middle def state) middle new fault
+        → RunsOverPages g (IsMapPage before) (IsTreesOrMapPage g before old (tree_places def)) (BreaksTable g before old def) old new fault
+    giving_on state apart more =
+        runs_then run more (λ p there mine. map_page-shape before mid p shape mine) page_on_giving (λ damage b. record {
+          names = names_at before mid def damage shape b.names;
+          broken = λ owners forests st.
+              b.broken _ _ _
+              (stands_to_give g before mid old middle def owners forests state (early forests.map) shape st (leads owners forests.map _ st.trees) run.works.steady.is_told run.touches
+              (λ e there given. apart forests.map e (map_form before owners def forests.map st.map) there given));
+        })
+
+    pub gives_on : (ext : Extents) (new : S) (later : Forest → List ℕ)
+        → ((owners : List Kind) (map_tree : Forest) (rest : List Forest) → StandTrees g mid middle owners (tree_places def) (map_tree ∷ rest) → GivesBlocks g mid ext new owners (later map_tree))
+        → (owners : List Kind) (map_tree : Forest) (rest : List Forest) → StandTrees g before old owners (tree_places def) (map_tree ∷ rest) → GivesBlocks g before ext new owners (early map_tree ++ later map_tree)
+    gives_on ext new later more owners map_tree rest st =
+        gives_then g before mid ext middle new owners (early map_tree) (later map_tree) (leads owners map_tree rest st) (more _ map_tree rest (stand_on_giving owners map_tree rest st))
+
+    -- its trees
+    pub freeing_on : {new : S} {fault : Option StoreFault} → RunsOverPages g (IsMapPage mid) (IsTreesOrMapPage g mid middle (tree_places def)) (BreaksTrees g mid middle def) middle new fault
+        → RunsOverPages g (IsMapPage before) (IsTreesOrMapPage g before old (tree_places def)) (BreaksTable g before old def) old new fault
+    freeing_on more =
+        runs_then run more (λ p there mine. map_page-shape before mid p shape mine) page_on_giving (λ damage b. record {
+          names = names_at before mid def damage shape b.names;
+          broken = λ owners forests st. b.broken _ (forests_in_order forests) (stand_on_giving owners forests.map _ st.trees);
+        })
+
+  -- and its page
+  pub clearing_on : {new : S} {fault : Option StoreFault} (t : ℕ) → t < 16 → length (g.state middle).work ≡ length (g.state old).work
+      → RunsOverPages g (IsMapPage before) (IsTreesOrMapPage g before old (tree_places def)) (BreaksTable g before old def) old middle None
+      → RunsOverPages g (OnlyPage (1 + t)) NoPage (LacksTablePage g middle t) middle new fault
+      → RunsOverPages g (IsDroppingPage before t) (IsTreesOrMapPage g before old (tree_places def)) (BreaksTable g before old def) old new fault
+  clearing_on t low count run more =
+      runs_as run more (λ p there mine. inr mine) (λ p there mine. inl mine) (λ p mine. mine) (λ p none. absurd none) (λ damage b. record {
+        names = NamesTablePart.count b.rule b.page;
+        broken = λ owners forests st. omega (arith, b.short, count, low, holds_first_count before st.trees.map);
+      })
+
+-- the blocks of the first state
+pub giving_first : {S : Type 0} (g : Ghosts S) (before : Extents) (old : S) (def : TableDef) (state : ℕ) {new : S} {fault : Option StoreFault}
+    → RunsOverPages g (IsMapPage before) (IsTreesOrMapPage g before old (tree_places def)) (BreaksGiving g before old def state) old new fault
+    → RunsOverPages g (IsMapPage before) (IsTreesOrMapPage g before old (tree_places def)) (BreaksTable g before old def) old new fault
+giving_first g before old def state run =
+    giving_on g before before old old def (shape_none before) (λ map_tree. []) (λ owners map_tree rest st. gives_none g before old owners st.map) runs_none state (λ map_tree e form there none. omega (arith, none.1)) run

@@ -1,0 +1,151 @@
+-- Trees given back one after the other: which pages that gave back, and what stands beside them still.
+use Rattle.std.proofs.Common.{◌≡◌, ◌≤◌, ◌+◌, ℕ, zero, suc, List, [], ◌∷◌, ◌++◌, Some, drop, sum_by, refl, ap, arith, sym, ◌∙◌, subst, inr, append_assoc}
+use Rattle.std.specs.Prelude.{slice_get}
+use Rattle.std.specs.List.{AllZip}
+use Rattle.std.proofs.lemmas.List.{append-nil}
+use Rattle.std.proofs.lemmas.List.Sums.{sum_by-append, sum_by-cons}
+use Rattle.std.proofs.lemmas.Option.{same_Some}
+use Rattle.store_api.specs.Frame.{Touches}
+use Rattle.store_api.specs.declared.pages.Pages.{Ghosts}
+use Rattle.extent_map.specs.Map.{HoldsMap, IsMapPage}
+use Rattle.extent_map.specs.Owners.{AreRightNotes, IsSameShape, without_page}
+use Rattle.extent_map.specs.declared.extents.Extents.{Extents}
+use Rattle.extent_map.specs.declared.kind.Kind.{Kind}
+use Rattle.extent_map.proofs.UsedPagesLemmas.{no_space_page}
+use Rattle.entry_tree.specs.Forest.{Forest, times}
+use Rattle.entry_tree.specs.Freeing.{FreesTree}
+use Rattle.entry_tree.specs.Pruning.{without_pages}
+use Rattle.entry_tree.specs.Standing.{StandsTree}
+use Rattle.entry_tree.specs.TreeChanges.{times_among}
+use Rattle.entry_tree.specs.declared.tree.Tree.{Tree}
+use Rattle.entry_tree.proofs.ReturnedPagesLemmas.{without_page-shape}
+use Rattle.entry_tree.proofs.UsedPagesLemmas.{shape_back, used_same}
+use Rattle.table_trees.specs.TableTrees.{TreePlace, place_of_tree}
+use Rattle.table_trees.specs.TreesBeside.{HoldsTreeAt, StandTrees}
+use Rattle.table_trees.proofs.KeptOwnersLemmas.{keeps_returns}
+use Rattle.table_trees.proofs.SideBySideLemmas.{trees_still}
+use Rattle.table_trees.proofs.TreeListsLemmas.{times-one}
+use Rattle.stored_catalog.specs.TreeRuns.{FreesTrees}
+
+-- ---- pages
+
+times-append : (p : ℕ) (first second : List ℕ) → times_among p (first ++ second) ≡ times_among p first + times_among p second
+times-append p [] second = omega arith
+times-append p (q ∷ first) second = omega (arith, times-append p first second)
+
+pages_then : (ext : Extents) (owners : List Kind) (first second : List ℕ) → without_pages ext owners (first ++ second) ≡ without_pages ext (without_pages ext owners first) second
+pages_then ext owners [] second = refl
+pages_then ext owners (p ∷ first) second = pages_then ext (without_page ext owners p) first second
+
+-- extents of the same shape give back the same
+pages_along : (before after : Extents) (owners : List Kind) (given : List ℕ) → IsSameShape before after → without_pages after owners given ≡ without_pages before owners given
+pages_along before after owners [] shape = refl
+pages_along before after owners (p ∷ given) shape =
+    pages_along before after (without_page after owners p) given shape ∙ ap (λ now. without_pages before now given) (without_page-shape before after owners p shape)
+
+-- ---- places
+
+at_drop : (places : List TreePlace) (n : ℕ) (place : TreePlace) → slice_get places n ≡ Some place → drop n places ≡ place ∷ drop (suc n) places
+at_drop [] n place at = absurd (cc)
+at_drop (first ∷ places) zero place at = ap (λ p. p ∷ places) (same_Some first place at)
+at_drop (first ∷ places) (suc n) place at = at_drop places n place at
+
+module _ {S : Type 0} (g : Ghosts S) where
+  -- the first of these trees were given back, and the others stand at these places
+  pub record FreesSome (before ext : Extents) (new : S) (owners : List Kind) (trees : List Forest) (places : List TreePlace) : Type 0 where
+    pub done : List Forest
+    pub left : List Forest
+    pub all : trees ≡ done ++ left
+    pub frees : FreesTrees g before ext new owners done
+    pub rest : StandTrees g ext new (without_pages before owners frees.given) places left
+
+  pub frees_none : (ext : Extents) (s : S) (owners : List Kind) (places : List TreePlace) (trees : List Forest) → StandTrees g ext s owners places trees → FreesSome ext ext s owners trees places
+  frees_none ext s owners places trees st = record {
+    done = [];
+    left = trees;
+    all = refl;
+    frees = record { given = []; counts = λ p. refl; extents = st.map; notes = λ right. right };
+    rest = st;
+  }
+
+  pub frees_all : (before ext : Extents) (new : S) (owners : List Kind) (trees : List Forest) → FreesSome before ext new owners trees [] → FreesTrees g before ext new owners trees
+  frees_all before ext new owners trees f = go f.left f.all f.rest.held
+    where
+      go : (left : List Forest) → trees ≡ f.done ++ left → AllZip (HoldsTreeAt g new) [] left → FreesTrees g before ext new owners trees
+      go [] all held = subst (FreesTrees g before ext new owners) (sym (all ∙ append-nil f.done)) f.frees
+      go (t ∷ left) all held = absurd held
+
+  -- one more
+  abbrev frees_push : (before mid ext : Extents) (middle new : S) (owners : List Kind) (done : List Forest) (t : Forest) → IsSameShape before mid → (f : FreesTrees g before mid middle owners done)
+      → FreesTree g mid ext new (without_pages before owners f.given) t → FreesTrees g before ext new owners (done ++ t ∷ [])
+  frees_push before mid ext middle new owners done t shape f freed =
+      let same : without_pages mid (without_pages before owners f.given) freed.given ≡ without_pages before owners (f.given ++ freed.given) =
+      pages_along before mid (without_pages before owners f.given) freed.given shape ∙ sym (pages_then before owners f.given freed.given) in
+      record {
+        given = f.given ++ freed.given;
+        counts = λ p. omega (arith, times-append p f.given freed.given, f.counts p, freed.counts p, sum_by-append (times p) done (t ∷ []), times-one p t);
+        extents = subst (HoldsMap g ext new) same freed.map;
+        notes = λ right. subst (AreRightNotes ext) same (freed.notes (f.notes right));
+      }
+
+  -- the first of some trees was given back: the others stand
+  first_freed : (before ext : Extents) (old new : S) (place : TreePlace) (places : List TreePlace) (tree : Forest) (trees : List Forest) (owners : List Kind) → IsSameShape before ext
+      → StandTrees g before old owners (place ∷ places) (tree ∷ trees) → (freed : FreesTree g before ext new owners tree) → (g.state new).is_told ≡ (g.state old).is_told
+      → Touches g (IsMapPage before) old new → StandTrees g ext new (without_pages before owners freed.given) places trees
+  first_freed before ext old new place places tree trees owners shape st freed told touched =
+      let kept = keeps_returns before owners freed.given (tree ∷ []) [] st.map.count
+      (λ p l. (st.used p (omega (arith, l, times-one p tree, sum_by-cons (times p) tree trees))).page) (λ p. omega (arith, freed.counts p, times-one p tree)) in
+      record {
+        map = freed.map;
+        held = trees_still (IsMapPage before) old new places trees st.held.1 touched told
+            (λ p l mine. no_space_page before p (st.used p (omega (arith, l, sum_by-cons (times p) tree trees))).page (inr mine));
+        used = λ p l.
+            used_same ext before (without_pages before owners freed.given) p (shape_back before ext shape)
+            (kept.others p (st.used p (omega (arith, l, sum_by-cons (times p) tree trees))) (omega (arith, l, st.apart p, sum_by-cons (times p) tree trees, times-one p tree)));
+        apart = λ p. omega (arith, st.apart p, sum_by-cons (times p) tree trees);
+      }
+
+  module _ (before mid : Extents) (middle : S) (owners : List Kind) (trees : List Forest) (places : List TreePlace) (n : ℕ) (tree : Tree) (at : slice_get places n ≡ Some (place_of_tree tree))
+      (shape : IsSameShape before mid) (f : FreesSome before mid middle owners trees (drop n places)) where
+    -- the next one stands
+    pub next_stands : (t : Forest) × StandsTree g mid middle tree (without_pages before owners f.frees.given) t × ((p : ℕ) → times p t ≤ sum_by (times p) trees)
+    next_stands = go f.left f.all (subst (λ ps. StandTrees g mid middle (without_pages before owners f.frees.given) ps f.left) (at_drop places n (place_of_tree tree) at) f.rest)
+      where
+        go : (left : List Forest) → trees ≡ f.done ++ left → StandTrees g mid middle (without_pages before owners f.frees.given) (place_of_tree tree ∷ drop (suc n) places) left
+            → (t : Forest) × StandsTree g mid middle tree (without_pages before owners f.frees.given) t × ((p : ℕ) → times p t ≤ sum_by (times p) trees)
+        go [] all st = absurd st.held
+        go (t ∷ left) all st = (
+          t,
+          record {
+            map = st.map;
+            held = record { is_tree = st.held.0.is_tree; trim = st.held.0.trim };
+            used = λ p l. st.used p (omega (arith, l, sum_by-cons (times p) t left));
+          },
+          λ p. omega (arith, ap (sum_by (times p)) all, sum_by-append (times p) f.done (t ∷ left), sum_by-cons (times p) t left),
+        )
+
+    -- and once it was given back, those behind it do
+    pub frees_more : (ext : Extents) (new : S) → IsSameShape mid ext → ((before_it : List Kind) (t : Forest) → StandsTree g mid middle tree before_it t → FreesTree g mid ext new before_it t)
+        → (g.state new).is_told ≡ (g.state middle).is_told → Touches g (IsMapPage mid) middle new → FreesSome before ext new owners trees (drop (suc n) places)
+    frees_more ext new along freed told touched =
+        go f.left f.all (subst (λ ps. StandTrees g mid middle (without_pages before owners f.frees.given) ps f.left) (at_drop places n (place_of_tree tree) at) f.rest)
+      where
+        go : (left : List Forest) → trees ≡ f.done ++ left → StandTrees g mid middle (without_pages before owners f.frees.given) (place_of_tree tree ∷ drop (suc n) places) left
+            → FreesSome before ext new owners trees (drop (suc n) places)
+        go [] all st = absurd st.held
+        go (t ∷ left) all st =
+            let it = freed (without_pages before owners f.frees.given) t (record {
+              map = st.map;
+              held = record { is_tree = st.held.0.is_tree; trim = st.held.0.trim };
+              used = λ p l. st.used p (omega (arith, l, sum_by-cons (times p) t left));
+            }) in
+            let same : without_pages mid (without_pages before owners f.frees.given) it.given ≡ without_pages before owners (f.frees.given ++ it.given) =
+            pages_along before mid (without_pages before owners f.frees.given) it.given shape ∙ sym (pages_then before owners f.frees.given it.given) in
+            record {
+              done = f.done ++ t ∷ [];
+              left = left;
+              all = all ∙ sym (append_assoc f.done (t ∷ []) left);
+              frees = frees_push before mid ext middle new owners f.done t shape f.frees it;
+              rest = subst (λ now. StandTrees g ext new now (drop (suc n) places) left) same
+                  (first_freed mid ext middle new (place_of_tree tree) (drop (suc n) places) t left (without_pages before owners f.frees.given) along st it told touched);
+            }

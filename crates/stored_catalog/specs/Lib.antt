@@ -1,0 +1,5 @@
+pub mod AroundTable
+pub mod NewTables
+pub mod StoredDefinitions
+pub mod TableSteps
+pub mod TreeRuns

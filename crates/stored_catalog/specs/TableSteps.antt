@@ -1,0 +1,38 @@
+-- What a table more, or one less, makes of the pages of a sound database.
+use Rattle.std.specs.Prelude.{◌≡◌, ◌≢◌, ℕ, List, [], Some, None}
+use Rattle.mdc_ast.specs.declared.definition.TableDef.{TableDef}
+use Rattle.mdc_ast.specs.declared.name.Name.{Name}
+use Rattle.mdc_ast.specs.meaning.Database.{PlainTable}
+use Rattle.extent_map.specs.Owners.{AreRightNotes}
+use Rattle.extent_map.specs.declared.extents.Extents.{Extents}
+use Rattle.extent_map.specs.declared.kind.Kind.{Kind}
+use Rattle.table_trees.specs.SpaceChanges.{MakesChanges}
+use Rattle.table_trees.specs.ToldPages.{PageList}
+use Rattle.mdc_sound.specs.RunningFull.{creating_changes}
+use Rattle.mdc_sound.specs.SoundDatabase.{KeepAllRules}
+use Rattle.mdc_sound.specs.SpaceRules.{DatabaseView, EachTable}
+use Rattle.mdc_sound.specs.StandsForDatabase.{rootless}
+use Rattle.stored_catalog.specs.AroundTable.{view_with}
+use Rattle.stored_catalog.specs.NewTables.{empty_table}
+
+-- no table has this name
+abbrev pub IsNameFree : DatabaseView → Name → Type 0
+IsNameFree view name = EachTable view (λ table. table.def.name ≢ name)
+
+-- a plain table of this definition without rows
+abbrev pub plain_empty : TableDef → PlainTable
+plain_empty def = record { def = rootless def; rows = [] }
+
+-- The table of this definition was made in its place, which was empty. The pages are sound, with the table without rows there.
+-- Where the notes were right they are so now, and no more space was taken than its trees ask for.
+pub record AddsTable (before ext : Extents) (old new : PageList) (def : TableDef) (view : DatabaseView) : Type 0 where
+  pub owners_now : List Kind
+  pub sound : KeepAllRules ext new (view_with view owners_now def.number (Some (empty_table def)))
+  pub notes : AreRightNotes before view.owners → AreRightNotes ext owners_now
+  pub makes : AreRightNotes before view.owners → MakesChanges before old (creating_changes def) new
+
+-- Table t was dropped. The pages are sound without it, and the notes are as right as they were.
+pub record DropsTable (before ext : Extents) (new : PageList) (t : ℕ) (view : DatabaseView) : Type 0 where
+  pub owners_now : List Kind
+  pub sound : KeepAllRules ext new (view_with view owners_now t None)
+  pub notes : AreRightNotes before view.owners → AreRightNotes ext owners_now
