@@ -1,0 +1,115 @@
+// Rows of the wide tables, each told by its number in the table and by D.
+ghost use Rattle.std.specs.Prelude.{◌≡◌, [], false, IfOk};
+ghost use Rattle.table_page.specs.TableLimits.{IsTableDef};
+
+use crate::fitting::does_fit;
+use cell_change::{delete_row, insert_row};
+use extent_map::{Extents, SpaceFault};
+use mdc_ast::{Row, TableDef};
+use mdc_table::Rooms;
+use mdc_values::{Chars, List, Memory, Rid, Value};
+use std::alloc::Global;
+use std::test::Fail;
+use store_api::Pages;
+
+/// The row of a number with this D.
+fn row_of(alloc: Global, number: u64, d: u32) -> Result<Row, Memory>
+    ensures number { IfOk result (λ row. row.number ≡ number) }
+{
+    let mut values = List::new(alloc);
+    values.push(Value::Int(i64::from(d)))?;
+    values.push(Value::Int((number % 1_000_000) as i64))?;
+    values.push(Value::Text(Chars::of(alloc, b"NORTH")?))?;
+    values.push(Value::Text(Chars::of(alloc, b"")?))?;
+    values.push(Value::Null)?;
+    Ok(Row { number, values })
+}
+
+/// What inserting the next row answers, with this D.
+pub fn try_insert<P: Pages>(
+    alloc: Global,
+    def: &mut TableDef,
+    ext: &mut Extents,
+    pages: &mut P,
+    d: u32,
+) -> Result<Result<Rid, SpaceFault>, Fail>
+    requires defined { IsTableDef def.old.number def.old }
+    requires no_indexes { def.old.indexes ≡ [] }
+    requires going { (P.state pages.old).ended ≡ false }
+    ensures defined { IsTableDef def.new.number def.new }
+    ensures no_indexes { def.new.indexes ≡ [] }
+    ensures going { (P.state pages.new).ended ≡ false }
+    ensures marked { (P.state pages.new).marked ≡ (P.state pages.old).marked }
+{
+    let row = row_of(alloc, def.next, d)?;
+    if def.next == u64::MAX || !does_fit(def, &row) {
+        return Err("a row that doesn't fit")?;
+    }
+    let mut rooms = Rooms::new(alloc);
+    Ok(insert_row(alloc, def, ext, &mut rooms, pages, &row))
+}
+
+/// Inserts the next row, with this D, and answers where it lies.
+pub fn insert<P: Pages>(
+    alloc: Global,
+    def: &mut TableDef,
+    ext: &mut Extents,
+    pages: &mut P,
+    d: u32,
+) -> Result<Rid, Fail>
+    requires defined { IsTableDef def.old.number def.old }
+    requires no_indexes { def.old.indexes ≡ [] }
+    requires going { (P.state pages.old).ended ≡ false }
+    ensures defined { IsTableDef def.new.number def.new }
+    ensures no_indexes { def.new.indexes ≡ [] }
+    ensures going { (P.state pages.new).ended ≡ false }
+    ensures marked { (P.state pages.new).marked ≡ (P.state pages.old).marked }
+{
+    Ok(try_insert(alloc, def, ext, pages, d)??)
+}
+
+/// Deletes the row of a number with this D, which lies there.
+pub fn delete<P: Pages>(
+    alloc: Global,
+    def: &TableDef,
+    ext: &mut Extents,
+    pages: &mut P,
+    rid: Rid,
+    number: u64,
+    d: u32,
+) -> Result<(), Fail>
+    requires defined { IsTableDef def.now.number def.now }
+    requires no_indexes { def.now.indexes ≡ [] }
+    requires going { (P.state pages.old).ended ≡ false }
+    ensures going { (P.state pages.new).ended ≡ false }
+    ensures marked { (P.state pages.new).marked ≡ (P.state pages.old).marked }
+{
+    let row = row_of(alloc, number, d)?;
+    let mut rooms = Rooms::new(alloc);
+    delete_row(alloc, def, ext, &mut rooms, pages, rid, &row)?;
+    Ok(())
+}
+
+/// Inserts fourteen rows, with D from 1 to 14: each is alone in its cell, so it has a block of its own, from block 2 on.
+pub fn fill<P: Pages>(
+    alloc: Global,
+    def: &mut TableDef,
+    ext: &mut Extents,
+    pages: &mut P,
+) -> Result<(), Fail>
+    requires defined { IsTableDef def.old.number def.old }
+    requires no_indexes { def.old.indexes ≡ [] }
+    requires going { (P.state pages.old).ended ≡ false }
+    ensures defined { IsTableDef def.new.number def.new }
+    ensures no_indexes { def.new.indexes ≡ [] }
+    ensures going { (P.state pages.new).ended ≡ false }
+    ensures marked { (P.state pages.new).marked ≡ (P.state pages.old).marked }
+{
+    for d in 1..15 {
+        let rid = insert(alloc, def, ext, pages, d)?;
+        if rid.block != d + 1 || rid.slot != 0 {
+            return Err("a row in another place")?;
+        }
+    }
+    Ok(())
+}

@@ -1,0 +1,181 @@
+// Tables by their names of one letter: made, taken out of a catalog, written back and dropped.
+ghost use Rattle.std.specs.Prelude.{◌≡◌, ◌<◌, [], false, None, IfOk, IfSome, IsSome, IsTrue, OnOk};
+ghost use Rattle.mdc_ast.specs.meaning.Definitions.{def_at, empty_place, place_of};
+ghost use Rattle.table_page.specs.TableLimits.{IsTableDef};
+ghost use Rattle.stored_catalog.specs.NewTables.{IsNewTableDef};
+ghost use Rattle.stored_catalog.specs.StoredDefinitions.{AreWithinLimits};
+
+use catalog::Catalog;
+use extent_map::{Extents, SpaceFault};
+use mdc_ast::{Name, TableDef};
+use std::alloc::Global;
+use std::test::Fail;
+use store_api::{Page, Pages, blank_page, put};
+use stored_catalog::{add_table, drop_table, load_catalog, save_table};
+use table_page::def_of;
+
+/// The page of a table `(D INTEGER, K INTEGER, X CHAR(254), Y CHAR(254), Z CHAR(254))` by D, with this name and these roots. A row
+/// has 780 bytes, so a page has five and a block ten.
+pub fn wide_page(name: u8, roots: [u32; 3]) -> Page {
+    let mut page = *blank_page();
+    put(&mut page, 0, b"\x54                  \x05\x01\x00");
+    put(&mut page, 1, &[name]);
+    put(&mut page, 30, &roots[0].to_be_bytes());
+    put(&mut page, 34, &roots[1].to_be_bytes());
+    put(&mut page, 38, &roots[2].to_be_bytes());
+    put(&mut page, 54, b"D                 \x01\x00\x00");
+    put(&mut page, 85, b"K                 \x01\x00\x00");
+    put(&mut page, 116, b"X                 \x03\xfe\x00");
+    put(&mut page, 147, b"Y                 \x03\xfe\x00");
+    put(&mut page, 178, b"Z                 \x03\xfe\x00");
+    put(&mut page, 550, b"\x01\x00");
+    page
+}
+
+// The definition of a table that is to be made.
+fn definition(alloc: Global, name: u8) -> Result<TableDef, Fail>
+    ensures new { IfOk result IsNewTableDef }
+{
+    let found = def_of(alloc, &wide_page(name, [0, 0, 0]), 0)?;
+    let Some(def) = found else {
+        return Err("a page of zeros")?;
+    };
+    if def.indexes.len() > 0 {
+        return Err("a table with indexes")?;
+    }
+    Ok(def)
+}
+
+fn has_room(catalog: &Catalog) -> bool
+    ensures { IsTrue result → IsSome (empty_place catalog.now) }
+{
+    !catalog.is_full()
+}
+
+fn is_free(catalog: &Catalog, name: &Name) -> bool
+    ensures { IsTrue result → place_of catalog.now name.now ≡ None }
+{
+    match catalog.table(name) {
+        Some(_) => false,
+        None => true,
+    }
+}
+
+/// What making a table of this name answers.
+pub fn try_create<P: Pages>(
+    alloc: Global,
+    catalog: &mut Catalog,
+    ext: &mut Extents,
+    pages: &mut P,
+    name: u8,
+) -> Result<Result<u8, SpaceFault>, Fail>
+    requires catalog { AreWithinLimits catalog.old }
+    requires going { (P.state pages.old).ended ≡ false }
+    ensures catalog { OnOk result (AreWithinLimits catalog.new) }
+    ensures going { (P.state pages.new).ended ≡ false }
+    ensures marked { (P.state pages.new).marked ≡ (P.state pages.old).marked }
+{
+    let def = definition(alloc, name)?;
+    if !has_room(catalog) || !is_free(catalog, &def.name) {
+        return Err("no place for a table of this name")?;
+    }
+    match add_table(alloc, catalog, ext, pages, def) {
+        Ok(place) => Ok(Ok(place)),
+        Err(fault) => Ok(Err(fault)),
+    }
+}
+
+/// Makes a table of this name.
+pub fn create<P: Pages>(
+    alloc: Global,
+    catalog: &mut Catalog,
+    ext: &mut Extents,
+    pages: &mut P,
+    name: u8,
+) -> Result<u8, Fail>
+    requires catalog { AreWithinLimits catalog.old }
+    requires going { (P.state pages.old).ended ≡ false }
+    ensures catalog { OnOk result (AreWithinLimits catalog.new) }
+    ensures going { (P.state pages.new).ended ≡ false }
+    ensures marked { (P.state pages.new).marked ≡ (P.state pages.old).marked }
+{
+    Ok(try_create(alloc, catalog, ext, pages, name)??)
+}
+
+// Whether there is a table in a place, which has no record index.
+fn may_drop(catalog: &Catalog, table: u8) -> bool
+    ensures place { IsTrue result → table < 16 }
+    ensures there { IsTrue result → IsSome (def_at catalog.now table) }
+    ensures no_indexes { IsTrue result → IfSome (def_at catalog.now table) (λ def. def.indexes ≡ []) }
+{
+    if table >= 16 {
+        return false;
+    }
+    match catalog.def(table) {
+        Some(def) => def.indexes.len() == 0,
+        None => false,
+    }
+}
+
+/// Drops the table in a place.
+pub fn drop_at<P: Pages>(
+    alloc: Global,
+    catalog: &mut Catalog,
+    ext: &mut Extents,
+    pages: &mut P,
+    table: u8,
+) -> Result<(), Fail>
+    requires catalog { AreWithinLimits catalog.old }
+    requires going { (P.state pages.old).ended ≡ false }
+    ensures catalog { OnOk result (AreWithinLimits catalog.new) }
+    ensures going { (P.state pages.new).ended ≡ false }
+    ensures marked { (P.state pages.new).marked ≡ (P.state pages.old).marked }
+{
+    if !may_drop(catalog, table) {
+        return Err("no table to drop")?;
+    }
+    drop_table(alloc, catalog, ext, pages, table)?;
+    Ok(())
+}
+
+/// Takes a definition out of a catalog, so that rows can be put.
+pub fn taken(catalog: &mut Catalog, table: u8) -> Result<TableDef, Fail>
+    requires catalog { AreWithinLimits catalog.old }
+    ensures catalog { OnOk result (AreWithinLimits catalog.new) }
+    ensures defined { IfOk result (λ def. IsTableDef def.number def) }
+    ensures no_indexes { IfOk result (λ def. def.indexes ≡ []) }
+{
+    if table >= 16 {
+        return Err("no such place")?;
+    }
+    let Some(def) = catalog.take(table) else {
+        return Err("no such table")?;
+    };
+    if def.indexes.len() > 0 {
+        return Err("a table with indexes")?;
+    }
+    Ok(def)
+}
+
+/// Puts a definition back, writes its page, and loads the catalog again.
+pub fn saved<P: Pages>(
+    alloc: Global,
+    mut catalog: Catalog,
+    pages: &mut P,
+    def: TableDef,
+) -> Result<Catalog, Fail>
+    requires catalog { AreWithinLimits catalog }
+    requires defined { IsTableDef def.number def }
+    requires going { (P.state pages.old).ended ≡ false }
+    ensures catalog { IfOk result AreWithinLimits }
+    ensures going { (P.state pages.new).ended ≡ false }
+    ensures marked { (P.state pages.new).marked ≡ (P.state pages.old).marked }
+{
+    let table = def.number;
+    if table >= 16 {
+        return Err("no such place")?;
+    }
+    catalog.put(table, def);
+    save_table(&catalog, pages, table)?;
+    Ok(load_catalog(alloc, pages)?)
+}
