@@ -5,7 +5,7 @@ use Rattle.mdc_ast.specs.declared.row.Row.{Row}
 use Rattle.mdc_ast.specs.meaning.Database.{Database, IsValid, PlainTable, changed_at, table_at, with_place}
 use Rattle.mdc_ast.proofs.DatabaseLemmas.{IsValidAt, changed_at_keeps, changed_at-with_place, is_valid_at}
 use Rattle.mdc_ast.proofs.TestsLemmas.{some_is}
-use Rattle.plain_engine.specs.Executing.{IsThere}
+use Rattle.row_judging.specs.Executing.{IsThere}
 use Rattle.plain_engine.specs.Tables.{with_next, with_rows}
 
 -- what holds anyhow holds after an error

@@ -16,7 +16,7 @@ use Rattle.mdc_ast.specs.meaning.Judging.{of_some}
 use Rattle.mdc_ast.specs.meaning.Step.{Answer, Replied, step_by}
 use Rattle.mdc_ast.proofs.TestsLemmas.{some_is}
 use Rattle.plain_engine.proofs.ChangedTables.{AreRowsOf, are_rows_of, put_and_numbered, put_back}
-use Rattle.plain_engine.specs.Executing.{done}
+use Rattle.row_judging.specs.Executing.{done}
 use Rattle.plain_engine.specs.Tables.{with_next, with_rows}
 
 same_end : (a b : Database) (reply said : Reply) → a ≡ b → reply ≡ said → ◌≡◌ {A = Database × Answer} (a, Replied reply) (b, Replied said)

@@ -1,12 +1,6 @@
-pub mod Causes
 pub mod ChangedTables
-pub mod Changeable
-pub mod Each
 pub mod Effects
 pub mod Filterable
 pub mod FoundRows
 pub mod Mapped
-pub mod Ready
-pub mod SetLemmas
-pub mod Stepping
 pub mod TablesLemmas

@@ -1,4 +1,1 @@
-pub mod Executing
-pub mod Filtering
-pub mod RowChange
 pub mod Tables

@@ -3,7 +3,7 @@ ghost use Rattle.std.specs.Prelude.{◌≡◌, IsSome};
 ghost use Rattle.mdc_ast.specs.declared.bound.Bound.TheVariants as bound;
 ghost use Rattle.mdc_ast.specs.meaning.Database.{defs_of, table_at};
 ghost use Rattle.mdc_ast.specs.meaning.Definitions.{empty_place};
-ghost use Rattle.plain_engine.specs.Executing.{answer_of, done};
+ghost use Rattle.row_judging.specs.Executing.{answer_of, done};
 
 use crate::tables::Tables;
 use mdc_ast::{Outcome, Reply, TableDef};

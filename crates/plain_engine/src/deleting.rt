@@ -3,12 +3,12 @@ ghost use Rattle.std.specs.Prelude.{◌≡◌, length, filter, not, IsTrue};
 ghost use Rattle.mdc_ast.specs.declared.bound.Bound.TheVariants as bound;
 ghost use Rattle.mdc_ast.specs.meaning.Database.{table_at};
 ghost use Rattle.mdc_ast.specs.meaning.Doing as spec;
-ghost use Rattle.plain_engine.specs.Executing.{IsThere, MayFilter, answer_of, done};
-ghost use Rattle.plain_engine.specs.Filtering.{are_filterable};
+ghost use Rattle.row_judging.specs.Executing.{IsThere, MayFilter, answer_of, done};
+ghost use Rattle.row_judging.specs.Filtering.{are_filterable};
 
-use crate::filtering::qualifies;
 use crate::tables::Tables;
 use mdc_ast::{Outcome, Pred, Reply, Row};
+use row_judging::qualifies;
 
 /// A DELETE. It takes no memory.
 pub fn delete(table: u8, pred: &Option<Pred>, tables: &mut Tables) -> Outcome

@@ -2,18 +2,18 @@
 ghost use Rattle.std.specs.Prelude.{◌≡◌, IfOk, OnErr};
 ghost use Rattle.mdc_ast.specs.meaning.Database.{IsValid};
 ghost use Rattle.mdc_ast.specs.meaning.Step.{step};
-ghost use Rattle.plain_engine.specs.Executing.{MayBeDone, answer_of, done};
+ghost use Rattle.row_judging.specs.Executing.{MayBeDone, answer_of, done};
 
 use crate::defining::{create, drop_table};
 use crate::deleting::delete;
 use crate::inserting::insert;
 use crate::querying::query;
-use crate::refusals::not_built;
 use crate::tables::Tables;
 use crate::updating::update;
 use binder::{BindFault, bind, bind_whole, built};
 use mdc_ast::{Bound, Outcome, Reply, Stmt};
 use mdc_values::Memory;
+use row_judging::not_built;
 use std::alloc::Global;
 
 /// Executes a statement on the tables of a valid database. Where it is refused they stay as they are. After `Memory` the

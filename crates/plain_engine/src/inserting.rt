@@ -1,17 +1,14 @@
 // The rows of an INSERT.
-ghost use Rattle.std.specs.Prelude.{◌≡◌, ◌<◌, ◌+◌, ◌++◌, ◌^◌, length, flat_map, option_map, IfOk, OnOk, OnErr, IsTrue};
+ghost use Rattle.std.specs.Prelude.{◌≡◌, ◌<◌, ◌+◌, ◌++◌, ◌^◌, length, IfOk, OnOk, OnErr};
 ghost use Rattle.mdc_ast.specs.declared.bound.Bound.TheVariants as bound;
 ghost use Rattle.mdc_ast.specs.meaning.Database.{IsValid, table_at};
-ghost use Rattle.mdc_ast.specs.meaning.Doing.{null_causes, numbered};
-ghost use Rattle.plain_engine.specs.Executing.{IsThere, MayInsert, answer_of, are_tuples_wide, done};
-ghost use Rattle.binder.specs.Saying.{first_of};
-ghost use Rattle.plain_engine.specs.RowChange.{misfit_cause};
+ghost use Rattle.mdc_ast.specs.meaning.Doing.{numbered};
+ghost use Rattle.row_judging.specs.Executing.{IsThere, MayInsert, answer_of, done};
 
-use crate::refusals::{numbers_used_up, unfit};
-use crate::row_change::{Misfit, first_misfit};
 use crate::tables::Tables;
-use mdc_ast::{ColumnDef, Outcome, Reply, Row};
+use mdc_ast::{Outcome, Reply, Row};
 use mdc_values::{List, Memory, Value};
+use row_judging::{first_null_in, numbers_used_up, unfit};
 use std::alloc::Global;
 
 /// An INSERT: all tuples are judged before a row goes in. After `Memory` the table may have lost its rows.
@@ -28,7 +25,7 @@ pub fn insert(
 {
     let def = tables.table(table).def;
     let next = def.next;
-    if let Some(misfit) = first_null(def.columns.as_slice(), tuples.as_slice()) {
+    if let Some(misfit) = first_null_in(def.columns.as_slice(), tuples.as_slice()) {
         return Ok(Outcome::Refused(unfit(alloc, misfit)?));
     }
     let count = tuples.len() as u64;
@@ -40,20 +37,6 @@ pub fn insert(
     tables.put_rows(table, rows);
     tables.number_from(table, after);
     Ok(Outcome::Done(Reply::Inserted(count)))
-}
-
-// The first null in a column that takes none, tuple by tuple. It takes no memory.
-fn first_null<'c>(columns: &'c [ColumnDef], tuples: &[List<Value>]) -> Option<Misfit<'c>>
-    requires { IsTrue (are_tuples_wide (length columns.now) tuples.now) }
-    ensures { first_of (flat_map (null_causes columns.now) tuples.now) ≡ option_map misfit_cause result }
-{
-    for tuple in tuples {
-        let found = first_misfit(columns, &[], tuple.as_slice());
-        if found.is_some() {
-            return found;
-        }
-    }
-    None
 }
 
 // Appends a row for each tuple, numbered from `next` on. It copies no value. After `Memory` some of them may be there.

@@ -1,19 +1,16 @@
 //! The plain database as a program: tables in memory, each with its rows in one list, by row number.
 //!
 //! It promises that a statement does to its tables what the definitions of `mdc_ast` say, and answers so. It is slow
-//! where a database over pages is fast, and is what such a one is compared with. It stands on `binder`, `answer_text`,
-//! `predicate` and `catalog`.
+//! where a database over pages is fast, and is what such a one is compared with. It stands on `row_judging` for what is asked
+//! of rows, and on `binder`, `answer_text` and `catalog`.
 #![tactic(auto)]
 
 mod defining;
 mod deleting;
 mod engine;
 mod executing;
-mod filtering;
 mod inserting;
 mod querying;
-mod refusals;
-mod row_change;
 mod tables;
 mod updating;
 

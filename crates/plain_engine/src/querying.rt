@@ -4,15 +4,15 @@ ghost use Rattle.mdc_ast.specs.declared.bound.Bound.TheVariants as bound;
 ghost use Rattle.mdc_ast.specs.meaning.Database.{IsValid, table_at};
 ghost use Rattle.mdc_ast.specs.meaning.Doing as spec;
 ghost use Rattle.mdc_ast.specs.meaning.Doing.{lines_of};
-ghost use Rattle.plain_engine.specs.Executing.{IsThere, MayShow, answer_of, done};
-ghost use Rattle.plain_engine.specs.Filtering.{are_filterable};
+ghost use Rattle.row_judging.specs.Executing.{IsThere, MayShow, answer_of, done};
+ghost use Rattle.row_judging.specs.Filtering.{are_filterable};
 ghost use Rattle.answer_text.specs.Lines.{are_outs_within, are_rows_wide};
 
-use crate::filtering::qualifies;
 use crate::tables::Tables;
 use answer_text::Lines;
 use mdc_ast::{BoundSelect, ColumnDef, Outcome, Reply, Row};
 use mdc_values::{Chars, List, Memory};
+use row_judging::qualifies;
 use std::alloc::Global;
 
 /// A query.

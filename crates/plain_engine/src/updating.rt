@@ -5,17 +5,15 @@ ghost use Rattle.mdc_ast.specs.meaning.Database.{IsValid, table_at};
 ghost use Rattle.mdc_ast.specs.meaning.Doing as spec;
 ghost use Rattle.mdc_ast.specs.meaning.Doing.{changed_causes, changed_row};
 ghost use Rattle.answer_text.specs.Lines.{are_rows_wide};
-ghost use Rattle.plain_engine.specs.Executing.{IsThere, MayUpdate, answer_of, done};
-ghost use Rattle.plain_engine.specs.Filtering.{are_changeable, are_filterable, may_change, may_filter};
 ghost use Rattle.binder.specs.Saying.{first_of};
-ghost use Rattle.plain_engine.specs.RowChange.{are_within, misfit_cause};
+ghost use Rattle.row_judging.specs.Executing.{IsThere, MayUpdate, answer_of, done};
+ghost use Rattle.row_judging.specs.Filtering.{are_changeable, are_filterable, may_change, may_filter};
+ghost use Rattle.row_judging.specs.RowChange.{are_within, misfit_cause};
 
-use crate::filtering::qualifies;
-use crate::refusals::unfit;
-use crate::row_change::{Misfit, first_misfit, new_values, put_values};
 use crate::tables::Tables;
 use mdc_ast::{BoundSet, ColumnDef, Outcome, Pred, Reply, Row};
 use mdc_values::Memory;
+use row_judging::{Misfit, first_misfit_of_row, new_values, put_values, qualifies, unfit};
 use std::alloc::Global;
 
 /// An UPDATE: all rows are judged before one is changed. After `Memory` the table may have lost its rows.
@@ -55,30 +53,12 @@ fn first_misfit_among<'c>(
     ensures { first_of (flat_map (changed_causes columns.now sets.now pred.now) rows.now) ≡ option_map misfit_cause result }
 {
     for row in rows {
-        let found = misfit_of(columns, sets, pred, row);
+        let found = first_misfit_of_row(columns, sets, pred, row);
         if found.is_some() {
             return found;
         }
     }
     None
-}
-
-fn misfit_of<'c>(
-    columns: &'c [ColumnDef],
-    sets: &[BoundSet],
-    pred: &Option<Pred>,
-    row: &Row,
-) -> Option<Misfit<'c>>
-    requires within { IsTrue (are_within (length columns.now) sets.now) }
-    requires wide { length row.now.values ≡ length columns.now }
-    requires filterable { IsTrue (may_filter pred.now row.now.values) }
-    ensures { first_of (changed_causes columns.now sets.now pred.now row.now) ≡ option_map misfit_cause result }
-{
-    if qualifies(pred, row) {
-        first_misfit(columns, sets, row.values.as_slice())
-    } else {
-        None
-    }
 }
 
 // Changes the rows that qualify, each from what it was, and tells their number. It needs that nothing is said against

@@ -1,7 +1,7 @@
 use Rattle.std.proofs.Common.{ap}
 use Rattle.mdc_ast.specs.declared.bound.Bound.TheVariants as bound
 use Rattle.mdc_ast.specs.meaning.Step.{is_built}
-use Rattle.plain_engine.proofs.Stepping.{answered, bound_ready, bound_unnamed, valid_after}
+use Rattle.row_judging.proofs.Stepping.{answered, bound_ready, bound_unnamed, valid_after}
 use Rattle.plain_engine.proofs.executing.execute.Goals as goal
 
 pub insert-requires-clause-ready : goal.insert-requires-clause-ready

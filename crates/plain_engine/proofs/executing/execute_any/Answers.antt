@@ -2,9 +2,9 @@ use Rattle.std.proofs.Common.{◌≡◌, ◌∙◌, [], sym, ap, subst}
 use Rattle.mdc_ast.specs.meaning.Binding.{bound_of}
 use Rattle.mdc_ast.specs.meaning.Judged.{judged_of}
 use Rattle.mdc_ast.specs.meaning.Judging.{in_order}
-use Rattle.plain_engine.specs.Executing.{MayBeDone}
-use Rattle.plain_engine.proofs.Ready.{ready}
-use Rattle.plain_engine.proofs.Stepping.{answered, valid_after}
+use Rattle.row_judging.specs.Executing.{MayBeDone}
+use Rattle.row_judging.proofs.Ready.{ready}
+use Rattle.row_judging.proofs.Stepping.{answered, valid_after}
 use Rattle.plain_engine.proofs.executing.execute_any.Goals as goal
 
 pub carry_out-requires-clause-ready : goal.carry_out-requires-clause-ready

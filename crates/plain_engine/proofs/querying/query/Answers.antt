@@ -1,6 +1,6 @@
 use Rattle.mdc_ast.specs.meaning.Database.{PlainTable}
 use Rattle.mdc_ast.proofs.DatabaseLemmas.{is_valid_at}
-use Rattle.plain_engine.proofs.Changeable.{rows_are_wide}
+use Rattle.row_judging.proofs.Changeable.{rows_are_wide}
 use Rattle.plain_engine.proofs.querying.query.Goals as goal
 
 pub lines_found-requires-clause-wide : goal.lines_found-requires-clause-wide

@@ -2,9 +2,9 @@ use Rattle.std.proofs.Common.{◌∙◌, sym, ap, length}
 use Rattle.std.specs.Prelude.{if◌then◌else◌}
 use Rattle.mdc_ast.specs.declared.row.Row.{Row}
 use Rattle.mdc_ast.specs.meaning.Doing.{set_on}
-use Rattle.plain_engine.specs.RowChange.{are_within, new_values_on, with_values}
+use Rattle.row_judging.specs.RowChange.{are_within, new_values_on, with_values}
 use Rattle.mdc_ast.proofs.TestsLemmas.{both}
-use Rattle.plain_engine.proofs.SetLemmas.{are_there-items, with_values-items}
+use Rattle.row_judging.proofs.SetLemmas.{are_there-items, with_values-items}
 use Rattle.plain_engine.proofs.updating.change.Goals as goal
 
 pub put_values-requires : goal.put_values-requires

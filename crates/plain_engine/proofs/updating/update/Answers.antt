@@ -4,10 +4,10 @@ use Rattle.mdc_ast.specs.declared.row.Row.{Row}
 use Rattle.mdc_ast.specs.meaning.Database.{PlainTable}
 use Rattle.mdc_ast.specs.meaning.Doing.{changed_causes}
 use Rattle.mdc_ast.proofs.DatabaseLemmas.{is_valid_at}
-use Rattle.plain_engine.specs.Executing.{IsThere, MayUpdate}
-use Rattle.plain_engine.specs.Filtering.{are_changeable}
+use Rattle.row_judging.specs.Executing.{IsThere, MayUpdate}
+use Rattle.row_judging.specs.Filtering.{are_changeable}
 use Rattle.binder.specs.Saying.{first_of}
-use Rattle.plain_engine.proofs.Changeable.{rows_are_wide, rows_are_changeable}
+use Rattle.row_judging.proofs.Changeable.{rows_are_wide, rows_are_changeable}
 use Rattle.binder.proofs.FirstLemmas.{first_of-nothing}
 use Rattle.plain_engine.proofs.ChangedTables.{emptied_keeps, is_there-some, on_err, same_rows, still_there}
 use Rattle.plain_engine.proofs.Effects.{update_is}

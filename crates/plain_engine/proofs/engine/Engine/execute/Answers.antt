@@ -1,4 +1,4 @@
-use Rattle.plain_engine.proofs.Stepping.{session_kept, session_turn}
+use Rattle.row_judging.proofs.Stepping.{session_kept, session_turn}
 use Rattle.plain_engine.proofs.engine.Engine.execute.Goals as goal
 
 pub returns-clause-turn : goal.returns-clause-turn

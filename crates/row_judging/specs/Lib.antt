@@ -1,0 +1,4 @@
+pub mod Executing
+pub mod Filtering
+pub mod RowChange
+pub mod Served
