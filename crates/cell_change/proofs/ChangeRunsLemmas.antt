@@ -1,5 +1,5 @@
 -- Which pages the calls that change one row touch, and what damage they name.
-use Rattle.std.proofs.Common.{◌≡◌, ◌<◌, ◌≤◌, ◌⊎◌, ℕ, List, None, length, sum_by, refl, sym, ◌∙◌, inl, inr}
+use Rattle.std.proofs.Common.{◌≡◌, ◌<◌, ◌≤◌, ◌⊎◌, ℕ, List, None, sum_by, refl, ◌∙◌, inl, inr}
 use Rattle.std.specs.Prelude.{Option}
 use Rattle.mdc_values.specs.declared.rid.Rid.{Rid}
 use Rattle.mdc_ast.specs.declared.definition.TableDef.{TableDef}
@@ -31,7 +31,8 @@ first_page_at before mid block s = rw (s.cap, s.extent_pages) refl
 pub extent_at : (before mid : Extents) (p : ℕ) → IsSameShape before mid → extent_of before p ≡ extent_of mid p
 extent_at before mid p s = rw (s.cap, s.extent_pages) refl
 
-names_at : (before mid : Extents) (def : TableDef) (damage : Damage) → IsSameShape before mid → NamesTablePart mid def damage → NamesTablePart before def damage
+-- a part that damage is of is the same part
+pub names_at : (before mid : Extents) (def : TableDef) (damage : Damage) → IsSameShape before mid → NamesTablePart mid def damage → NamesTablePart before def damage
 names_at before mid def damage s (NamesTablePart.count rule page) = NamesTablePart.count rule page
 names_at before mid def damage s (NamesTablePart.map_page rule page) = NamesTablePart.map_page rule (map_page-shape before mid damage.page s page)
 names_at before mid def damage s (NamesTablePart.tree rule page) = NamesTablePart.tree rule page

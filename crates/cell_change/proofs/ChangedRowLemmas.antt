@@ -1,7 +1,5 @@
 -- A row that became another: in its place, or taken out and then put.
-use Rattle.std.proofs.Common.{◌≡◌, ◌<◌, ◌≤◌, ◌+◌, ◌*◌, ℕ, suc, List, [], ◌∷◌, None, length, refl, ap, arith, sym, ◌∙◌, subst}
-use Rattle.std.specs.Prelude.{Option, slice_set}
-use Rattle.std.specs.List.{AllZip}
+use Rattle.std.proofs.Common.{◌≡◌, ◌<◌, ◌≤◌, ◌+◌, ◌*◌, ℕ, List, [], ◌∷◌, length, ap, arith, ◌∙◌, subst}
 use Rattle.mdc_words.specs.ByteOrder.{Entry}
 use Rattle.mdc_values.specs.declared.rid.Rid.{Rid}
 use Rattle.mdc_ast.specs.declared.definition.TableDef.{TableDef}
@@ -17,14 +15,13 @@ use Rattle.extent_map.specs.declared.kind.Kind.{Kind}
 use Rattle.row_page.specs.RowPage.{slot_count}
 use Rattle.table_page.specs.TableLimits.{IsTableDef}
 use Rattle.table_trees.specs.RowCells.{AreOfOneCell}
-use Rattle.mdc_sound.specs.Placing.{AfterClaims, AfterReturns, ChangesRow, PutsRow, Spot, SpotsAfterClaims, SpotsAfterReturns, block_slot_count}
-use Rattle.mdc_sound.specs.Placing.Spot.{FreeExtent, IndexExtent, OtherBlock, FreeBlock, PendingBlock, UsedBlock}
+use Rattle.mdc_sound.specs.Placing.{ChangesRow, PutsRow, Spot, SpotsAfterClaims, SpotsAfterReturns, block_slot_count}
 use Rattle.mdc_sound.specs.SoundDatabase.{IsSoundBetweenChanges}
 use Rattle.mdc_sound.specs.StandingTable.{IsReadyTable, IsTableSpace, OverwritesRow, PlacesRow, StandsTable, TableForests, TakesRowOut, pages_of, spots_of}
 use Rattle.mdc_sound.proofs.ChangedRowsLemmas.{rows_after_overwriting, rows_after_placing, rows_after_taking}
 use Rattle.mdc_sound.proofs.RowNumbersLemmas.{numbers_over}
 use Rattle.table_blocks.proofs.SpotChangesLemmas.{claims_change, returns_change}
-use Rattle.cell_change.specs.RowChanges.{ChangesOneRow, row_in_place, rows_now}
+use Rattle.cell_change.specs.RowChanges.{ChangesOneRow, MakesOneChange, row_in_place, rows_now}
 use Rattle.cell_change.proofs.RowChangesLemmas.{numbers_kept, sound_deleted, sound_placed}
 use Rattle.cell_change.proofs.TableStepsLemmas.{changes_table_then, takes_no_block}
 
@@ -49,21 +46,29 @@ slots_same before ext def shape = ap (λ n. n * slot_count def.columns) shape.ex
 module _ {S : Type 0} (g : Ghosts S) where
   -- ---- in its place
 
-  pub stays : (ext : Extents) (room_from : Entry → ℕ) (old new : S) (def : TableDef) (row other : Row) (rid : Rid) (owners : List Kind) (forests : TableForests) → StandsTable g ext old def owners forests
-      → AreOfOneCell def row.values other.values → OverwritesRow g ext ext room_from old new def owners forests row other rid → ChangesOneRow g ext ext room_from old new def row other rid rid owners forests
-  stays ext room_from old new def row other rid owners forests st cell over =
+  pub stays_turns : (ext : Extents) (room_from : Entry → ℕ) (old new : S) (def : TableDef) (row other : Row) (rid : Rid) (owners : List Kind) (forests : TableForests) → AreOfOneCell def row.values other.values
+      → OverwritesRow g ext ext room_from old new def owners forests row other rid
+      → ChangesRow def (block_slot_count ext def) (spots_of g ext old def owners forests) rid row other (spots_of g ext new def owners forests) rid
+  stays_turns ext room_from old new def row other rid owners forests cell over =
       let now = spots_of g ext new def owners forests in
+      ChangesRow.stays over.slots cell over.lay (subst (λ (spots : List Spot). SpotsAfterReturns spots now) over.spots (same_returns now))
+
+  pub stays : (ext : Extents) (room_from : Entry → ℕ) (old new : S) (def : TableDef) (row other : Row) (rid : Rid) (owners : List Kind) (forests : TableForests) → StandsTable g ext old def owners forests
+      → AreOfOneCell def row.values other.values → OverwritesRow g ext ext room_from old new def owners forests row other rid
+      → MakesOneChange g ext old new def row other rid owners forests (spots_of g ext new def owners forests) → ChangesOneRow g ext ext room_from old new def row other rid rid owners forests
+  stays ext room_from old new def row other rid owners forests st cell over space =
       let rows = rows_after_overwriting g ext ext room_from old new def owners forests st row other rid over in record {
         owners_now = owners;
         forests_now = forests;
         changes = over.changes;
         rooms = over.rooms;
-        mid = now;
-        turns = ChangesRow.stays over.slots cell over.lay (subst (λ (spots : List Spot). SpotsAfterReturns spots now) over.spots (same_returns now));
-        claims = same_claims now;
+        mid = spots_of g ext new def owners forests;
+        turns = stays_turns ext room_from old new def row other rid owners forests cell over;
+        claims = same_claims (spots_of g ext new def owners forests);
         stay = rows.0;
         were = rows.1;
         are = rows.2;
+        space = space;
       }
 
   -- ---- taken out, and then put
@@ -76,12 +81,12 @@ module _ {S : Type 0} (g : Ghosts S) where
 
     module _ (ext : Extents) (room_now : Entry → ℕ) (new : S) (other : Row) (to : Rid) (places : PlacesRow g mid ext room_now middle new def takes.owners_now takes.forests_now other to) (defined : IsTableDef def.number def) where
       pub moves : (AreOfOneCell def row.values other.values → ⊥) → length (pages_of g middle) ≡ length (pages_of g old) → length (pages_of g middle) ≤ length (pages_of g new)
-          → ChangesOneRow g before ext room_now old new def row other rid to owners forests
-      moves apart same longer = record {
+          → MakesOneChange g before old new def row other rid owners forests (spots_of g ext new def places.owners_now places.forests_now) → ChangesOneRow g before ext room_now old new def row other rid to owners forests
+      moves apart same longer space = record {
         owners_now = places.owners_now;
         forests_now = places.forests_now;
         changes = changes_table_then g before mid old middle def owners forests takes.owners_now takes.forests_now takes.changes ext new places.owners_now places.forests_now places.changes
-            (takes_no_block g before mid old middle def owners forests room_mid row rid ready.stands takes) (sym same) longer;
+            (takes_no_block g before mid old middle def owners forests room_mid row rid ready.stands takes) (omega (arith, same)) longer;
         rooms = places.rooms;
         mid = places.mid;
         turns = ChangesRow.moves takes.mid (spots_of g mid middle def takes.owners_now takes.forests_now) to apart takes.takes takes.returns
@@ -90,6 +95,7 @@ module _ {S : Type 0} (g : Ghosts S) where
         stay = rows_now g mid middle def takes.forests_now;
         were = rows_after_taking g before mid room_mid old middle def owners forests ready.stands row rid takes;
         are = rows_after_placing g mid ext room_now middle new def takes.owners_now takes.forests_now takes.changes.stands def.number other to defined places;
+        space = space;
       }
 
       pub sound_moved : def.indexes ≡ [] → other.number ≡ row.number → Touches g (IsTableSpace g before old def) old middle → Touches g (IsTableSpace g mid middle def) middle new

@@ -22,9 +22,9 @@ use Rattle.table_trees.proofs.ToldPagesLemmas.{map_of_told, tree_of_told}
 use Rattle.mdc_sound.specs.Placing.{IsRowAt, PutsRow, Spot, block_slot_count}
 use Rattle.mdc_sound.specs.Placing.Spot.{OtherBlock}
 use Rattle.mdc_sound.specs.RunningFull.{InsertingChanges, InsertRunsFull, RowRunsFull, ShowsTableSpots, UpdateRunsFull, UpdatingChanges, block_changes, left_changes, listings_in, putting_changes, row_listings, taking_changes}
-use Rattle.mdc_sound.specs.StandingTable.{PlacesRow, StandsTable, TableForests, TakesRowOut, pages_of, spots_of}
-use Rattle.cell_change.specs.RowChanges.{ChangesOneRow, MakesOneChange, row_in_place}
-use Rattle.cell_change.proofs.ChangedRowLemmas.{same_claims, slots_same}
+use Rattle.mdc_sound.specs.StandingTable.{OverwritesRow, PlacesRow, StandsTable, TableForests, TakesRowOut, pages_of, spots_of}
+use Rattle.cell_change.specs.RowChanges.{MakesOneChange, row_in_place}
+use Rattle.cell_change.proofs.ChangedRowLemmas.{same_claims, slots_same, stays_turns}
 use Rattle.table_trees.proofs.SpaceChainsLemmas.{changes_shaped, changes_then, full_before, full_shaped, full_then, no_changes}
 
 -- ---- without record indexes
@@ -77,20 +77,20 @@ module _ {S : Type 0} (g : Ghosts S) (ext : Extents) (s : S) (def : TableDef) (o
 -- ---- a row that becomes another in its place
 
 pub stays_makes : {S : Type 0} (g : Ghosts S) (ext : Extents) (room_from : Entry → ℕ) (old new : S) (def : TableDef) (row other : Row) (rid : Rid) (owners : List Kind) (forests : TableForests) → def.indexes ≡ []
-    → AreOfOneCell def row.values other.values → ChangesOneRow g ext ext room_from old new def row other rid rid owners forests → IsSameSpace ext (pages_of g old) (pages_of g new)
-    → MakesOneChange g ext old new def row other rid owners forests
-stays_makes g ext room_from old new def row other rid owners forests none cell changes same = record {
-  changes = _;
-  updating = UpdatingChanges.stays cell changes.turns changes.claims UpdatingChanges.none;
+    → AreOfOneCell def row.values other.values → OverwritesRow g ext ext room_from old new def owners forests row other rid → IsSameSpace ext (pages_of g old) (pages_of g new)
+    → MakesOneChange g ext old new def row other rid owners forests (spots_of g ext new def owners forests)
+stays_makes g ext room_from old new def row other rid owners forests none cell over same = record {
+  front = removed_entries (listings_in def (filter differs def.indexes) row rid) ++ added_entries (listings_in def (filter differs def.indexes) other rid);
   makes = subst (λ (list : List SpaceChange). MakesChanges ext (pages_of g old) list (pages_of g new)) (sym (none_differ def.indexes none)) (no_changes ext (pages_of g old) (pages_of g new) same);
+  goes_on = λ rows changes more. UpdatingChanges.stays cell (stays_turns g ext room_from old new def row other rid owners forests cell over) (same_claims (spots_of g ext new def owners forests)) more;
 }
   where
     differs : IndexDef → Bool
     differs index = not (bytes_eq (key_bytes def.columns index.parts row.values) (key_bytes def.columns index.parts other.values))
 
     none_differ : (indexes : List IndexDef) → indexes ≡ []
-        → removed_entries (listings_in def (filter differs indexes) row rid) ++ added_entries (listings_in def (filter differs indexes) other rid) ++ [] ≡ []
-    none_differ indexes is = ap (λ (some : List IndexDef). removed_entries (listings_in def (filter differs some) row rid) ++ added_entries (listings_in def (filter differs some) other rid) ++ []) is
+        → removed_entries (listings_in def (filter differs indexes) row rid) ++ added_entries (listings_in def (filter differs indexes) other rid) ≡ []
+    none_differ indexes is = ap (λ (some : List IndexDef). removed_entries (listings_in def (filter differs some) row rid) ++ added_entries (listings_in def (filter differs some) other rid)) is
 
 -- ---- a row that is taken out, and then put
 
@@ -108,8 +108,9 @@ module _ {S : Type 0} (g : Ghosts S) (before mid : Extents) (room_mid : Entry �
   puts_before : (spots : List Spot) (to : Rid) → PutsRow def (block_slot_count mid def) free other spots to → PutsRow def (block_slot_count before def) free other spots to
   puts_before spots to puts = subst (λ (n : ℕ). PutsRow def n free other spots to) (slots_same before mid def takes.changes.shape) puts
 
-  pub moves_makes : (ext : Extents) (room_now : Entry → ℕ) (new : S) (to : Rid) → PlacesRow g mid ext room_now middle new def takes.owners_now takes.forests_now other to
-      → MakesChanges mid (pages_of g middle) (block_changes def other to.block (slice_index_or free to.block OtherBlock)) (pages_of g new) → MakesOneChange g before old new def row other rid owners forests
+  pub moves_makes : (ext : Extents) (room_now : Entry → ℕ) (new : S) (to : Rid) (places : PlacesRow g mid ext room_now middle new def takes.owners_now takes.forests_now other to)
+      → MakesChanges mid (pages_of g middle) (block_changes def other to.block (slice_index_or free to.block OtherBlock)) (pages_of g new)
+      → MakesOneChange g before old new def row other rid owners forests (spots_of g ext new def places.owners_now places.forests_now)
   moves_makes ext room_now new to places makes =
       let taking = taking_changes def row rid (count_rows slots) in
       let putting = putting_changes def other to (slice_index_or free to.block OtherBlock) in
@@ -118,10 +119,9 @@ module _ {S : Type 0} (g : Ghosts S) (before mid : Extents) (room_mid : Entry �
       subst (λ (changes : List SpaceChange). MakesChanges before (pages_of g middle) changes (pages_of g new)) (sym plain)
       (changes_shaped before mid (pages_of g middle) (pages_of g new) (block_changes def other to.block (slice_index_or free to.block OtherBlock)) takes.changes.shape makes) in
       record {
-        changes = taking ++ putting ++ [];
-        updating = UpdatingChanges.moves free apart lies takes.takes takes.returns (puts_before places.mid to places.puts) places.claims UpdatingChanges.none;
-        makes = subst (λ (changes : List SpaceChange). MakesChanges before (pages_of g old) changes (pages_of g new)) (sym (append-nil (taking ++ putting)))
-            (changes_then before (pages_of g old) (pages_of g middle) (pages_of g new) taking putting out then);
+        front = taking ++ putting;
+        makes = changes_then before (pages_of g old) (pages_of g middle) (pages_of g new) taking putting out then;
+        goes_on = λ rows changes more. UpdatingChanges.moves free apart lies takes.takes takes.returns (puts_before places.mid to places.puts) places.claims more;
       }
 
   -- ---- it runs full once the row is out

@@ -1,6 +1,6 @@
 -- Two changes of a table one after the other: what they make together, and which pages the second may touch, as seen before the
 -- first.
-use Rattle.std.proofs.Common.{◌≡◌, ◌≢◌, ◌<◌, ◌≤◌, ◌⊎◌, ℕ, Bool, true, false, zero, suc, List, [], ◌∷◌, None, length, set, get_or, sum_by, refl, ap, arith, sym, ◌∙◌, subst, inl, inr, cond}
+use Rattle.std.proofs.Common.{◌≡◌, ◌≢◌, ◌<◌, ◌≤◌, ◌⊎◌, ℕ, Bool, true, false, zero, suc, List, [], ◌∷◌, None, Some, length, replicate, set, get_or, sum_by, refl, ap, arith, sym, ◌∙◌, subst, inl, inr, cond}
 use Rattle.std.specs.Prelude.{IsTrue, Option, ◌==◌, is_none}
 use Rattle.std.specs.Int.{bit_at}
 use Rattle.std.specs.List.{AllZip, list_all}
@@ -21,18 +21,18 @@ use Rattle.extent_map.specs.declared.kind.Kind.TheVariants.{Free, Block, Index}
 use Rattle.entry_tree.specs.Forest.{Forest, times}
 use Rattle.entry_tree.specs.Standing.{IsIdlePage}
 use Rattle.entry_tree.proofs.ClaimsLemmas.{space_same}
-use Rattle.entry_tree.proofs.UsedPagesLemmas.{extent_below, extent_page_same, shape_back, unused_same, used_not_idle, used_same}
+use Rattle.entry_tree.proofs.UsedPagesLemmas.{extent_page_same, shape_back, unused_same, used_not_idle, used_same}
 use Rattle.block_map.specs.MapLines.{map_lines, mapped_state}
 use Rattle.table_trees.specs.TreesBeside.{table_of_block}
 use Rattle.table_trees.proofs.KeptOwnersLemmas.{idle_no_block, used_no_block}
-use Rattle.table_trees.proofs.PageCountLemmas.{grows_pages_then}
+use Rattle.table_trees.proofs.PageCountLemmas.{grows_pages_none, grows_pages_then}
 use Rattle.table_trees.specs.ToldPages.{PageList}
-use Rattle.mdc_sound.specs.Placing.{AfterReturns, Spot, left_with, spot_of_kind, spot_of_state}
+use Rattle.mdc_sound.specs.Placing.{AfterClaims, AfterReturns, ChangesRow, PutsRow, Spot, TakesRow, block_slot_count, left_with, spot_of_kind, spot_of_state}
 use Rattle.mdc_sound.specs.Placing.Spot.{FreeExtent, IndexExtent, OtherBlock, FreeBlock, PendingBlock, UsedBlock}
-use Rattle.mdc_sound.specs.StandingTable.{ChangesTable, IsBlockPageOf, StandsTable, TableForests, TakesRowOut, forests_in_order, pages_of, spots_of}
+use Rattle.mdc_sound.specs.StandingTable.{ChangesTable, IsBlockPageOf, PlacesRow, StandsTable, TableForests, TakesRowOut, forests_in_order, pages_of, spots_of}
 use Rattle.mdc_sound.specs.TableRows.{block_slots}
-use Rattle.mdc_sound.proofs.SpaceRulesLemmas.{used_or_not}
-use Rattle.mdc_sound.proofs.TableSpotsLemmas.{length-spots, spot_at}
+use Rattle.cell_change.specs.RowChanges.{ChangesOneRow}
+use Rattle.mdc_sound.proofs.TableSpotsLemmas.{spot_at}
 
 -- ---- spots that are no blocks
 
@@ -87,6 +87,43 @@ before_setting spots block e spot some low none = elim (cases_eq e block) [
   | inr other ↦ subst IsNoBlock (get_or-set_other spots block e spot OtherBlock other) none
 ]
 
+-- what is no block once trees may have taken free extents was none
+before_claim : (a b : Spot) → AfterClaims a b → IsNoBlock b → IsNoBlock a
+before_claim FreeExtent b after none = tt
+before_claim IndexExtent b after none = tt
+before_claim OtherBlock b after none = subst IsNoBlock (sym after) none
+before_claim FreeBlock b after none = subst IsNoBlock (sym after) none
+before_claim PendingBlock b after none = subst IsNoBlock (sym after) none
+before_claim (UsedBlock slots) b after none = subst IsNoBlock (sym after) none
+
+before_claims : (xs ys : List Spot) (e : ℕ) → AllZip AfterClaims xs ys → IsNoBlock (get_or ys e OtherBlock) → IsNoBlock (get_or xs e OtherBlock)
+before_claims [] [] e all none = none
+before_claims [] (y ∷ ys) e all none = absurd all
+before_claims (x ∷ xs) [] e all none = absurd all
+before_claims (x ∷ xs) (y ∷ ys) zero all none = before_claim x y all.0 none
+before_claims (x ∷ xs) (y ∷ ys) (suc e) all none = before_claims xs ys e all.1 none
+
+-- nor does a row that is taken out or put make less of a block
+before_taking : (old new : List Spot) (rid : Rid) (row : Row) (e : ℕ) → TakesRow old rid row new → IsNoBlock (get_or new e OtherBlock) → IsNoBlock (get_or old e OtherBlock)
+before_taking old new rid row e takes none =
+    let slots = set takes.slots rid.slot None in
+    before_setting old rid.block e (left_with slots) (some_left (list_all is_none slots) slots) takes.lies.within (subst (λ (spots : List Spot). IsNoBlock (get_or spots e OtherBlock)) takes.is_left none)
+
+before_use : (old new : List Spot) (block e : ℕ) (slots : List (Option Row)) → block < length old → new ≡ set old block (UsedBlock slots) → IsNoBlock (get_or new e OtherBlock) → IsNoBlock (get_or old e OtherBlock)
+before_use old new block e slots low is none = before_setting old block e (UsedBlock slots) (λ wrong. wrong) low (subst (λ (spots : List Spot). IsNoBlock (get_or spots e OtherBlock)) is none)
+
+before_putting : (def : TableDef) (n : ℕ) (old new : List Spot) (row : Row) (rid : Rid) (e : ℕ) → PutsRow def n old row new rid → IsNoBlock (get_or new e OtherBlock) → IsNoBlock (get_or old e OtherBlock)
+before_putting def n old new row _ e (PutsRow.in_cell block slot slots room empty is) none = before_use old new block e (set slots slot (Some row)) room.within is none
+before_putting def n old new row _ e (PutsRow.in_free_block block no_room free is) none = before_use old new block e (set (replicate n None) 0 (Some row)) free.within is none
+before_putting def n old new row _ e (PutsRow.in_free_extent block no_room no_free free is) none = before_use old new block e (set (replicate n None) 0 (Some row)) free.within is none
+
+before_turning : (def : TableDef) (n : ℕ) (old new : List Spot) (row other : Row) (rid to : Rid) (e : ℕ) → ChangesRow def n old rid row other new to → IsNoBlock (get_or new e OtherBlock) → IsNoBlock (get_or old e OtherBlock)
+before_turning def n old new row other rid _ e (ChangesRow.stays slots cell lies returns) none =
+    before_use old (set old rid.block (UsedBlock (set slots rid.slot (Some other)))) rid.block e (set slots rid.slot (Some other)) lies.within refl
+    (before_returns (set old rid.block (UsedBlock (set slots rid.slot (Some other)))) new e returns none)
+before_turning def n old new row other rid _ e (ChangesRow.moves left free to apart takes returns puts) none =
+    before_taking old left rid row e takes (before_returns left free e returns (before_putting def n free new other to e puts none))
+
 -- ---- the same in extents of the same shape
 
 extent_same : (one other : Extents) (p : ℕ) → IsSameShape one other → extent_of one p ≡ extent_of other p
@@ -118,24 +155,57 @@ idle_if ext owners p page no_block unused = record { page = page; idle = go (own
 
 -- ---- one change, and another behind it
 
+module _ {S : Type 0} (g : Ghosts S) (before : Extents) (old : S) (def : TableDef) (owners : List Kind) (forests : TableForests) where
+  -- a table that stands is a change of itself
+  pub same_table : StandsTable g before old def owners forests → ChangesTable g before before old old def owners forests owners forests
+  same_table st = record {
+    stands = st;
+    shape = record { cap = refl; extent_pages = refl };
+    records = refl;
+    others_blocks = λ e t other is. is;
+    no_others_blocks = λ e t other is. is;
+    others_pages = λ p used none. used;
+    used_pages = λ p used. elim (cases_lt 0 (sum_by (times p) (forests_in_order forests))) [ inl some ↦ inl some | inr none ↦ inr (used, omega (arith, none)) ];
+    pages = λ p some. inl some;
+    grows = grows_pages_none before old;
+    notes = λ right. right;
+  }
+
 module _ {S : Type 0} (g : Ghosts S) (before mid : Extents) (old middle : S) (def : TableDef) (owners : List Kind) (forests : TableForests) where
+  -- where each spot that is no block now was none, no block was given up
+  gives_up_none : (owners_mid : List Kind) (forests_mid : TableForests) → StandsTable g before old def owners forests → IsSameShape before mid
+      → ((e : ℕ) → IsNoBlock (get_or (spots_of g mid middle def owners_mid forests_mid) e OtherBlock) → IsNoBlock (get_or (spots_of g before old def owners forests) e OtherBlock))
+      → (e : ℕ) → table_of_block (owner_of owners_mid e) ≡ None → table_of_block (owner_of owners e) ≡ None
+  gives_up_none owners_mid forests_mid st shape earlier e none = elim (cases_lt e before.cap) [
+    | inl low ↦
+        let shown = spot_at mid (pages_of g middle) def owners_mid forests_mid.map e OtherBlock (omega (arith, low, shape.cap)) in
+        let now : IsNoBlock (get_or (spots_of g mid middle def owners_mid forests_mid) e OtherBlock) = subst IsNoBlock (sym shown) (no_block_of_kind mid (pages_of g middle) def forests_mid.map e (owner_of owners_mid e) none) in
+        kind_of_no_block before (pages_of g old) def forests.map e (owner_of owners e) (subst IsNoBlock (spot_at before (pages_of g old) def owners forests.map e OtherBlock low) (earlier e now))
+    | inr past ↦ ap table_of_block (get_or_past owners e Free (omega (arith, past, st.trees.map.count)))
+  ]
+
   -- taking a row out leaves each block one
   pub takes_no_block : (room_from : Entry → ℕ) (row : Row) (rid : Rid) → StandsTable g before old def owners forests → (takes : TakesRowOut g before mid room_from old middle def owners forests row rid)
       → (e : ℕ) → table_of_block (owner_of takes.owners_now e) ≡ None → table_of_block (owner_of owners e) ≡ None
-  takes_no_block room_from row rid st takes e none = elim (cases_lt e before.cap) [
-    | inl low ↦
-        let old_spots = spots_of g before old def owners forests in
-        let new_spots = spots_of g mid middle def takes.owners_now takes.forests_now in
-        let now_low : e < mid.cap = omega (arith, low, takes.changes.shape.cap) in
-        let shown = spot_at mid (pages_of g middle) def takes.owners_now takes.forests_now.map e OtherBlock now_low in
-        let now : IsNoBlock (get_or new_spots e OtherBlock) = subst IsNoBlock (sym shown) (no_block_of_kind mid (pages_of g middle) def takes.forests_now.map e (owner_of takes.owners_now e) none) in
-        let left = left_with (set takes.takes.slots rid.slot None) in
-        let between : IsNoBlock (get_or (set old_spots rid.block left) e OtherBlock) =
-        subst (λ (spots : List Spot). IsNoBlock (get_or spots e OtherBlock)) takes.takes.is_left (before_returns takes.mid new_spots e takes.returns now) in
-        let was = before_setting old_spots rid.block e left (some_left (list_all is_none (set takes.takes.slots rid.slot None)) (set takes.takes.slots rid.slot None)) takes.takes.lies.within between in
-        kind_of_no_block before (pages_of g old) def forests.map e (owner_of owners e) (subst IsNoBlock (spot_at before (pages_of g old) def owners forests.map e OtherBlock low) was)
-    | inr past ↦ ap table_of_block (get_or_past owners e Free (omega (arith, past, st.trees.map.count)))
-  ]
+  takes_no_block room_from row rid st takes =
+      gives_up_none takes.owners_now takes.forests_now st takes.changes.shape
+      (λ e none. before_taking (spots_of g before old def owners forests) takes.mid rid row e takes.takes (before_returns takes.mid (spots_of g mid middle def takes.owners_now takes.forests_now) e takes.returns none))
+
+  -- so does putting one
+  pub places_no_block : (room_from : Entry → ℕ) (row : Row) (rid : Rid) → StandsTable g before old def owners forests → (places : PlacesRow g before mid room_from old middle def owners forests row rid)
+      → (e : ℕ) → table_of_block (owner_of places.owners_now e) ≡ None → table_of_block (owner_of owners e) ≡ None
+  places_no_block room_from row rid st places =
+      gives_up_none places.owners_now places.forests_now st places.changes.shape
+      (λ e none. before_putting def (block_slot_count before def) (spots_of g before old def owners forests) places.mid row rid e places.puts
+      (before_claims places.mid (spots_of g mid middle def places.owners_now places.forests_now) e places.claims none))
+
+  -- and making one another
+  pub turns_no_block : (room_from : Entry → ℕ) (row other : Row) (rid to : Rid) → StandsTable g before old def owners forests → (one : ChangesOneRow g before mid room_from old middle def row other rid to owners forests)
+      → (e : ℕ) → table_of_block (owner_of one.owners_now e) ≡ None → table_of_block (owner_of owners e) ≡ None
+  turns_no_block room_from row other rid to st one =
+      gives_up_none one.owners_now one.forests_now st one.changes.shape
+      (λ e none. before_turning def (block_slot_count before def) (spots_of g before old def owners forests) one.mid row other rid to e one.turns
+      (before_claims one.mid (spots_of g mid middle def one.owners_now one.forests_now) e one.claims none))
 
   module _ (owners_mid : List Kind) (forests_mid : TableForests) (first : ChangesTable g before mid old middle def owners forests owners_mid forests_mid) where
     -- a used page outside the table's trees is outside of them still
@@ -194,9 +264,9 @@ module _ {S : Type 0} (g : Ghosts S) (before mid : Extents) (old middle : S) (de
     -- where the first left each block one, both together are one change
     pub changes_table_then : (ext : Extents) (new : S) (owners_now : List Kind) (forests_now : TableForests) → ChangesTable g mid ext middle new def owners_mid forests_mid owners_now forests_now
         → ((e : ℕ) → table_of_block (owner_of owners_mid e) ≡ None → table_of_block (owner_of owners e) ≡ None)
-        → length (pages_of g old) ≡ length (pages_of g middle) → length (pages_of g middle) ≤ length (pages_of g new)
+        → length (pages_of g old) ≤ length (pages_of g middle) → length (pages_of g middle) ≤ length (pages_of g new)
         → ChangesTable g before ext old new def owners forests owners_now forests_now
-    changes_table_then ext new owners_now forests_now second no_block same longer = record {
+    changes_table_then ext new owners_now forests_now second no_block longer still_longer = record {
       stands = second.stands;
       shape = record { cap = second.shape.cap ∙ first.shape.cap; extent_pages = second.shape.extent_pages ∙ first.shape.extent_pages };
       records = second.records ∙ first.records;
@@ -219,6 +289,6 @@ module _ {S : Type 0} (g : Ghosts S) (before mid : Extents) (old middle : S) (de
                   (λ used. used_not_idle before owners_mid p (first.others_pages p used (omega (arith, none))) here))
             ]
       ];
-      grows = grows_pages_then before mid old middle new first.shape (omega (arith, same)) longer first.grows second.grows;
+      grows = grows_pages_then before mid old middle new first.shape longer still_longer first.grows second.grows;
       notes = λ right. second.notes (first.notes right);
     }

@@ -1,5 +1,5 @@
 -- What a change of one row makes of a table: where the row lies, and which rows there are.
-use Rattle.std.specs.Prelude.{◌≡◌, ℕ, List, [], ◌∷◌, Option, IsPermutation}
+use Rattle.std.specs.Prelude.{ℕ, List, ◌∷◌, ◌++◌, Option, IsPermutation}
 use Rattle.mdc_words.specs.ByteOrder.{Entry}
 use Rattle.mdc_values.specs.declared.rid.Rid.{Rid}
 use Rattle.mdc_ast.specs.declared.definition.TableDef.{TableDef}
@@ -36,13 +36,16 @@ pub record DeletesRow {S : Type 0} (g : Ghosts S) (before ext : Extents) (room_f
   pub takes : TakesRowOut g before ext room_from old new def owners forests row rid
   pub rows : IsPermutation (row_in_place rid row ∷ rows_now g ext new def takes.forests_now) (rows_now g before old def forests)
 
--- An UPDATE of that one row makes these changes of space.
-pub record MakesOneChange {S : Type 0} (g : Ghosts S) (ext : Extents) (old new : S) (def : TableDef) (row other : Row) (rid : Rid) (owners : List Kind) (forests : TableForests) : Type 0 where
-  pub changes : List SpaceChange
-  pub updating : UpdatingChanges def (block_slot_count ext def) (spots_of g ext old def owners forests) ((row_in_place rid row, other) ∷ []) changes
-  pub makes : MakesChanges ext (pages_of g old) changes (pages_of g new)
+-- An UPDATE that turns this row first makes these changes of space, and whatever goes on from the spots now goes on from those
+-- before, with these in front.
+pub record MakesOneChange {S : Type 0} (g : Ghosts S) (ext : Extents) (old new : S) (def : TableDef) (row other : Row) (rid : Rid) (owners : List Kind) (forests : TableForests) (spots_now : List Spot) : Type 0 where
+  pub front : List SpaceChange
+  pub makes : MakesChanges ext (pages_of g old) front (pages_of g new)
+  pub goes_on : (rows : List (PlacedRow × Row)) (changes : List SpaceChange) → UpdatingChanges def (block_slot_count ext def) spots_now rows changes
+      → UpdatingChanges def (block_slot_count ext def) (spots_of g ext old def owners forests) ((row_in_place rid row, other) ∷ rows) (front ++ changes)
 
 -- The row became another, in its place where it keeps its cell; the other rows stay. After that trees may have taken free extents.
+-- What it makes of space is what an UPDATE makes that turns this row first.
 pub record ChangesOneRow {S : Type 0} (g : Ghosts S) (before ext : Extents) (room_from : Entry → ℕ) (old new : S) (def : TableDef) (row other : Row) (rid to : Rid) (owners : List Kind) (forests : TableForests) : Type 0 where
   pub owners_now : List Kind
   pub forests_now : TableForests
@@ -54,3 +57,4 @@ pub record ChangesOneRow {S : Type 0} (g : Ghosts S) (before ext : Extents) (roo
   pub stay : List PlacedRow
   pub were : IsPermutation (row_in_place rid row ∷ stay) (rows_now g before old def forests)
   pub are : IsPermutation (row_in_place to other ∷ stay) (rows_now g ext new def forests_now)
+  pub space : MakesOneChange g before old new def row other rid owners forests (spots_of g ext new def owners_now forests_now)

@@ -14,7 +14,7 @@ ghost use Rattle.mdc_sound.specs.SoundDatabase.{IsSoundBetweenChanges, with_tabl
 ghost use Rattle.mdc_sound.specs.StandingTable.{BreaksExpected, IsReadyTable, IsTableSpace, KeepsBlocksBut, TableForests, pages_of};
 ghost use Rattle.mdc_sound.specs.StandsForDatabase.{PagesStandFor, with_row};
 ghost use Rattle.cell_rooms.specs.RoomNotes.{room_from};
-ghost use Rattle.cell_change.specs.RowChanges.{ChangesOneRow, HasThisRow, MakesOneChange, row_in_place};
+ghost use Rattle.cell_change.specs.RowChanges.{ChangesOneRow, HasThisRow, row_in_place};
 
 use crate::cells::are_of_one_cell;
 use extent_map::{Extents, SpaceFault};
@@ -48,8 +48,6 @@ pub fn change_row<P: Pages>(
     ensures changes { IfOk result (λ to. (owners : List Kind) (forests : TableForests) → IsReadyTable P.Pages ext.old (room_from rooms.old) pages.old def.now owners forests
         → HasThisRow P.Pages ext.old pages.old def.now rid was.now owners forests
         → ChangesOneRow P.Pages ext.old ext.new (room_from rooms.new) pages.old pages.new def.now was.now is.now rid to owners forests) }
-    ensures makes { IfOk result (λ to. (owners : List Kind) (forests : TableForests) → IsReadyTable P.Pages ext.old (room_from rooms.old) pages.old def.now owners forests
-        → HasThisRow P.Pages ext.old pages.old def.now rid was.now owners forests → MakesOneChange P.Pages ext.old pages.old pages.new def.now was.now is.now rid owners forests) }
     ensures stay { IfOk result (λ to. (owners : List Kind) (forests : TableForests) → IsReadyTable P.Pages ext.old (room_from rooms.old) pages.old def.now owners forests
         → KeepsBlocksBut P.Pages ext.old pages.old pages.new def.now owners (λ block. (block ≡ rid.block) ⊎ (block ≡ to.block))) }
     ensures sound { OnOk result ((owners : List Kind) (forests : TableForests) → IsReadyTable P.Pages ext.old (room_from rooms.old) pages.old def.now owners forests

@@ -1,9 +1,10 @@
-use Rattle.std.proofs.Common.{◌≡◌, ◌<◌, ◌≤◌, ◌∙◌, ap, arith, sym, length, None, Some}
+use Rattle.std.proofs.Common.{◌∙◌, arith, None, Some}
 use Rattle.std.proofs.lemmas.Result.{IfErr-weaker, IfOk-weaker}
 use Rattle.store_api.specs.Causes.{store_fault_in}
 use Rattle.store_api.proofs.FrameLemmas.{touches_wider}
 use Rattle.store_api.proofs.RunsOverPagesLemmas.{runs_exit_as}
 use Rattle.extent_map.specs.Damages.{store_part_of}
+use Rattle.table_trees.specs.RowCells.{AreOfOneCell}
 use Rattle.cell_change.proofs.ChangeRunsLemmas.{in_space, runs_left, runs_within}
 use Rattle.cell_change.proofs.ChangedRowLemmas.{full_as, moves, ready_then, sound_moved, stays}
 use Rattle.cell_change.proofs.ChangedSpaceLemmas.{if_ok_both, moves_makes, stays_makes, update_full}
@@ -26,18 +27,15 @@ are_of_one_cell-requires-clause-b g c = omega (arith, fits_length c.args.def.now
 
 pub returns-then-are_of_one_cell-clause-changes : goal.returns-then-are_of_one_cell-clause-changes
 returns-then-are_of_one_cell-clause-changes g c owners forests ready has =
-    let cell = c.are_of_one_cell.ensures.0 c.if-are_of_one_cell.true in
-    stays g.P.Pages c.args.ext.now _ c.args.pages.now c.overwrite_row.new.pages c.args.def.now c.args.was.now c.args.is.now c.args.rid owners forests ready.stands cell
-    (c.in_ok-overwrite_row.ensures.overwrites owners forests c.args.was.now ready (record { slots = has.slots; lies = has.lies; one_cell = cell }))
-
-pub returns-then-are_of_one_cell-clause-makes : goal.returns-then-are_of_one_cell-clause-makes
-returns-then-are_of_one_cell-clause-makes g c owners forests ready has =
     let ext = c.args.ext.now in
     let def = c.args.def.now in
-    let s = c.args.pages.now in
-    stays_makes g.P.Pages ext _ s c.overwrite_row.new.pages def c.args.was.now c.args.is.now c.args.rid owners forests c.requires.no_indexes (c.are_of_one_cell.ensures.0 c.if-are_of_one_cell.true)
-    (returns-then-are_of_one_cell-clause-changes g c owners forests ready has)
-    (c.in_ok-overwrite_row.ensures.makes owners forests ready (has_row g.P.Pages ext s def c.args.rid c.args.was.now owners forests has))
+    let old = c.args.pages.now in
+    let new = c.overwrite_row.new.pages in
+    let cell = c.are_of_one_cell.ensures.0 c.if-are_of_one_cell.true in
+    let over = c.in_ok-overwrite_row.ensures.overwrites owners forests c.args.was.now ready (record { slots = has.slots; lies = has.lies; one_cell = cell }) in
+    stays g.P.Pages ext _ old new def c.args.was.now c.args.is.now c.args.rid owners forests ready.stands cell over
+    (stays_makes g.P.Pages ext _ old new def c.args.was.now c.args.is.now c.args.rid owners forests c.requires.no_indexes cell over
+    (c.in_ok-overwrite_row.ensures.makes owners forests ready (has_row g.P.Pages ext old def c.args.rid c.args.was.now owners forests has)))
 
 pub returns-then-are_of_one_cell-clause-sound : goal.returns-then-are_of_one_cell-clause-sound
 returns-then-are_of_one_cell-clause-sound g c owners forests ready has between =
@@ -58,22 +56,6 @@ returns-in_err-take_row-clause-runs g c =
 
 pub returns-clause-changes : goal.returns-clause-changes
 returns-clause-changes g c =
-    IfOk-weaker c.place_row.result _ _ (λ to places owners forests ready has.
-    let before = c.args.ext.now in
-    let mid = c.take_row.new.ext in
-    let old = c.args.pages.now in
-    let middle = c.take_row.new.pages in
-    let def = c.args.def.now in
-    let out = c.in_ok-take_row.ensures.takes owners forests ready in
-    let took = took_this g.P.Pages before mid old middle def owners forests ready.stands _ c.args.was.now out.0 c.args.rid has out.1 in
-    let then = ready_then g.P.Pages before mid _ _ old middle def c.args.was.now c.args.rid owners forests ready took in
-    moves g.P.Pages before mid _ _ old middle def c.args.was.now c.args.rid owners forests ready took c.place_row.new.ext _ c.place_row.new.pages c.args.is.now to
-    (places took.owners_now took.forests_now then) c.requires.defined (λ cell. let yes = c.are_of_one_cell.ensures.1 cell in let no = c.if-are_of_one_cell.false in cc)
-    c.take_row.ensures.count c.place_row.ensures.runs.works.no_shorter)
-    c.place_row.ensures.places
-
-pub returns-clause-makes : goal.returns-clause-makes
-returns-clause-makes g c =
     if_ok_both c.place_row.result _ _ _ (λ to places makes owners forests ready has.
     let before = c.args.ext.now in
     let mid = c.take_row.new.ext in
@@ -83,10 +65,12 @@ returns-clause-makes g c =
     let out = c.in_ok-take_row.ensures.takes owners forests ready in
     let took = took_this g.P.Pages before mid old middle def owners forests ready.stands _ c.args.was.now out.0 c.args.rid has out.1 in
     let then = ready_then g.P.Pages before mid _ _ old middle def c.args.was.now c.args.rid owners forests ready took in
-    moves_makes g.P.Pages before mid _ old middle def c.args.was.now c.args.is.now c.args.rid owners forests ready.stands c.requires.no_indexes
-    (λ cell. let yes = c.are_of_one_cell.ensures.1 cell in let no = c.if-are_of_one_cell.false in cc) has.slots has.lies took
-    (c.in_ok-take_row.ensures.makes owners forests ready c.args.was.now has.slots has.lies) c.place_row.new.ext _ c.place_row.new.pages to
-    (places took.owners_now took.forests_now then) (makes took.owners_now took.forests_now then))
+    let apart : AreOfOneCell def c.args.was.now.values c.args.is.now.values → ⊥ = λ cell. let yes = c.are_of_one_cell.ensures.1 cell in let no = c.if-are_of_one_cell.false in cc in
+    let put = places took.owners_now took.forests_now then in
+    moves g.P.Pages before mid _ _ old middle def c.args.was.now c.args.rid owners forests ready took c.place_row.new.ext _ c.place_row.new.pages c.args.is.now to put c.requires.defined apart
+    c.take_row.ensures.count c.place_row.ensures.runs.works.no_shorter
+    (moves_makes g.P.Pages before mid _ old middle def c.args.was.now c.args.is.now c.args.rid owners forests ready.stands c.requires.no_indexes apart has.slots has.lies took
+    (c.in_ok-take_row.ensures.makes owners forests ready c.args.was.now has.slots has.lies) c.place_row.new.ext _ c.place_row.new.pages to put (makes took.owners_now took.forests_now then)))
     c.place_row.ensures.places c.place_row.ensures.makes
 
 pub returns-clause-stay : goal.returns-clause-stay
@@ -151,34 +135,15 @@ pub returns-then-are_of_one_cell-clause-stands_for : goal.returns-then-are_of_on
 returns-then-are_of_one_cell-clause-stands_for g c owners forests ready has between db stands =
     let ext = c.args.ext.now in
     let old = c.args.pages.now in
-    let new = c.overwrite_row.new.pages in
     let def = c.args.def.now in
-    let cell = c.are_of_one_cell.ensures.0 c.if-are_of_one_cell.true in
     let runs = c.in_ok-overwrite_row.ensures.runs in
-    database_changed g.P.Pages ext ext _ old new def owners forests ready.stands (touches_wider runs.touches (λ p mine. in_space g.P.Pages ext old def p mine)) runs.works.no_shorter between db stands
-    c.args.was.now c.args.is.now c.args.rid c.args.rid
-    (stays g.P.Pages ext _ old new def c.args.was.now c.args.is.now c.args.rid owners forests ready.stands cell
-    (c.in_ok-overwrite_row.ensures.overwrites owners forests c.args.was.now ready (record { slots = has.slots; lies = has.lies; one_cell = cell })))
-    c.requires.number
+    database_changed g.P.Pages ext ext _ old c.overwrite_row.new.pages def owners forests ready.stands (touches_wider runs.touches (λ p mine. in_space g.P.Pages ext old def p mine)) runs.works.no_shorter between db stands
+    c.args.was.now c.args.is.now c.args.rid c.args.rid (returns-then-are_of_one_cell-clause-changes g c owners forests ready has) c.requires.number
 
 pub returns-clause-stands_for : goal.returns-clause-stands_for
 returns-clause-stands_for g c =
-    IfOk-weaker c.place_row.result _ _ (λ to places owners forests ready has between db stands.
-    let before = c.args.ext.now in
-    let mid = c.take_row.new.ext in
-    let old = c.args.pages.now in
-    let middle = c.take_row.new.pages in
-    let def = c.args.def.now in
-    let out = c.in_ok-take_row.ensures.takes owners forests ready in
-    let took = took_this g.P.Pages before mid old middle def owners forests ready.stands _ c.args.was.now out.0 c.args.rid has out.1 in
-    let then = ready_then g.P.Pages before mid _ _ old middle def c.args.was.now c.args.rid owners forests ready took in
-    let runs =
-    runs_left g.P.Pages before mid old middle c.place_row.new.pages def c.args.rid c.args.was.now _ (store_fault_in store_part_of c.place_row.result) c.take_row.ensures.shape
-    (λ owners forests st. let left = c.in_ok-take_row.ensures.leaves owners forests st in record { owners_now = left.0; forests_now = left.1; changes = left.2 })
-    c.in_ok-take_row.ensures.runs c.place_row.ensures.runs in
-    database_changed g.P.Pages before c.place_row.new.ext _ old c.place_row.new.pages def owners forests ready.stands runs.touches runs.works.no_shorter between db stands c.args.was.now c.args.is.now c.args.rid to
-    (moves g.P.Pages before mid _ _ old middle def c.args.was.now c.args.rid owners forests ready took c.place_row.new.ext _ c.place_row.new.pages c.args.is.now to
-    (places took.owners_now took.forests_now then) c.requires.defined (λ cell. let yes = c.are_of_one_cell.ensures.1 cell in let no = c.if-are_of_one_cell.false in cc)
-    c.take_row.ensures.count c.place_row.ensures.runs.works.no_shorter)
-    c.requires.number)
-    c.place_row.ensures.places
+    IfOk-weaker c.place_row.result _ _ (λ to changes owners forests ready has between db stands.
+    let runs = returns-clause-runs g c in
+    database_changed g.P.Pages c.args.ext.now c.place_row.new.ext _ c.args.pages.now c.place_row.new.pages c.args.def.now owners forests ready.stands runs.touches runs.works.no_shorter between db stands
+    c.args.was.now c.args.is.now c.args.rid to (changes owners forests ready has) c.requires.number)
+    (returns-clause-changes g c)
