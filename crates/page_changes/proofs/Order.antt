@@ -1,5 +1,5 @@
 -- Pages in the order of their numbers.
-use Rattle.std.proofs.Common.{◌≡◌, ◌≢◌, ◌<◌, ◌≤◌, ◌+◌, ℕ, zero, suc, List, [], ◌∷◌, length, set, get_or, map, Option, Some, None, nat_eq, true, false, slice_get, refl, sym, ap, subst, ◌∙◌, inl, inr, arith}
+use Rattle.std.proofs.Common.{◌≡◌, ◌≢◌, ◌<◌, ◌≤◌, ◌+◌, ◌-◌, ℕ, zero, suc, List, [], ◌∷◌, length, set, get_or, map, Option, Some, None, nat_eq, true, false, slice_get, refl, sym, ap, subst, ◌∙◌, inl, inr, arith}
 use Rattle.std.specs.Cmp.{nat_eq_equiv}
 use Rattle.std.specs.List.{All, IsDistinct}
 use Rattle.std.specs.List.Sorted.{IsPermutation, IsNonDecreasingBy}
@@ -31,6 +31,25 @@ pub rising_next : (entries : List Boxed) → ((k : ℕ) (d : Boxed) → suc k < 
 rising_next [] next = tt
 rising_next (e ∷ entries) next =
     (above_all e.0 entries (λ d lt. next 0 d (omega arith)) (λ k d lt. next (suc k) d (omega arith)), rising_next entries (λ k d lt. next (suc k) d (omega arith)))
+
+-- of pages that rise, each number is below the next
+next_rising : (entries : List Boxed) (k : ℕ) (one other : Boxed) → AreRising (unboxed entries) → suc k < length entries → (get_or entries k one).0 < (get_or entries (suc k) other).0
+next_rising [] k one other rising lt = absurd (omega arith)
+next_rising (e ∷ []) k one other rising lt = absurd (omega arith)
+next_rising (e ∷ f ∷ entries) zero one other rising lt = rising.0 0 (f.0, f.1.value) (omega arith)
+next_rising (e ∷ f ∷ entries) (suc k) one other rising lt = next_rising (f ∷ entries) k one other rising.1 (omega arith)
+
+-- pages don't rise where a number isn't below the next
+pub not_rising : (entries : List Boxed) (i : ℕ) (one other : Boxed) → 1 ≤ i → i < length entries → one ≡ get_or entries (i - 1) one → other ≡ get_or entries i other
+    → other.0 ≤ one.0 → AreRising (unboxed entries) → ⊥
+not_rising entries zero one other from_one lt here next most rising = omega arith
+not_rising entries (suc k) one other from_one lt here next most rising =
+    let before : suc k - 1 ≡ k = omega arith in
+    let at : one ≡ get_or entries k one = subst (λ (j : ℕ). one ≡ get_or entries j one) before here in
+    let less : (get_or entries k one).0 < (get_or entries (suc k) other).0 = next_rising entries k one other rising lt in
+    let first : one.0 ≡ (get_or entries k one).0 = ap (λ (e : Boxed). e.0) at in
+    let second : other.0 ≡ (get_or entries (suc k) other).0 = ap (λ (e : Boxed). e.0) next in
+    omega (arith, less, first, second, most)
 
 -- the same, as a loop tells it
 pub rising_entries : (entries : List Boxed) → ((k : ℕ) (d : Boxed) → k + 1 < length entries → (get_or entries k d).0 < (get_or entries (k + 1) d).0) → AreRising (unboxed entries)

@@ -1,5 +1,5 @@
 -- What `Changes` is seen as.
-use Rattle.std.specs.Prelude.{◌≡◌, ◌⊎◌, ◌++◌, ◌∷◌, [], false, ◌≤◌, ◌+◌, ◌-◌, ℕ, Bool, true, ◌||◌, List, Option, Some, None, IsSome, is_some, map, take, length, nat_eq, nat_le, if◌then◌else◌}
+use Rattle.std.specs.Prelude.{◌≡◌, ◌⊎◌, ◌++◌, ◌∷◌, [], false, ◌≤◌, ◌+◌, ◌-◌, ℕ, Bool, true, ◌||◌, List, Option, Some, None, IsSome, is_some, take, length, nat_eq, nat_le, if◌then◌else◌}
 use Rattle.mdc_words.specs.Listed.{listed}
 use Rattle.std.specs.Map.{lookup}
 use Rattle.std.specs.Option.{option_map, option_or, ForSome}

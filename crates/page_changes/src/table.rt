@@ -1,5 +1,5 @@
 // Pages in memory under their numbers, each found in one step.
-ghost use Rattle.std.specs.Prelude.{◌≡◌, ◌<◌, ◌++◌, ◌∷◌, [], ℕ, List, Some, None, nat_eq, length, take, slice_get, slice_index_or, vec_len, OnOk, OnErr, IsTrue};
+ghost use Rattle.std.specs.Prelude.{◌≡◌, ◌↔◌, ◌<◌, ◌++◌, ◌∷◌, [], ℕ, List, Some, None, nat_eq, length, take, slice_get, slice_index_or, vec_len, OnOk, OnErr, IsTrue};
 ghost use Rattle.std.specs.Option.{option_copied};
 ghost use Rattle.std.specs.List.{All, IsDistinct};
 ghost use Rattle.std.specs.Borrow.{sem};
@@ -144,7 +144,7 @@ impl PageTable {
 
     // Whether the pages are in the order of their numbers.
     fn is_rising(&self) -> bool
-        ensures { IsTrue result → AreRising self.now }
+        ensures { IsTrue result ↔ AreRising self.now }
     {
         for i in 1..self.pages.len() {
             if self.pages[i - 1].0 >= self.pages[i].0 {
