@@ -1,0 +1,60 @@
+-- A row of a DELETE that goes out behind others: what the call that takes it out says, as seen from before the first row.
+use Rattle.std.proofs.Common.{◌≡◌, ℕ, List, ◌∷◌, None, map, refl, subst}
+use Rattle.std.specs.Prelude.{Option}
+use Rattle.mdc_words.specs.ByteOrder.{Entry}
+use Rattle.mdc_ast.specs.declared.definition.TableDef.{TableDef}
+use Rattle.mdc_ast.specs.meaning.Database.{Database, changed_at}
+use Rattle.store_api.specs.Frame.{Touches}
+use Rattle.store_api.specs.RunsOverPages.{RunsOverPages}
+use Rattle.store_api.specs.Works.{Works}
+use Rattle.store_api.specs.declared.fault.StoreFault.{StoreFault}
+use Rattle.store_api.specs.declared.pages.Pages.{Ghosts}
+use Rattle.extent_map.specs.Owners.{IsSameShape}
+use Rattle.extent_map.specs.declared.extents.Extents.{Extents}
+use Rattle.extent_map.specs.declared.kind.Kind.{Kind}
+use Rattle.block_rows.specs.HeldRows.{placed_row}
+use Rattle.block_rows.specs.declared.hit.Hit.{Hit}
+use Rattle.mdc_sound.specs.SoundDatabase.{IsSoundBetweenChanges, with_table_page}
+use Rattle.mdc_sound.specs.StandingTable.{BreaksExpected, IsReadyTable, IsTableOrMapPage, TableForests, pages_of}
+use Rattle.mdc_sound.specs.StandsForDatabase.{PagesStandFor, without_row}
+use Rattle.cell_change.specs.RowChanges.{DeletesRow, HasThisRow}
+use Rattle.statement_rows.specs.RowsOfStatement.{AnyPage, BreaksReady, HasTheseRows, IsReadyBetween}
+use Rattle.statement_rows.proofs.DeletingRowsLemmas.{DeletesOn, deletes_more}
+use Rattle.statement_rows.proofs.RowDamageLemmas.{runs_on_rows}
+
+module _ {S : Type 0} (g : Ghosts S) (before mid : Extents) (room_from room_mid : Entry → ℕ) (old middle : S) (def : TableDef) (hits items : List Hit) (hit : Hit) (rest : List Hit) (split : items ≡ hit ∷ rest)
+    (leads : (owners : List Kind) (forests : TableForests) → IsReadyBetween g before room_from old def owners forests → HasTheseRows g before old def (map placed_row hits) owners forests
+    → DeletesOn g before mid room_mid old middle def hits items owners forests) where
+  -- the rest begins with the row
+  leads_here : (owners : List Kind) (forests : TableForests) → IsReadyBetween g before room_from old def owners forests → HasTheseRows g before old def (map placed_row hits) owners forests
+      → DeletesOn g before mid room_mid old middle def hits (hit ∷ rest) owners forests
+  leads_here owners forests ready has = subst (λ all. DeletesOn g before mid room_mid old middle def hits all owners forests) split (leads owners forests ready has)
+
+  pub row_out : (next : Extents) (room_next : Entry → ℕ) (new : S)
+      → ((owners : List Kind) (forests : TableForests) → IsReadyTable g mid room_mid middle def owners forests → HasThisRow g mid middle def hit.rid hit.row owners forests
+      → DeletesRow g mid next room_next middle new def hit.row hit.rid owners forests)
+      → ((owners : List Kind) (forests : TableForests) → IsReadyTable g mid room_mid middle def owners forests → HasThisRow g mid middle def hit.rid hit.row owners forests
+      → IsSoundBetweenChanges mid def (pages_of g middle) → IsSoundBetweenChanges next def (pages_of g new))
+      → ((owners : List Kind) (forests : TableForests) → IsReadyTable g mid room_mid middle def owners forests → HasThisRow g mid middle def hit.rid hit.row owners forests
+      → IsSoundBetweenChanges mid def (pages_of g middle) → (db : Database) → PagesStandFor mid (with_table_page def (pages_of g middle)) db
+      → PagesStandFor next (with_table_page def (pages_of g new)) (changed_at db def.number (without_row hit.row.number)))
+      → Works g middle new → Touches g (IsTableOrMapPage g mid middle def) middle new
+      → (owners : List Kind) (forests : TableForests) → IsReadyBetween g before room_from old def owners forests → HasTheseRows g before old def (map placed_row hits) owners forests
+      → DeletesOn g before next room_next old new def hits rest owners forests
+  row_out next room_next new deletes sound stands_for works touches owners forests ready has =
+      let on = leads_here owners forests ready has in
+      let here = on.rows.ready in
+      let now = on.rows.owners_now in
+      let trees = on.rows.forests_now in
+      let this = on.has.each.0 in
+      deletes_more g before mid next room_mid room_next old middle new def hits hit rest owners forests on (deletes now trees here.ready this) works touches (sound now trees here.ready this here.sound)
+      (stands_for now trees here.ready this here.sound)
+
+  pub row_out_run : (new : S) (fault : Option StoreFault) → IsSameShape before mid
+      → RunsOverPages g AnyPage AnyPage (BreaksReady g before room_from old def (HasTheseRows g before old def (map placed_row hits))) old middle None
+      → RunsOverPages g (IsTableOrMapPage g mid middle def) (IsTableOrMapPage g mid middle def) (BreaksExpected g mid middle def (HasThisRow g mid middle def hit.rid hit.row)) middle new fault
+      → RunsOverPages g AnyPage AnyPage (BreaksReady g before room_from old def (HasTheseRows g before old def (map placed_row hits))) old new fault
+  row_out_run new fault shape first second =
+      runs_on_rows g before mid room_from old middle def def def.next refl shape (HasTheseRows g before old def (map placed_row hits)) (HasThisRow g mid middle def hit.rid hit.row)
+      (λ owners forests ready has. let on = leads_here owners forests ready has in (on.rows.owners_now, on.rows.forests_now, on.rows.ready.ready.stands, on.has.each.0))
+      first second

@@ -1,0 +1,11 @@
+pub mod DeletingRowsLemmas
+pub mod DeletingStepsLemmas
+pub mod InsertingRowsLemmas
+pub mod InsertingStepsLemmas
+pub mod OtherRowsLemmas
+pub mod RowDamageLemmas
+pub mod RowsThenLemmas
+pub mod ShownSpotsLemmas
+pub mod TablePagesLemmas
+pub mod TurningRowsLemmas
+pub mod TurningStepsLemmas

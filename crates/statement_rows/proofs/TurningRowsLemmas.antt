@@ -1,0 +1,176 @@
+-- Rows that become others one after the other: what one of them and the rest make, and when the rest runs full.
+use Rattle.std.proofs.Common.{◌≡◌, ◌<◌, ℕ, zero, suc, List, [], ◌∷◌, ◌++◌, length, get_or, map, refl, ap, arith, subst}
+use Rattle.std.specs.Prelude.{AllPairs}
+use Rattle.std.proofs.lemmas.List.{length-map}
+use Rattle.mdc_words.specs.ByteOrder.{Entry}
+use Rattle.mdc_values.specs.declared.rid.Rid.{Rid}
+use Rattle.mdc_ast.specs.declared.definition.TableDef.{TableDef}
+use Rattle.mdc_ast.specs.declared.row.Row.{Row}
+use Rattle.mdc_ast.specs.meaning.Database.{Database, changed_at}
+use Rattle.store_api.specs.Frame.{Touches}
+use Rattle.store_api.specs.Works.{Works}
+use Rattle.store_api.specs.declared.pages.Pages.{Ghosts}
+use Rattle.extent_map.specs.declared.extents.Extents.{Extents}
+use Rattle.extent_map.specs.declared.kind.Kind.{Kind}
+use Rattle.table_trees.specs.SpaceChanges.{SpaceChange}
+use Rattle.table_trees.proofs.SpaceChainsLemmas.{full_shaped, full_then}
+use Rattle.table_trees.specs.ToldPages.{PageList}
+use Rattle.mdc_sound.specs.Placing.{ChangesRows, Spot, block_slot_count}
+use Rattle.mdc_sound.specs.RunningFull.{UpdateRunsFull, UpdatingChanges}
+use Rattle.mdc_sound.specs.SoundDatabase.{IsSoundBetweenChanges, with_table_page}
+use Rattle.mdc_sound.specs.StandingTable.{IsTableSpace, TableForests, pages_of, spots_of}
+use Rattle.mdc_sound.specs.StandsForDatabase.{PagesStandFor, with_row}
+use Rattle.mdc_sound.specs.TableRows.{PlacedRow}
+use Rattle.cell_change.specs.RowChanges.{ChangesOneRow}
+use Rattle.cell_change.proofs.ChangedRowLemmas.{slots_same}
+use Rattle.cell_change.proofs.ChangedSpaceLemmas.{shows_spots}
+use Rattle.cell_change.proofs.TableStepsLemmas.{turns_no_block}
+use Rattle.statement_rows.specs.RowsOfStatement.{ChangesRowsOf, HasTheseRows, IsReadyBetween, with_rows}
+use Rattle.statement_rows.specs.Turning.{turned_row}
+use Rattle.statement_rows.specs.declared.changing.Turned.{Turned}
+use Rattle.statement_rows.proofs.OtherRowsLemmas.{lies_after_claims, lies_turned, rows_behind}
+use Rattle.statement_rows.proofs.RowsThenLemmas.{RowsLeadOn, leads_all, leads_more, leads_none}
+use Rattle.statement_rows.proofs.ShownSpotsLemmas.{shown_spots}
+use Rattle.statement_rows.proofs.TablePagesLemmas.{table_pages_kept}
+
+-- where the rows lie that become others
+abbrev pub places_of : List Turned → List PlacedRow
+places_of turned = map (λ (one : Turned). (turned_row one).0) turned
+
+-- the rows that they become
+abbrev pub rows_of_turned : List Turned → List Row
+rows_of_turned turned = map (λ (one : Turned). one.row) turned
+
+-- ---- running full
+
+-- the changes of some rows are those of these and more rows, up to a row in the middle
+pub updating_more : {def : TableDef} {n : ℕ} {spots : List Spot} {rows : List (PlacedRow × Row)} {changes : List SpaceChange} (more : List (PlacedRow × Row)) → UpdatingChanges def n spots rows changes
+    → UpdatingChanges def n spots (rows ++ more) changes
+updating_more more UpdatingChanges.none = UpdatingChanges.none
+updating_more more (UpdatingChanges.stays cell turns claims rest) = UpdatingChanges.stays cell turns claims (updating_more more rest)
+updating_more more (UpdatingChanges.moves free apart lies takes returns puts claims rest) = UpdatingChanges.moves free apart lies takes returns puts claims (updating_more more rest)
+updating_more more (UpdatingChanges.stuck free apart lies takes returns no_spot) = UpdatingChanges.stuck free apart lies takes returns no_spot
+
+-- rows whose places are given by rising number rise
+rising_turned : (all : List Turned) → AllPairs (λ a b. a.row.number < b.row.number) (places_of all) → AllPairs (λ a b. a.0.row.number < b.0.row.number) (map turned_row all)
+rising_turned all rising i j d less low =
+    let long : length (map turned_row all) ≡ length all = length-map all turned_row in
+    let short : length (places_of all) ≡ length all = length-map all (λ (one : Turned). (turned_row one).0) in
+    let below = rising i j d.0 less (omega (arith, low, long, short)) in
+    let first : get_or (places_of all) i d.0 ≡ (get_or (map turned_row all) i d).0 = place_at all i d in
+    let second : get_or (places_of all) j d.0 ≡ (get_or (map turned_row all) j d).0 = place_at all j d in
+    omega (arith, below, ap (λ (placed : PlacedRow). placed.row.number) first, ap (λ (placed : PlacedRow). placed.row.number) second)
+  where
+    place_at : (list : List Turned) (k : ℕ) (e : PlacedRow × Row) → get_or (places_of list) k e.0 ≡ (get_or (map turned_row list) k e).0
+    place_at [] k e = refl
+    place_at (one ∷ list) zero e = refl
+    place_at (one ∷ list) (suc k) e = place_at list k e
+
+-- an UPDATE that runs full with its first row
+pub full_at_first : (ext : Extents) (pages : PageList) (def : TableDef) (one : Turned) (rest : List Turned) → AllPairs (λ a b. a.row.number < b.row.number) (places_of (one ∷ rest))
+    → UpdateRunsFull ext pages def (turned_row one ∷ []) → UpdateRunsFull ext pages def (map turned_row (one ∷ rest))
+full_at_first ext pages def one rest rising full = record {
+  spots = full.spots;
+  changes = full.changes;
+  shows = full.shows;
+  rising = rising_turned (one ∷ rest) rising;
+  updating = updating_more (map turned_row rest) full.updating;
+  full = full.full;
+}
+
+-- ---- one row
+
+module _ {S : Type 0} (g : Ghosts S) (before now : Extents) (room_from room_now : Entry → ℕ) (old new : S) (def : TableDef) (one : Turned) (to : Rid) (owners : List Kind) (forests : TableForests)
+    (ready : IsReadyBetween g before room_from old def owners forests) (turns : ChangesOneRow g before now room_now old new def one.hit.row one.row one.hit.rid to owners forests) where
+  abbrev pub one_turned : Works g old new → Touches g (IsTableSpace g before old def) old new → IsSoundBetweenChanges now def (pages_of g new)
+      → ((db : Database) → PagesStandFor before (with_table_page def (pages_of g old)) db → PagesStandFor now (with_table_page def (pages_of g new)) (changed_at db def.number (with_row one.row)))
+      → ChangesRowsOf g before now room_now old new def def owners forests (λ was is. ChangesRows def (block_slot_count before def) was (turned_row one ∷ []) is) (with_row one.row)
+  one_turned works touches sound stands_for = record {
+    owners_now = turns.owners_now;
+    forests_now = turns.forests_now;
+    changes = turns.changes;
+    now = record { ready = record { stands = turns.changes.stands; notes = turns.changes.notes ready.ready.notes; rooms = turns.rooms }; sound = sound };
+    places = ChangesRows.one to turns.turns turns.claims ChangesRows.none;
+    stands_for = stands_for;
+    table_pages = table_pages_kept g before old new def owners forests ready.ready.stands works touches;
+  }
+
+  -- blocks have as many slots
+  slots_now : block_slot_count now def ≡ block_slot_count before def
+  slots_now = slots_same before now def turns.changes.shape
+
+  -- the rows behind it become others as well
+  pub turns_then : (rows : List (PlacedRow × Row)) (was between is : List Spot) → ChangesRows def (block_slot_count before def) was (turned_row one ∷ []) between → ChangesRows def (block_slot_count now def) between rows is
+      → ChangesRows def (block_slot_count before def) was (turned_row one ∷ rows) is
+  turns_then rows was between is (ChangesRows.one at turned claims ChangesRows.none) rest = ChangesRows.one at turned claims (subst (λ n. ChangesRows def n between rows is) slots_now rest)
+
+  -- they lie where they lay
+  pub rows_stay : (rows : List PlacedRow) → HasTheseRows g before old def ((turned_row one).0 ∷ rows) owners forests → HasTheseRows g now new def rows turns.owners_now turns.forests_now
+  rows_stay rows =
+      rows_behind g before now old new def owners turns.owners_now forests turns.forests_now (turned_row one).0 rows
+      (λ at row apart lies.
+      lies_after_claims turns.mid (spots_of g now new def turns.owners_now turns.forests_now) at row turns.claims
+      (lies_turned def (block_slot_count before def) (spots_of g before old def owners forests) turns.mid one.hit.rid at to one.hit.row one.row row turns.turns apart lies))
+
+  -- where the rest runs full, all do
+  pub full_behind : (rest : List Turned) → AllPairs (λ a b. a.row.number < b.row.number) (places_of (one ∷ rest)) → UpdateRunsFull now (pages_of g new) def (map turned_row rest)
+      → UpdateRunsFull before (pages_of g old) def (map turned_row (one ∷ rest))
+  full_behind rest rising full =
+      let later = spots_of g now new def turns.owners_now turns.forests_now in
+      let rows = map turned_row rest in
+      let same : full.spots ≡ later = shown_spots g now new def turns.owners_now turns.forests_now full.spots turns.changes.stands full.shows in
+      let updating : UpdatingChanges def (block_slot_count before def) later rows full.changes =
+      subst (λ n. UpdatingChanges def n later rows full.changes) slots_now (subst (λ all. UpdatingChanges def (block_slot_count now def) all rows full.changes) same full.updating) in
+      record {
+        spots = spots_of g before old def owners forests;
+        changes = turns.space.front ++ full.changes;
+        shows = shows_spots g before old def owners forests ready.ready.stands;
+        rising = rising_turned (one ∷ rest) rising;
+        updating = turns.space.goes_on rows full.changes updating;
+        full = full_then before (pages_of g old) (pages_of g new) turns.space.front full.changes turns.space.makes (full_shaped before now (pages_of g new) full.changes turns.changes.shape full.full);
+      }
+
+-- ---- rows so far, and the rest
+
+module _ {S : Type 0} (g : Ghosts S) where
+  -- Rows became others, and so the table is ready for the rest of these, which lie where they lay. With these all become others,
+  -- and where they run full, all do.
+  pub record TurnsOn (before now : Extents) (room_now : Entry → ℕ) (old mid : S) (def : TableDef) (all rest : List Turned) (owners : List Kind) (forests : TableForests) : Type 0 where
+    pub rows : RowsLeadOn g before now room_now old mid def def owners forests (λ was is. ChangesRows def (block_slot_count now def) was (map turned_row rest) is)
+        (λ was is. ChangesRows def (block_slot_count before def) was (map turned_row all) is) (with_rows (rows_of_turned rest)) (with_rows (rows_of_turned all))
+    pub has : HasTheseRows g now mid def (places_of rest) rows.owners_now rows.forests_now
+    pub full_on : UpdateRunsFull now (pages_of g mid) def (map turned_row rest) → UpdateRunsFull before (pages_of g old) def (map turned_row all)
+
+  pub turns_none : (ext : Extents) (room_from : Entry → ℕ) (s : S) (def : TableDef) (all : List Turned) (owners : List Kind) (forests : TableForests) → IsReadyBetween g ext room_from s def owners forests
+      → HasTheseRows g ext s def (places_of all) owners forests → TurnsOn ext ext room_from s s def all all owners forests
+  turns_none ext room_from s def all owners forests ready has = record {
+    rows = leads_none g ext room_from s def owners forests (λ was is. ChangesRows def (block_slot_count ext def) was (map turned_row all) is) (with_rows (rows_of_turned all)) ready;
+    has = has;
+    full_on = λ full. full;
+  }
+
+  pub turns_all : (before now : Extents) (room_now : Entry → ℕ) (old new : S) (def : TableDef) (all : List Turned) (owners : List Kind) (forests : TableForests) → TurnsOn before now room_now old new def all [] owners forests
+      → ChangesRowsOf g before now room_now old new def def owners forests (λ was is. ChangesRows def (block_slot_count before def) was (map turned_row all) is) (with_rows (rows_of_turned all))
+  turns_all before now room_now old new def all owners forests on =
+      leads_all g before now room_now old new def def owners forests (λ was is. ChangesRows def (block_slot_count now def) was [] is) (λ was is. ChangesRows def (block_slot_count before def) was (map turned_row all) is)
+      (with_rows []) (with_rows (rows_of_turned all)) on.rows (λ spots. ChangesRows.none) (λ table. refl)
+
+  pub turns_more : (before mid next : Extents) (room_mid room_next : Entry → ℕ) (old middle new : S) (def : TableDef) (all : List Turned) (one : Turned) (rest : List Turned) (to : Rid) (owners : List Kind) (forests : TableForests)
+      (on : TurnsOn before mid room_mid old middle def all (one ∷ rest) owners forests) → ChangesOneRow g mid next room_next middle new def one.hit.row one.row one.hit.rid to on.rows.owners_now on.rows.forests_now
+      → Works g middle new → Touches g (IsTableSpace g mid middle def) middle new → IsSoundBetweenChanges next def (pages_of g new)
+      → ((db : Database) → PagesStandFor mid (with_table_page def (pages_of g middle)) db → PagesStandFor next (with_table_page def (pages_of g new)) (changed_at db def.number (with_row one.row)))
+      → TurnsOn before next room_next old new def all rest owners forests
+  turns_more before mid next room_mid room_next old middle new def all one rest to owners forests on turns works touches sound stands_for =
+      let now = on.rows.owners_now in
+      let trees = on.rows.forests_now in
+      let ready = on.rows.ready in
+      record {
+        rows = leads_more g before mid next room_mid room_next old middle new def def def.next owners forests (λ was is. ChangesRows def (block_slot_count mid def) was (turned_row one ∷ []) is)
+            (λ was is. ChangesRows def (block_slot_count mid def) was (map turned_row (one ∷ rest)) is) (λ was is. ChangesRows def (block_slot_count next def) was (map turned_row rest) is)
+            (λ was is. ChangesRows def (block_slot_count before def) was (map turned_row all) is) (with_row one.row) (with_rows (rows_of_turned (one ∷ rest))) (with_rows (rows_of_turned rest))
+            (with_rows (rows_of_turned all)) on.rows (one_turned g mid next room_mid room_next middle new def one to now trees ready turns works touches sound stands_for)
+            (turns_then g mid next room_mid room_next middle new def one to now trees ready turns (map turned_row rest))
+            (turns_no_block g mid next middle new def now trees room_next one.hit.row one.row one.hit.rid to ready.ready.stands turns) (λ table. refl) works.no_shorter;
+        has = rows_stay g mid next room_mid room_next middle new def one to now trees ready turns (places_of rest) on.has;
+        full_on = λ full. on.full_on (full_behind g mid next room_mid room_next middle new def one to now trees ready turns rest on.has.rising full);
+      }

@@ -1,0 +1,105 @@
+-- The loop that makes rows others, one after the other: what it keeps, and what each of its exits says.
+use Rattle.std.proofs.Common.{◌≡◌, ◌<◌, ◌+◌, ℕ, List, [], ◌∷◌, None, length, map, drop, get_or, refl, ◌∙◌, subst}
+use Rattle.std.specs.Prelude.{Option}
+use Rattle.mdc_words.specs.ByteOrder.{Entry}
+use Rattle.mdc_values.specs.declared.rid.Rid.{Rid}
+use Rattle.mdc_ast.specs.declared.definition.TableDef.{TableDef}
+use Rattle.mdc_ast.specs.meaning.Database.{Database, changed_at}
+use Rattle.store_api.specs.RunsOverPages.{RunsOverPages}
+use Rattle.store_api.specs.declared.fault.StoreFault.{StoreFault}
+use Rattle.store_api.specs.declared.pages.Pages.{Ghosts}
+use Rattle.store_api.proofs.RunsOverPagesLemmas.{runs_none}
+use Rattle.extent_map.specs.Damages.{IfFull}
+use Rattle.extent_map.specs.Owners.{IsSameShape}
+use Rattle.extent_map.specs.declared.extents.Extents.{Extents}
+use Rattle.extent_map.specs.declared.fault.SpaceFault.{SpaceFault}
+use Rattle.extent_map.specs.declared.kind.Kind.{Kind}
+use Rattle.entry_tree.proofs.ClaimsLemmas.{shape_none, shape_then}
+use Rattle.mdc_sound.specs.Placing.{ChangesRows, block_slot_count}
+use Rattle.mdc_sound.specs.RunningFull.{UpdateRunsFull}
+use Rattle.mdc_sound.specs.SoundDatabase.{IsSoundBetweenChanges, with_table_page}
+use Rattle.mdc_sound.specs.StandingTable.{BreaksExpected, IsReadyTable, IsTableSpace, TableForests, pages_of}
+use Rattle.mdc_sound.specs.StandsForDatabase.{PagesStandFor, with_row}
+use Rattle.cell_change.specs.RowChanges.{ChangesOneRow, HasThisRow, row_in_place}
+use Rattle.cell_change.proofs.ChangedRowLemmas.{full_as}
+use Rattle.statement_rows.specs.RowsOfStatement.{AnyPage, BreaksReady, ChangesRowsOf, HasTheseRows, IsReadyBetween, with_rows}
+use Rattle.statement_rows.specs.Turning.{turned_row}
+use Rattle.statement_rows.specs.declared.changing.Turned.{Turned}
+use Rattle.statement_rows.proofs.RowDamageLemmas.{runs_on_rows}
+use Rattle.statement_rows.proofs.RowsThenLemmas.{rest_at}
+use Rattle.statement_rows.proofs.TurningRowsLemmas.{TurnsOn, full_at_first, places_of, rows_of_turned, turns_all, turns_more, turns_none}
+
+module _ {S : Type 0} (g : Ghosts S) (before : Extents) (room_from : Entry → ℕ) (old : S) (def : TableDef) (all : List Turned) where
+  -- that all the rows lie where they are said to
+  abbrev pub HasAll : List Kind → TableForests → Type 0
+  HasAll = HasTheseRows g before old def (places_of all)
+
+  -- The rest of the rows is still to become others, and nothing failed so far.
+  pub record IsTurning (ext : Extents) (room_now : Entry → ℕ) (s : S) (rest : List Turned) : Type 0 where
+    pub shape : IsSameShape before ext
+    pub runs : RunsOverPages g AnyPage AnyPage (BreaksReady g before room_from old def HasAll) old s None
+    pub turns : (owners : List Kind) (forests : TableForests) → IsReadyBetween g before room_from old def owners forests → HasAll owners forests → TurnsOn g before ext room_now old s def all rest owners forests
+
+  pub turning_begins : IsTurning before room_from old all
+  turning_begins = record {
+    shape = shape_none before;
+    runs = runs_none;
+    turns = λ owners forests ready has. turns_none g before room_from old def all owners forests ready has;
+  }
+
+  pub turning_ends : (ext : Extents) (room_now : Entry → ℕ) (s : S) (rest : List Turned) → IsTurning ext room_now s rest → rest ≡ [] → (owners : List Kind) (forests : TableForests)
+      → IsReadyBetween g before room_from old def owners forests → HasAll owners forests
+      → ChangesRowsOf g before ext room_now old s def def owners forests (λ was is. ChangesRows def (block_slot_count before def) was (map turned_row all) is) (with_rows (rows_of_turned all))
+  turning_ends ext room_now s rest turning none owners forests ready has =
+      turns_all g before ext room_now old s def all owners forests (subst (λ list. TurnsOn g before ext room_now old s def all list owners forests) none (turning.turns owners forests ready has))
+
+  -- the next row is the first of the rest
+  pub turning_at : (ext : Extents) (room_now : Entry → ℕ) (s : S) (i : ℕ) (one : Turned) → IsTurning ext room_now s (drop i all) → i < length all → one ≡ get_or all i one → IsTurning ext room_now s (one ∷ drop (i + 1) all)
+  turning_at ext room_now s i one turning low is = subst (IsTurning ext room_now s) (rest_at all i one low is) turning
+
+  module _ (ext : Extents) (room_now : Entry → ℕ) (s : S) (one : Turned) (rest : List Turned) (turning : IsTurning ext room_now s (one ∷ rest)) where
+    -- the call that makes the next row another, behind all calls before it
+    pub runs_one : (new : S) (fault : Option StoreFault)
+        → RunsOverPages g (IsTableSpace g ext s def) (IsTableSpace g ext s def) (BreaksExpected g ext s def (HasThisRow g ext s def one.hit.rid one.hit.row)) s new fault
+        → RunsOverPages g AnyPage AnyPage (BreaksReady g before room_from old def HasAll) old new fault
+    runs_one new fault =
+        runs_on_rows g before ext room_from old s def def def.next refl turning.shape HasAll (HasThisRow g ext s def one.hit.rid one.hit.row)
+        (λ owners forests ready has. let on = turning.turns owners forests ready has in (on.rows.owners_now, on.rows.forests_now, on.rows.ready.ready.stands, on.has.each.0))
+        turning.runs
+
+    -- the next row has become another
+    pub turning_goes_on : (then : Extents) (room_then : Entry → ℕ) (new : S) (to : Rid) → IsSameShape ext then
+        → RunsOverPages g (IsTableSpace g ext s def) (IsTableSpace g ext s def) (BreaksExpected g ext s def (HasThisRow g ext s def one.hit.rid one.hit.row)) s new None
+        → ((owners : List Kind) (forests : TableForests) → IsReadyTable g ext room_now s def owners forests → HasThisRow g ext s def one.hit.rid one.hit.row owners forests
+        → ChangesOneRow g ext then room_then s new def one.hit.row one.row one.hit.rid to owners forests)
+        → ((owners : List Kind) (forests : TableForests) → IsReadyTable g ext room_now s def owners forests → HasThisRow g ext s def one.hit.rid one.hit.row owners forests
+        → IsSoundBetweenChanges ext def (pages_of g s) → IsSoundBetweenChanges then def (pages_of g new))
+        → ((owners : List Kind) (forests : TableForests) → IsReadyTable g ext room_now s def owners forests → HasThisRow g ext s def one.hit.rid one.hit.row owners forests
+        → IsSoundBetweenChanges ext def (pages_of g s) → (db : Database) → PagesStandFor ext (with_table_page def (pages_of g s)) db
+        → PagesStandFor then (with_table_page def (pages_of g new)) (changed_at db def.number (with_row one.row)))
+        → IsTurning then room_then new rest
+    turning_goes_on then room_then new to shape run changes sound stands_for = record {
+      shape = shape_then before ext then turning.shape shape;
+      runs = runs_one new None run;
+      turns = λ owners forests ready has.
+          let on = turning.turns owners forests ready has in
+          let now = on.rows.owners_now in
+          let trees = on.rows.forests_now in
+          let here = on.rows.ready in
+          let this = on.has.each.0 in
+          turns_more g before ext then room_now room_then old s new def all one rest to owners forests on (changes now trees here.ready this) run.works run.touches (sound now trees here.ready this here.sound)
+          (stands_for now trees here.ready this here.sound);
+    }
+
+    -- it runs full
+    pub full_at_one : (fault : SpaceFault)
+        → IfFull fault (λ cap. (cap ≡ ext.cap) × ((owners : List Kind) (forests : TableForests) → IsReadyTable g ext room_now s def owners forests → HasThisRow g ext s def one.hit.rid one.hit.row owners forests
+        → UpdateRunsFull ext (pages_of g s) def ((row_in_place one.hit.rid one.hit.row, one.row) ∷ [])))
+        → IfFull fault (λ cap. (cap ≡ before.cap) × ((owners : List Kind) (forests : TableForests) → IsReadyBetween g before room_from old def owners forests → HasAll owners forests
+        → UpdateRunsFull before (pages_of g old) def (map turned_row all)))
+    full_at_one fault = full_as fault _ _ (λ cap is. (
+      is.0 ∙ turning.shape.cap,
+      λ owners forests ready has.
+          let on = turning.turns owners forests ready has in
+          on.full_on (full_at_first ext (pages_of g s) def one rest on.has.rising (is.1 on.rows.owners_now on.rows.forests_now on.rows.ready.ready on.has.each.0)),
+    ))

@@ -1,0 +1,7 @@
+use Rattle.std.proofs.Common.{drop}
+use Rattle.cell_rooms.specs.RoomNotes.{room_from}
+use Rattle.statement_rows.proofs.TurningStepsLemmas.{IsTurning}
+use Rattle.statement_rows.proofs.changing.change_rows.Given as goal
+
+abbrev pub invariant-loop-one : goal.invariant-loop-one
+invariant-loop-one g l = IsTurning g.P.Pages l.fn.ext (room_from l.fn.rooms) l.fn.pages l.fn.def l.fn.turned l.ext (room_from l.rooms) l.pages (drop l.one-index l.turned)

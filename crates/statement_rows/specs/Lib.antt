@@ -1,0 +1,2 @@
+pub mod RowsOfStatement
+pub mod Turning

@@ -1,0 +1,80 @@
+-- What the rows of one statement make of a table: they are put, taken out or turned into others, one after the other.
+use Rattle.std.specs.Prelude.{◌≡◌, ◌<◌, ℕ, List, [], ◌∷◌, AllPairs}
+use Rattle.std.specs.List.{AllByRecursion}
+use Rattle.mdc_words.specs.ByteOrder.{Entry}
+use Rattle.mdc_ast.specs.declared.definition.TableDef.{TableDef}
+use Rattle.mdc_ast.specs.declared.row.Row.{Row}
+use Rattle.mdc_ast.specs.meaning.Database.{Database, PlainTable, changed_at}
+use Rattle.store_api.specs.declared.fault.Damage.{Damage}
+use Rattle.store_api.specs.declared.pages.Pages.{Ghosts}
+use Rattle.extent_map.specs.declared.extents.Extents.{Extents}
+use Rattle.extent_map.specs.declared.kind.Kind.{Kind}
+use Rattle.table_trees.specs.ToldPages.{PageList}
+use Rattle.mdc_sound.specs.Placing.{Spot}
+use Rattle.mdc_sound.specs.SoundDatabase.{IsSoundBetweenChanges, with_table_page}
+use Rattle.mdc_sound.specs.StandingTable.{ChangesTable, IsReadyTable, NamesTablePart, TableForests, pages_of, spots_of}
+use Rattle.mdc_sound.specs.StandsForDatabase.{PagesStandFor, with_row, without_row}
+use Rattle.mdc_sound.specs.TablePages.{table_page_at}
+use Rattle.mdc_sound.specs.TableRows.{PlacedRow}
+use Rattle.cell_change.specs.RowChanges.{HasThisRow}
+
+-- ---- before the statement
+
+-- The table is told to stand with right notes, and the pages are sound as they are between two changes of rows.
+pub record IsReadyBetween {S : Type 0} (g : Ghosts S) (ext : Extents) (room_from : Entry → ℕ) (s : S) (def : TableDef) (owners : List Kind) (forests : TableForests) : Type 0 where
+  pub ready : IsReadyTable g ext room_from s def owners forests
+  pub sound : IsSoundBetweenChanges ext def (pages_of g s)
+
+-- these rows lie in these places, by rising row number
+pub record HasTheseRows {S : Type 0} (g : Ghosts S) (ext : Extents) (s : S) (def : TableDef) (rows : List PlacedRow) (owners : List Kind) (forests : TableForests) : Type 0 where
+  pub each : AllByRecursion (λ placed. HasThisRow g ext s def placed.rid placed.row owners forests) rows
+  pub rising : AllPairs (λ a b. a.row.number < b.row.number) rows
+
+-- ---- after it
+
+-- the 16 table pages are as they were
+pub record KeepsTablePages (old new : PageList) : Type 0 where
+  pub each : (t : ℕ) → t < 16 → table_page_at new t ≡ table_page_at old t
+
+-- Rows of one table were changed one after the other. The table stands with right notes, the pages are sound as they are between
+-- two changes of rows, the table's blocks were changed as `Places` says, and whatever plain database the pages stood for, they
+-- stand for the one whose table is changed so. Table pages stay.
+pub record ChangesRowsOf {S : Type 0} (g : Ghosts S) (before ext : Extents) (room_from : Entry → ℕ) (old new : S) (def def_now : TableDef)
+    (owners : List Kind) (forests : TableForests) (Places : List Spot → List Spot → Type 0) (change : PlainTable → PlainTable) : Type 0 where
+  pub owners_now : List Kind
+  pub forests_now : TableForests
+  pub changes : ChangesTable g before ext old new def owners forests owners_now forests_now
+  pub now : IsReadyBetween g ext room_from new def_now owners_now forests_now
+  pub places : Places (spots_of g before old def owners forests) (spots_of g ext new def_now owners_now forests_now)
+  pub stands_for : (db : Database) → PagesStandFor before (with_table_page def (pages_of g old)) db
+      → PagesStandFor ext (with_table_page def_now (pages_of g new)) (changed_at db def.number change)
+  pub table_pages : KeepsTablePages (pages_of g old) (pages_of g new)
+
+-- ---- the plain table
+
+-- the table without the rows that these are
+abbrev pub without_rows : List Row → PlainTable → PlainTable
+without_rows [] table = table
+without_rows (row ∷ rows) table = without_rows rows (without_row row.number table)
+
+-- the table with these rows, each in the place of the one that has its number
+abbrev pub with_rows : List Row → PlainTable → PlainTable
+with_rows [] table = table
+with_rows (row ∷ rows) table = with_rows rows (with_row row table)
+
+-- ---- damage
+
+-- The damage is that of a part of the table, which wasn't told to stand with right notes in sound pages, with what is expected
+-- besides.
+pub record BreaksReady {S : Type 0} (g : Ghosts S) (ext : Extents) (room_from : Entry → ℕ) (s : S) (def : TableDef)
+    (Expected : List Kind → TableForests → Type 0) (damage : Damage) : Type 0 where
+  pub names : NamesTablePart ext def damage
+  pub broken : (owners : List Kind) (forests : TableForests) → IsReadyBetween g ext room_from s def owners forests → Expected owners forests → ⊥
+
+-- nothing is expected besides
+abbrev pub NothingMore : List Kind → TableForests → Type 0
+NothingMore owners forests = Unit {0}
+
+-- any page
+abbrev pub AnyPage : ℕ → Type 0
+AnyPage p = Unit {0}

@@ -1,0 +1,72 @@
+// The rows of an UPDATE.
+ghost use Rattle.std.specs.Prelude.{◌≡◌, [], List, false, map, IfErr, OnOk};
+ghost use Rattle.std.specs.List.{AllByRecursion};
+ghost use Rattle.store_api.specs.Causes.{store_fault_in};
+ghost use Rattle.store_api.specs.RunsOverPages.{RunsOverPages};
+ghost use Rattle.extent_map.specs.Damages.{IfFull, store_part_of};
+ghost use Rattle.extent_map.specs.Owners.{IsSameShape};
+ghost use Rattle.extent_map.specs.declared.kind.Kind.{Kind};
+ghost use Rattle.table_page.specs.TableLimits.{IsTableDef};
+ghost use Rattle.mdc_sound.specs.Placing.{ChangesRows, block_slot_count};
+ghost use Rattle.mdc_sound.specs.RunningFull.{UpdateRunsFull};
+ghost use Rattle.mdc_sound.specs.StandingTable.{TableForests, pages_of};
+ghost use Rattle.cell_rooms.specs.RoomNotes.{room_from};
+ghost use Rattle.statement_rows.specs.RowsOfStatement.{AnyPage, BreaksReady, ChangesRowsOf, HasTheseRows, IsReadyBetween, with_rows};
+ghost use Rattle.statement_rows.specs.Turning.{MayTurn, turned_row};
+
+use cell_change::change_row;
+use extent_map::{Extents, SpaceFault};
+use mdc_ast::{Row, TableDef};
+use mdc_table::{Hit, Rooms};
+use std::alloc::Global;
+use store_api::Pages;
+
+/// A row and where it lies, and the row that it becomes.
+#[derive(Debug, Drop)]
+pub struct Turned {
+    pub hit: Hit,
+    pub row: Row,
+}
+
+/// Makes rows others, by rising row number. Each of them was read, and becomes one that fits the definition and has its number.
+/// `Full` says that an UPDATE of them runs full. After a fault `undo` goes back to a mark, and the notes of the extents and of the
+/// rooms are to be forgotten.
+pub fn change_rows<P: Pages>(
+    alloc: Global,
+    def: &TableDef,
+    ext: &mut Extents,
+    rooms: &mut Rooms,
+    pages: &mut P,
+    turned: &[Turned],
+) -> Result<(), SpaceFault>
+    requires defined { IsTableDef def.now.number def.now }
+    requires no_indexes { def.now.indexes ≡ [] }
+    requires may { AllByRecursion (MayTurn def.now) turned.now }
+    requires going { (P.state pages.old).ended ≡ false }
+    ensures changes { OnOk result ((owners : List Kind) (forests : TableForests) → IsReadyBetween P.Pages ext.old (room_from rooms.old) pages.old def.now owners forests
+        → HasTheseRows P.Pages ext.old pages.old def.now (map (λ turned. (turned_row turned).0) turned.now) owners forests
+        → ChangesRowsOf P.Pages ext.old ext.new (room_from rooms.new) pages.old pages.new def.now def.now owners forests
+        (λ was is. ChangesRows def.now (block_slot_count ext.old def.now) was (map turned_row turned.now) is) (with_rows (map (λ turned. turned.row) turned.now))) }
+    ensures full { IfErr result (λ fault. IfFull fault (λ cap. (cap ≡ ext.old.cap)
+        × ((owners : List Kind) (forests : TableForests) → IsReadyBetween P.Pages ext.old (room_from rooms.old) pages.old def.now owners forests
+        → HasTheseRows P.Pages ext.old pages.old def.now (map (λ turned. (turned_row turned).0) turned.now) owners forests
+        → UpdateRunsFull ext.old (pages_of P.Pages pages.old) def.now (map turned_row turned.now)))) }
+    ensures shape { IsSameShape ext.old ext.new }
+    ensures runs { RunsOverPages P.Pages AnyPage AnyPage
+        (BreaksReady P.Pages ext.old (room_from rooms.old) pages.old def.now (HasTheseRows P.Pages ext.old pages.old def.now (map (λ turned. (turned_row turned).0) turned.now)))
+        pages.old pages.new (store_fault_in store_part_of result) }
+{
+    for one in turned {
+        change_row(
+            alloc,
+            def,
+            ext,
+            rooms,
+            pages,
+            one.hit.rid,
+            &one.hit.row,
+            &one.row,
+        )?;
+    }
+    Ok(())
+}

@@ -1,0 +1,94 @@
+// The rows of an INSERT.
+ghost use Rattle.std.specs.Prelude.{◌≡◌, ◌+◌, ◌<◌, ◌^◌, [], List, false, length, IfErr, OnErr, OnOk};
+ghost use Rattle.std.specs.List.{AllByRecursion};
+ghost use Rattle.store_api.specs.Causes.{store_fault_in};
+ghost use Rattle.store_api.specs.RunsOverPages.{RunsOverPages};
+ghost use Rattle.extent_map.specs.Damages.{IfFull, store_part_of};
+ghost use Rattle.extent_map.specs.Owners.{IsSameShape};
+ghost use Rattle.extent_map.specs.declared.kind.Kind.{Kind};
+ghost use Rattle.mdc_ast.specs.meaning.Doing.{appended, numbered};
+ghost use Rattle.table_page.specs.TableLimits.{IsTableDef};
+ghost use Rattle.mdc_sound.specs.FittingRows.{RowFits};
+ghost use Rattle.mdc_sound.specs.Placing.{PutsRows, block_slot_count};
+ghost use Rattle.mdc_sound.specs.RunningFull.{InsertRunsFull};
+ghost use Rattle.mdc_sound.specs.StandingTable.{TableForests, pages_of};
+ghost use Rattle.cell_rooms.specs.RoomNotes.{room_from};
+ghost use Rattle.statement_rows.specs.RowsOfStatement.{AnyPage, BreaksReady, ChangesRowsOf, IsReadyBetween, NothingMore};
+
+use cell_change::insert_row;
+use extent_map::{Extents, SpaceFault};
+use mdc_ast::{Row, TableDef};
+use mdc_table::Rooms;
+use mdc_values::{List, Value};
+use std::alloc::Global;
+use store_api::Pages;
+
+/// Inserts rows of these values, which fit the definition, numbered from the table's next number on. `Full` says that an INSERT
+/// of them runs full. After a fault the definition is as it was, `undo` goes back to a mark, and the notes of the extents and of
+/// the rooms are to be forgotten.
+pub fn insert_rows<P: Pages>(
+    alloc: Global,
+    def: &mut TableDef,
+    ext: &mut Extents,
+    rooms: &mut Rooms,
+    pages: &mut P,
+    tuples: List<List<Value>>,
+) -> Result<(), SpaceFault>
+    requires defined { IsTableDef def.old.number def.old }
+    requires no_indexes { def.old.indexes ≡ [] }
+    requires fit { AllByRecursion (RowFits def.old) (numbered def.old.next tuples) }
+    requires more { def.old.next + length tuples < 2 ^ 64 }
+    requires going { (P.state pages.old).ended ≡ false }
+    ensures inserts { OnOk result ((owners : List Kind) (forests : TableForests) → IsReadyBetween P.Pages ext.old (room_from rooms.old) pages.old def.old owners forests
+        → ChangesRowsOf P.Pages ext.old ext.new (room_from rooms.new) pages.old pages.new def.old def.new owners forests
+        (λ was is. PutsRows def.old (block_slot_count ext.old def.old) was (numbered def.old.next tuples) is) (appended tuples)) }
+    ensures next { OnOk result (def.new ≡ record def.old { next = def.old.next + length tuples }) }
+    ensures kept { OnErr result (def.new ≡ def.old) }
+    ensures full { IfErr result (λ fault. IfFull fault (λ cap. (cap ≡ ext.old.cap)
+        × ((owners : List Kind) (forests : TableForests) → IsReadyBetween P.Pages ext.old (room_from rooms.old) pages.old def.old owners forests
+        → InsertRunsFull ext.old (pages_of P.Pages pages.old) def.old (numbered def.old.next tuples)))) }
+    ensures shape { IsSameShape ext.old ext.new }
+    ensures runs { RunsOverPages P.Pages AnyPage AnyPage (BreaksReady P.Pages ext.old (room_from rooms.old) pages.old def.old NothingMore) pages.old pages.new (store_fault_in store_part_of result) }
+{
+    let first = def.next;
+    let inserted = insert_each(alloc, def, ext, rooms, pages, tuples);
+    if inserted.is_err() {
+        def.next = first;
+    }
+    inserted
+}
+
+// Inserts the rows, one after the other, and raises the next number with each.
+fn insert_each<P: Pages>(
+    alloc: Global,
+    def: &mut TableDef,
+    ext: &mut Extents,
+    rooms: &mut Rooms,
+    pages: &mut P,
+    tuples: List<List<Value>>,
+) -> Result<(), SpaceFault>
+    requires defined { IsTableDef def.old.number def.old }
+    requires no_indexes { def.old.indexes ≡ [] }
+    requires fit { AllByRecursion (RowFits def.old) (numbered def.old.next tuples) }
+    requires more { def.old.next + length tuples < 2 ^ 64 }
+    requires going { (P.state pages.old).ended ≡ false }
+    ensures inserts { OnOk result ((owners : List Kind) (forests : TableForests) → IsReadyBetween P.Pages ext.old (room_from rooms.old) pages.old def.old owners forests
+        → ChangesRowsOf P.Pages ext.old ext.new (room_from rooms.new) pages.old pages.new def.old def.new owners forests
+        (λ was is. PutsRows def.old (block_slot_count ext.old def.old) was (numbered def.old.next tuples) is) (appended tuples)) }
+    ensures next { OnOk result (def.new ≡ record def.old { next = def.old.next + length tuples }) }
+    ensures raised { def.new ≡ record def.old { next = def.new.next } }
+    ensures full { IfErr result (λ fault. IfFull fault (λ cap. (cap ≡ ext.old.cap)
+        × ((owners : List Kind) (forests : TableForests) → IsReadyBetween P.Pages ext.old (room_from rooms.old) pages.old def.old owners forests
+        → InsertRunsFull ext.old (pages_of P.Pages pages.old) def.old (numbered def.old.next tuples)))) }
+    ensures shape { IsSameShape ext.old ext.new }
+    ensures runs { RunsOverPages P.Pages AnyPage AnyPage (BreaksReady P.Pages ext.old (room_from rooms.old) pages.old def.old NothingMore) pages.old pages.new (store_fault_in store_part_of result) }
+{
+    for values in tuples.into_vec() {
+        let row = Row {
+            number: def.next,
+            values,
+        };
+        insert_row(alloc, def, ext, rooms, pages, &row)?;
+    }
+    Ok(())
+}
