@@ -1,0 +1,2 @@
+pub mod ScannedRowsLemmas
+pub mod ScanningLemmas
