@@ -1,0 +1,326 @@
+-- What queries, DELETEs and UPDATEs do to ready pages.
+use Rattle.std.proofs.Common.{◌≡◌, ◌∙◌, ◌++◌, ℕ, List, [], ◌∷◌, false, length, map, refl, sym, ap, subst, Option, Some, None}
+use Rattle.std.specs.Prelude.{filter, flat_map}
+use Rattle.std.specs.List.{list_all}
+use Rattle.std.proofs.lemmas.List.{length-map}
+use Rattle.std.proofs.lemmas.Option.{same_Some}
+use Rattle.mdc_ast.specs.declared.bound.Bound.{Bound}
+use Rattle.mdc_ast.specs.declared.bound.Bound.TheVariants as bound
+use Rattle.mdc_ast.specs.declared.bound.BoundSelect.{BoundSelect}
+use Rattle.mdc_ast.specs.declared.bound.BoundSet.{BoundSet}
+use Rattle.mdc_ast.specs.declared.definition.ColumnDef.{ColumnDef}
+use Rattle.mdc_ast.specs.declared.definition.TableDef.{TableDef}
+use Rattle.mdc_ast.specs.declared.predicate.Pred.{Pred}
+use Rattle.mdc_ast.specs.declared.reply.Outcome.{Outcome}
+use Rattle.mdc_ast.specs.declared.reply.Outcome.TheVariants as said
+use Rattle.mdc_ast.specs.declared.reply.Reply.TheVariants as reply
+use Rattle.mdc_ast.specs.declared.row.Row.{Row}
+use Rattle.mdc_ast.specs.meaning.Cause.{Cause, refusal_of}
+use Rattle.mdc_ast.specs.meaning.Database.{Database, PlainTable, changed_at, fits_all, table_at, with_place}
+use Rattle.mdc_ast.specs.meaning.Definitions.{def_at}
+use Rattle.mdc_ast.specs.meaning.Doing.{causes_of_rows, changed_causes, changed_row, changed_table, columns_at, effect, hits, left_table, lines_of, qualifies}
+use Rattle.mdc_ast.specs.meaning.Judging.{of_some}
+use Rattle.mdc_ast.specs.meaning.Step.{Answer, Refused, Replied, step_by}
+use Rattle.mdc_ast.proofs.DatabaseLemmas.{changed_at-with_place}
+use Rattle.store_api.specs.Frame.{NoPage}
+use Rattle.store_api.specs.RunsOverPages.{RunsOverPages}
+use Rattle.store_api.specs.declared.fault.Damage.{Damage}
+use Rattle.store_api.specs.declared.fault.StoreFault.{StoreFault}
+use Rattle.store_api.proofs.RunsOverPagesLemmas.{runs_as}
+use Rattle.store_api.specs.declared.pages.Pages.{Ghosts}
+use Rattle.extent_map.specs.Damages.{IfFull}
+use Rattle.extent_map.specs.declared.extents.Extents.{Extents}
+use Rattle.extent_map.specs.declared.fault.SpaceFault.{SpaceFault}
+use Rattle.extent_map.specs.declared.fault.SpaceFault.TheVariants.{Full, Store}
+use Rattle.extent_map.specs.declared.kind.Kind.{Kind}
+use Rattle.block_rows.specs.HeldRows.{placed_row}
+use Rattle.block_rows.specs.declared.hit.Hit.{Hit}
+use Rattle.mdc_sound.specs.Placing.{ChangesRows, Spot, TakesRows, block_slot_count}
+use Rattle.mdc_sound.specs.RunningFull.{UpdateRunsFull}
+use Rattle.mdc_sound.specs.StandingTable.{StandsTable, TableForests, pages_of, spots_of}
+use Rattle.mdc_sound.specs.StandsForDatabase.{PagesStandFor}
+use Rattle.mdc_sound.specs.TableRows.{PlacedRow}
+use Rattle.cell_rooms.specs.RoomNotes.{room_from}
+use Rattle.binder.specs.Saying.{first_of}
+use Rattle.cell_change.proofs.ChangedSpaceLemmas.{shows_spots}
+use Rattle.row_judging.specs.Executing.{answer_of, done}
+use Rattle.statement_rows.specs.RowsOfStatement.{AnyPage, BreaksReady, ChangesRowsOf, HasTheseRows, IsReadyBetween, with_rows, without_rows}
+use Rattle.statement_rows.specs.Turning.{turned_row}
+use Rattle.statement_rows.specs.declared.changing.Turned.{Turned}
+use Rattle.table_scan.specs.FoundRows.{FindsRows}
+use Rattle.script_engine.specs.Doing.{DoesStatement, PlacesOnPages, PlacesRows, RunsFullAlone, StatementRunsFull, changed_place, with_changed}
+use Rattle.script_engine.specs.Ready.{AreServed, BreaksDatabase, IsNoStandingTable, IsReady}
+use Rattle.script_engine.specs.declared.tables.Tables.{Tables}
+use Rattle.script_engine.proofs.PlainChangesLemmas.{causes_of_qualifying, qualifying_changed, qualifying_taken}
+use Rattle.script_engine.proofs.ReadyTablesLemmas.{change_ends_unwritten, page_is_written, places_shown, ready_between}
+use Rattle.script_engine.proofs.ScannedTablesLemmas.{HasHits, found_still, hits_fit, hits_of, hits_qualify, qualifying, ready_still, stands_ready, these_rows}
+use Rattle.script_engine.proofs.StoredDefsLemmas.{first_decides, stored_defs, stored_table}
+use Rattle.script_engine.proofs.TurnedRowsLemmas.{each_passes, turned_changed, turned_hit, turned_news, turned_places}
+
+-- ---- a query
+
+-- its lines are those of the hits
+lines_are : (found : Option PlainTable) (table : PlainTable) (columns : List ColumnDef) (select : BoundSelect) (rows : List Row) (text : List ℕ) → found ≡ Some table → table.def.columns ≡ columns
+    → rows ≡ hits select.pred (Some table) → text ≡ lines_of columns select.outs rows
+    → ◌≡◌ {A = Answer} (Replied (reply.Lines (lines_of (columns_at found) select.outs (hits select.pred found)))) (Replied (reply.Lines text))
+lines_are found table columns select rows text at same are is =
+    ap (λ t. Replied (reply.Lines (lines_of (columns_at t) select.outs (hits select.pred t)))) at
+    ∙ ap (λ k. Replied (reply.Lines (lines_of k select.outs (hits select.pred (Some table))))) same
+    ∙ ap (λ r. Replied (reply.Lines (lines_of columns select.outs r))) (sym are) ∙ ap (λ t. Replied (reply.Lines t)) (sym is)
+
+pub query_does : {S : Type 0} (g : Ghosts S) (old new : S) (tables : Tables) (select : BoundSelect) (def : TableDef) (found : List Hit) (text : List ℕ) → AreServed tables.catalog
+    → def_at tables.catalog select.table ≡ Some def → (g.state new).is_told ≡ (g.state old).is_told → (g.state new).work ≡ (g.state old).work
+    → ((owners : List Kind) (forests : TableForests) → StandsTable g tables.ext old def owners forests → FindsRows g tables.ext old def select.pred found forests)
+    → text ≡ lines_of def.columns select.outs (map (λ hit. hit.row) found) → IsReady g old tables → DoesStatement g old new tables tables (bound.Query select) (said.Done (reply.Lines text))
+query_does g old new tables select def found text served at told same finds is ready =
+    let st = stands_ready g old tables select.table def served ready at in record {
+      ready = ready_still g old new told same tables ready;
+      stands = λ db stands.
+          let here = stored_table db tables.catalog select.table def (stored_defs tables.ext (pages_of g old) tables.catalog db ready.stored stands) at in
+          let has : HasHits db select.table def select.pred found =
+          hits_of g tables.ext old def st.owners st.forests st.stands select.pred found (finds st.owners st.forests st.stands) st.between tables.catalog select.table db here.0 ready.stored at stands here.1 in record {
+            pages_are = subst (λ pages. PagesStandFor tables.ext pages db) (sym same) stands;
+            answers = lines_are _ has.table def.columns select (map (λ (hit : Hit). hit.row) found) text has.at (ap (λ (d : TableDef). d.columns) has.def_is) has.are is;
+          };
+      places = λ done is_done place other changed there. absurd (cc changed);
+    }
+
+-- ---- rows that were changed
+
+-- the table that is noted stands, in pages that are sound as they are between two changes of rows
+pub record StandsBetween {S : Type 0} (g : Ghosts S) (s : S) (tables : Tables) (def : TableDef) : Type 0 where
+  pub owners : List Kind
+  pub forests : TableForests
+  pub between : IsReadyBetween g tables.ext (room_from tables.rooms) s def owners forests
+
+-- The rows of the table that is noted were changed, after a scan of it: what is left to say is what the plain database becomes,
+-- and the answer.
+module _ {S : Type 0} (g : Ghosts S) (old mid new : S) (before now : Tables) (def : TableDef) (served : AreServed before.catalog) (at : def_at before.catalog before.noted ≡ Some def)
+    (told : (g.state mid).is_told ≡ (g.state old).is_told) (same : (g.state mid).work ≡ (g.state old).work) where
+  -- the table stands midway
+  pub ready_mid : IsReady g old before → StandsBetween g mid before def
+  ready_mid ready =
+      let still = ready_still g old mid told same before ready in
+      let found = ready_between g mid before def served still at in record { owners = still.view.owners; forests = found.0; between = found.1 }
+
+  -- damage that is met in changing its rows
+  pub runs_change : {Early : ℕ → Type 0} {Any : Damage → Type 0} {fault : Option StoreFault} (pred : Option Pred) (found : List Hit) (rows : List PlacedRow) → rows ≡ map placed_row found
+      → ((owners : List Kind) (forests : TableForests) → StandsTable g before.ext old def owners forests → FindsRows g before.ext old def pred found forests)
+      → RunsOverPages g NoPage Early Any old mid None → RunsOverPages g AnyPage AnyPage (BreaksReady g before.ext (room_from before.rooms) mid def (HasTheseRows g before.ext mid def rows)) mid new fault
+      → RunsOverPages g AnyPage AnyPage (BreaksDatabase g old before) old new fault
+  runs_change pred found rows are finds scan change =
+      runs_as scan change (λ p there none. absurd none) (λ p there any. any) (λ p of. tt) (λ p any. any)
+      (λ damage breaks ready.
+      let mid_ready = ready_mid ready in
+      let st = mid_ready.between.ready.stands in
+      let hits_here = found_still g old mid told same before.ext def pred found mid_ready.owners mid_ready.forests finds st in
+      breaks.broken mid_ready.owners mid_ready.forests mid_ready.between
+      (subst (λ r. HasTheseRows g before.ext mid def r mid_ready.owners mid_ready.forests) (sym are)
+      (these_rows g before.ext mid def mid_ready.owners mid_ready.forests st pred found hits_here mid_ready.between.sound)))
+
+  module _ (ready : IsReady g old before) (owners : List Kind) (forests : TableForests) (mid_ready : IsReadyBetween g before.ext (room_from before.rooms) mid def owners forests)
+      (statement : Bound) (change : PlainTable → PlainTable)
+      (changed : ChangesRowsOf g before.ext now.ext (room_from now.rooms) mid new def def owners forests (λ was is. PlacesRows def (block_slot_count before.ext def) was is statement) change)
+      (catalog : now.catalog ≡ before.catalog) (noted : now.noted ≡ before.noted) where
+    pub rows_done : (outcome : Outcome) → changed_place statement ≡ Some before.noted
+        → ((db : Database) → PagesStandFor before.ext (pages_of g mid) db → (changed_at db before.noted change ≡ (done db statement).0) × ((done db statement).1 ≡ answer_of outcome))
+        → DoesStatement g old new before now statement outcome
+    rows_done outcome is_changed means =
+        let Places : List Spot → List Spot → Type 0 = λ was is. PlacesRows def (block_slot_count before.ext def) was is statement in
+        let still = ready_still g old mid told same before ready in
+        let ends = change_ends_unwritten g mid new before now def owners forests Places change served still at changed catalog noted in
+        let at_now : def_at now.catalog before.noted ≡ Some def = ap (λ defs. def_at defs before.noted) catalog ∙ at in
+        let served_now : AreServed now.catalog = subst AreServed (sym catalog) served in
+        let written = sym (page_is_written g new now before.noted def served_now ends.ready at_now) in
+        let shown = places_shown g mid new new before now def def owners forests Places change statement still refl mid_ready changed written (λ was is puts. puts) in record {
+          ready = ends.ready;
+          stands = λ db stands.
+              let midway : PagesStandFor before.ext (pages_of g mid) db = subst (λ pages. PagesStandFor before.ext pages db) (sym same) stands in
+              let meant = means db midway in record {
+                pages_are = subst (PagesStandFor now.ext (pages_of g new)) meant.0 (ends.stands_for db midway);
+                answers = meant.1;
+              };
+          places = λ said is_said place other of there.
+              let place_is : before.noted ≡ place = same_Some before.noted place (sym is_changed ∙ of) in
+              let def_is : def ≡ other = same_Some def other (sym at ∙ ap (def_at before.catalog) place_is ∙ there) in
+              subst (λ (d : TableDef). PlacesOnPages before.ext now.ext (pages_of g old) (pages_of g new) d statement) def_is
+              (subst (λ pages. PlacesOnPages before.ext now.ext pages (pages_of g new) def statement) same shown);
+        }
+
+-- one change of the table in a place, and another that makes the same of it
+changed_alike : (db : Database) (place : ℕ) (table : PlainTable) (change other : PlainTable → PlainTable) → table_at db place ≡ Some table → change table ≡ other table
+    → changed_at db place change ≡ changed_at db place other
+changed_alike db place table change other at same =
+    changed_at-with_place db place table change at ∙ ap (λ t. with_place db place (Some t)) same ∙ sym (changed_at-with_place db place table other at)
+
+-- ---- a DELETE
+
+-- its answer is how many hits there are
+count_is : (found : Option PlainTable) (table : PlainTable) (pred : Option Pred) (rows : List Hit) → found ≡ Some table → map (λ hit. hit.row) rows ≡ hits pred (Some table) → length (hits pred found) ≡ length rows
+count_is found table pred rows at are = ap (λ t. length (hits pred t)) at ∙ ap length (sym are) ∙ length-map rows (λ (hit : Hit). hit.row)
+
+pub delete_does : {S : Type 0} (g : Ghosts S) (old mid new : S) (before now : Tables) (def : TableDef) (pred : Option Pred) (found items : List Hit) (count : ℕ) → AreServed before.catalog
+    → def_at before.catalog before.noted ≡ Some def → (g.state mid).is_told ≡ (g.state old).is_told → (g.state mid).work ≡ (g.state old).work
+    → ((owners : List Kind) (forests : TableForests) → StandsTable g before.ext old def owners forests → FindsRows g before.ext old def pred found forests) → items ≡ found → count ≡ length found
+    → ((owners : List Kind) (forests : TableForests) → IsReadyBetween g before.ext (room_from before.rooms) mid def owners forests → HasTheseRows g before.ext mid def (map placed_row items) owners forests
+    → ChangesRowsOf g before.ext now.ext (room_from now.rooms) mid new def def owners forests (λ was is. TakesRows was (map placed_row items) is) (without_rows (map (λ hit. hit.row) items)))
+    → now.catalog ≡ before.catalog → now.noted ≡ before.noted → IsReady g old before → DoesStatement g old new before now (bound.Delete before.noted pred) (said.Done (reply.Deleted count))
+delete_does g old mid new before now def pred found items count served at told same finds are counts deletes catalog noted ready =
+    let mid_ready = ready_mid g old mid new before now def served at told same ready in
+    let forests = mid_ready.forests in
+    let owners = mid_ready.owners in
+    let st = mid_ready.between.ready.stands in
+    let hits_here = found_still g old mid told same before.ext def pred found owners forests finds st in
+    let lie = these_rows g before.ext mid def owners forests st pred found hits_here mid_ready.between.sound in
+    let changed : ChangesRowsOf g before.ext now.ext (room_from now.rooms) mid new def def owners forests (λ was is. TakesRows was (map placed_row found) is) (without_rows (map (λ (hit : Hit). hit.row) found)) =
+    subst (λ (l : List Hit). ChangesRowsOf g before.ext now.ext (room_from now.rooms) mid new def def owners forests (λ was is. TakesRows was (map placed_row l) is) (without_rows (map (λ (hit : Hit). hit.row) l))) are
+    (deletes owners forests mid_ready.between (subst (λ (l : List Hit). HasTheseRows g before.ext mid def (map placed_row l) owners forests) (sym are) lie)) in
+    rows_done g old mid new before now def served at told same ready owners forests mid_ready.between (bound.Delete before.noted pred) (without_rows (map (λ (hit : Hit). hit.row) found))
+    (record {
+      owners_now = changed.owners_now;
+      forests_now = changed.forests_now;
+      changes = changed.changes;
+      now = changed.now;
+      places = PlacesRows.delete (map placed_row found) (qualifying g before.ext mid def owners forests st pred found hits_here mid_ready.between.sound) changed.places;
+      stands_for = changed.stands_for;
+      table_pages = changed.table_pages;
+    }) catalog noted (said.Done (reply.Deleted count)) refl
+    (λ db stands.
+    let here = stored_table db before.catalog before.noted def (stored_defs before.ext (pages_of g mid) before.catalog db (ready_still g old mid told same before ready).stored stands) at in
+    let has : HasHits db before.noted def pred found =
+    hits_of g before.ext mid def owners forests st pred found hits_here mid_ready.between.sound before.catalog before.noted db here.0 (ready_still g old mid told same before ready).stored at stands here.1 in (
+      changed_alike db before.noted has.table (without_rows (map (λ (hit : Hit). hit.row) found)) (left_table pred) has.at
+          (ap (λ rows. without_rows rows has.table) has.are ∙ qualifying_taken pred has.table has.rising),
+      ap (λ n. Replied (reply.Deleted n)) (count_is _ has.table pred found has.at has.are ∙ sym counts),
+    ))
+
+-- ---- an UPDATE
+
+-- what is said against it: of the hits alone
+causes_are : (db : Database) (place : ℕ) (sets : List BoundSet) (pred : Option Pred) (columns : List ColumnDef) (table : PlainTable) (found : List Hit) → table_at db place ≡ Some table → table.def.columns ≡ columns
+    → map (λ hit. hit.row) found ≡ filter (λ row. qualifies pred row.values) table.rows
+    → causes_of_rows db (bound.Update place sets pred) ≡ flat_map (λ hit. changed_causes columns sets None hit.row) found ++ []
+causes_are db place sets pred columns table found at same are =
+    ap (λ t. of_some t (λ (x : PlainTable). flat_map (changed_causes x.def.columns sets pred) x.rows) ++ []) at
+    ∙ ap (λ l. l ++ []) (ap (λ k. flat_map (changed_causes k sets pred) table.rows) same ∙ causes_of_qualifying columns sets pred table.rows
+    ∙ ap (flat_map (changed_causes columns sets None)) (sym are) ∙ over found)
+  where
+    over : (l : List Hit) → flat_map (changed_causes columns sets None) (map (λ (hit : Hit). hit.row) l) ≡ flat_map (λ (hit : Hit). changed_causes columns sets None hit.row) l
+    over [] = refl
+    over (hit ∷ l) = ap (λ rest. changed_causes columns sets None hit.row ++ rest) (over l)
+
+pub refused_does : {S : Type 0} (g : Ghosts S) (old mid : S) (before : Tables) (def : TableDef) (sets : List BoundSet) (pred : Option Pred) (found : List Hit) (cause : Cause) (outcome : Outcome) → AreServed before.catalog
+    → def_at before.catalog before.noted ≡ Some def → (g.state mid).is_told ≡ (g.state old).is_told → (g.state mid).work ≡ (g.state old).work
+    → ((owners : List Kind) (forests : TableForests) → StandsTable g before.ext old def owners forests → FindsRows g before.ext old def pred found forests)
+    → first_of (flat_map (λ hit. changed_causes def.columns sets None hit.row) found) ≡ Some cause → outcome ≡ said.Refused (refusal_of cause) → IsReady g old before
+    → DoesStatement g old mid before before (bound.Update before.noted sets pred) outcome
+refused_does g old mid before def sets pred found cause outcome served at told same finds first is ready =
+    let st = stands_ready g old before before.noted def served ready at in record {
+      ready = ready_still g old mid told same before ready;
+      stands = λ db stands.
+          let here = stored_table db before.catalog before.noted def (stored_defs before.ext (pages_of g old) before.catalog db ready.stored stands) at in
+          let has : HasHits db before.noted def pred found =
+          hits_of g before.ext old def st.owners st.forests st.stands pred found (finds st.owners st.forests st.stands) st.between before.catalog before.noted db here.0 ready.stored at stands here.1 in
+          let ends : done db (bound.Update before.noted sets pred) ≡ (db, Refused (refusal_of cause)) =
+          ap (λ causes. step_by db causes (effect db (bound.Update before.noted sets pred)))
+          (causes_are db before.noted sets pred def.columns has.table found has.at (ap (λ (d : TableDef). d.columns) has.def_is) has.are)
+          ∙ first_decides db (flat_map (λ (hit : Hit). changed_causes def.columns sets None hit.row) found) [] _ cause first in record {
+            pages_are = subst (PagesStandFor before.ext (pages_of g mid)) (sym (ap (λ e. e.0) ends)) (subst (λ pages. PagesStandFor before.ext pages db) (sym same) stands);
+            answers = ap (λ e. e.1) ends ∙ sym (ap answer_of is);
+          };
+      places = λ said is_said place other of there. absurd (cc (is, is_said));
+    }
+
+module _ {S : Type 0} (g : Ghosts S) (old mid new : S) (before now : Tables) (def : TableDef) (sets : List BoundSet) (pred : Option Pred) (found : List Hit) (items : List Turned) (served : AreServed before.catalog)
+    (at : def_at before.catalog before.noted ≡ Some def) (told : (g.state mid).is_told ≡ (g.state old).is_told) (same : (g.state mid).work ≡ (g.state old).work)
+    (finds : (owners : List Kind) (forests : TableForests) → StandsTable g before.ext old def owners forests → FindsRows g before.ext old def pred found forests)
+    (made : map turned_row items ≡ map (turned_hit sets) found) where
+  pub update_does : (count : ℕ) → flat_map (λ hit. changed_causes def.columns sets None hit.row) found ≡ [] → count ≡ length items
+      → ((owners : List Kind) (forests : TableForests) → IsReadyBetween g before.ext (room_from before.rooms) mid def owners forests
+      → HasTheseRows g before.ext mid def (map (λ t. (turned_row t).0) items) owners forests
+      → ChangesRowsOf g before.ext now.ext (room_from now.rooms) mid new def def owners forests
+      (λ was is. ChangesRows def (block_slot_count before.ext def) was (map turned_row items) is) (with_rows (map (λ t. t.row) items)))
+      → now.catalog ≡ before.catalog → now.noted ≡ before.noted → IsReady g old before → DoesStatement g old new before now (bound.Update before.noted sets pred) (said.Done (reply.Updated count))
+  update_does count nothing counts changes catalog noted ready =
+      let mid_ready = ready_mid g old mid new before now def served at told same ready in
+      let forests = mid_ready.forests in
+      let owners = mid_ready.owners in
+      let st = mid_ready.between.ready.stands in
+      let hits_here = found_still g old mid told same before.ext def pred found owners forests finds st in
+      let lie = these_rows g before.ext mid def owners forests st pred found hits_here mid_ready.between.sound in
+      let q = hits_qualify g before.ext mid def owners forests st pred found hits_here in
+      let rows = with_changed sets pred (map placed_row found) in
+      let changed = changes owners forests mid_ready.between (subst (λ r. HasTheseRows g before.ext mid def r owners forests) (sym (turned_places sets items found made)) lie) in
+      let placed : ChangesRows def (block_slot_count before.ext def) (spots_of g before.ext mid def owners forests) rows (spots_of g now.ext new def changed.owners_now changed.forests_now) =
+      subst (λ r. ChangesRows def (block_slot_count before.ext def) (spots_of g before.ext mid def owners forests) r (spots_of g now.ext new def changed.owners_now changed.forests_now))
+      (turned_changed sets pred items found made q) changed.places in
+      rows_done g old mid new before now def served at told same ready owners forests mid_ready.between (bound.Update before.noted sets pred) (with_rows (map (λ (t : Turned). t.row) items))
+      (record {
+        owners_now = changed.owners_now;
+        forests_now = changed.forests_now;
+        changes = changed.changes;
+        now = changed.now;
+        places = PlacesRows.update (map placed_row found) (qualifying g before.ext mid def owners forests st pred found hits_here mid_ready.between.sound) placed;
+        stands_for = changed.stands_for;
+        table_pages = changed.table_pages;
+      }) catalog noted (said.Done (reply.Updated count)) refl
+      (λ db stands.
+      let stored = (ready_still g old mid told same before ready).stored in
+      let here = stored_table db before.catalog before.noted def (stored_defs before.ext (pages_of g mid) before.catalog db stored stands) at in
+      let has : HasHits db before.noted def pred found = hits_of g before.ext mid def owners forests st pred found hits_here mid_ready.between.sound before.catalog before.noted db here.0 stored at stands here.1 in
+      let ends : done db (bound.Update before.noted sets pred) ≡ (changed_at db before.noted (changed_table sets pred), Replied (reply.Updated (length (hits pred (table_at db before.noted))))) =
+      ap (λ causes. step_by db causes (effect db (bound.Update before.noted sets pred)))
+      (causes_are db before.noted sets pred def.columns has.table found has.at (ap (λ (d : TableDef). d.columns) has.def_is) has.are ∙ ap (λ l. l ++ []) nothing) in
+      let news : map (λ (t : Turned). t.row) items ≡ map (changed_row sets pred) (filter (λ (row : Row). qualifies pred row.values) has.table.rows) =
+      turned_news sets pred items found made q ∙ ap (map (changed_row sets pred)) has.are in
+      let many : length items ≡ length found = sym (length-map items turned_row) ∙ ap length made ∙ length-map found (turned_hit sets) in (
+        changed_alike db before.noted has.table (with_rows (map (λ (t : Turned). t.row) items)) (changed_table sets pred) has.at
+            (ap (λ r. with_rows r has.table) news ∙ qualifying_changed sets pred has.table has.rising) ∙ sym (ap (λ e. e.0) ends),
+        ap (λ e. e.1) ends ∙ ap (λ n. Replied (reply.Updated n)) (count_is _ has.table pred found has.at has.are ∙ sym (counts ∙ many)),
+      ))
+
+  -- nothing is said against it by the rows that there were
+  unsaid : flat_map (λ hit. changed_causes def.columns sets None hit.row) found ≡ [] → IsReady g old before → (db : Database) → PagesStandFor before.ext (pages_of g old) db
+      → causes_of_rows db (bound.Update before.noted sets pred) ≡ []
+  unsaid nothing ready db stands =
+      let st = stands_ready g old before before.noted def served ready at in
+      let here = stored_table db before.catalog before.noted def (stored_defs before.ext (pages_of g old) before.catalog db ready.stored stands) at in
+      let has : HasHits db before.noted def pred found =
+      hits_of g before.ext old def st.owners st.forests st.stands pred found (finds st.owners st.forests st.stands) st.between before.catalog before.noted db here.0 ready.stored at stands here.1 in
+      causes_are db before.noted sets pred def.columns has.table found has.at (ap (λ (d : TableDef). d.columns) has.def_is) has.are ∙ ap (λ l. l ++ []) nothing
+
+  -- it runs full on the pages that there were
+  update_full : IsReady g old before
+      → ((owners : List Kind) (forests : TableForests) → IsReadyBetween g before.ext (room_from before.rooms) mid def owners forests
+      → HasTheseRows g before.ext mid def (map (λ t. (turned_row t).0) items) owners forests → UpdateRunsFull before.ext (pages_of g mid) def (map turned_row items))
+      → StatementRunsFull before.ext (pages_of g old) before.catalog (bound.Update before.noted sets pred)
+  update_full ready full =
+      let mid_ready = ready_mid g old mid new before now def served at told same ready in
+      let forests = mid_ready.forests in
+      let owners = mid_ready.owners in
+      let st = mid_ready.between.ready.stands in
+      let hits_here = found_still g old mid told same before.ext def pred found owners forests finds st in
+      let lie = these_rows g before.ext mid def owners forests st pred found hits_here mid_ready.between.sound in
+      let q = hits_qualify g before.ext mid def owners forests st pred found hits_here in
+      let runs = full owners forests mid_ready.between (subst (λ r. HasTheseRows g before.ext mid def r owners forests) (sym (turned_places sets items found made)) lie) in
+      subst (λ pages. StatementRunsFull before.ext pages before.catalog (bound.Update before.noted sets pred)) same
+      (StatementRunsFull.update def (spots_of g before.ext mid def owners forests) (map placed_row found) at (shows_spots g before.ext mid def owners forests st)
+      (qualifying g before.ext mid def owners forests st pred found hits_here mid_ready.between.sound)
+      (subst (UpdateRunsFull before.ext (pages_of g mid) def) (turned_changed sets pred items found made q) runs))
+
+  -- and the number that Full states is that of the extents
+  pub update_stops : (fault : SpaceFault) → flat_map (λ hit. changed_causes def.columns sets None hit.row) found ≡ []
+      → IfFull fault (λ cap. (cap ≡ before.ext.cap)
+      × ((owners : List Kind) (forests : TableForests) → IsReadyBetween g before.ext (room_from before.rooms) mid def owners forests
+      → HasTheseRows g before.ext mid def (map (λ t. (turned_row t).0) items) owners forests → UpdateRunsFull before.ext (pages_of g mid) def (map turned_row items)))
+      → IfFull fault (λ cap. (cap ≡ before.ext.cap) × (IsReady g old before → RunsFullAlone before.ext (pages_of g old) before.catalog (bound.Update before.noted sets pred)))
+  update_stops (Full cap) nothing full = (full.0, λ ready. record { full = update_full ready full.1; faultless = unsaid nothing ready })
+  update_stops (Store fault) nothing full = tt
+
+-- a hit that doesn't fit shows that the table doesn't stand
+pub unfit_breaks : {S : Type 0} (g : Ghosts S) (ext : Extents) (s : S) (def : TableDef) (pred : Option Pred) (found : List Hit) (damage : Damage)
+    → ((owners : List Kind) (forests : TableForests) → StandsTable g ext s def owners forests → FindsRows g ext s def pred found forests)
+    → list_all (λ hit. fits_all def.columns hit.row.values) found ≡ false → IsNoStandingTable g ext s def damage
+unfit_breaks g ext s def pred found damage finds unfit owners forests st =
+    let fit = each_passes (λ (hit : Hit). fits_all def.columns hit.row.values) found (hits_fit g ext s def owners forests st pred found (finds owners forests st)) in
+    absurd (cc (fit, unfit))

@@ -1,0 +1,172 @@
+-- From a bound statement to the step of its text, on ready pages.
+use Rattle.std.proofs.Common.{◌≡◌, ℕ, List, [], ◌∷◌, ◌∙◌, refl, sym, ap, subst, Option, Result, Ok, Err, Some, None}
+use Rattle.std.specs.Prelude.{true, false, IfOk, IfErr, option_and_then, option_map}
+use Rattle.mdc_ast.specs.declared.bound.Bound.{Bound}
+use Rattle.mdc_ast.specs.declared.bound.Bound.TheVariants as bound
+use Rattle.mdc_ast.specs.declared.bound.BoundSelect.{BoundSelect}
+use Rattle.mdc_ast.specs.declared.definition.ColumnDef.{ColumnDef}
+use Rattle.mdc_ast.specs.declared.refusal.Refusal.{Refusal}
+use Rattle.mdc_ast.specs.declared.reply.Outcome.{Outcome}
+use Rattle.mdc_ast.specs.declared.reply.Outcome.TheVariants as said
+use Rattle.mdc_ast.specs.declared.reply.Reply.TheVariants as reply
+use Rattle.mdc_ast.specs.declared.statement.Stmt.{Stmt}
+use Rattle.mdc_ast.specs.declared.statement.Stmt.TheVariants.{Query}
+use Rattle.mdc_ast.specs.meaning.Binding.{bound_of, columns_of, on_place}
+use Rattle.mdc_ast.specs.meaning.Cause.{Cause, NotBuilt, refusal_of}
+use Rattle.mdc_ast.specs.meaning.Database.{Database}
+use Rattle.mdc_ast.specs.meaning.Definitions.{Definitions, def_at, place_of}
+use Rattle.mdc_ast.specs.meaning.Judged.{judged_of, query_judged}
+use Rattle.mdc_ast.specs.meaning.Judging.{in_order, on_table}
+use Rattle.mdc_ast.specs.meaning.Step.{Refused, Replied, is_built, step}
+use Rattle.mdc_ast.proofs.TestsLemmas.{some_is}
+use Rattle.store_api.specs.RunsOverPages.{RunsOverPages}
+use Rattle.store_api.specs.declared.fault.StoreFault.TheVariants as store_fault
+use Rattle.store_api.specs.declared.pages.Pages.{Ghosts}
+use Rattle.store_api.proofs.RunsOverPagesLemmas.{runs_memory, runs_none}
+use Rattle.extent_map.specs.Damages.{IfFull, store_part_of}
+use Rattle.extent_map.specs.declared.fault.SpaceFault.{SpaceFault}
+use Rattle.extent_map.specs.declared.fault.SpaceFault.TheVariants.{Full, Store}
+use Rattle.mdc_sound.specs.StandingTable.{pages_of}
+use Rattle.mdc_sound.specs.StandsForDatabase.{PagesStandFor}
+use Rattle.binder.specs.Refusing.{IsRefusedFor}
+use Rattle.binder.specs.Saying.{first_of}
+use Rattle.binder.specs.declared.binding.BindFault.{BindFault}
+use Rattle.binder.specs.declared.binding.BindFault.TheVariants as bind_fault
+use Rattle.row_judging.specs.Executing.{done}
+use Rattle.statement_rows.specs.RowsOfStatement.{AnyPage}
+use Rattle.script_engine.specs.Defining.{IsBoundOn, MayBeExecuted}
+use Rattle.script_engine.specs.Doing.{DoesStatement, DoesStep, LeavesAll, RunsFullAlone, StandsAfter, StepRunsFull, changed_place, is_query, is_reading}
+use Rattle.script_engine.specs.Held.{IsWritten}
+use Rattle.script_engine.specs.Ready.{AreServed, BreaksDatabase, IsReady}
+use Rattle.script_engine.specs.declared.tables.Tables.{Tables}
+use Rattle.row_judging.proofs.ServedLemmas.{served}
+use Rattle.script_engine.proofs.StoredDefsLemmas.{none_said_on, step_is_done_on, step_not_built, step_refused_on, stored_defs}
+use Rattle.script_engine.proofs.WrittenTablesLemmas.{written_is_new}
+
+-- ---- what is bound
+
+pub is_bound_on : (defs : Definitions) (stmt : Stmt) (statement : Bound) → is_built stmt ≡ true → (in_order (judged_of defs stmt) ≡ []) × (statement ≡ bound_of defs stmt) → IsBoundOn defs stmt statement
+is_bound_on defs stmt statement built bound = record { built = built; said = bound.0; is = bound.1 }
+
+pub may_execute : (defs : Definitions) (stmt : Stmt) (statement : Bound) → AreServed defs → IsWritten stmt → IsBoundOn defs stmt statement → MayBeExecuted defs statement
+may_execute defs stmt statement serves written bound = subst (MayBeExecuted defs) (sym bound.is) (record {
+  served = served defs stmt serves.valid bound.built bound.said;
+  new = written_is_new defs stmt written bound.built bound.said;
+})
+
+-- ---- the end of a statement that is bound
+
+does_step : {S : Type 0} (g : Ghosts S) (old new : S) (before now : Tables) (stmt : Stmt) (outcome : Outcome) → is_built stmt ≡ true → in_order (judged_of before.catalog stmt) ≡ []
+    → IsReady g old before → DoesStatement g old new before now (bound_of before.catalog stmt) outcome → DoesStep g old new before now stmt outcome
+does_step g old new before now stmt outcome built said ready does = record {
+  ready = does.ready;
+  stands = λ db stands.
+      let same : step db stmt ≡ done db (bound_of before.catalog stmt) = step_is_done_on db before.catalog stmt (stored_defs before.ext (pages_of g old) before.catalog db ready.stored stands) built said in
+      subst (λ end_. StandsAfter now.ext (pages_of g new) end_ outcome) (sym same) (does.stands db stands);
+  places = does.places;
+}
+
+-- what a bound statement did is what its text does
+pub steps_as_bound : {S E : Type 0} (g : Ghosts S) (old new : S) (before now : Tables) (stmt : Stmt) (statement : Bound) (result : Result Outcome E) → IsBoundOn before.catalog stmt statement
+    → IfOk result (λ outcome. IsReady g old before → DoesStatement g old new before now statement outcome) → IfOk result (λ outcome. IsReady g old before → DoesStep g old new before now stmt outcome)
+steps_as_bound g old new before now stmt statement (Err fault) bound does = tt
+steps_as_bound g old new before now stmt statement (Ok outcome) bound does = λ ready.
+    does_step g old new before now stmt outcome bound.built bound.said ready (subst (λ b. DoesStatement g old new before now b outcome) bound.is (does ready))
+
+-- where a bound statement runs full, its text does
+step_full : {S : Type 0} (g : Ghosts S) (s : S) (tables : Tables) (stmt : Stmt) → is_built stmt ≡ true → in_order (judged_of tables.catalog stmt) ≡ [] → IsReady g s tables
+    → RunsFullAlone tables.ext (pages_of g s) tables.catalog (bound_of tables.catalog stmt) → StepRunsFull tables.ext (pages_of g s) tables.catalog stmt
+step_full g s tables stmt built said ready alone = record {
+  full = alone.full;
+  faultless = λ db stands. none_said_on db tables.catalog stmt (stored_defs tables.ext (pages_of g s) tables.catalog db ready.stored stands) built said (alone.faultless db stands);
+}
+
+full_if : {S : Type 0} (g : Ghosts S) (s : S) (tables : Tables) (stmt : Stmt) (statement : Bound) (fault : SpaceFault) → IsBoundOn tables.catalog stmt statement
+    → IfFull fault (λ cap. (cap ≡ tables.ext.cap) × (IsReady g s tables → RunsFullAlone tables.ext (pages_of g s) tables.catalog statement))
+    → IfFull fault (λ cap. (cap ≡ tables.ext.cap) × (IsReady g s tables → StepRunsFull tables.ext (pages_of g s) tables.catalog stmt))
+full_if g s tables stmt statement (Full cap) bound full = (
+  full.0,
+  λ ready. step_full g s tables stmt bound.built bound.said ready (subst (RunsFullAlone tables.ext (pages_of g s) tables.catalog) bound.is (full.1 ready)),
+)
+full_if g s tables stmt statement (Store fault) bound full = tt
+
+pub full_as_bound : {S X : Type 0} (g : Ghosts S) (old : S) (before : Tables) (stmt : Stmt) (statement : Bound) (result : Result X SpaceFault) → IsBoundOn before.catalog stmt statement
+    → IfErr result (λ fault. IfFull fault (λ cap. (cap ≡ before.ext.cap) × (IsReady g old before → RunsFullAlone before.ext (pages_of g old) before.catalog statement)))
+    → IfErr result (λ fault. IfFull fault (λ cap. (cap ≡ before.ext.cap) × (IsReady g old before → StepRunsFull before.ext (pages_of g old) before.catalog stmt)))
+full_as_bound g old before stmt statement (Ok done) bound full = tt
+full_as_bound g old before stmt statement (Err fault) bound full = full_if g old before stmt statement fault bound full
+
+-- ---- queries
+
+-- a query that nothing is said against is bound to one
+query_is_bound : (defs : Definitions) (stmt : Stmt) → in_order (judged_of defs stmt) ≡ [] → is_reading stmt ≡ true → is_query (bound_of defs stmt) ≡ true
+query_is_bound defs (Query select) said reads = by_place (place_of defs select.table) _ said
+  where
+    by_place : (found : Option ℕ) (bind : ℕ → List ColumnDef → BoundSelect) → in_order (on_table select.table (option_and_then (def_at defs) found) (query_judged select)) ≡ []
+        → is_query (on_place found (columns_of (option_and_then (def_at defs) found)) (λ place columns. bound.Query (bind place columns))) ≡ true
+    by_place None bind none = absurd cc
+    by_place (Some place) bind none = refl
+query_is_bound defs stmt said reads = absurd cc
+
+-- what a bound query leaves, its text leaves
+pub reads_as_bound : (defs : Definitions) (stmt : Stmt) (statement : Bound) {Leaves : Type 0} → IsBoundOn defs stmt statement → (is_query statement ≡ true → Leaves) → is_reading stmt ≡ true → Leaves
+reads_as_bound defs stmt statement bound leaves reads = leaves (ap is_query bound.is ∙ query_is_bound defs stmt bound.said reads)
+
+-- ---- the end of a statement that is refused before a call
+
+-- nothing is changed
+pub leaves_all : {S : Type 0} (g : Ghosts S) (s : S) (tables : Tables) → LeavesAll g s s tables tables
+leaves_all g s tables = record { pages = refl; catalog = refl }
+
+stays : {S : Type 0} (g : Ghosts S) (s : S) (tables : Tables) (stmt : Stmt) (refusal : Refusal) → IsReady g s tables
+    → ((db : Database) → PagesStandFor tables.ext (pages_of g s) db → step db stmt ≡ (db, Refused refusal)) → DoesStep g s s tables tables stmt (said.Refused refusal)
+stays g s tables stmt refusal ready same = record {
+  ready = ready;
+  stands = λ db stands. subst (λ end_. StandsAfter tables.ext (pages_of g s) end_ (said.Refused refusal)) (sym (same db stands)) (record { pages_are = stands; answers = refl });
+  places = λ done is place def changed at. cc;
+}
+
+pub steps_not_built : {S : Type 0} (g : Ghosts S) (s : S) (tables : Tables) (stmt : Stmt) (refusal : Refusal) → is_built stmt ≡ false → refusal ≡ refusal_of NotBuilt → IsReady g s tables
+    → DoesStep g s s tables tables stmt (said.Refused refusal)
+steps_not_built g s tables stmt refusal built is ready = stays g s tables stmt refusal ready (λ db stands. step_not_built db stmt built ∙ ap (λ r. (db, Refused r)) (sym is))
+
+first_cause : (causes : List Cause) (refusal : Refusal) → option_map refusal_of (first_of causes) ≡ Some refusal → (cause : Cause) × (first_of causes ≡ Some cause) × (refusal_of cause ≡ refusal)
+first_cause [] refusal e = cc
+first_cause (cause ∷ causes) refusal e = (cause, refl, some_is _ _ e)
+
+-- the binder's refusal is the one for what is said first
+refused_first : (causes : List Cause) (fault : BindFault) (refusal : Refusal) → fault ≡ bind_fault.Refused refusal → IsRefusedFor causes (Err fault) → option_map refusal_of (first_of causes) ≡ Some refusal
+refused_first causes fault refusal is refused = subst (λ f. IsRefusedFor causes (Err f)) is refused
+
+pub steps_refused : {S : Type 0} (g : Ghosts S) (s : S) (tables : Tables) (stmt : Stmt) (fault : BindFault) (refusal : Refusal) → is_built stmt ≡ true
+    → fault ≡ bind_fault.Refused refusal → IsRefusedFor (in_order (judged_of tables.catalog stmt)) (Err fault) → IsReady g s tables → DoesStep g s s tables tables stmt (said.Refused refusal)
+steps_refused g s tables stmt fault refusal built is refused ready =
+    let first : (cause : Cause) × (first_of (in_order (judged_of tables.catalog stmt)) ≡ Some cause) × (refusal_of cause ≡ refusal) = first_cause (in_order (judged_of tables.catalog stmt)) refusal
+    (refused_first (in_order (judged_of tables.catalog stmt)) fault refusal is refused) in
+    stays g s tables stmt refusal ready (λ db stands.
+    step_refused_on db tables.catalog stmt first.0 (stored_defs tables.ext (pages_of g s) tables.catalog db ready.stored stands) built first.1 ∙ ap (λ r. (db, Refused r)) first.2)
+
+-- ---- a bound statement that does nothing
+
+pub record IsIdle (statement : Bound) : Type 0 where
+  pub does : (db : Database) → done db statement ≡ (db, Replied reply.Done)
+  pub changes : changed_place statement ≡ None
+
+pub idle_as : (statement known : Bound) → statement ≡ known → IsIdle known → IsIdle statement
+idle_as statement known e is = subst IsIdle (sym e) is
+
+pub does_nothing : {S : Type 0} (g : Ghosts S) (s : S) (tables : Tables) (statement : Bound) → IsIdle statement → IsReady g s tables → DoesStatement g s s tables tables statement (said.Done reply.Done)
+does_nothing g s tables statement idle ready = record {
+  ready = ready;
+  stands = λ db stands. subst (λ end_. StandsAfter tables.ext (pages_of g s) end_ (said.Done reply.Done)) (sym (idle.does db)) (record { pages_are = stands; answers = refl });
+  places = λ done is place def changed at. none_changed (changed_place statement) place idle.changes changed;
+}
+  where
+    none_changed : {X : Type 0} (found : Option ℕ) (place : ℕ) → found ≡ None → found ≡ Some place → X
+    none_changed found place e f = cc
+
+-- ---- memory that ran out before a call
+
+pub runs_wanting : {S : Type 0} (g : Ghosts S) (s : S) (tables : Tables) (fault : SpaceFault) → fault ≡ Store store_fault.Memory
+    → RunsOverPages g AnyPage AnyPage (BreaksDatabase g s tables) s s (store_part_of fault)
+runs_wanting g s tables fault is = subst (λ f. RunsOverPages g AnyPage AnyPage (BreaksDatabase g s tables) s s (store_part_of f)) (sym is) (runs_memory runs_none)

@@ -1,0 +1,187 @@
+-- An INSERT on ready pages, whose rows were put and whose table page was written.
+use Rattle.std.proofs.Common.{◌≡◌, ◌≤◌, ◌+◌, ◌-◌, ℕ, List, [], ◌∙◌, refl, sym, ap, subst, length, arith}
+use Rattle.std.specs.Prelude.{IsTrue, IfSome, Option, Some, None, slice_set}
+use Rattle.std.proofs.lemmas.List.{set-set}
+use Rattle.std.proofs.lemmas.Option.{same_Some}
+use Rattle.mdc_values.specs.declared.value.Value.{Value}
+use Rattle.mdc_ast.specs.declared.bound.Bound.TheVariants as bound
+use Rattle.mdc_ast.specs.declared.definition.TableDef.{TableDef}
+use Rattle.mdc_ast.specs.declared.refusal.Refusal.{Refusal}
+use Rattle.mdc_ast.specs.declared.reply.Outcome.TheVariants as said
+use Rattle.mdc_ast.specs.declared.reply.Reply.TheVariants as reply
+use Rattle.mdc_ast.specs.meaning.Database.{Database, changed_at}
+use Rattle.mdc_ast.specs.meaning.Definitions.{Definitions, def_at, with_def}
+use Rattle.mdc_ast.specs.meaning.Doing.{appended, effect, numbered}
+use Rattle.mdc_ast.specs.meaning.Step.{Answer, Refused, Replied, step_by}
+use Rattle.store_api.specs.declared.fault.Damage.{Damage}
+use Rattle.store_api.specs.declared.pages.Pages.{Ghosts}
+use Rattle.extent_map.specs.Damages.{IfFull}
+use Rattle.extent_map.specs.declared.fault.SpaceFault.{SpaceFault}
+use Rattle.extent_map.specs.declared.fault.SpaceFault.TheVariants.{Full, Store}
+use Rattle.extent_map.specs.declared.kind.Kind.{Kind}
+use Rattle.table_page.specs.TableLimits.{IsTableDef}
+use Rattle.table_page.specs.TablePage.{table_page}
+use Rattle.mdc_sound.specs.Placing.{PutsRows, Spot, block_slot_count}
+use Rattle.mdc_sound.specs.RunningFull.{InsertRunsFull}
+use Rattle.mdc_sound.specs.SoundDatabase.{with_table_page}
+use Rattle.mdc_sound.specs.StandingTable.{TableForests, pages_of}
+use Rattle.mdc_sound.specs.StandsForDatabase.{PagesStandFor}
+use Rattle.cell_rooms.specs.RoomNotes.{room_from}
+use Rattle.row_judging.specs.Executing.{done}
+use Rattle.row_judging.specs.Served.{IsDefined}
+use Rattle.stored_catalog.specs.StoredDefinitions.{LacksTablePage, with_stored}
+use Rattle.stored_catalog.proofs.DroppingLemmas.{defined_within}
+use Rattle.stored_catalog.proofs.LeftDefinitionsLemmas.{limits_at, stored_at}
+use Rattle.statement_rows.specs.RowsOfStatement.{ChangesRowsOf, IsReadyBetween}
+use Rattle.script_engine.specs.Doing.{DoesStatement, PlacesOnPages, PlacesRows, RunsFullAlone, StatementRunsFull}
+use Rattle.script_engine.specs.Inserting.{first_refusal, numbered_on, tuple_causes}
+use Rattle.script_engine.specs.Ready.{AreServed, IsReady}
+use Rattle.script_engine.specs.declared.tables.Tables.{Tables}
+use Rattle.script_engine.proofs.PuttingTuplesLemmas.{numbers_left, own_number, put_where_it_stands, refused_for_first, said_by_rows}
+use Rattle.script_engine.proofs.ReadyTablesLemmas.{EndsChange, change_ends, places_shown, ready_between, served_def}
+use Rattle.script_engine.proofs.ServedDefsLemmas.{def_at_set, served_below}
+use Rattle.script_engine.proofs.StoredDefsLemmas.{stored_defs, stored_table}
+
+-- its page was there before the rows were put, so it is there now
+pub lacks_never : {S : Type 0} (g : Ghosts S) (old mid : S) (before : Tables) (def : TableDef) (place : ℕ) (damage : Damage) → def_at before.catalog before.noted ≡ Some def → place ≡ before.noted
+    → length (g.state old).work ≤ length (g.state mid).work → LacksTablePage g mid place damage → IsReady g old before → ⊥
+lacks_never g old mid before def place damage at same longer lacks ready =
+    absurd (omega (arith, lacks.short, longer, same, defined_within (pages_of g old) before.noted def (stored_at (pages_of g old) before.catalog before.noted def ready.stored at)))
+
+-- an INSERT that says it is full runs full on ready pages, and nothing is said against its rows
+pub full_insert : {S : Type 0} (g : Ghosts S) (s : S) (before : Tables) (def : TableDef) (tuples : List (List Value)) (fault : SpaceFault) → AreServed before.catalog → def_at before.catalog before.noted ≡ Some def → tuple_causes def tuples ≡ []
+    → IfFull fault (λ cap. (cap ≡ before.ext.cap) × ((owners : List Kind) (forests : TableForests) → IsReadyBetween g before.ext (room_from before.rooms) s def owners forests
+    → InsertRunsFull before.ext (pages_of g s) def (numbered def.next tuples)))
+    → IfFull fault (λ cap. (cap ≡ before.ext.cap) × (IsReady g s before → RunsFullAlone before.ext (pages_of g s) before.catalog (bound.Insert before.noted tuples)))
+full_insert g s before def tuples (Full cap) served at unsaid full = (
+  full.0,
+  λ ready.
+      let between = ready_between g s before def served ready at in
+      record {
+        full = StatementRunsFull.insert def at (full.1 ready.view.owners between.0 between.1);
+        faultless = λ db stands.
+            let table = stored_table db before.catalog before.noted def (stored_defs before.ext (pages_of g s) before.catalog db ready.stored stands) at in
+            said_by_rows db before.noted table.0 def tuples table.1 table.2.def_is ∙ unsaid;
+      },
+)
+full_insert g s before def tuples (Store fault) served at unsaid full = tt
+
+-- ---- the definitions meanwhile
+
+-- what is served may be written
+pub each_written : (defs : Definitions) (t : ℕ) → AreServed defs → IfSome (def_at defs t) (IsTableDef t)
+each_written defs t served = go (def_at defs t) refl
+  where
+    go : (found : Option TableDef) → def_at defs t ≡ found → IfSome found (IsTableDef t)
+    go None at = tt
+    go (Some def) at = limits_at defs t def served.limits at
+
+module _ (before now : Definitions) (place noted : ℕ) (def : TableDef) (count : ℕ) (served : AreServed before) (at : def_at before place ≡ Some def)
+    (catalog : now ≡ with_def before place (numbered_on def count)) (same : noted ≡ place) where
+  -- the definition stands there with its next number
+  pub stands_on : def_at now noted ≡ Some (numbered_on def count)
+  stands_on =
+      ap (def_at now) same ∙ (ap (λ defs. def_at defs place) catalog
+      ∙ (def_at_set before place (Some (record (numbered_on def count) { number = place })) (omega (arith, served_below before place def served at, served.valid.places)) ∙ ap Some (own_number place (numbered_on def count) (served_def before place def served at).number)))
+
+  -- so that the numbers can be taken back
+  pub may_number_back : (n : ℕ) → n ≡ count → IsDefined (def_at now noted) (λ d. n ≤ d.next)
+  may_number_back n is = subst (λ found. IsDefined found (λ d. n ≤ d.next)) (sym stands_on) (omega (arith, is))
+
+  -- and then all is as it was
+  pub numbered_back : (n : ℕ) (after : Definitions) → n ≡ count → ((d : TableDef) → def_at now noted ≡ Some d → after ≡ with_def now noted (record d { next = d.next - n })) → after ≡ before
+  numbered_back n after is back =
+      let low : def.next + count - n ≡ def.next = omega (arith, is) in
+      back (numbered_on def count) stands_on
+      ∙ (ap (λ k. with_def now noted (record def { next = k })) low
+      ∙ (ap (λ defs. with_def defs noted def) catalog ∙ (ap (λ t. with_def (with_def before place (numbered_on def count)) t def) same
+      ∙ (set-set before place _ _ ∙ (ap (λ d. slice_set before place (Some d)) (own_number place def (served_def before place def served at).number) ∙ put_where_it_stands before place def at)))))
+
+module _ {S : Type 0} (g : Ghosts S) (old mid new : S) (before now : Tables) (def : TableDef) (tuples : List (List Value)) (count : ℕ) where
+  abbrev Puts : List Spot → List Spot → Type 0
+  Puts was is = PutsRows def (block_slot_count before.ext def) was (numbered def.next tuples) is
+
+  -- all that is known once the rows were put and the table page was written
+  pub record IsInserted : Type 0 where
+    pub served : AreServed before.catalog
+    pub at : def_at before.catalog before.noted ≡ Some def
+    pub unsaid : tuple_causes def tuples ≡ []
+    pub inserts : (owners : List Kind) (forests : TableForests) → IsReadyBetween g before.ext (room_from before.rooms) old def owners forests
+        → ChangesRowsOf g before.ext now.ext (room_from now.rooms) old mid def (numbered_on def (length tuples)) owners forests Puts (appended tuples)
+    pub catalog : now.catalog ≡ with_def before.catalog before.noted (numbered_on def (length tuples))
+    pub noted : now.noted ≡ before.noted
+    pub told_mid : (g.state mid).is_told ≡ (g.state old).is_told
+    pub told_new : (g.state new).is_told ≡ (g.state mid).is_told
+    pub saves : IsTrue (g.state mid).is_told → (g.state new).work ≡ with_stored (g.state mid).work now.noted (def_at now.catalog now.noted)
+    pub counts : count ≡ length tuples
+
+  module _ (is : IsInserted) (ready : IsReady g old before) where
+    abbrev def_now : TableDef
+    def_now = numbered_on def (length tuples)
+
+    number : def.number ≡ before.noted
+    number = (served_def before.catalog before.noted def is.served is.at).number
+
+    mid_tells : IsTrue (g.state mid).is_told
+    mid_tells = subst IsTrue (sym is.told_mid) ready.told
+
+    written : pages_of g new ≡ with_table_page def_now (pages_of g mid)
+    written =
+        is.saves mid_tells ∙ (ap (with_stored (pages_of g mid) now.noted) (stands_on before.catalog now.catalog before.noted now.noted def (length tuples) is.served is.at is.catalog is.noted)
+        ∙ ap (λ t. slice_set (pages_of g mid) (1 + t) (table_page def_now)) (is.noted ∙ sym number))
+
+    between : (forests : TableForests) × IsReadyBetween g before.ext (room_from before.rooms) old def ready.view.owners forests
+    between = ready_between g old before def is.served ready is.at
+
+    changed : ChangesRowsOf g before.ext now.ext (room_from now.rooms) old mid def def_now ready.view.owners between.0 Puts (appended tuples)
+    changed = is.inserts ready.view.owners between.0 between.1
+
+    ends : EndsChange g old new before now (appended tuples)
+    ends =
+        change_ends g old mid new before now def def_now ready.view.owners between.0 Puts (appended tuples) is.served ready is.at refl (numbers_left def tuples is.unsaid)
+        changed (subst IsTrue (sym is.told_new) mid_tells) written is.catalog is.noted
+
+    done_is : (db : Database) → PagesStandFor before.ext (pages_of g old) db
+        → done db (bound.Insert before.noted tuples) ≡ (changed_at db before.noted (appended tuples), Replied (reply.Inserted (length tuples)))
+    done_is db stands =
+        let table = stored_table db before.catalog before.noted def (stored_defs before.ext (pages_of g old) before.catalog db ready.stored stands) is.at in
+        ap (λ causes. step_by db causes (effect db (bound.Insert before.noted tuples)))
+        (said_by_rows db before.noted table.0 def tuples table.1 table.2.def_is ∙ is.unsaid)
+
+    here : PlacesOnPages before.ext now.ext (pages_of g old) (pages_of g new) def (bound.Insert before.noted tuples)
+    here =
+        places_shown g old mid new before now def def_now ready.view.owners between.0 Puts (appended tuples) (bound.Insert before.noted tuples)
+        ready refl between.1 changed written (λ was is puts. PlacesRows.insert puts)
+
+    -- then the INSERT is done
+    pub inserted : DoesStatement g old new before now (bound.Insert before.noted tuples) (said.Done (reply.Inserted count))
+    inserted = record {
+      ready = ends.ready;
+      stands = λ db stands. record {
+        pages_are = subst (λ (e : Database × Answer). PagesStandFor now.ext (pages_of g new) e.0) (sym (done_is db stands)) (ends.stands_for db stands);
+        answers = ap (λ (e : Database × Answer). e.1) (done_is db stands) ∙ ap (λ n. Replied (reply.Inserted n)) (sym is.counts);
+      };
+      places = λ reply done place other changes at.
+          let same_place : before.noted ≡ place = same_Some before.noted place changes in
+          let same_def : def ≡ other = same_Some def other (sym is.at ∙ (ap (def_at before.catalog) same_place ∙ at)) in
+          subst (λ d. PlacesOnPages before.ext now.ext (pages_of g old) (pages_of g new) d (bound.Insert before.noted tuples)) same_def here;
+    }
+
+-- ---- refused
+
+-- where something is said against the tuples, pages stay ready and the answer is what is said first
+pub refused_insert : {S : Type 0} (g : Ghosts S) (s : S) (before now : Tables) (table : ℕ) (def : TableDef) (tuples : List (List Value)) (refusal : Refusal) → now.ext ≡ before.ext
+    → def_at before.catalog table ≡ Some def → first_refusal (tuple_causes def tuples) ≡ Some refusal → IsReady g s before → IsReady g s now
+    → DoesStatement g s s before now (bound.Insert table tuples) (said.Refused refusal)
+refused_insert g s before now table def tuples refusal same at first ready now_ready = record {
+  ready = now_ready;
+  stands = λ db stands.
+      let found = stored_table db before.catalog table def (stored_defs before.ext (pages_of g s) before.catalog db ready.stored stands) at in
+      let is : done db (bound.Insert table tuples) ≡ (db, Refused refusal) =
+      refused_for_first db _ (effect db (bound.Insert table tuples)) refusal (ap first_refusal (said_by_rows db table found.0 def tuples found.1 found.2.def_is) ∙ first) in
+      record {
+        pages_are = subst (λ (e : Database × Answer). PagesStandFor now.ext (pages_of g s) e.0) (sym is) (subst (λ ext. PagesStandFor ext (pages_of g s) db) (sym same) stands);
+        answers = ap (λ (e : Database × Answer). e.1) is;
+      };
+  places = λ reply done place other changes at. absurd cc;
+}

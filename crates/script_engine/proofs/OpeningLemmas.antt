@@ -1,0 +1,98 @@
+-- An engine that was just opened.
+use Rattle.std.proofs.Common.{◌≡◌, true, false, List, Option, Some, None, sym, ap, subst, ◌∙◌}
+use Rattle.std.specs.Prelude.{IsTrue}
+use Rattle.mdc_words.specs.Time.{ReachesBack}
+use Rattle.mdc_ast.specs.meaning.Definitions.{AllDefsDiffer, Definitions}
+use Rattle.store_api.specs.Frame.{NoPage}
+use Rattle.store_api.specs.RunsOverPages.{RunsOverPages}
+use Rattle.store_api.specs.Works.{Rests}
+use Rattle.store_api.specs.declared.fault.Damage.{Damage}
+use Rattle.store_api.specs.declared.fault.StoreFault.{StoreFault}
+use Rattle.store_api.specs.declared.pages.Pages.{Ghosts}
+use Rattle.store_api.proofs.WorksLemmas.{rests_steady}
+use Rattle.extent_map.specs.Owners.{AreRightNotes, IsSameShape}
+use Rattle.extent_map.specs.declared.extents.Extents.{Extents}
+use Rattle.extent_map.specs.declared.kind.Kind.{Kind}
+use Rattle.table_trees.specs.ToldPages.{PageList}
+use Rattle.mdc_sound.specs.SoundDatabase.{IsSoundDatabase, KeepAllRules}
+use Rattle.cell_rooms.specs.RoomNotes.{IsForgotten}
+use Rattle.stored_catalog.specs.StoredDefinitions.{AreStored, AreWithinLimits, BreaksTablePages, IsAnyTablePage}
+use Rattle.script_engine.specs.Opening.{IsSoundStore, KeepsPages, are_built}
+use Rattle.script_engine.specs.Serving.{IsReadyEngine, MayCall}
+use Rattle.script_engine.specs.Stops.{stop_of}
+use Rattle.script_engine.specs.declared.engine.Engine.{Engine}
+use Rattle.script_engine.specs.declared.stop.EngineStop.{EngineStop}
+use Rattle.script_engine.specs.declared.stop.EngineStop.TheVariants.{Damaged}
+use Rattle.script_engine.proofs.CatalogLemmas.{built_of, one_catalog, served_of}
+use Rattle.script_engine.proofs.ReadyTablesLemmas.{ready_of_sound}
+use Rattle.script_engine.proofs.ReloadingLemmas.{no_damage}
+use Rattle.script_engine.proofs.ShapeLemmas.{keeps_along}
+use Rattle.script_engine.proofs.TryingLemmas.{stop_names}
+
+module _ {S : Type 0} (g : Ghosts S) where
+  -- a run that only reads
+  keeps_read : {fault : Option StoreFault} (old new : S) → RunsOverPages g NoPage IsAnyTablePage (BreaksTablePages g old) old new fault → (g.state new).work ≡ (g.state old).work → KeepsPages g old new
+  keeps_read old new runs same = record {
+    is_told = runs.works.steady.is_told;
+    base = runs.works.steady.base;
+    work = same;
+    told = runs.works.steady.told;
+    attached = runs.works.steady.attached;
+    say_faults = runs.works.steady.say_faults;
+    time = runs.works.steady.time;
+  }
+
+  -- the catalog was read into an engine
+  module _ (ext : Extents) (old read : S) (engine : Engine S) (catalog : Definitions) (runs : RunsOverPages g NoPage IsAnyTablePage (BreaksTablePages g old) old read None) (same : (g.state read).work ≡ (g.state old).work)
+      (is : engine ≡ record { store = read; tables = engine.tables; served = are_built catalog; is_open = false }) (has : engine.tables.catalog ≡ catalog) (limits : AreWithinLimits catalog) (differ : AllDefsDiffer catalog) where
+    store_is : engine.store ≡ read
+    store_is = ap (λ (e : Engine S). e.store) is
+
+    opened_pages : KeepsPages g old engine.store
+    opened_pages = subst (λ (s : S). KeepsPages g old s) (sym store_is) (keeps_read old read runs same)
+
+    pub opened_rests : ReachesBack g.clock g.left read → (g.state old).ended ≡ false → Rests g old → Rests g engine.store
+    opened_rests back going was = subst (λ (s : S). Rests g s) (sym store_is) (rests_steady back going runs.works.steady was)
+
+    pub opened_may : (g.state old).ended ≡ false → (g.state old).marked ≡ None → MayCall g engine
+    opened_may going unmarked = record {
+      going = ap (λ (s : S). (g.state s).ended) store_is ∙ (runs.works.steady.ended ∙ going);
+      unmarked = ap (λ (s : S). (g.state s).marked) store_is ∙ (runs.works.marked ∙ unmarked);
+      served = λ served.
+          served_of engine.tables.catalog (subst AreWithinLimits (sym has) limits) (subst AllDefsDiffer (sym has) differ)
+          (ap are_built has ∙ (sym (ap (λ (e : Engine S). e.served) is) ∙ served));
+    }
+
+    pub opened_ready : (IsTrue (g.state old).is_told → AreStored (g.state old).work catalog) → IsSameShape ext engine.tables.ext → ((owners : List Kind) → AreRightNotes engine.tables.ext owners)
+        → IsForgotten engine.tables.rooms → IsSoundStore g ext old → IsReadyEngine g engine
+    opened_ready loads shape notes rooms sound =
+        let kept = opened_pages in
+        let stored = loads sound.told in
+        let defs_are : catalog ≡ sound.defs = one_catalog (g.state old).work catalog sound.defs stored sound.stored in
+        let built : are_built catalog ≡ true = ap are_built defs_are ∙ built_of sound.defs sound.valid in
+        let along = keeps_along ext engine.tables.ext (g.state old).work sound.sound.0 shape sound.sound.1 in
+        let base_now : (g.state engine.store).base ≡ (g.state old).work = kept.base ∙ sound.committed in
+        let stored_now : AreStored (g.state old).work engine.tables.catalog = subst (λ (defs : Definitions). AreStored (g.state old).work defs) (sym has) stored in
+        record {
+          served = ap (λ (e : Engine S). e.served) is ∙ built;
+          work = ready_of_sound g engine.store engine.tables sound.sound.0
+              (served_of engine.tables.catalog (subst AreWithinLimits (sym has) limits) (subst AllDefsDiffer (sym has) differ) (ap are_built has ∙ built)) (subst IsTrue (sym kept.is_told) sound.told)
+              (subst (λ (pages : PageList). KeepAllRules engine.tables.ext pages sound.sound.0) (sym kept.work) along)
+              (subst (λ (pages : PageList). AreStored pages engine.tables.catalog) (sym kept.work) stored_now) (notes sound.sound.0.owners) rooms;
+          base_view = sound.sound.0;
+          base_sound = subst (λ (pages : PageList). KeepAllRules engine.tables.ext pages sound.sound.0) (sym base_now) along;
+          base_defs = sound.defs;
+          base_stored = subst (λ (pages : PageList). AreStored pages sound.defs) (sym base_now) sound.stored;
+          base_valid = sound.valid;
+          closed = λ shut. base_now ∙ sym kept.work;
+        }
+
+  -- the catalog couldn't be read: what is named as damage is what the reading names
+  pub unopened_breaks : (fault : StoreFault) (stop : EngineStop) (old new : S) → stop ≡ stop_of fault → RunsOverPages g NoPage IsAnyTablePage (BreaksTablePages g old) old new (Some fault)
+      → (damage : Damage) → stop ≡ Damaged damage → BreaksTablePages g old damage
+  unopened_breaks fault stop old new is runs damage r = runs.cause.damaged damage (ap Some (stop_names fault damage (sym is ∙ r)))
+
+  -- which sound pages don't have
+  pub unopened_names : (ext : Extents) (fault : StoreFault) (stop : EngineStop) (old new : S) → stop ≡ stop_of fault → RunsOverPages g NoPage IsAnyTablePage (BreaksTablePages g old) old new (Some fault)
+      → (damage : Damage) → stop ≡ Damaged damage → IsTrue (g.state old).is_told → IsSoundDatabase ext (g.state old).work → ⊥
+  unopened_names ext fault stop old new is runs damage r told sound = no_damage g old ext damage told sound (unopened_breaks fault stop old new is runs damage r)

@@ -1,0 +1,163 @@
+-- The tuples of an INSERT against which nothing is said: they fit, they have numbers, and nothing is said against them by the rows.
+use Rattle.std.proofs.Common.{◌≡◌, ◌<◌, ◌+◌, ℕ, zero, suc, List, [], ◌∷◌, ◌++◌, ◌∙◌, refl, sym, ap, subst, length, arith}
+use Rattle.std.specs.Prelude.{Option, Some, None, flat_map, nat_lt, false, is_none, IsTrue, IfSome, Result, Ok, Err, OnOk, OnErr, slice_set}
+use Rattle.std.specs.List.{AllByRecursion, list_all}
+use Rattle.std.proofs.lemmas.Bool.Decides.{nat_tests}
+use Rattle.std.proofs.lemmas.List.{set-set}
+use Rattle.std.proofs.lemmas.Option.{same_Some}
+use Rattle.mdc_values.specs.declared.value.Value.{Value}
+use Rattle.mdc_ast.specs.declared.bound.Bound.TheVariants as bound
+use Rattle.mdc_ast.specs.declared.definition.ColumnDef.{ColumnDef}
+use Rattle.mdc_ast.specs.declared.definition.GenExpr.{GenExpr}
+use Rattle.mdc_ast.specs.declared.definition.TableDef.{TableDef}
+use Rattle.mdc_ast.specs.declared.refusal.Refusal.{Refusal}
+use Rattle.mdc_ast.specs.declared.reply.Reply.{Reply}
+use Rattle.mdc_ast.specs.meaning.Cause.{Cause, NumbersUsedUp}
+use Rattle.mdc_ast.specs.meaning.Database.{Database, PlainTable, fits_all, table_at}
+use Rattle.mdc_ast.specs.meaning.Definitions.{Definitions, IsValidDef, def_at, with_def, without_def}
+use Rattle.mdc_ast.specs.meaning.Doing.{causes_of_rows, null_causes, numbered, used_up}
+use Rattle.mdc_ast.specs.meaning.Judging.{of_some}
+use Rattle.mdc_ast.specs.meaning.Step.{Refused, step_by}
+use Rattle.mdc_ast.proofs.CausesLemmas.{none_if, none_of_both}
+use Rattle.mdc_ast.proofs.TestsLemmas.{both}
+use Rattle.mdc_sound.specs.FittingRows.{AreMadeFrom, IsMadeFrom, RowFits}
+use Rattle.mdc_sound.specs.StandsForDatabase.{rootless}
+use Rattle.row_judging.specs.Served.{IsDefined, MayPut}
+use Rattle.script_engine.specs.Inserting.{first_refusal, numbered_on, tuple_causes}
+
+-- ---- what is said
+
+-- what nothing is said against has no null where there may be none
+pub no_nulls : (def : TableDef) (tuples : List (List Value)) → tuple_causes def tuples ≡ [] → flat_map (null_causes def.columns) tuples ≡ []
+no_nulls def tuples none = (none_of_both (flat_map (null_causes def.columns) tuples) (used_up def.next (length tuples)) none).0
+
+-- and its numbers are below 2^64
+pub numbers_left : (def : TableDef) (tuples : List (List Value)) → tuple_causes def tuples ≡ [] → def.next + length tuples < 18446744073709551616
+numbers_left def tuples none =
+    few (def.next + length tuples) (none_if (nat_lt 18446744073709551615 (def.next + length tuples)) (NumbersUsedUp def.next)
+    (none_of_both (flat_map (null_causes def.columns) tuples) (used_up def.next (length tuples)) none).1)
+  where
+    few : (n : ℕ) → nat_lt 18446744073709551615 n ≡ false → n < 18446744073709551616
+    few n not_more = grind (arith, nat_tests, not_more)
+
+-- the rows of a plain table of this definition say the same
+pub said_by_rows : (db : Database) (place : ℕ) (table : PlainTable) (def : TableDef) (tuples : List (List Value)) → table_at db place ≡ Some table → table.def ≡ rootless def
+    → causes_of_rows db (bound.Insert place tuples) ≡ tuple_causes def tuples
+said_by_rows db place table def tuples at is =
+    ap (λ found. of_some found (λ (t : PlainTable). flat_map (null_causes t.def.columns) tuples) ++ of_some found (λ (t : PlainTable). used_up t.def.next (length tuples))) at
+    ∙ ap (λ (d : TableDef). tuple_causes d tuples) is
+
+-- a statement is refused for what is said first
+pub refused_for_first : (db : Database) (causes : List Cause) (done : Database × Reply) (refusal : Refusal) → first_refusal causes ≡ Some refusal → step_by db causes done ≡ (db, Refused refusal)
+refused_for_first db [] (new, reply) refusal first = absurd cc
+refused_for_first db (cause ∷ causes) done refusal first = ap (λ r. (db, Refused r)) (same_Some _ refusal first)
+
+-- nothing is said first where nothing is said
+pub none_said : (causes : List Cause) → first_refusal causes ≡ None → causes ≡ []
+none_said [] none = refl
+none_said (cause ∷ causes) none = absurd cc
+
+-- ---- what fits
+
+-- a value of a column that isn't generated is free
+not_made : (made : Option GenExpr) (all : List Value) (value : Value) → IsTrue (is_none made) → IsMadeFrom made all value
+not_made None all value none = tt
+not_made (Some e) all value none = absurd cc
+
+-- no value is generated where no column is
+none_made_from : (all : List Value) (columns : List ColumnDef) (values : List Value) → IsTrue (list_all (λ (column : ColumnDef). is_none column.made) columns) → AreMadeFrom all columns values
+none_made_from all [] values none = tt
+none_made_from all (column ∷ columns) [] none = tt
+none_made_from all (column ∷ columns) (value ∷ values) none =
+    let parts = both (is_none column.made) (list_all (λ (column : ColumnDef). is_none column.made) columns) none in
+    (not_made column.made all value parts.0, none_made_from all columns values parts.1)
+
+-- rows of values that fit the columns fit the definition
+pub rows_fit : (def : TableDef) (from : ℕ) (tuples : List (List Value)) → IsTrue (list_all (λ (column : ColumnDef). is_none column.made) def.columns) → IsTrue (list_all (fits_all def.columns) tuples)
+    → AllByRecursion (RowFits def) (numbered from tuples)
+rows_fit def from [] none fit = tt
+rows_fit def from (values ∷ tuples) none fit =
+    let parts = both (fits_all def.columns values) (list_all (fits_all def.columns) tuples) fit in
+    (record { values = parts.0; generated = none_made_from values def.columns values none }, rows_fit def (from + 1) tuples none parts.1)
+
+-- what may be put into a table that is there
+pub may_put : (found : Option TableDef) (def : TableDef) (tuples : List (List Value)) → found ≡ Some def → IsDefined found (MayPut tuples) → MayPut tuples def
+may_put found def tuples at may = subst (λ f. IsDefined f (MayPut tuples)) at may
+
+-- so there is one
+pub there_is : (found : Option TableDef) (P : TableDef → Type 0) → IsDefined found P → (def : TableDef) × (found ≡ Some def)
+there_is None P defined = absurd defined
+there_is (Some def) P defined = (def, refl)
+
+-- and so what is said of it
+pub of_that : (found : Option TableDef) (def : TableDef) (P : TableDef → Type 0) → found ≡ Some def → IfSome found P → P def
+of_that found def P at is = subst (λ f. IfSome f P) at is
+
+-- tuples against which nothing is said make rows that fit
+pub tuples_fit : (place : ℕ) (def : TableDef) (tuples : List (List Value)) → IsValidDef place def → MayPut tuples def → tuple_causes def tuples ≡ []
+    → AllByRecursion (RowFits def) (numbered def.next tuples)
+tuples_fit place def tuples valid may none = rows_fit def def.next tuples valid.none_made (may.fit (no_nulls def tuples none))
+
+-- ---- the definition, which was taken out and is put back whatever came
+
+-- a place that is emptied and filled again is only filled
+pub emptied_and_put : (defs : Definitions) (place : ℕ) (def : TableDef) → with_def (without_def defs place) place def ≡ with_def defs place def
+emptied_and_put [] place def = refl
+emptied_and_put (first ∷ defs) zero def = refl
+emptied_and_put (first ∷ defs) (suc place) def = set-set (first ∷ defs) (suc place) None _
+
+-- what is put where it stands changes nothing
+pub put_where_it_stands : (defs : Definitions) (place : ℕ) (def : TableDef) → def_at defs place ≡ Some def → slice_set defs place (Some def) ≡ defs
+put_where_it_stands [] place def at = refl
+put_where_it_stands (None ∷ defs) zero def at = absurd cc
+put_where_it_stands (Some first ∷ defs) zero def at = ap (λ d. d ∷ defs) (sym at)
+put_where_it_stands (first ∷ defs) (suc place) def at = ap (λ rest. first ∷ rest) (put_where_it_stands defs place def at)
+
+-- under its own number a definition is itself
+pub own_number : (place : ℕ) (def : TableDef) → def.number ≡ place → record def { number = place } ≡ def
+own_number place def number = ap (λ n. record def { number = n }) (sym number)
+
+module _ {X E : Type 0} (result : Result X E) (found def_now : TableDef) (count : ℕ) (next : OnOk result (def_now ≡ numbered_on found count)) where
+  -- it keeps its number
+  pub number_stays : OnErr result (def_now ≡ found) → def_now.number ≡ found.number
+  number_stays kept = go result next kept
+    where
+      go : (r : Result X E) → OnOk r (def_now ≡ numbered_on found count) → OnErr r (def_now ≡ found) → def_now.number ≡ found.number
+      go (Ok x) is kept = ap (λ (d : TableDef). d.number) is
+      go (Err e) is kept = ap (λ (d : TableDef). d.number) kept
+
+  -- what holds of the definition and the one that it became holds of the one that stood there
+  pub becomes : (P : TableDef → TableDef → Type 0) (def : TableDef) → found ≡ def → OnOk result (P found def_now) → OnOk result (P def (numbered_on def count))
+  becomes P def same all = go result next all
+    where
+      go : (r : Result X E) → OnOk r (def_now ≡ numbered_on found count) → OnOk r (P found def_now) → OnOk r (P def (numbered_on def count))
+      go (Ok x) is holds = subst (λ d. P d (numbered_on d count)) same (subst (P found) is holds)
+      go (Err e) is holds = tt
+
+  module _ (defs left final : Definitions) (place : ℕ) (emptied : left ≡ without_def defs place) (put : final ≡ with_def left place def_now) where
+    over : final ≡ with_def defs place def_now
+    over = put ∙ (ap (λ d. with_def d place def_now) emptied ∙ emptied_and_put defs place def_now)
+
+    -- where the rows went in, it stands there with its next number
+    pub numbers_on : (def : TableDef) → found ≡ def → OnOk result (final ≡ with_def defs place (numbered_on def count))
+    numbers_on def same = go result next
+      where
+        go : (r : Result X E) → OnOk r (def_now ≡ numbered_on found count) → OnOk r (final ≡ with_def defs place (numbered_on def count))
+        go (Ok x) is = over ∙ ap (with_def defs place) (is ∙ ap (λ d. numbered_on d count) same)
+        go (Err e) is = tt
+
+    -- and after a fault all is as it was
+    pub defs_stay : OnErr result (def_now ≡ found) → def_at defs place ≡ Some found → found.number ≡ place → OnErr result (final ≡ defs)
+    defs_stay kept at number = go result kept
+      where
+        go : (r : Result X E) → OnErr r (def_now ≡ found) → OnErr r (final ≡ defs)
+        go (Ok x) is = tt
+        go (Err e) is = over ∙ (ap (with_def defs place) is ∙ (ap (λ d. slice_set defs place (Some d)) (own_number place found number) ∙ put_where_it_stands defs place found at))
+
+-- ---- where nothing was said
+
+-- no refusal came, so nothing is said against the tuples
+pub none_said_of : (found : Option TableDef) (tuples lent : List (List Value)) (refusal : Option Refusal) → lent ≡ tuples → IfSome found (λ def. first_refusal (tuple_causes def lent) ≡ refusal) → refusal ≡ None
+    → IfSome found (λ def. tuple_causes def tuples ≡ [])
+none_said_of None tuples lent refusal same judged none = tt
+none_said_of (Some def) tuples lent refusal same judged none = ap (tuple_causes def) (sym same) ∙ none_said (tuple_causes def lent) (judged ∙ none)

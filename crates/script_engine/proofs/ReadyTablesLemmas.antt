@@ -1,0 +1,248 @@
+-- A table of ready pages: it stands, and once its rows were changed and its page is written the pages are ready again.
+use Rattle.std.proofs.Common.{◌≡◌, ◌⊎◌, ◌<◌, ◌+◌, ℕ, zero, suc, List, [], ◌∷◌, Option, Some, None, set, refl, ap, arith, sym, ◌∙◌, subst, inl, inr}
+use Rattle.std.specs.Prelude.{IsTrue, slice_get}
+use Rattle.std.proofs.lemmas.Option.{same_Some}
+use Rattle.mdc_ast.specs.declared.bound.Bound.{Bound}
+use Rattle.mdc_ast.specs.declared.definition.TableDef.{TableDef}
+use Rattle.mdc_ast.specs.meaning.Database.{Database, PlainTable, changed_at}
+use Rattle.mdc_ast.specs.meaning.Definitions.{AreValidFrom, Definitions, IsValidDef, def_at, with_def}
+use Rattle.store_api.specs.declared.pages.Pages.{Ghosts}
+use Rattle.extent_map.specs.Owners.{AreRightNotes}
+use Rattle.extent_map.specs.declared.extents.Extents.{Extents}
+use Rattle.extent_map.specs.declared.kind.Kind.{Kind}
+use Rattle.table_page.specs.TableLimits.{IsTableDef}
+use Rattle.table_page.proofs.TablePageLemmas.{one_definition}
+use Rattle.table_trees.specs.TableTrees.{map_place}
+use Rattle.table_trees.specs.ToldPages.{HasTree, PageList, told_pages}
+use Rattle.mdc_sound.specs.Placing.{Spot, block_slot_count, table_spots}
+use Rattle.mdc_sound.specs.RunningFull.{ShowsTableSpots}
+use Rattle.mdc_sound.specs.SoundDatabase.{KeepAllRules, with_table_page}
+use Rattle.mdc_sound.specs.SpaceRules.{DatabaseView}
+use Rattle.mdc_sound.specs.StandingTable.{AreRightRooms, IsReadyTable, StandsTable, TableForests, pages_of, spots_of}
+use Rattle.mdc_sound.specs.StandsForDatabase.{PagesStandFor}
+use Rattle.mdc_sound.specs.TablePages.{DefinesTable, table_page_at}
+use Rattle.mdc_sound.proofs.SoundDatabaseLemmas.{page_at-with_table_page}
+use Rattle.mdc_sound.proofs.SpaceRulesLemmas.{range_at}
+use Rattle.mdc_sound.proofs.StandingTableLemmas.{forests_of, one_standing, stands_of_sound, stands_told}
+use Rattle.cell_rooms.specs.RoomNotes.{IsForgotten, room_from}
+use Rattle.cell_rooms.specs.declared.rooms.Rooms.{Rooms}
+use Rattle.cell_change.proofs.ChangedSpaceLemmas.{shows_spots}
+use Rattle.stored_catalog.specs.StoredDefinitions.{AreStored, IsWithinLimits}
+use Rattle.stored_catalog.proofs.AroundTableLemmas.{stored_but}
+use Rattle.stored_catalog.proofs.LeftDefinitionsLemmas.{def_there, limits_at, stored_at}
+use Rattle.stored_catalog.proofs.LoadingLemmas.{put_as_it_is}
+use Rattle.statement_rows.specs.RowsOfStatement.{ChangesRowsOf, IsReadyBetween}
+use Rattle.script_engine.specs.Doing.{PlacesOnPages, PlacesRows}
+use Rattle.script_engine.specs.Ready.{AreServed, IsReady}
+use Rattle.script_engine.specs.declared.tables.Tables.{Tables}
+use Rattle.script_engine.proofs.BetweenChangesLemmas.{between_of_rules, number_is_low, ready_table, rules_of_between, stands_written, written_already, written_defines}
+use Rattle.script_engine.proofs.TablePageSpotsLemmas.{spots_with_table_page}
+
+-- ---- at the start of a statement
+
+-- a table of built form has the number of its place, is within the limits and has no record indexes
+pub record IsServedDef (place : ℕ) (def : TableDef) : Type 0 where
+  pub number : def.number ≡ place
+  pub below : place < 16
+  pub limits : IsTableDef def.number def
+  pub no_indexes : def.indexes ≡ []
+
+-- what stands in a place is valid under its number
+valid_def : (from : ℕ) (defs : Definitions) (place : ℕ) (def : TableDef) → AreValidFrom from defs → def_at defs place ≡ Some def → IsValidDef (from + place) def
+valid_def from [] place def valid at = cc
+valid_def from (None ∷ defs) zero def valid at = cc
+valid_def from (Some first ∷ defs) zero def valid at = let here : from ≡ from + 0 = omega arith in subst (λ n. IsValidDef n def) here (subst (IsValidDef from) (same_Some first def at) valid.0)
+valid_def from (first ∷ defs) (suc place) def valid at =
+    let same : (from + 1) + place ≡ from + suc place = omega arith in subst (λ n. IsValidDef n def) same (valid_def (from + 1) defs place def valid.1 at)
+
+pub served_def : (defs : Definitions) (place : ℕ) (def : TableDef) → AreServed defs → def_at defs place ≡ Some def → IsServedDef place def
+served_def defs place def served at =
+    let limits = limits_at defs place def served.limits at in record {
+      number = limits.stands;
+      below = (range_at IsWithinLimits 0 16 defs place (Some def) served.limits (def_there defs place def at)).0;
+      limits = subst (λ t. IsTableDef t def) (sym limits.stands) limits;
+      no_indexes = (valid_def 0 defs place def served.valid.each at).no_indexes;
+    }
+
+-- the same with other rooms noted
+ready_with : {S : Type 0} (g : Ghosts S) (s : S) (before : Tables) (table : ℕ) (rooms : Rooms) → AreServed before.catalog
+    → ((before.noted ≡ table) × (rooms ≡ before.rooms)) ⊎ IsForgotten rooms → IsReady g s before → IsReady g s (record before { noted = table; rooms = rooms })
+ready_with g s before table rooms served either ready = record {
+  told = ready.told;
+  view = ready.view;
+  sound = ready.sound;
+  stored = ready.stored;
+  notes = ready.notes;
+  rooms = λ def at. elim either [
+    | inl same ↦
+        let was = ready.rooms def (ap (def_at before.catalog) same.0 ∙ at) in
+        (was.0, subst (λ (r : Rooms). IsReadyTable g before.ext (room_from r) s def ready.view.owners was.0) (sym same.1) was.1)
+    | inr forgotten ↦
+        let is = served_def before.catalog table def served at in
+        ready_table g before.ext s ready.view table def (room_from rooms) ready.told ready.sound ready.notes is.below (stored_at (pages_of g s) before.catalog table def ready.stored at) forgotten
+  ];
+}
+
+-- turning to a table keeps pages ready
+pub ready_turned : {S : Type 0} (g : Ghosts S) (s : S) (before now : Tables) (table : ℕ) → AreServed before.catalog → now ≡ record before { noted = table; rooms = now.rooms }
+    → ((before.noted ≡ table) × (now.rooms ≡ before.rooms)) ⊎ IsForgotten now.rooms → IsReady g s before → IsReady g s now
+ready_turned g s before now table served is rooms ready = subst (IsReady g s) (sym is) (ready_with g s before table now.rooms served rooms ready)
+
+-- the table that is noted stands with right notes, in pages that are sound as they are between two changes of rows
+pub ready_between : {S : Type 0} (g : Ghosts S) (s : S) (tables : Tables) (def : TableDef) → AreServed tables.catalog → (ready : IsReady g s tables) → def_at tables.catalog tables.noted ≡ Some def
+    → (forests : TableForests) × IsReadyBetween g tables.ext (room_from tables.rooms) s def ready.view.owners forests
+ready_between g s tables def served ready at =
+    let is = served_def tables.catalog tables.noted def served at in
+    let stored = stored_at (pages_of g s) tables.catalog tables.noted def ready.stored at in
+    let table = ready.rooms def at in
+    let low : def.number < 16 = omega (arith, is.number, is.below) in
+    (table.0, record { ready = table.1; sound = between_of_rules tables.ext (pages_of g s) ready.view def ready.sound low (subst (λ t. DefinesTable (pages_of g s) t def) (sym is.number) stored) })
+
+-- ready pages have the definition of a table on its page, so writing it changes nothing
+pub page_is_written : {S : Type 0} (g : Ghosts S) (s : S) (tables : Tables) (place : ℕ) (def : TableDef) → AreServed tables.catalog → IsReady g s tables → def_at tables.catalog place ≡ Some def
+    → with_table_page def (pages_of g s) ≡ pages_of g s
+page_is_written g s tables place def served ready at =
+    written_already (pages_of g s) place def (served_def tables.catalog place def served at).number (stored_at (pages_of g s) tables.catalog place def ready.stored at)
+
+-- ---- at its end
+
+-- sound pages with right notes, whose table pages the catalog has, are ready where no rooms are noted
+pub ready_of_sound : {S : Type 0} (g : Ghosts S) (s : S) (tables : Tables) (view : DatabaseView) → AreServed tables.catalog → IsTrue (g.state s).is_told → KeepAllRules tables.ext (pages_of g s) view
+    → AreStored (pages_of g s) tables.catalog → AreRightNotes tables.ext view.owners → IsForgotten tables.rooms → IsReady g s tables
+ready_of_sound g s tables view served told sound stored notes rooms = record {
+  told = told;
+  view = view;
+  sound = sound;
+  stored = stored;
+  notes = notes;
+  rooms = λ def at.
+      let is = served_def tables.catalog tables.noted def served at in
+      ready_table g tables.ext s view tables.noted def (room_from tables.rooms) told sound notes is.below (stored_at (pages_of g s) tables.catalog tables.noted def stored at) rooms;
+}
+
+-- what the pages are once the rows of the table that is noted were changed and its page is written
+pub record EndsChange {S : Type 0} (g : Ghosts S) (old new : S) (before now : Tables) (change : PlainTable → PlainTable) : Type 0 where
+  pub ready : IsReady g new now
+  pub stands_for : (db : Database) → PagesStandFor before.ext (pages_of g old) db → PagesStandFor now.ext (pages_of g new) (changed_at db before.noted change)
+
+-- an INSERT: the page of the table is written with its new definition
+pub change_ends : {S : Type 0} (g : Ghosts S) (old mid new : S) (before now : Tables) (def def_now : TableDef) (owners : List Kind) (forests : TableForests) (Places : List Spot → List Spot → Type 0) (change : PlainTable → PlainTable)
+    → AreServed before.catalog → IsReady g old before → def_at before.catalog before.noted ≡ Some def → def_now ≡ record def { next = def_now.next } → def_now.next < 18446744073709551616
+    → ChangesRowsOf g before.ext now.ext (room_from now.rooms) old mid def def_now owners forests Places change
+    → IsTrue (g.state new).is_told → pages_of g new ≡ with_table_page def_now (pages_of g mid)
+    → now.catalog ≡ with_def before.catalog before.noted def_now → now.noted ≡ before.noted → EndsChange g old new before now change
+change_ends g old mid new before now def def_now owners forests Places change served ready at same small changed told written catalog noted = record {
+  ready = record {
+    told = told;
+    view = changed.now.sound.sound.view;
+    sound = rules;
+    stored = stored;
+    notes = subst (AreRightNotes now.ext) one_owners changed.now.ready.notes;
+    rooms = λ d there.
+        let defined = subst (λ (t : ℕ). DefinesTable (pages_of g new) t d) noted (stored_at (pages_of g new) now.catalog now.noted d stored there) in
+        let is : def_now ≡ d = one_definition before.noted def_now d (table_page_at (pages_of g new) before.noted) defines defined in
+        (changed.forests_now, subst (λ (x : TableDef). IsReadyTable g now.ext (room_from now.rooms) new x changed.now.sound.sound.view.owners changed.forests_now) is table_now);
+  };
+  stands_for = λ db were.
+      let after = changed.stands_for db (subst (λ (pages : PageList). PagesStandFor before.ext pages db) (sym (page_is_written g old before before.noted def served ready at)) were) in
+      subst (λ (pages : PageList). PagesStandFor now.ext pages (changed_at db before.noted change)) (sym written)
+      (subst (λ (t : ℕ). PagesStandFor now.ext (with_table_page def_now (pages_of g mid)) (changed_at db t change)) is.number after);
+}
+  where
+    is : IsServedDef before.noted def
+    is = served_def before.catalog before.noted def served at
+
+    number : def_now.number ≡ before.noted
+    number = ap (λ (d : TableDef). d.number) same ∙ is.number
+
+    low : def_now.number < 16
+    low = omega (arith, number, is.below)
+
+    rules : KeepAllRules now.ext (pages_of g new) changed.now.sound.sound.view
+    rules =
+        subst (λ (pages : PageList). KeepAllRules now.ext pages changed.now.sound.sound.view) (sym written)
+        (rules_of_between now.ext def_now (pages_of g mid) changed.now.sound (ap (λ (d : TableDef). d.indexes) same ∙ is.no_indexes))
+
+    defines : DefinesTable (pages_of g new) before.noted def_now
+    defines =
+        subst (λ (pages : PageList). DefinesTable pages before.noted def_now) (sym written)
+        (subst (λ (t : ℕ). DefinesTable (with_table_page def_now (pages_of g mid)) t def_now) number (written_defines now.ext def_now (pages_of g mid) changed.now.sound.sound))
+
+    stored : AreStored (pages_of g new) now.catalog
+    stored =
+        subst (AreStored (pages_of g new)) (sym (catalog ∙ put_as_it_is before.catalog before.noted def_now defines.limits))
+        (stored_but (pages_of g old) (pages_of g new) before.catalog before.noted (Some def_now) ready.stored
+        (λ u below apart. ap (λ (pages : PageList). table_page_at pages u) written
+        ∙ (page_at-with_table_page def_now (pages_of g mid) (1 + u) (λ e. apart (omega (arith, e, number))) ∙ changed.table_pages.each u below))
+        defines)
+
+    one_owners : changed.owners_now ≡ changed.now.sound.sound.view.owners
+    one_owners =
+        (one_standing g now.ext mid def_now changed.owners_now changed.now.sound.sound.view.owners changed.forests_now (forests_of changed.now.sound.sound.table) changed.now.ready.stands
+        (stands_of_sound g now.ext mid def_now changed.now.sound.sound changed.now.ready.stands.told)).0
+
+    stands_now : StandsTable g now.ext new def_now changed.owners_now changed.forests_now
+    stands_now =
+        stands_told g new told now.ext def_now changed.owners_now changed.forests_now
+        (subst (λ (pages : PageList). StandsTable told_pages now.ext pages def_now changed.owners_now changed.forests_now) (sym written)
+        (stands_written g now.ext mid def_now changed.owners_now changed.forests_now low changed.now.ready.stands))
+
+    spots_now : spots_of g now.ext mid def_now changed.owners_now changed.forests_now ≡ spots_of g now.ext new def_now changed.owners_now changed.forests_now
+    spots_now =
+        sym (spots_with_table_page now.ext def_now (pages_of g mid) low def_now changed.owners_now changed.forests_now.map)
+        ∙ ap (λ (pages : PageList). table_spots now.ext pages def_now changed.owners_now changed.forests_now.map) (sym written)
+
+    table_now : IsReadyTable g now.ext (room_from now.rooms) new def_now changed.now.sound.sound.view.owners changed.forests_now
+    table_now =
+        subst (λ (o : List Kind). IsReadyTable g now.ext (room_from now.rooms) new def_now o changed.forests_now) one_owners
+        (record { stands = stands_now; notes = changed.now.ready.notes; rooms = subst (AreRightRooms def_now (room_from now.rooms)) spots_now changed.now.ready.rooms })
+
+-- a definition put where it stands
+put_there : (defs : Definitions) (place : ℕ) (def : TableDef) → slice_get defs place ≡ Some (Some def) → set defs place (Some def) ≡ defs
+put_there [] place def at = refl
+put_there (first ∷ defs) zero def at = ap (λ (d : Option TableDef). d ∷ defs) (sym (same_Some first (Some def) at))
+put_there (first ∷ defs) (suc place) def at = ap (λ (rest : Definitions). first ∷ rest) (put_there defs place def at)
+
+-- a DELETE or an UPDATE: the page of the table stays
+pub change_ends_unwritten : {S : Type 0} (g : Ghosts S) (old new : S) (before now : Tables) (def : TableDef) (owners : List Kind) (forests : TableForests) (Places : List Spot → List Spot → Type 0) (change : PlainTable → PlainTable)
+    → AreServed before.catalog → IsReady g old before → def_at before.catalog before.noted ≡ Some def
+    → ChangesRowsOf g before.ext now.ext (room_from now.rooms) old new def def owners forests Places change
+    → now.catalog ≡ before.catalog → now.noted ≡ before.noted → EndsChange g old new before now change
+change_ends_unwritten g old new before now def owners forests Places change served ready at changed catalog noted =
+    let is = served_def before.catalog before.noted def served at in
+    let was = stored_at (pages_of g old) before.catalog before.noted def ready.stored at in
+    let defines : DefinesTable (pages_of g new) before.noted def = record { limits = was.limits; printed = changed.table_pages.each before.noted is.below ∙ was.printed } in
+    change_ends g old new new before now def def owners forests Places change served ready at refl was.limits.next changed changed.now.ready.stands.told
+    (sym (written_already (pages_of g new) before.noted def is.number defines))
+    (catalog ∙ sym (put_as_it_is before.catalog before.noted def was.limits ∙ put_there before.catalog before.noted def (def_there before.catalog before.noted def at)))
+    noted
+
+-- the spots of a table are shown still where its page is written with another next row number
+shown_written : {S : Type 0} (g : Ghosts S) (ext : Extents) (mid : S) (pages : PageList) (def def_now : TableDef) (owners : List Kind) (forests : TableForests) → def_now ≡ record def { next = def_now.next }
+    → def_now.number < 16 → StandsTable g ext mid def_now owners forests → pages ≡ with_table_page def_now (pages_of g mid) → ShowsTableSpots ext pages def (spots_of g ext mid def_now owners forests)
+shown_written g ext mid pages def def_now owners forests same low stands written =
+    let st = subst (λ (p : PageList). StandsTable told_pages ext p def_now owners forests) (sym written) (stands_written g ext mid def_now owners forests low stands) in
+    let shown = shows_spots told_pages ext pages def_now owners forests st in
+    let spots : spots_of g ext mid def_now owners forests ≡ table_spots ext pages def_now owners forests.map =
+    sym (spots_with_table_page ext def_now (pages_of g mid) low def_now owners forests.map) ∙ ap (λ (p : PageList). table_spots ext p def_now owners forests.map) (sym written) in
+    record {
+      owners = shown.owners;
+      map_tree = shown.map_tree;
+      has_extents = shown.has_extents;
+      has_map = subst (λ (d : TableDef). HasTree pages (map_place d) shown.map_tree) same shown.has_map;
+      spots_are = spots ∙ (shown.spots_are ∙ ap (λ (d : TableDef). table_spots ext pages d shown.owners shown.map_tree) same);
+    }
+
+-- rows went where the statement's placing says, on the pages as they are shown
+pub places_shown : {S : Type 0} (g : Ghosts S) (old mid new : S) (before now : Tables) (def def_now : TableDef) (owners : List Kind) (forests : TableForests) (Places : List Spot → List Spot → Type 0) (change : PlainTable → PlainTable) (statement : Bound)
+    → IsReady g old before → def_now ≡ record def { next = def_now.next } → IsReadyBetween g before.ext (room_from before.rooms) old def owners forests
+    → ChangesRowsOf g before.ext now.ext (room_from now.rooms) old mid def def_now owners forests Places change
+    → pages_of g new ≡ with_table_page def_now (pages_of g mid) → ((was is : List Spot) → Places was is → PlacesRows def (block_slot_count before.ext def) was is statement)
+    → PlacesOnPages before.ext now.ext (pages_of g old) (pages_of g new) def statement
+places_shown g old mid new before now def def_now owners forests Places change statement ready same between changed written turns = record {
+  was = spots_of g before.ext old def owners forests;
+  is = spots_of g now.ext mid def_now changed.owners_now changed.forests_now;
+  shown_before = shows_spots g before.ext old def owners forests between.ready.stands;
+  shown_after = shown_written g now.ext mid (pages_of g new) def def_now changed.owners_now changed.forests_now same (number_is_low now.ext def_now (pages_of g mid) changed.now.sound.sound) changed.now.ready.stands written;
+  places = turns (spots_of g before.ext old def owners forests) (spots_of g now.ext mid def_now changed.owners_now changed.forests_now) changed.places;
+}

@@ -1,0 +1,242 @@
+-- What the rows that a scan found are on pages where the table stands: they lie in their places by rising number, fit the
+-- definition, and are the qualifying rows of the plain table, whichever database the pages stand for.
+use Rattle.std.proofs.Common.{◌≡◌, ◌<◌, ◌+◌, ℕ, zero, suc, Bool, true, List, [], ◌∷◌, ◌∙◌, map, refl, sym, ap, subst, arith, inl, inr, Option, Some, None}
+use Rattle.std.specs.Prelude.{AllPairs, Contains, IsPermutation, IsTrue, filter, is_none, option_and_then, slice_get}
+use Rattle.std.specs.List.{AllByRecursion, list_all}
+use Rattle.std.proofs.lemmas.Bool.{cases_Bool}
+use Rattle.std.proofs.lemmas.List.Sorted.{Contains-permutation, IsPermutation-sym, IsPermutation-trans}
+use Rattle.std.proofs.lemmas.Option.{same_Some}
+use Rattle.mdc_ast.specs.declared.definition.TableDef.{TableDef}
+use Rattle.mdc_ast.specs.declared.predicate.Pred.{Pred}
+use Rattle.mdc_ast.specs.meaning.Database.{Database, PlainTable, fits_all, table_at}
+use Rattle.mdc_ast.specs.meaning.Definitions.{AreValidFrom, Definitions, def_at}
+use Rattle.mdc_ast.specs.meaning.Doing.{qualifies}
+use Rattle.store_api.specs.Frame.{NoPage}
+use Rattle.store_api.specs.RunsOverPages.{RunsOverPages}
+use Rattle.store_api.specs.declared.fault.StoreFault.{StoreFault}
+use Rattle.store_api.specs.declared.pages.Pages.{Ghosts}
+use Rattle.store_api.proofs.RunsOverPagesLemmas.{runs_wider}
+use Rattle.extent_map.specs.declared.extents.Extents.{Extents}
+use Rattle.extent_map.specs.declared.kind.Kind.{Kind}
+use Rattle.block_map.specs.MapLines.{used_blocks}
+use Rattle.block_map.proofs.MapLinesLemmas.{contains_cases}
+use Rattle.block_rows.specs.HeldRows.{placed_row}
+use Rattle.block_rows.specs.declared.hit.Hit.{Hit}
+use Rattle.entry_tree.specs.Forest.{Forest}
+use Rattle.table_page.proofs.TablePageLemmas.{one_definition}
+use Rattle.table_trees.specs.TableTrees.{map_place}
+use Rattle.table_trees.specs.ToldPages.{HasTree}
+use Rattle.table_trees.proofs.ToldPagesLemmas.{tree_of_told}
+use Rattle.mdc_sound.specs.BlockRules.{AreBlockRowsSound}
+use Rattle.mdc_sound.specs.FittingRows.{RowFits}
+use Rattle.mdc_sound.specs.Placing.{rows_from_spot, table_spots}
+use Rattle.mdc_sound.specs.SoundDatabase.{IsSoundBetweenChanges, KeepAllRules}
+use Rattle.mdc_sound.specs.StandingTable.{AreRightRooms, BreaksTable, StandsTable, TableForests, pages_of, spots_of}
+use Rattle.mdc_sound.specs.StandsForDatabase.{HoldsPlace, HoldsTable, PagesStandFor, rootless}
+use Rattle.mdc_sound.specs.TablePages.{DefinesTable, table_page_at}
+use Rattle.mdc_sound.specs.TableRows.{PlacedRow, rows_in_block, rows_in_table}
+use Rattle.mdc_sound.proofs.BlockRulesLemmas.{each_of}
+use Rattle.mdc_sound.proofs.ChangedRowsLemmas.{rows_of_standing}
+use Rattle.mdc_sound.proofs.ElementsLemmas.{each_in, flat_contains, in_map}
+use Rattle.mdc_sound.proofs.PlainTableLemmas.{IsPlainTable}
+use Rattle.mdc_sound.proofs.SpaceRulesLemmas.{range_at}
+use Rattle.mdc_sound.proofs.StandingTableLemmas.{forests_of, stands_of_sound, stands_same}
+use Rattle.mdc_sound.proofs.StandsForLemmas.{one_tree_at}
+use Rattle.cell_change.specs.RowChanges.{HasThisRow}
+use Rattle.cell_change.proofs.RowChangesLemmas.{numbers_here}
+use Rattle.cell_rooms.specs.RoomNotes.{room_from}
+use Rattle.stored_catalog.specs.StoredDefinitions.{AreStored}
+use Rattle.stored_catalog.proofs.LeftDefinitionsLemmas.{stored_at}
+use Rattle.statement_rows.specs.RowsOfStatement.{AnyPage, HasTheseRows}
+use Rattle.row_judging.specs.Served.{IsDefined}
+use Rattle.table_scan.specs.FoundRows.{FindsRows, IsScannedPage}
+use Rattle.script_engine.specs.Doing.{AreQualifying}
+use Rattle.script_engine.specs.Ready.{AreServed, BreaksDatabase, IsReady}
+use Rattle.script_engine.specs.declared.tables.Tables.{Tables}
+use Rattle.script_engine.proofs.BetweenChangesLemmas.{between_of_rules}
+use Rattle.table_scan.proofs.ScannedRowsLemmas.{found_hits, found_rows_rise, perm_filter, placed_rise, row_lies}
+use Rattle.script_engine.proofs.ReadyTablesLemmas.{served_def}
+
+-- ---- lists
+
+-- an element that passed is one of all
+kept_from : {X : Type 0} (p : X → Bool) (xs : List X) (z : X) → Contains (filter p xs) z → Contains xs z × (p z ≡ true)
+kept_from p [] z there = absurd (omega (arith, there.1))
+kept_from p (x ∷ xs) z there = elim (cases_Bool (p x)) [
+  | inl here ↦
+      let first : filter p (x ∷ xs) ≡ x ∷ filter p xs = rw here refl in
+      elim (contains_cases z x (filter p xs) (subst (λ l. Contains l z) first there)) [
+        | inl e ↦ ((0, omega arith, e), ap p (sym e) ∙ here)
+        | inr later ↦ let rest = kept_from p xs z later in ((suc rest.0.0, omega (arith, rest.0.1), rest.0.2), rest.1)
+      ]
+  | inr out ↦
+      let past : filter p (x ∷ xs) ≡ filter p xs = rw out refl in
+      let rest = kept_from p xs z (subst (λ l. Contains l z) past there) in ((suc rest.0.0, omega (arith, rest.0.1), rest.0.2), rest.1)
+]
+
+-- the table in a place
+table_there : (db : Database) (place : ℕ) (table : PlainTable) → table_at db place ≡ Some table → slice_get db place ≡ Some (Some table)
+table_there db place table is = go (slice_get db place) is
+  where
+    go : (found : Option (Option PlainTable)) → option_and_then (λ t. t) found ≡ Some table → found ≡ Some (Some table)
+    go None none = absurd (cc)
+    go (Some found) some = ap Some some
+
+-- ---- pages that nothing changed
+
+module _ {S : Type 0} (g : Ghosts S) (old new : S) (told : (g.state new).is_told ≡ (g.state old).is_told) (same : (g.state new).work ≡ (g.state old).work) where
+  -- they are still ready
+  pub ready_still : (tables : Tables) → IsReady g old tables → IsReady g new tables
+  ready_still tables ready = record {
+    told = subst IsTrue (sym told) ready.told;
+    view = ready.view;
+    sound = subst (λ pages. KeepAllRules tables.ext pages ready.view) (sym same) ready.sound;
+    stored = subst (λ pages. AreStored pages tables.catalog) (sym same) ready.stored;
+    notes = ready.notes;
+    rooms = λ def at. let was = ready.rooms def at in (
+      was.0,
+      record {
+        stands = stands_same tables.ext old new def ready.view.owners was.0 told same was.1.stands;
+        notes = was.1.notes;
+        rooms = subst (λ pages. AreRightRooms def (room_from tables.rooms) (table_spots tables.ext pages def ready.view.owners was.0.map)) (sym same) was.1.rooms;
+      },
+    );
+  }
+
+  -- and the same rows are found
+  pub found_still : (ext : Extents) (def : TableDef) (pred : Option Pred) (hits : List Hit) (owners : List Kind) (forests : TableForests)
+      → ((owners : List Kind) (forests : TableForests) → StandsTable g ext old def owners forests → FindsRows g ext old def pred hits forests) → StandsTable g ext new def owners forests
+      → FindsRows g ext new def pred hits forests
+  found_still ext def pred hits owners forests finds st =
+      let found = finds owners forests (stands_same ext new old def owners forests (sym told) (sym same) st) in record {
+        found = subst (λ pages. IsPermutation (filter (λ placed. qualifies pred placed.row.values) (rows_in_table ext pages def forests.map)) (map placed_row hits)) (sym same) found.found;
+        in_order = found.in_order;
+      }
+
+-- ---- rows of a table that stands
+
+-- a plain table has these hits: they are its rows that qualify, in its order
+pub record HasHits (db : Database) (place : ℕ) (def : TableDef) (pred : Option Pred) (hits : List Hit) : Type 0 where
+  pub table : PlainTable
+  pub at : table_at db place ≡ Some table
+  pub def_is : table.def ≡ rootless def
+  pub rising : AllPairs (λ a b. a.number < b.number) table.rows
+  pub are : map (λ hit. hit.row) hits ≡ filter (λ row. qualifies pred row.values) table.rows
+
+module _ {S : Type 0} (g : Ghosts S) (ext : Extents) (s : S) (def : TableDef) (owners : List Kind) (forests : TableForests) (st : StandsTable g ext s def owners forests) where
+  -- its rows
+  abbrev rows_here : List PlacedRow
+  rows_here = rows_in_table ext (pages_of g s) def forests.map
+
+  row_fits : (placed : PlacedRow) → Contains rows_here placed → RowFits def placed.row
+  row_fits placed there =
+      let of = flat_contains (rows_in_block ext (pages_of g s) def) (used_blocks forests.map) placed there in
+      each_of (λ (p : PlacedRow). RowFits def p.row) (rows_in_block ext (pages_of g s) def of.0) placed
+      (each_of (AreBlockRowsSound ext (pages_of g s) def) (used_blocks forests.map) of.0 st.rows of.1).rows of.2
+
+  -- the plain table in its place
+  plain_here : (place : ℕ) (table : PlainTable) → DefinesTable (pages_of g s) place def → HoldsTable ext (pages_of g s) place table → IsPlainTable def rows_here table
+  plain_here place table defines holds =
+      let pages = pages_of g s in
+      let same : holds.def ≡ def = one_definition place holds.def def (table_page_at pages place) holds.defines defines in
+      let has : HasTree pages (map_place def) holds.map_tree = subst (λ (d : TableDef). HasTree pages (map_place d) holds.map_tree) same holds.has_map in
+      let tree : holds.map_tree ≡ forests.map = one_tree_at pages (map_place def) holds.map_tree forests.map has (tree_of_told g s st.told (map_place def) forests.map st.trees.held.0) in
+      let rows : rows_in_table ext pages holds.def holds.map_tree ≡ rows_here =
+      ap (λ (d : TableDef). rows_in_table ext pages d holds.map_tree) same ∙ ap (λ (t : Forest). rows_in_table ext pages def t) tree in record {
+        def_is = holds.def_is ∙ ap rootless same;
+        same_rows = subst (λ (all : List PlacedRow). IsPermutation (map (λ (p : PlacedRow). p.row) all) table.rows) rows holds.same_rows;
+        rising = holds.rising;
+      }
+
+  module _ (pred : Option Pred) (hits : List Hit) (found : FindsRows g ext s def pred hits forests) where
+    hit_there : (placed : PlacedRow) → Contains (map placed_row hits) placed → Contains rows_here placed × (qualifies pred placed.row.values ≡ true)
+    hit_there placed there =
+        let q : PlacedRow → Bool = λ p. qualifies pred p.row.values in
+        kept_from q rows_here placed (Contains-permutation (map placed_row hits) (filter q rows_here) placed (IsPermutation-sym (filter q rows_here) (map placed_row hits) found.found) there)
+
+    -- the hits fit
+    pub hits_fit : AllByRecursion (λ hit. IsTrue (fits_all def.columns hit.row.values)) hits
+    hits_fit = each_in (λ (hit : Hit). IsTrue (fits_all def.columns hit.row.values)) hits (λ hit there. (row_fits (placed_row hit) (hit_there (placed_row hit) (in_map placed_row hits hit there)).0).values)
+
+    -- they qualify
+    pub hits_qualify : AllByRecursion (λ hit. qualifies pred hit.row.values ≡ true) hits
+    hits_qualify = each_in (λ (hit : Hit). qualifies pred hit.row.values ≡ true) hits (λ hit there. (hit_there (placed_row hit) (in_map placed_row hits hit there)).1)
+
+    module _ (between : IsSoundBetweenChanges ext def (pages_of g s)) where
+      rises : AllPairs (λ a b. a.row.number < b.row.number) hits
+      rises = found_rows_rise g ext s def pred hits forests found (numbers_here g ext s def owners forests between st)
+
+      -- they are the qualifying rows of its spots, by rising number
+      pub qualifying : AreQualifying (spots_of g ext s def owners forests) pred (map placed_row hits)
+      qualifying =
+          let q : PlacedRow → Bool = λ p. qualifies pred p.row.values in
+          let spots : List PlacedRow = rows_from_spot 0 (spots_of g ext s def owners forests) in record {
+            are = IsPermutation-trans (filter q spots) (filter q rows_here) (map placed_row hits)
+                (IsPermutation-sym (filter q rows_here) (filter q spots) (perm_filter q rows_here spots (rows_of_standing g ext s def owners forests st))) found.found;
+            rising = placed_rise hits rises;
+          }
+
+      -- they lie in their places, by rising number
+      pub these_rows : HasTheseRows g ext s def (map placed_row hits) owners forests
+      these_rows = record {
+        each = each_in (λ (placed : PlacedRow). HasThisRow g ext s def placed.rid placed.row owners forests) (map placed_row hits)
+            (λ placed there. let lies = row_lies g ext s def owners forests st placed (hit_there placed there).0 in record { slots = lies.0; lies = lies.1 });
+        rising = placed_rise hits rises;
+      }
+
+      -- and they are those of the plain table, whichever database the pages stand for
+      pub hits_of : (defs : Definitions) (place : ℕ) (db : Database) (table : PlainTable) → AreStored (pages_of g s) defs → def_at defs place ≡ Some def → PagesStandFor ext (pages_of g s) db
+          → table_at db place ≡ Some table → HasHits db place def pred hits
+      hits_of defs place db table stored at stands is =
+          let here : 0 + place ≡ place = omega arith in
+          let holds : HoldsTable ext (pages_of g s) place table =
+          subst (λ u. HoldsTable ext (pages_of g s) u table) here (range_at (HoldsPlace ext (pages_of g s)) 0 16 db place (Some table) stands (table_there db place table is)).1 in
+          let plain = plain_here place table (stored_at (pages_of g s) defs place def stored at) holds in record {
+            table = table;
+            at = is;
+            def_is = plain.def_is;
+            rising = plain.rising;
+            are = found_hits g ext s def pred hits forests found table.rows plain.same_rows plain.rising rises;
+          }
+
+-- ---- ready pages
+
+-- what holds of a table that is defined
+pub is_defined : (found : Option TableDef) (def : TableDef) (P : TableDef → Type 0) → found ≡ Some def → IsDefined found P → P def
+is_defined None def P at is = absurd is
+is_defined (Some other) def P at is = subst P (same_Some other def at) is
+
+-- no column of a table of built form is generated
+none_made_from : (from : ℕ) (defs : Definitions) (place : ℕ) (def : TableDef) → AreValidFrom from defs → def_at defs place ≡ Some def → IsTrue (list_all (λ column. is_none column.made) def.columns)
+none_made_from from [] place def valid at = absurd (cc at)
+none_made_from from (None ∷ defs) zero def valid at = absurd (cc at)
+none_made_from from (Some first ∷ defs) zero def valid at = subst (λ (d : TableDef). IsTrue (list_all (λ column. is_none column.made) d.columns)) (same_Some first def at) valid.0.none_made
+none_made_from from (first ∷ defs) (suc place) def valid at = none_made_from (from + 1) defs place def valid.1 at
+
+pub none_made : (defs : Definitions) (place : ℕ) (def : TableDef) → AreServed defs → def_at defs place ≡ Some def → IsTrue (list_all (λ column. is_none column.made) def.columns)
+none_made defs place def served at = none_made_from 0 defs place def served.valid.each at
+
+-- a table of ready pages stands
+pub record StandsReady {S : Type 0} (g : Ghosts S) (ext : Extents) (s : S) (def : TableDef) : Type 0 where
+  pub owners : List Kind
+  pub forests : TableForests
+  pub stands : StandsTable g ext s def owners forests
+  pub between : IsSoundBetweenChanges ext def (pages_of g s)
+
+pub stands_ready : {S : Type 0} (g : Ghosts S) (s : S) (tables : Tables) (place : ℕ) (def : TableDef) → AreServed tables.catalog → IsReady g s tables → def_at tables.catalog place ≡ Some def
+    → StandsReady g tables.ext s def
+stands_ready g s tables place def served ready at =
+    let is = served_def tables.catalog place def served at in
+    let defines : DefinesTable (pages_of g s) def.number def = subst (λ t. DefinesTable (pages_of g s) t def) (sym is.number) (stored_at (pages_of g s) tables.catalog place def ready.stored at) in
+    let between = between_of_rules tables.ext (pages_of g s) ready.view def ready.sound (omega (arith, is.number, is.below)) defines in record {
+      owners = between.sound.view.owners;
+      forests = forests_of between.sound.table;
+      stands = stands_of_sound g tables.ext s def between.sound ready.told;
+      between = between;
+    }
+
+-- a scan of it meets damage where they weren't
+pub runs_scan : {S : Type 0} (g : Ghosts S) (old new : S) (tables : Tables) (place : ℕ) (def : TableDef) {fault : Option StoreFault} → AreServed tables.catalog → def_at tables.catalog place ≡ Some def
+    → RunsOverPages g NoPage (IsScannedPage g tables.ext old def) (BreaksTable g tables.ext old def) old new fault → RunsOverPages g NoPage AnyPage (BreaksDatabase g old tables) old new fault
+runs_scan g old new tables place def served at run =
+    runs_wider run (λ p there none. none) (λ p of. tt) (λ damage breaks ready. let st = stands_ready g old tables place def served ready at in breaks.broken st.owners st.forests st.stands)

@@ -1,0 +1,185 @@
+-- A statement that is tried between a mark and its end.
+use Rattle.std.proofs.Common.{◌≡◌, ℕ, true, List, Option, Some, None, Result, Ok, Err, refl, sym, ap, subst, inl, inr, arith, ◌∙◌, unwrap_or}
+use Rattle.std.specs.Prelude.{IsErrOf, IsTrue}
+use Rattle.mdc_words.specs.Faults.{CountsFault}
+use Rattle.mdc_words.specs.Time.{OverTime}
+use Rattle.mdc_words.proofs.FaultsLemmas.{counts_fault_as, counts_fault_then}
+use Rattle.mdc_ast.specs.declared.definition.TableDef.{TableDef}
+use Rattle.mdc_ast.specs.declared.refusal.Refusal.{Refusal}
+use Rattle.mdc_ast.specs.declared.reply.Outcome.{Outcome}
+use Rattle.mdc_ast.specs.declared.reply.Outcome.TheVariants as said
+use Rattle.mdc_ast.specs.declared.statement.Stmt.{Stmt}
+use Rattle.mdc_ast.specs.meaning.Binding.{bound_of}
+use Rattle.mdc_ast.specs.meaning.Cause.{FileFull, refusal_of}
+use Rattle.mdc_ast.specs.meaning.Definitions.{Definitions, def_at}
+use Rattle.mdc_ast.specs.meaning.Step.{step}
+use Rattle.store_api.specs.Calls.{Keeps, Marks, Undoes}
+use Rattle.store_api.specs.Causes.{store_fault_in}
+use Rattle.store_api.specs.Moments.{OnlyBase}
+use Rattle.store_api.specs.RunsOverPages.{RunsOverPages}
+use Rattle.store_api.specs.Works.{Steady}
+use Rattle.store_api.specs.declared.fault.Damage.{Damage}
+use Rattle.store_api.specs.declared.fault.StoreFault.{StoreFault}
+use Rattle.store_api.specs.declared.fault.StoreFault.TheVariants as store
+use Rattle.store_api.specs.declared.pages.Pages.{Ghosts}
+use Rattle.store_api.proofs.WorksLemmas.{steady_keep, steady_mark, steady_then, steady_undo}
+use Rattle.extent_map.specs.Damages.{IfFull, store_part_of}
+use Rattle.extent_map.specs.Owners.{AreRightNotes, IsSameShape}
+use Rattle.extent_map.specs.declared.fault.SpaceFault.{SpaceFault}
+use Rattle.extent_map.specs.declared.fault.SpaceFault.TheVariants as space
+use Rattle.extent_map.specs.declared.kind.Kind.{Kind}
+use Rattle.table_trees.specs.ToldPages.{PageList}
+use Rattle.mdc_sound.specs.SoundDatabase.{KeepAllRules}
+use Rattle.mdc_sound.specs.StandingTable.{pages_of}
+use Rattle.mdc_sound.specs.StandsForDatabase.{PagesStandFor}
+use Rattle.cell_rooms.specs.RoomNotes.{IsForgotten}
+use Rattle.stored_catalog.specs.StoredDefinitions.{AreStored}
+use Rattle.statement_rows.specs.RowsOfStatement.{AnyPage}
+use Rattle.script_engine.specs.Doing.{DoesStep, LeavesAll, PlacesOnPages, StandsAfter, StepRunsFull, changed_place, is_reading}
+use Rattle.script_engine.specs.Ready.{AreServed, BreaksDatabase, IsReady, KeepsServed}
+use Rattle.script_engine.specs.Stops.{stop_of}
+use Rattle.script_engine.specs.Trying.{TriesStep}
+use Rattle.script_engine.specs.declared.stop.EngineStop.{EngineStop}
+use Rattle.script_engine.specs.declared.stop.EngineStop.TheVariants.{Damaged, Device, Output}
+use Rattle.script_engine.specs.declared.tables.Tables.{Tables}
+use Rattle.script_engine.proofs.ReadyTablesLemmas.{ready_of_sound}
+use Rattle.script_engine.proofs.SameWorkLemmas.{ready_same}
+use Rattle.script_engine.proofs.ShapeLemmas.{keeps_along}
+
+-- which stops a call on a database ends with
+pub stop_device : (e : StoreFault) → stop_of e ≡ Device → e ≡ store.Device
+stop_device store.Device is = refl
+stop_device (store.Damaged d) is = absurd (cc)
+stop_device store.Memory is = absurd (cc)
+
+pub stop_names : (e : StoreFault) (damage : Damage) → stop_of e ≡ Damaged damage → e ≡ store.Damaged damage
+stop_names store.Device damage is = absurd (cc)
+stop_names (store.Damaged d) damage is = cc
+stop_names store.Memory damage is = absurd (cc)
+
+pub stop_output : (e : StoreFault) → stop_of e ≡ Output → ⊥
+stop_output store.Device is = cc
+stop_output (store.Damaged d) is = cc
+stop_output store.Memory is = cc
+
+-- a stop is the one of a fault
+pub stop_counts : {X : Type 0} (e : StoreFault) {before now : ℕ} → CountsFault (Some e ≡ Some store.Device) before now → CountsFault (IsErrOf {T = X} (Err (stop_of e)) Device) before now
+stop_counts e counts = counts_fault_as (λ is. ap Some (stop_device e (cc))) (λ is. let same : e ≡ store.Device = cc in ap (λ x. Err (stop_of x)) same) counts
+
+module _ {S : Type 0} (g : Ghosts S) where
+  -- what a call did to a marked store it did to the one that was marked
+  does_marked : (old marked new : S) (before now : Tables) (stmt : Stmt) (outcome : Outcome) → pages_of g marked ≡ pages_of g old → DoesStep g marked new before now stmt outcome → DoesStep g old new before now stmt outcome
+  does_marked old marked new before now stmt outcome same does = record {
+    ready = does.ready;
+    stands = subst (λ (pages : PageList). (db : _) → PagesStandFor before.ext pages db → StandsAfter now.ext (pages_of g new) (step db stmt) outcome) same does.stands;
+    places = subst (λ (pages : PageList). (reply : _) → outcome ≡ said.Done reply → (place : ℕ) (def : TableDef) → changed_place (bound_of before.catalog stmt) ≡ Some place → def_at before.catalog place ≡ Some def
+        → PlacesOnPages before.ext now.ext pages (pages_of g new) def (bound_of before.catalog stmt)) same does.places;
+  }
+
+  -- and a store that is kept afterwards is what it was
+  does_kept : (old mid new : S) (before now : Tables) (stmt : Stmt) (outcome : Outcome) → (g.state new).is_told ≡ (g.state mid).is_told → pages_of g new ≡ pages_of g mid
+      → DoesStep g old mid before now stmt outcome → DoesStep g old new before now stmt outcome
+  does_kept old mid new before now stmt outcome told same does = record {
+    ready = ready_same g mid new now told same does.ready;
+    stands = subst (λ (pages : PageList). (db : _) → PagesStandFor before.ext (pages_of g old) db → StandsAfter now.ext pages (step db stmt) outcome) (sym same) does.stands;
+    places = subst (λ (pages : PageList). (reply : _) → outcome ≡ said.Done reply → (place : ℕ) (def : TableDef) → changed_place (bound_of before.catalog stmt) ≡ Some place → def_at before.catalog place ≡ Some def
+        → PlacesOnPages before.ext now.ext (pages_of g old) pages def (bound_of before.catalog stmt)) (sym same) does.places;
+  }
+
+  -- ---- a mark, and what comes then
+
+  module _ (old marked mid : S) (before now : Tables) (stmt : Stmt) (marks : Marks (g.state old) (g.state marked)) (count : g.disk_faults marked ≡ g.disk_faults old)
+      (say : g.say_faults marked ≡ g.say_faults old) (time : OverTime g.clock g.left (OnlyBase (g.state old)) old marked) where
+    begun : Steady g old marked
+    begun = steady_mark marks count say time
+
+    same_work : pages_of g marked ≡ pages_of g old
+    same_work = ap (λ s. s.work) marks
+
+    ready_marked : IsReady g old before → IsReady g marked before
+    ready_marked ready = ready_same g old marked before begun.is_told same_work ready
+
+    module _ (result : Result Outcome SpaceFault) (runs : RunsOverPages g AnyPage AnyPage (BreaksDatabase g marked before) marked mid (store_fault_in store_part_of result)) (keeps : KeepsServed result before now) where
+      run_so_far : Steady g old mid
+      run_so_far = steady_then begun runs.works.steady
+
+      -- a fault of the store
+      pub try_stops : (e : StoreFault) (stop : EngineStop) → result ≡ Err (space.Store e) → stop ≡ stop_of e → TriesStep g stmt (Err stop) old mid before now
+      try_stops e stop is names =
+          let fault : store_fault_in store_part_of result ≡ Some e = ap (store_fault_in store_part_of) is in
+          subst (λ (x : EngineStop). TriesStep g stmt (Err x) old mid before now) (sym names) (record {
+            steady = run_so_far;
+            unmarked = tt;
+            served = tt;
+            shape = keeps.shape;
+            does = tt;
+            refused = λ refusal r. absurd (cc);
+            reads = tt;
+            device = stop_counts e (counts_fault_then count (subst (λ (f : Option StoreFault). CountsFault (f ≡ Some store.Device) (g.disk_faults marked) (g.disk_faults mid)) fault runs.cause.device));
+            damaged = λ damage r ready. runs.cause.damaged damage (fault ∙ ap Some (stop_names e damage (cc))) (ready_marked ready);
+            output = λ r. stop_output e (cc);
+          })
+
+      -- it was done or refused, and the mark is dropped
+      pub try_kept : (outcome : Outcome) (new : S) → result ≡ Ok outcome → Keeps (g.state mid) (g.state new) → g.disk_faults new ≡ g.disk_faults mid → g.say_faults new ≡ g.say_faults mid
+          → OverTime g.clock g.left (OnlyBase (g.state mid)) mid new → (IsReady g marked before → DoesStep g marked mid before now stmt outcome)
+          → ((refusal : Refusal) → outcome ≡ said.Refused refusal → LeavesAll g marked mid before now) → (is_reading stmt ≡ true → pages_of g mid ≡ pages_of g marked) → TriesStep g stmt (Ok outcome) old new before now
+      try_kept outcome new is kept count_kept say_kept time_kept does leaves reads =
+          let ending : Steady g mid new = steady_keep (Ok tt) kept tt (omega (arith, count_kept)) say_kept time_kept in
+          let work : pages_of g new ≡ pages_of g mid = ap (λ s. s.work) kept in
+          let none : store_fault_in store_part_of result ≡ None = ap (store_fault_in store_part_of) is in
+          let quiet = counts_fault_then count (subst (λ (f : Option StoreFault). CountsFault (f ≡ Some store.Device) (g.disk_faults marked) (g.disk_faults mid)) none runs.cause.device) in
+          record {
+            steady = steady_then run_so_far ending;
+            unmarked = ap (λ s. s.marked) kept;
+            served = keeps.served;
+            shape = keeps.shape;
+            does = λ ready. inl (does_kept old mid new before now stmt outcome ending.is_told work (does_marked old marked mid before now stmt outcome same_work (does (ready_marked ready))));
+            refused = λ refusal r.
+                let left = leaves refusal (cc) in
+                record { pages = work ∙ (left.pages ∙ same_work); catalog = left.catalog };
+            reads = λ is. work ∙ (reads is ∙ same_work);
+            device = subst (λ n. CountsFault (IsErrOf {T = Outcome} (Ok outcome) Device) (g.disk_faults old) n) (sym count_kept) (counts_fault_as (λ r. absurd (cc)) (λ r. absurd (cc)) quiet);
+            damaged = λ damage r. absurd (cc);
+            output = λ r. absurd (cc);
+          }
+
+      -- it runs full: all is as it was
+      pub try_full : (cap : ℕ) (fault : SpaceFault) (refusal : Refusal) (new : S) (last : Tables) → result ≡ Err fault → fault ≡ space.Full cap → refusal ≡ refusal_of (FileFull cap) → Undoes (g.state mid) (g.state new)
+          → g.disk_faults new ≡ g.disk_faults mid → g.say_faults new ≡ g.say_faults mid → OverTime g.clock g.left (OnlyBase (g.state mid)) mid new
+          → IfFull fault (λ n. (n ≡ before.ext.cap) × (IsReady g marked before → StepRunsFull before.ext (pages_of g marked) before.catalog stmt))
+          → now.catalog ≡ before.catalog → AreServed before.catalog
+          → last.catalog ≡ now.catalog → IsSameShape now.ext last.ext → ((owners : List Kind) → AreRightNotes last.ext owners) → IsForgotten last.rooms
+          → TriesStep g stmt (Ok (said.Refused refusal)) old new before last
+      try_full cap fault refusal new last is is_full refuses undone count_undone say_undone time_undone full catalog served forgot shape notes rooms =
+          let filled : (cap ≡ before.ext.cap) × (IsReady g marked before → StepRunsFull before.ext (pages_of g marked) before.catalog stmt) =
+          subst (λ (f : SpaceFault). IfFull f (λ n. (n ≡ before.ext.cap) × (IsReady g marked before → StepRunsFull before.ext (pages_of g marked) before.catalog stmt))) is_full full in
+          let ending : Steady g mid new = steady_undo undone count_undone say_undone time_undone in
+          let none : store_fault_in store_part_of result ≡ None = ap (store_fault_in store_part_of) (is ∙ ap Err is_full) in
+          let quiet = counts_fault_then count (subst (λ (f : Option StoreFault). CountsFault (f ≡ Some store.Device) (g.disk_faults marked) (g.disk_faults mid)) none runs.cause.device) in
+          let work : pages_of g new ≡ pages_of g old = ap (λ s. s.work) undone ∙ ap (λ o. unwrap_or o (g.state mid).work) (runs.works.marked ∙ ap (λ s. s.marked) marks) in
+          let steady = steady_then run_so_far ending in
+          let whole : IsSameShape before.ext last.ext = record { cap = shape.cap ∙ keeps.shape.cap; extent_pages = shape.extent_pages ∙ keeps.shape.extent_pages } in
+          let same : last.catalog ≡ before.catalog = forgot ∙ catalog in
+          let valid : AreServed last.catalog = subst AreServed (sym same) served in
+          let leaves : LeavesAll g old new before last = record { pages = work; catalog = same } in
+          record {
+            steady = steady;
+            unmarked = ap (λ s. s.marked) undone;
+            served = valid;
+            shape = whole;
+            does = λ ready. inr (record {
+              says = ap said.Refused (refuses ∙ ap (λ n. refusal_of (FileFull n)) filled.0);
+              leaves = leaves;
+              full = subst (λ (pages : PageList). StepRunsFull before.ext pages before.catalog stmt) same_work (filled.1 (ready_marked ready));
+              ready = ready_of_sound g new last ready.view valid (subst IsTrue (sym steady.is_told) ready.told)
+                  (subst (λ (pages : PageList). KeepAllRules last.ext pages ready.view) (sym work) (keeps_along before.ext last.ext (pages_of g old) ready.view whole ready.sound))
+                  (subst (λ (defs : Definitions). AreStored (pages_of g new) defs) (sym same) (subst (λ (pages : PageList). AreStored pages before.catalog) (sym work) ready.stored))
+                  (notes ready.view.owners) rooms;
+            });
+            refused = λ other r. leaves;
+            reads = λ is. work;
+            device = subst (λ n. CountsFault (IsErrOf {T = Outcome} (Ok (said.Refused refusal)) Device) (g.disk_faults old) n) (sym count_undone) (counts_fault_as (λ r. absurd (cc)) (λ r. absurd (cc)) quiet);
+            damaged = λ damage r. absurd (cc);
+            output = λ r. absurd (cc);
+          }

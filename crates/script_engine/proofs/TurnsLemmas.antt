@@ -1,0 +1,554 @@
+-- What statements do to an engine: a step on pages that is committed, or isn't yet.
+use Rattle.std.proofs.Common.{◌≡◌, ◌⊎◌, Bool, true, false, Some, Result, Ok, Err, IsErrAnd, IfSome, refl, sym, ap, subst, inl, inr, ◌∙◌, cond}
+use Rattle.std.specs.Prelude.{IsErrOf, IsTrue, ◌||◌}
+use Rattle.mdc_words.specs.Faults.{CountsFault}
+use Rattle.mdc_words.proofs.FaultsLemmas.{counts_fault_as, counts_fault_then}
+use Rattle.mdc_words.proofs.TimeLemmas.{over_time_then, over_time_wider}
+use Rattle.mdc_ast.specs.declared.refusal.Refusal.{Refusal}
+use Rattle.mdc_ast.specs.declared.reply.Outcome.{Outcome}
+use Rattle.mdc_ast.specs.declared.reply.Outcome.TheVariants as said
+use Rattle.mdc_ast.specs.declared.reply.Reply.TheVariants as reply
+use Rattle.mdc_ast.specs.declared.statement.Stmt.{Stmt}
+use Rattle.mdc_ast.specs.declared.statement.Stmt.TheVariants as statement
+use Rattle.mdc_ast.specs.meaning.Binding.{bound_of}
+use Rattle.mdc_ast.specs.meaning.Database.{Database}
+use Rattle.mdc_ast.specs.meaning.Definitions.{Definitions}
+use Rattle.mdc_ast.specs.meaning.Session.{Session, is_refusal, stepped, turn}
+use Rattle.mdc_ast.specs.meaning.Step.{Answer, step}
+use Rattle.store_api.specs.Works.{Rests, Steady}
+use Rattle.store_api.specs.declared.fault.Damage.{Damage}
+use Rattle.store_api.specs.declared.pages.Pages.{Ghosts}
+use Rattle.store_api.proofs.MomentsLemmas.{base_or_now-steady}
+use Rattle.store_api.proofs.WorksLemmas.{rests_steady, steady_none}
+use Rattle.extent_map.specs.Owners.{IsSameShape}
+use Rattle.extent_map.specs.declared.extents.Extents.{Extents}
+use Rattle.table_trees.specs.ToldPages.{PageList}
+use Rattle.mdc_sound.specs.SoundDatabase.{KeepAllRules}
+use Rattle.mdc_sound.specs.StandingTable.{pages_of}
+use Rattle.mdc_sound.specs.StandsForDatabase.{PagesStandFor}
+use Rattle.stored_catalog.specs.StoredDefinitions.{AreStored}
+use Rattle.script_engine.specs.Committing.{CommitsWork, HasSoundRoot}
+use Rattle.script_engine.specs.Doing.{DoesStep, LeavesAll, PlacesOnPages, StandsAfter, is_reading}
+use Rattle.script_engine.specs.Held.{HeldPages, KeepsBase, KeepsWork, StandsForSession, StandsForTurn, StepsOnPages, committed, rolled_back, turn_over}
+use Rattle.script_engine.specs.Held.StepsOnPages.{full, turns}
+use Rattle.script_engine.specs.Leaving.{IsAllCommitted, MayBeLeft}
+use Rattle.script_engine.specs.Opening.{are_built}
+use Rattle.script_engine.specs.Ready.{AreServed, IsReady}
+use Rattle.script_engine.specs.Reloading.{Reloads}
+use Rattle.script_engine.specs.Serving.{IsReadyEngine, MayCall, held_by}
+use Rattle.script_engine.specs.Trying.{IsRefusedFull, TriesStep}
+use Rattle.script_engine.specs.Turns.{Executes, LeavesCommitted, LeavesOutside, control_of}
+use Rattle.script_engine.specs.declared.engine.Engine.{Engine}
+use Rattle.script_engine.specs.declared.stop.EngineStop.{EngineStop}
+use Rattle.script_engine.specs.declared.stop.EngineStop.TheVariants.{Damaged, Device, Output}
+use Rattle.script_engine.specs.declared.tables.Tables.{Tables}
+use Rattle.script_engine.specs.declared.transactions.Control.TheVariants as control
+use Rattle.script_engine.proofs.CatalogLemmas.{built_of, one_catalog, served_of}
+use Rattle.script_engine.proofs.LeavingLemmas.{leaves_steady, leaves_then}
+use Rattle.script_engine.proofs.ReadyTablesLemmas.{ready_of_sound}
+use Rattle.script_engine.proofs.SameWorkLemmas.{ready_same}
+use Rattle.script_engine.proofs.ShapeLemmas.{keeps_along, places_along, stands_for_along}
+
+-- ---- what is held
+
+abbrev held_with : PageList → PageList → Definitions → Bool → HeldPages
+held_with base work defs is_open = record { base = base; work = work; defs = defs; open_ = is_open }
+
+same_held : (old new : HeldPages) → new.base ≡ old.base → new.work ≡ old.work → new.defs ≡ old.defs → new.open_ ≡ old.open_ → new ≡ old
+same_held old new base work defs is_open =
+    ap (λ x. held_with x new.work new.defs new.open_) base
+    ∙ (ap (λ x. held_with old.base x new.defs new.open_) work ∙ (ap (λ x. held_with old.base old.work x new.open_) defs ∙ ap (λ x. held_with old.base old.work old.defs x) is_open))
+
+-- of two tests none holds
+neither : (a b : Bool) → (a || b) ≡ false → (a ≡ false) × (b ≡ false)
+neither true b is = absurd (cc)
+neither false b is = (refl, is)
+
+same_outcome : (result : Result Outcome EngineStop) (a b : Outcome) → result ≡ Ok a → result ≡ Ok b → a ≡ b
+same_outcome result a b first second = cc
+
+-- any statement but BEGIN, COMMIT and ROLLBACK turns a session as it does without transactions
+turn_other : (session : Session) (stmt : Stmt) → control_of stmt ≡ control.Other → turn_over session stmt ≡ turn session stmt
+turn_other session statement.Begin other = absurd (cc)
+turn_other session statement.Commit other = absurd (cc)
+turn_other session statement.Rollback other = absurd (cc)
+turn_other session (statement.CreateTable name columns dims) other = refl
+turn_other session (statement.CreateIndex name unique table parts) other = refl
+turn_other session (statement.DropTable name) other = refl
+turn_other session (statement.DropIndex name) other = refl
+turn_other session (statement.Insert table columns rows) other = refl
+turn_other session (statement.Update table sets pred) other = refl
+turn_other session (statement.Delete table pred) other = refl
+turn_other session (statement.Query select) other = refl
+turn_other session (statement.Explain select) other = refl
+turn_other session (statement.SetRollout mode) other = refl
+turn_other session (statement.SetPlan mode) other = refl
+turn_other session (statement.SetPace n) other = refl
+turn_other session (statement.Clean n) other = refl
+turn_other session (statement.CleanTable name) other = refl
+turn_other session (statement.ListBlocks name) other = refl
+turn_other session (statement.Reclaim name) other = refl
+
+-- any statement but BEGIN, COMMIT and ROLLBACK leaves the pages, where it is a query
+keeps_work : (old new : HeldPages) (stmt : Stmt) → control_of stmt ≡ control.Other → (is_reading stmt ≡ true → new.work ≡ old.work) → KeepsWork stmt old new
+keeps_work old new statement.Begin other reads = absurd (cc)
+keeps_work old new statement.Commit other reads = absurd (cc)
+keeps_work old new statement.Rollback other reads = absurd (cc)
+keeps_work old new (statement.CreateTable name columns dims) other reads = tt
+keeps_work old new (statement.CreateIndex name unique table parts) other reads = tt
+keeps_work old new (statement.DropTable name) other reads = tt
+keeps_work old new (statement.DropIndex name) other reads = tt
+keeps_work old new (statement.Insert table columns rows) other reads = tt
+keeps_work old new (statement.Update table sets pred) other reads = tt
+keeps_work old new (statement.Delete table pred) other reads = tt
+keeps_work old new (statement.Query select) other reads = reads refl
+keeps_work old new (statement.Explain select) other reads = tt
+keeps_work old new (statement.SetRollout mode) other reads = tt
+keeps_work old new (statement.SetPlan mode) other reads = tt
+keeps_work old new (statement.SetPace n) other reads = tt
+keeps_work old new (statement.Clean n) other reads = tt
+keeps_work old new (statement.CleanTable name) other reads = tt
+keeps_work old new (statement.ListBlocks name) other reads = tt
+keeps_work old new (statement.Reclaim name) other reads = tt
+
+-- the kept database behind a step, whether a transaction is open or not
+kept_on : (ext : Extents) (base work : PageList) (kept db : Database) (is_open : Bool) → PagesStandFor ext work db → (is_open ≡ true → PagesStandFor ext base kept) → (is_open ≡ false → base ≡ work)
+    → PagesStandFor ext base (cond is_open kept db)
+kept_on ext base work kept db true stands on closed = on refl
+kept_on ext base work kept db false stands on closed = subst (λ (pages : PageList). PagesStandFor ext pages db) (sym (closed refl)) stands
+
+-- pages that stand for the end of a step on a session's working database stand for the session behind it
+stands_stepped : (ext : Extents) (old new : HeldPages) (session : Session) (end_ : Database × Answer) (outcome : Outcome) → StandsForSession ext old session → KeepsBase old new → new.open_ ≡ old.open_
+    → StandsAfter ext new.work end_ outcome → StandsForTurn ext new (stepped session end_) outcome
+stands_stepped ext old new session (db, answer) outcome stands keeps is_open after = record {
+  session = record {
+    kept = kept_on ext new.base new.work session.kept db session.open_ after.pages_are
+        (λ opened. subst (λ (pages : PageList). PagesStandFor ext pages session.kept) (sym (keeps.is_open (is_open ∙ (sym stands.is_open ∙ opened)))) stands.kept)
+        (λ shut. keeps.closed (is_open ∙ (sym stands.is_open ∙ shut)));
+    working = after.pages_are;
+    is_open = stands.is_open ∙ sym is_open;
+  };
+  answers = after.answers;
+}
+
+-- a COMMIT makes the pages those of the last commit
+commit_steps : (ext : Extents) (old new : HeldPages) → old.open_ ≡ true → new.open_ ≡ false → new.base ≡ old.work → new.work ≡ old.work → StepsOnPages ext old statement.Commit (said.Done reply.Done) new
+commit_steps ext old new is_open shut base work = turns
+    (λ session stands.
+    subst (λ (b : Bool). StandsForTurn ext new (committed session b) (said.Done reply.Done)) (sym (stands.is_open ∙ is_open)) (record {
+      session = record {
+        kept = subst (λ (pages : PageList). PagesStandFor ext pages session.working) (sym base) stands.working;
+        working = subst (λ (pages : PageList). PagesStandFor ext pages session.working) (sym work) stands.working;
+        is_open = sym shut;
+      };
+      answers = refl;
+    }))
+    (record { closed = λ closed. base ∙ sym work; is_open = λ opened. let wrong : true ≡ false = sym opened ∙ shut in absurd (cc) }) work
+    (λ done says place def changed at. absurd (cc))
+
+module _ {S : Type 0} (g : Ghosts S) where
+  -- a step on pages, from what it does to the work and what becomes of the base
+  steps_done : (old : Engine S) (new : HeldPages) (mid : S) (now : Tables) (stmt : Stmt) (outcome : Outcome) → control_of stmt ≡ control.Other → DoesStep g old.store mid old.tables now stmt outcome
+      → new.work ≡ pages_of g mid → KeepsBase (held_by g old) new → (is_reading stmt ≡ true → pages_of g mid ≡ pages_of g old.store) → new.open_ ≡ old.is_open → IsSameShape old.tables.ext now.ext
+      → StepsOnPages old.tables.ext (held_by g old) stmt outcome new
+  steps_done old new mid now stmt outcome other does work keeps reads is_open shape = turns
+      (λ session stands.
+      let after = does.stands session.working stands.working in
+      let here : StandsAfter old.tables.ext new.work (step session.working stmt) outcome =
+      record {
+        pages_are = subst (λ (pages : PageList). PagesStandFor old.tables.ext pages (step session.working stmt).0) (sym work)
+            (stands_for_along now.ext old.tables.ext (pages_of g mid) (step session.working stmt).0 (record { cap = sym shape.cap; extent_pages = sym shape.extent_pages }) after.pages_are);
+        answers = after.answers;
+      } in
+      subst (λ (end_ : Session × Answer). StandsForTurn old.tables.ext new end_ outcome) (sym (turn_other session stmt other))
+      (stands_stepped old.tables.ext (held_by g old) new session (step session.working stmt) outcome stands keeps is_open here))
+      keeps (keeps_work (held_by g old) new stmt other (λ is. work ∙ reads is))
+      (λ reply done place def changed at.
+      subst (λ (pages : PageList). PlacesOnPages old.tables.ext old.tables.ext (pages_of g old.store) pages def (bound_of old.tables.catalog stmt)) (sym work)
+      (places_along old.tables.ext now.ext (pages_of g old.store) (pages_of g mid) def (bound_of old.tables.catalog stmt) shape (does.places reply done place def changed at)))
+
+  -- ---- the outside
+
+  pub outside_steady : {X : Type 0} (result : Result X EngineStop) (old new : Engine S) → Steady g old.store new.store → CountsFault (IsErrOf result Device) (g.disk_faults old.store) (g.disk_faults new.store)
+      → (IsErrOf result Output → ⊥) → LeavesOutside g result old new
+  outside_steady result old new steady device output = record {
+    device = device;
+    output = output;
+    say_faults = steady.say_faults;
+    is_told = steady.is_told;
+    told = steady.told;
+    attached = steady.attached;
+    time = base_or_now-steady steady;
+    rests = λ back going was. rests_steady (back new.store) going steady was;
+  }
+
+  outside_commit : {X : Type 0} (result : Result X EngineStop) (old new : Engine S) → CommitsWork g result old.store new.store → (Rests g old.store → Rests g new.store) → LeavesOutside g result old new
+  outside_commit result old new commits rests = record {
+    device = commits.device;
+    output = commits.output;
+    say_faults = commits.say_faults;
+    is_told = commits.is_told;
+    told = commits.told;
+    attached = commits.attached;
+    time = commits.time;
+    rests = λ back going was. rests was;
+  }
+
+  -- the same of a call that answers something else
+  outside_value : {X : Type 0} {x : X} (old new : Engine S) → LeavesOutside {X = Unit {0}} g (Ok tt) old new → LeavesOutside g (Ok x) old new
+  outside_value old new left = record {
+    device = counts_fault_as (λ is. absurd (cc)) (λ is. absurd (cc)) left.device;
+    output = λ is. absurd (cc);
+    say_faults = left.say_faults;
+    is_told = left.is_told;
+    told = left.told;
+    attached = left.attached;
+    time = left.time;
+    rests = left.rests;
+  }
+
+  outside_done : {X : Type 0} {x : X} (old new : Engine S) → CommitsWork {X = Unit {0}} g (Ok tt) old.store new.store → (Rests g old.store → Rests g new.store) → LeavesOutside g (Ok x) old new
+  outside_done old new commits rests = record {
+    device = counts_fault_as (λ is. absurd (cc)) (λ is. absurd (cc)) commits.device;
+    output = λ is. absurd (cc);
+    say_faults = commits.say_faults;
+    is_told = commits.is_told;
+    told = commits.told;
+    attached = commits.attached;
+    time = commits.time;
+    rests = λ back going was. rests was;
+  }
+
+  -- a commit behind a run that counted nothing
+  outside_then : {X : Type 0} (result : Result X EngineStop) (old new : Engine S) (mid : S) → Steady g old.store mid → g.disk_faults mid ≡ g.disk_faults old.store → CommitsWork g result mid new.store
+      → (Rests g mid → Rests g new.store) → LeavesOutside g result old new
+  outside_then result old new mid steady still commits rests = record {
+    device = counts_fault_then still commits.device;
+    output = commits.output;
+    say_faults = commits.say_faults ∙ steady.say_faults;
+    is_told = commits.is_told ∙ steady.is_told;
+    told = commits.told ∙ steady.told;
+    attached = commits.attached ∙ steady.attached;
+    time = over_time_then (over_time_wider steady.time (λ pages told only. (inl only.0, only.1)))
+        (over_time_wider commits.time (λ pages told either. (
+          elim either.0 [ inl base ↦ inl (base ∙ ap Some steady.base) | inr work ↦ inr work ],
+          subst (λ o. IfSome o (λ bytes. told ≡ bytes)) steady.told either.1,
+        )));
+    rests = λ back going was. rests (rests_steady (back mid) going steady was);
+  }
+
+  -- the same stop, of a call with another value
+  outside_as : {X Y : Type 0} (stop : EngineStop) (old new : Engine S) → LeavesOutside {X = X} g (Err stop) old new → LeavesOutside {X = Y} g (Err stop) old new
+  outside_as stop old new left = record {
+    device = counts_fault_as (λ is. cc) (λ is. cc) left.device;
+    output = λ is. left.output (cc);
+    say_faults = left.say_faults;
+    is_told = left.is_told;
+    told = left.told;
+    attached = left.attached;
+    time = left.time;
+    rests = left.rests;
+  }
+
+  -- ---- a stop
+
+  pub executes_stop : {X : Type 0} (stmt : Stmt) (result : Result Outcome EngineStop) (stop : EngineStop) (old new : Engine S) → IsErrAnd result (λ e. e ≡ stop)
+      → ((damage : Damage) → stop ≡ Damaged damage → IsReadyEngine g old → ⊥) → (IsReadyEngine g old → LeavesCommitted g stmt old new) → IsSameShape old.tables.ext new.tables.ext
+      → LeavesOutside {X = X} g (Err stop) old new → Executes g stmt result old new
+  executes_stop stmt (Ok outcome) stop old new is damaged leaves shape left = absurd is
+  executes_stop stmt (Err e) stop old new is damaged leaves shape left = subst (λ (x : EngineStop). Executes g stmt (Err x) old new) (sym is) (record {
+    steps = tt;
+    may = tt;
+    keeps = tt;
+    leaves = leaves;
+    refused = λ refusal e. absurd (cc);
+    unserved = λ served other outcome e. absurd (cc);
+    damaged = λ damage e ready. damaged damage (cc) ready;
+    shape = shape;
+    outside = outside_as stop old new left;
+  })
+
+  no_shape : (ext : Extents) → IsSameShape ext ext
+  no_shape ext = record { cap = refl; extent_pages = refl }
+
+  -- ---- COMMIT
+
+  sound_root : (s : S) (tables : Tables) → IsReady g s tables → HasSoundRoot g s
+  sound_root s tables ready = record { told = ready.told; ext = tables.ext; sound = ready.sound.first.rule1 }
+
+  -- the work that is committed is sound, and so is the base then
+  ready_committed : (old new : Engine S) (mid : S) (now : Tables) → IsReady g mid now → AreServed now.catalog → new.served ≡ true → new.tables ≡ now → CommitsWork {X = Unit {0}} g (Ok tt) mid new.store → IsReadyEngine g new
+  ready_committed old new mid now ready valid served tables commits =
+      let here : IsReady g new.store new.tables = subst (IsReady g new.store) (sym tables) (ready_same g mid new.store now commits.is_told commits.work ready) in
+      let same : (g.state new.store).base ≡ (g.state new.store).work = commits.base ∙ sym commits.work in
+      record {
+        served = served;
+        work = here;
+        base_view = here.view;
+        base_sound = subst (λ (pages : PageList). KeepAllRules new.tables.ext pages here.view) (sym same) here.sound;
+        base_defs = new.tables.catalog;
+        base_stored = subst (λ (pages : PageList). AreStored pages new.tables.catalog) (sym same) here.stored;
+        base_valid = (subst (λ (t : Tables). AreServed t.catalog) (sym tables) valid).valid;
+        closed = λ shut. same;
+      }
+
+  -- the pages that a COMMIT makes those of the last commit
+  work_left : (old : Engine S) → MayCall g old → old.is_open ≡ true → IsReadyEngine g old → MayBeLeft old.tables.ext (held_by g old) statement.Commit (g.state old.store).work
+  work_left old may is_open ready =
+      let work = (g.state old.store).work in
+      MayBeLeft.after (said.Done reply.Done) (held_with work work old.tables.catalog false) (commit_steps old.tables.ext (held_by g old) (held_with work work old.tables.catalog false) is_open refl refl refl) refl refl
+      (ready.work.view, ready.work.sound) old.tables.catalog ready.work.stored (may.served ready.served).valid
+
+  pub commit_stops : (result : Result Outcome EngineStop) (stop : EngineStop) (old : Engine S) (store : S) → MayCall g old → old.is_open ≡ true → IsErrAnd result (λ e. e ≡ stop)
+      → CommitsWork {X = Unit {0}} g (Err stop) old.store store → (Rests g old.store → Rests g store) → Executes g statement.Commit result old (record old { store = store })
+  commit_stops result stop old store may is_open is commits rests =
+      let new : Engine S = record old { store = store } in
+      executes_stop statement.Commit result stop old new is (λ damage e ready. commits.damaged damage (ap Err e) (sound_root old.store old.tables ready.work))
+      (λ ready. leaves_then g (Err stop) statement.Commit old new old.store steady_none commits (work_left old may is_open ready)) (no_shape old.tables.ext) (outside_commit (Err stop) old new commits rests)
+
+  pub commit_done : (old : Engine S) (store : S) → MayCall g old → old.is_open ≡ true → CommitsWork {X = Unit {0}} g (Ok tt) old.store store
+      → (Rests g old.store → Rests g store) → Executes g statement.Commit (Ok (said.Done reply.Done)) old (record old { store = store; is_open = false })
+  commit_done old store may is_open commits rests =
+      let new : Engine S = record old { store = store; is_open = false } in
+      record {
+        steps = λ ready. (commit_steps old.tables.ext (held_by g old) (held_by g new) is_open refl commits.base commits.work, ready_committed old new old.store old.tables ready.work (may.served ready.served) ready.served refl commits);
+        may = record { going = commits.going; unmarked = commits.unmarked; served = may.served };
+        keeps = λ all. record { closed = λ shut. commits.base ∙ sym commits.work; is_open = λ opened. absurd (cc) };
+        leaves = λ ready. leaves_then g (Ok tt) statement.Commit old new old.store steady_none commits (work_left old may is_open ready);
+        refused = λ refusal e. absurd (cc);
+        unserved = λ served other outcome e. absurd (cc);
+        damaged = λ damage e ready. absurd (cc);
+        shape = no_shape old.tables.ext;
+        outside = outside_done old new commits rests;
+      }
+
+  -- ---- ROLLBACK
+
+  pub roll_back_stops : (result : Result Outcome EngineStop) (stop : EngineStop) (old : Engine S) (store : S) (tables : Tables) → IsErrAnd result (λ e. e ≡ stop)
+      → Reloads g (Err stop) old.store store old.tables tables → Executes g statement.Rollback result old (record old { store = store; tables = tables })
+  roll_back_stops result stop old store tables is reloads =
+      let new : Engine S = record old { store = store; tables = tables } in
+      executes_stop {X = Bool} statement.Rollback result stop old new is
+      (λ damage e ready. reloads.damaged damage (ap Err e) ready.work.told old.tables.ext (ready.base_view, ready.base_sound))
+      (λ ready. leaves_steady g statement.Rollback old new reloads.steady) reloads.shape (outside_steady (Err stop) old new reloads.steady reloads.device reloads.output)
+
+  roll_back_steps : (old : Engine S) (store : S) (tables : Tables) (served : Bool) → old.is_open ≡ true → Reloads g (Ok served) old.store store old.tables tables
+      → StepsOnPages old.tables.ext (held_by g old) statement.Rollback (said.Done reply.Done) (held_by g (record { store = store; tables = tables; served = served; is_open = false }))
+  roll_back_steps old store tables served is_open reloads =
+      let new : Engine S = record { store = store; tables = tables; served = served; is_open = false } in
+      turns
+      (λ session stands.
+      subst (λ (b : Bool). StandsForTurn old.tables.ext (held_by g new) (rolled_back session b) (said.Done reply.Done)) (sym (stands.is_open ∙ is_open)) (record {
+        session = record {
+          kept = subst (λ (pages : PageList). PagesStandFor old.tables.ext pages session.kept) (sym reloads.steady.base) stands.kept;
+          working = subst (λ (pages : PageList). PagesStandFor old.tables.ext pages session.kept) (sym reloads.work) stands.kept;
+          is_open = refl;
+        };
+        answers = refl;
+      }))
+      (record { closed = λ shut. reloads.steady.base ∙ sym reloads.work; is_open = λ opened. absurd (cc) }) (λ opened. reloads.work)
+      (λ done says place def changed at. absurd (cc))
+
+  ready_reloaded : (old : Engine S) (store : S) (tables : Tables) (served : Bool) → Reloads g (Ok served) old.store store old.tables tables → IsReadyEngine g old
+      → IsReadyEngine g (record { store = store; tables = tables; served = served; is_open = false })
+  ready_reloaded old store tables served reloads ready =
+      let base_kept = reloads.steady.base in
+      let is_told = subst IsTrue (sym reloads.steady.is_told) ready.work.told in
+      let same : tables.catalog ≡ ready.base_defs = one_catalog (g.state old.store).base tables.catalog ready.base_defs (reloads.stored ready.work.told) ready.base_stored in
+      let built : are_built tables.catalog ≡ true = ap are_built same ∙ built_of ready.base_defs ready.base_valid in
+      let sound = keeps_along old.tables.ext tables.ext (g.state old.store).base ready.base_view reloads.shape ready.base_sound in
+      record {
+        served = reloads.built ∙ built;
+        work = ready_of_sound g store tables ready.base_view (served_of tables.catalog reloads.limits reloads.names built) is_told
+            (subst (λ (pages : PageList). KeepAllRules tables.ext pages ready.base_view) (sym reloads.work) sound)
+            (subst (λ (pages : PageList). AreStored pages tables.catalog) (sym reloads.work) (reloads.stored ready.work.told)) (reloads.notes ready.base_view.owners) reloads.rooms;
+        base_view = ready.base_view;
+        base_sound = subst (λ (pages : PageList). KeepAllRules tables.ext pages ready.base_view) (sym base_kept) sound;
+        base_defs = ready.base_defs;
+        base_stored = subst (λ (pages : PageList). AreStored pages ready.base_defs) (sym base_kept) ready.base_stored;
+        base_valid = ready.base_valid;
+        closed = λ shut. base_kept ∙ sym reloads.work;
+      }
+
+  pub rolled_back_done : (old : Engine S) (store : S) (tables : Tables) (served : Bool) → MayCall g old → old.is_open ≡ true → Reloads g (Ok served) old.store store old.tables tables
+      → Executes g statement.Rollback (Ok (said.Done reply.Done)) old (record { store = store; tables = tables; served = served; is_open = false })
+  rolled_back_done old store tables served may is_open reloads =
+      let new : Engine S = record { store = store; tables = tables; served = served; is_open = false } in
+      record {
+        steps = λ ready. (roll_back_steps old store tables served is_open reloads, ready_reloaded old store tables served reloads ready);
+        may = record {
+          going = reloads.steady.ended ∙ may.going;
+          unmarked = reloads.unmarked;
+          served = λ is. served_of tables.catalog reloads.limits reloads.names (sym reloads.built ∙ is);
+        };
+        keeps = λ all. record { closed = λ shut. reloads.steady.base ∙ sym reloads.work; is_open = λ opened. absurd (cc) };
+        leaves = λ ready. leaves_steady g statement.Rollback old new reloads.steady;
+        refused = λ refusal e. absurd (cc);
+        unserved = λ served other outcome e. absurd (cc);
+        damaged = λ damage e ready. absurd (cc);
+        shape = reloads.shape;
+        outside = outside_steady (Ok (said.Done reply.Done)) old new reloads.steady (counts_fault_as (λ is. absurd (cc)) (λ is. absurd (cc)) reloads.device) (λ is. absurd (cc));
+      }
+
+  -- ---- any other statement
+
+  held_left : (old : Engine S) (store : S) (tables : Tables) → Steady g old.store store → LeavesAll g old.store store old.tables tables → held_by g (record old { store = store; tables = tables }) ≡ held_by g old
+  held_left old store tables steady leaves = same_held (held_by g old) (held_by g (record old { store = store; tables = tables })) steady.base leaves.pages leaves.catalog refl
+
+  -- where no transaction is open, only a refusal isn't committed
+  base_tried : (old : Engine S) (store : S) (tables : Tables) (stmt : Stmt) (outcome : Outcome) → IsAllCommitted (held_by g old) → TriesStep g stmt (Ok outcome) old.store store old.tables tables
+      → (old.is_open || is_refusal outcome) ≡ true → KeepsBase (held_by g old) (held_by g (record old { store = store; tables = tables }))
+  base_tried old store tables stmt (said.Done reply) all tries kept =
+      record { closed = λ shut. let wrong : false ≡ true = sym (ap (λ b. b || false) shut) ∙ kept in absurd (cc); is_open = λ opened. tries.steady.base }
+  base_tried old store tables stmt (said.Refused refusal) all tries kept =
+      record { closed = λ shut. tries.steady.base ∙ (all shut ∙ sym (tries.refused refusal refl).pages); is_open = λ opened. tries.steady.base }
+
+  kept_steps : (old : Engine S) (store : S) (tables : Tables) (stmt : Stmt) (outcome : Outcome) → control_of stmt ≡ control.Other → IsReadyEngine g old
+      → TriesStep g stmt (Ok outcome) old.store store old.tables tables → (old.is_open || is_refusal outcome) ≡ true
+      → DoesStep g old.store store old.tables tables stmt outcome ⊎ IsRefusedFull g old.store store old.tables tables stmt outcome
+      → StepsOnPages old.tables.ext (held_by g old) stmt outcome (held_by g (record old { store = store; tables = tables }))
+  kept_steps old store tables stmt outcome other ready tries kept (inl does) =
+      steps_done old (held_by g (record old { store = store; tables = tables })) store tables stmt outcome other does refl (base_tried old store tables stmt outcome ready.closed tries kept) tries.reads refl tries.shape
+  kept_steps old store tables stmt outcome other ready tries kept (inr refused) = full refused.says (held_left old store tables tries.steady refused.leaves) refused.full.full (λ session stands. refused.full.faultless session.working stands.working)
+
+  ready_tried : (old : S) (store : S) (before tables : Tables) (stmt : Stmt) (outcome : Outcome) → DoesStep g old store before tables stmt outcome ⊎ IsRefusedFull g old store before tables stmt outcome
+      → IsReady g store tables
+  ready_tried old store before tables stmt outcome (inl does) = does.ready
+  ready_tried old store before tables stmt outcome (inr refused) = refused.ready
+
+  kept_ready : (old : Engine S) (store : S) (tables : Tables) (stmt : Stmt) (outcome : Outcome) → IsReadyEngine g old
+      → TriesStep g stmt (Ok outcome) old.store store old.tables tables → (old.is_open || is_refusal outcome) ≡ true → IsReadyEngine g (record old { store = store; tables = tables })
+  kept_ready old store tables stmt outcome ready tries kept =
+      let same = tries.steady.base in
+      record {
+        served = ready.served;
+        work = ready_tried old.store store old.tables tables stmt outcome (tries.does ready.work);
+        base_view = ready.base_view;
+        base_sound = subst (λ (pages : PageList). KeepAllRules tables.ext pages ready.base_view) (sym same)
+            (keeps_along old.tables.ext tables.ext (g.state old.store).base ready.base_view tries.shape ready.base_sound);
+        base_defs = ready.base_defs;
+        base_stored = subst (λ (pages : PageList). AreStored pages ready.base_defs) (sym same) ready.base_stored;
+        base_valid = ready.base_valid;
+        closed = (base_tried old store tables stmt outcome ready.closed tries kept).closed;
+      }
+
+  pub change_kept : (old : Engine S) (store : S) (tables : Tables) (stmt : Stmt) (outcome : Outcome) → MayCall g old → old.served ≡ true → control_of stmt ≡ control.Other
+      → TriesStep g stmt (Ok outcome) old.store store old.tables tables → (old.is_open || is_refusal outcome) ≡ true
+      → Executes g stmt (Ok outcome) old (record old { store = store; tables = tables })
+  change_kept old store tables stmt outcome may served other tries kept =
+      let new : Engine S = record old { store = store; tables = tables } in
+      record {
+        steps = λ ready. (kept_steps old store tables stmt outcome other ready tries kept (tries.does ready.work), kept_ready old store tables stmt outcome ready tries kept);
+        may = record { going = tries.steady.ended ∙ may.going; unmarked = tries.unmarked; served = λ is. tries.served };
+        keeps = λ all. base_tried old store tables stmt outcome all tries kept;
+        leaves = λ ready. leaves_steady g stmt old new tries.steady;
+        refused = λ refusal is. held_left old store tables tries.steady (tries.refused refusal is);
+        unserved = λ unserved other outcome is. let wrong : true ≡ false = sym served ∙ unserved in absurd (cc);
+        damaged = λ damage e ready. absurd (cc);
+        shape = tries.shape;
+        outside = outside_steady (Ok outcome) old new tries.steady tries.device tries.output;
+      }
+
+  -- a statement that was done, whose pages are committed
+  committed_steps : (old : Engine S) (new : HeldPages) (mid : S) (tables : Tables) (stmt : Stmt) (outcome : Outcome) → control_of stmt ≡ control.Other → is_refusal outcome ≡ false → old.is_open ≡ false → new.open_ ≡ false
+      → new.base ≡ pages_of g mid → new.work ≡ pages_of g mid → TriesStep g stmt (Ok outcome) old.store mid old.tables tables
+      → DoesStep g old.store mid old.tables tables stmt outcome ⊎ IsRefusedFull g old.store mid old.tables tables stmt outcome → StepsOnPages old.tables.ext (held_by g old) stmt outcome new
+  committed_steps old new mid tables stmt outcome other done shut still base work tries (inl does) =
+      steps_done old new mid tables stmt outcome other does work
+      (record { closed = λ closed. base ∙ sym work; is_open = λ opened. let wrong : true ≡ false = sym opened ∙ still in absurd (cc) }) tries.reads (still ∙ sym shut) tries.shape
+  committed_steps old new mid tables stmt outcome other done shut still base work tries (inr refused) =
+      let wrong : true ≡ false = sym (ap is_refusal refused.says) ∙ done in absurd (cc)
+
+  -- the pages that it makes those of the last commit
+  made_left : (old : Engine S) (mid : S) (tables : Tables) (stmt : Stmt) (outcome : Outcome) → control_of stmt ≡ control.Other → is_refusal outcome ≡ false → old.is_open ≡ false
+      → TriesStep g stmt (Ok outcome) old.store mid old.tables tables → IsReadyEngine g old → MayBeLeft old.tables.ext (held_by g old) stmt (g.state mid).work
+  made_left old mid tables stmt outcome other done shut tries ready =
+      let work = (g.state mid).work in
+      let now = ready_tried old.store mid old.tables tables stmt outcome (tries.does ready.work) in
+      MayBeLeft.after outcome (held_with work work tables.catalog false)
+      (committed_steps old (held_with work work tables.catalog false) mid tables stmt outcome other done shut refl refl refl tries (tries.does ready.work)) refl refl
+      (now.view, keeps_along tables.ext old.tables.ext work now.view (record { cap = sym tries.shape.cap; extent_pages = sym tries.shape.extent_pages }) now.sound) tables.catalog now.stored tries.served.valid
+
+  not_done : (outcome : Outcome) (refusal : Refusal) → is_refusal outcome ≡ false → outcome ≡ said.Refused refusal → ⊥
+  not_done outcome refusal done is = let wrong : true ≡ false = sym (ap is_refusal is) ∙ done in cc
+
+  pub change_committed : (old : Engine S) (mid store : S) (tables : Tables) (stmt : Stmt) (outcome : Outcome) → MayCall g old → old.served ≡ true → control_of stmt ≡ control.Other
+      → TriesStep g stmt (Ok outcome) old.store mid old.tables tables → (old.is_open || is_refusal outcome) ≡ false → CommitsWork {X = Unit {0}} g (Ok tt) mid store
+      → (Rests g mid → Rests g store) → Executes g stmt (Ok outcome) old (record old { store = store; tables = tables })
+  change_committed old mid store tables stmt outcome may served other tries kept commits rests =
+      let new : Engine S = record old { store = store; tables = tables } in
+      let shut = (neither old.is_open (is_refusal outcome) kept).0 in
+      let done = (neither old.is_open (is_refusal outcome) kept).1 in
+      let still : g.disk_faults mid ≡ g.disk_faults old.store = tries.device.still (λ is. absurd (cc)) in
+      record {
+        steps = λ ready. (
+          committed_steps old (held_by g new) mid tables stmt outcome other done shut shut commits.base commits.work tries (tries.does ready.work),
+          ready_committed old new mid tables (ready_tried old.store mid old.tables tables stmt outcome (tries.does ready.work)) tries.served served refl commits,
+        );
+        may = record { going = commits.going; unmarked = commits.unmarked; served = λ is. tries.served };
+        keeps = λ all. record { closed = λ still. commits.base ∙ sym commits.work; is_open = λ opened. let wrong : true ≡ false = sym opened ∙ shut in absurd (cc) };
+        leaves = λ ready. leaves_then g (Ok tt) stmt old new mid tries.steady commits (made_left old mid tables stmt outcome other done shut tries ready);
+        refused = λ refusal is. absurd (not_done outcome refusal done (same_outcome (Ok outcome) outcome (said.Refused refusal) refl is));
+        unserved = λ unserved other outcome is. let wrong : true ≡ false = sym served ∙ unserved in absurd (cc);
+        damaged = λ damage e ready. absurd (cc);
+        shape = tries.shape;
+        outside = outside_value old new (outside_then (Ok tt) old new mid tries.steady still commits rests);
+      }
+
+  pub change_stops : (result : Result Outcome EngineStop) (stop : EngineStop) (old : Engine S) (mid store : S) (tables : Tables) (stmt : Stmt) (outcome : Outcome) → IsErrAnd result (λ e. e ≡ stop) → control_of stmt ≡ control.Other
+      → TriesStep g stmt (Ok outcome) old.store mid old.tables tables → (old.is_open || is_refusal outcome) ≡ false → CommitsWork {X = Unit {0}} g (Err stop) mid store
+      → (Rests g mid → Rests g store) → Executes g stmt result old (record old { store = store; tables = tables })
+  change_stops result stop old mid store tables stmt outcome is other tries kept commits rests =
+      let new : Engine S = record old { store = store; tables = tables } in
+      let both = neither old.is_open (is_refusal outcome) kept in
+      let still : g.disk_faults mid ≡ g.disk_faults old.store = tries.device.still (λ is. absurd (cc)) in
+      executes_stop stmt result stop old new is
+      (λ damage e ready. commits.damaged damage (ap Err e) (sound_root mid tables (ready_tried old.store mid old.tables tables stmt outcome (tries.does ready.work))))
+      (λ ready. leaves_then g (Err stop) stmt old new mid tries.steady commits (made_left old mid tables stmt outcome other both.1 both.0 tries ready)) tries.shape
+      (outside_then (Err stop) old new mid tries.steady still commits rests)
+
+  -- the execution stopped
+  pub change_untried : (result : Result Outcome EngineStop) (stop : EngineStop) (old : Engine S) (store : S) (tables : Tables) (stmt : Stmt) → IsErrAnd result (λ e. e ≡ stop)
+      → TriesStep g stmt (Err stop) old.store store old.tables tables → Executes g stmt result old (record old { store = store; tables = tables })
+  change_untried result stop old store tables stmt is tries =
+      let new : Engine S = record old { store = store; tables = tables } in
+      executes_stop {X = Outcome} stmt result stop old new is (λ damage e ready. tries.damaged damage (ap Err e) ready.work) (λ ready. leaves_steady g stmt old new tries.steady) tries.shape
+      (outside_steady (Err stop) old new tries.steady tries.device tries.output)
+
+  -- ---- another store with the same pages
+
+  pub ready_along : (old : Engine S) (store : S) → (g.state store).is_told ≡ (g.state old.store).is_told → (g.state store).base ≡ (g.state old.store).base → (g.state store).work ≡ (g.state old.store).work
+      → IsReadyEngine g old → IsReadyEngine g (record old { store = store })
+  ready_along old store told base work ready = record {
+    served = ready.served;
+    work = ready_same g old.store store old.tables told work ready.work;
+    base_view = ready.base_view;
+    base_sound = subst (λ (pages : PageList). KeepAllRules old.tables.ext pages ready.base_view) (sym base) ready.base_sound;
+    base_defs = ready.base_defs;
+    base_stored = subst (λ (pages : PageList). AreStored pages ready.base_defs) (sym base) ready.base_stored;
+    base_valid = ready.base_valid;
+    closed = λ shut. base ∙ (ready.closed shut ∙ sym work);
+  }
+
+-- ---- which statement it is
+
+pub is_begin : (stmt : Stmt) → control.Begin ≡ control_of stmt → stmt ≡ statement.Begin
+is_begin statement.Begin is = refl
+is_begin statement.Commit is = absurd (cc)
+is_begin statement.Rollback is = absurd (cc)
+is_begin (statement.CreateTable name columns dims) is = absurd (cc)
+is_begin (statement.CreateIndex name unique table parts) is = absurd (cc)
+is_begin (statement.DropTable name) is = absurd (cc)
+is_begin (statement.DropIndex name) is = absurd (cc)
+is_begin (statement.Insert table columns rows) is = absurd (cc)
+is_begin (statement.Update table sets pred) is = absurd (cc)
+is_begin (statement.Delete table pred) is = absurd (cc)
+is_begin (statement.Query select) is = absurd (cc)
+is_begin (statement.Explain select) is = absurd (cc)
+is_begin (statement.SetRollout mode) is = absurd (cc)
+is_begin (statement.SetPlan mode) is = absurd (cc)
+is_begin (statement.SetPace n) is = absurd (cc)
+is_begin (statement.Clean n) is = absurd (cc)
+is_begin (statement.CleanTable name) is = absurd (cc)
+is_begin (statement.ListBlocks name) is = absurd (cc)
+is_begin (statement.Reclaim name) is = absurd (cc)

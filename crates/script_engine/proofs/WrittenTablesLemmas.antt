@@ -1,0 +1,180 @@
+-- What the grammar says of a CREATE TABLE: its names are given names, and it has columns and dimensions.
+use Rattle.std.proofs.Common.{◌≡◌, ◌≤◌, ◌<◌, ◌∙◌, ℕ, List, [], ◌∷◌, ◌++◌, refl, sym, subst, length, map, arith}
+use Rattle.std.specs.Prelude.{◌==◌, ◌||◌, Bool, IsTrue, Option, Some, None, flat_map, nat_le, nat_lt, true, false}
+use Rattle.std.specs.List.{AllByRecursion, IsDistinct, list_all, list_any}
+use Rattle.std.proofs.Math.Dec.{eqb}
+use Rattle.std.proofs.lemmas.Bool.Decides.{nat_tests}
+use Rattle.std.proofs.lemmas.List.{length-map}
+use Rattle.std.proofs.lemmas.List.Folds.{list_any-append}
+use Rattle.std.proofs.lemmas.Map.Steps.{length-le_from_distinct_below}
+use Rattle.mdc_ast.specs.declared.bound.Bound.{Bound}
+use Rattle.mdc_ast.specs.declared.bound.Bound.TheVariants as bound
+use Rattle.mdc_ast.specs.declared.definition.ColumnDef.{ColumnDef}
+use Rattle.mdc_ast.specs.declared.name.Name.{Name}
+use Rattle.mdc_ast.specs.declared.statement.ColumnText.{ColumnText}
+use Rattle.mdc_ast.specs.declared.statement.Stmt.{Stmt}
+use Rattle.mdc_ast.specs.declared.statement.Stmt.TheVariants as stmt
+use Rattle.mdc_ast.specs.Reading.{IsItemOf, Item, Statement, nesting_limit}
+use Rattle.mdc_ast.specs.meaning.Binding.{bound_column, bound_of, bound_on, bound_set, bound_table, bound_tuple, bound_where, columns_of, on_place, text_place}
+use Rattle.mdc_ast.specs.meaning.Definitions.{AllPlacesDiffer, Definitions, IsShort, IsValidDef, are_there, def_named, is_good_type, is_short_key, place_of}
+use Rattle.mdc_ast.specs.meaning.Judged.{create_judged, judged_of, targets}
+use Rattle.mdc_ast.specs.meaning.Judging.{in_order}
+use Rattle.mdc_ast.specs.meaning.Step.{is_built}
+use Rattle.mdc_ast.proofs.CreateLemmas.{created_is_valid}
+use Rattle.mdc_ast.proofs.DefinitionsLemmas.{neither}
+use Rattle.mdc_ast.proofs.KeepingLemmas.{IsFaultless, is_faultless}
+use Rattle.mdc_ast.proofs.TestsLemmas.{and_true, both, lt_is_true}
+use Rattle.binder.specs.Bounded.{plain_query}
+use Rattle.table_page.specs.TableLimits.{is_given_name, is_good_column, is_good_dimension}
+use Rattle.script_engine.specs.Defining.{IsNewIfMade, IsPlainNewDef}
+use Rattle.script_engine.specs.Held.{IsWritten}
+use Rattle.script_engine.proofs.KeptWordsLemmas.{tokens_kept}
+use Rattle.script_engine.proofs.SpelledTablesLemmas.{IfTable, IsGivenWord, IsTableText, spelled_table}
+
+-- ---- columns
+
+le_is_true : (i n : ℕ) → i ≤ n → IsTrue (nat_le i n)
+le_is_true i n le = grind (arith, nat_tests, le)
+
+given_name : (name : Name) → IsGivenWord name → IsShort name → IsTrue (is_given_name name)
+given_name name given short = and_true _ _ (and_true _ _ given.0 given.1) (le_is_true (length name.0) 18 short)
+
+good_columns : (all : List ColumnDef) (columns : List ColumnText) → AllByRecursion (λ column. IsGivenWord column.name) columns → AllByRecursion (λ column. IsShort column.name) (map bound_column columns)
+    → IsTrue (list_all (λ column. is_good_type column.ty) (map bound_column columns)) → IsTrue (list_all (is_good_column all) (map bound_column columns))
+good_columns all [] given short good = refl
+good_columns all (column ∷ columns) given short good =
+    let types = both _ _ good in
+    and_true _ _ (and_true _ _ (and_true _ _ (given_name column.name given.0 short.0) types.0) refl) (good_columns all columns given.1 short.1 types.1)
+
+-- ---- dimensions
+
+differ_front : (xs ys : List ℕ) → AllPlacesDiffer (xs ++ ys) → AllPlacesDiffer xs × AllPlacesDiffer ys
+differ_front [] ys h = (tt, h)
+differ_front (x ∷ xs) ys h =
+    let rest : AllPlacesDiffer xs × AllPlacesDiffer ys = differ_front xs ys h.1 in
+    let first = neither (list_any (λ other. other == x) xs) (list_any (λ other. other == x) ys) (sym (list_any-append (λ other. other == x) xs ys) ∙ h.0) in
+    ((first.0, rest.0), rest.1)
+
+turned : (a b : ℕ) → (a == b) ≡ false → eqb b a ≡ false
+turned a b h = grind (arith, nat_tests, h)
+
+apart_from : (x : ℕ) (xs : List ℕ) → list_any (λ other. other == x) xs ≡ false → AllByRecursion (λ y. eqb x y ≡ false) xs
+apart_from x [] h = tt
+apart_from x (y ∷ xs) h =
+    let parts = neither (y == x) (list_any (λ other. other == x) xs) h in
+    (turned y x parts.0, apart_from x xs parts.1)
+
+distinct : (places : List ℕ) → AllPlacesDiffer places → IsDistinct eqb places
+unfolding IsDistinct
+distinct [] h = tt
+distinct (place ∷ places) h = (apart_from place places h.0, distinct places h.1)
+
+is_below : (n : ℕ) (places : List ℕ) (q : ℕ) → IsTrue (list_all (λ place. nat_lt place n) places) → list_any (eqb q) places ≡ true → q < n
+is_below n [] q all h = cc
+is_below n (place ∷ places) q all h =
+    let parts : IsTrue (nat_lt place n) × IsTrue (list_all (λ place. nat_lt place n) places) = both _ _ all in
+    by_first (eqb q place) refl parts.0 (is_below n places q parts.1) h
+  where
+    same : eqb q place ≡ true → IsTrue (nat_lt place n) → q < n
+    same e lt = grind (arith, nat_tests, e, lt)
+
+    by_first : (b : Bool) → eqb q place ≡ b → IsTrue (nat_lt place n) → (list_any (eqb q) places ≡ true → q < n) → (b || list_any (eqb q) places) ≡ true → q < n
+    by_first true e lt behind h = same e lt
+    by_first false e lt behind h = behind h
+
+-- places that differ are no more than there are columns
+few_places : (columns : List ColumnDef) (places : List ℕ) → IsTrue (are_there columns places) → AllPlacesDiffer places → length places ≤ length columns
+few_places columns places there differ =
+    length-le_from_distinct_below places (length columns) (distinct places differ) (λ q h. is_below (length columns) places q there h)
+
+good_dims : (columns : List ColumnDef) (place : Name → ℕ) (dims : List (List Name)) → length columns ≤ 16 → AllByRecursion (λ dim. 1 ≤ length dim) dims
+    → IsTrue (list_all (are_there columns) (map (λ dim. map place dim) dims)) → IsTrue (list_all (is_short_key columns) (map (λ dim. map place dim) dims))
+    → AllPlacesDiffer (flat_map (λ dim. dim) (map (λ dim. map place dim) dims)) → IsTrue (list_all (is_good_dimension columns) (map (λ dim. map place dim) dims))
+good_dims columns place [] few some there short differ = refl
+good_dims columns place (dim ∷ dims) few some there short differ =
+    let here : IsTrue (are_there columns (map place dim)) × IsTrue (list_all (are_there columns) (map (λ dim. map place dim) dims)) = both _ _ there in
+    let keys : IsTrue (is_short_key columns (map place dim)) × IsTrue (list_all (is_short_key columns) (map (λ dim. map place dim) dims)) = both _ _ short in
+    let apart : AllPlacesDiffer (map place dim) × AllPlacesDiffer (flat_map (λ dim. dim) (map (λ dim. map place dim) dims)) = differ_front (map place dim) (flat_map (λ dim. dim) (map (λ dim. map place dim) dims)) differ in
+    let at_most : length (map place dim) ≤ length columns = few_places columns (map place dim) here.0 apart.0 in
+    let long : length (map place dim) ≡ length dim = length-map dim place in
+    let first : IsTrue (nat_lt 0 (length (map place dim))) = lt_is_true 0 (length (map place dim)) (omega (arith, long, some.0)) in
+    let second : IsTrue (nat_le (length (map place dim)) 16) = le_is_true (length (map place dim)) 16 (omega (arith, at_most, few)) in
+    and_true _ _ (and_true _ _ (and_true _ _ (and_true _ _ first second) here.0) keys.0) (good_dims columns place dims few some.1 here.1 keys.1 apart.1)
+
+-- ---- the table
+
+new_table : (defs : Definitions) (name : Name) (columns : List ColumnText) (dims : List (List Name)) → IsTableText name columns dims → in_order (create_judged defs name columns dims) ≡ []
+    → IsPlainNewDef (bound_table name columns dims)
+new_table defs name columns dims text said =
+    let none : IsFaultless (create_judged defs name columns dims) = is_faultless (create_judged defs name columns dims) said in
+    let valid : IsValidDef 0 (bound_table name columns dims) = created_is_valid defs name columns dims 0 none.columns none.limits in
+    let all : List ColumnDef = map bound_column columns in
+    let many : length all ≡ length columns = length-map columns bound_column in
+    let dimensions : length (map (λ dim. map (text_place columns) dim) dims) ≡ length dims = length-map dims (λ dim. map (text_place columns) dim) in
+    record {
+      limits = record {
+        name = given_name name text.given valid.short;
+        columns = record {
+          some = omega (arith, many, text.each_given.0);
+          few = valid.few;
+          good = good_columns all columns text.each_given.1 valid.short_names valid.good_types;
+          differ = valid.names_differ;
+          narrow = valid.narrow;
+        };
+        dims = record {
+          some = omega (arith, dimensions, text.each_some.0);
+          few = valid.few_dims;
+          good = good_dims all (text_place columns) dims valid.few text.each_some.1 valid.dims_there valid.short_keys valid.dims_apart;
+          apart = valid.dims_apart;
+          short = valid.short_composite;
+        };
+        no_indexes = refl;
+      };
+      none_made = valid.none_made;
+      next = refl;
+      roots = refl;
+    }
+
+-- ---- a statement that is written
+
+item_is : (s t : Stmt) → Statement s ≡ Statement t → s ≡ t
+item_is s t e = cc
+
+item_table : (bytes : List ℕ) (item : Item) (statement : Stmt) → IsItemOf bytes item → item ≡ Statement statement → IfTable statement
+item_table bytes item statement (IsItemOf.understood {stmt = s} tokens reached spelled) is =
+    subst IfTable (item_is s statement is) (spelled_table nesting_limit tokens [] s spelled (tokens_kept bytes tokens reached.split))
+item_table bytes item statement (IsItemOf.long h) is = absurd cc
+item_table bytes item statement (IsItemOf.strange b rest few found place) is = absurd cc
+item_table bytes item statement (IsItemOf.syntax_fault tokens rest reached fails place) is = absurd cc
+item_table bytes item statement (IsItemOf.deep tokens rest reached much) is = absurd cc
+
+-- a statement on a table that is there makes none
+none_made_on : (defs : Definitions) (name : Name) (bind : ℕ → List ColumnDef → Bound) → ((place : ℕ) → IsNewIfMade (bind place (columns_of (def_named defs name)))) → IsNewIfMade (bound_on defs name bind)
+none_made_on defs name bind each = by_place (place_of defs name)
+  where
+    by_place : (found : Option ℕ) → IsNewIfMade (on_place found (columns_of (def_named defs name)) bind)
+    by_place None = tt
+    by_place (Some place) = each place
+
+-- a CREATE TABLE that is written, is built, and against which nothing is said, makes a new table
+pub written_is_new : (defs : Definitions) (stmt : Stmt) → IsWritten stmt → is_built stmt ≡ true → in_order (judged_of defs stmt) ≡ [] → IsNewIfMade (bound_of defs stmt)
+written_is_new defs (stmt.CreateTable name columns dims) written built said =
+    new_table defs name columns dims (item_table written.0 (Statement (stmt.CreateTable name columns dims)) (stmt.CreateTable name columns dims) written.1 refl) said
+written_is_new defs (stmt.DropTable name) written built said = none_made_on defs name (λ place columns. bound.DropTable place) (λ place. tt)
+written_is_new defs (stmt.Insert name listed tuples) written built said = none_made_on defs name (λ place columns. bound.Insert place (map (bound_tuple columns (targets columns listed)) tuples)) (λ place. tt)
+written_is_new defs (stmt.Update name sets pred) written built said = none_made_on defs name (λ place columns. bound.Update place (map (bound_set columns) sets) (bound_where columns pred)) (λ place. tt)
+written_is_new defs (stmt.Delete name pred) written built said = none_made_on defs name (λ place columns. bound.Delete place (bound_where columns pred)) (λ place. tt)
+written_is_new defs (stmt.Query select) written built said = none_made_on defs select.table (λ place columns. bound.Query (plain_query place columns select)) (λ place. tt)
+written_is_new defs (stmt.CreateIndex name unique table parts) written built said = tt
+written_is_new defs (stmt.DropIndex name) written built said = tt
+written_is_new defs (stmt.Explain select) written built said = tt
+written_is_new defs (stmt.SetRollout mode) written built said = tt
+written_is_new defs (stmt.SetPlan mode) written built said = tt
+written_is_new defs (stmt.SetPace pace) written built said = tt
+written_is_new defs (stmt.Clean steps) written built said = tt
+written_is_new defs (stmt.CleanTable name) written built said = tt
+written_is_new defs (stmt.ListBlocks name) written built said = tt
+written_is_new defs (stmt.Reclaim name) written built said = tt
+written_is_new defs stmt.Begin written built said = tt
+written_is_new defs stmt.Commit written built said = tt
+written_is_new defs stmt.Rollback written built said = tt

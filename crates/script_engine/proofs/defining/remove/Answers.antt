@@ -1,0 +1,35 @@
+use Rattle.store_api.proofs.RunsOverPagesLemmas.{runs_exit, runs_wider}
+use Rattle.script_engine.proofs.DefinedTablesLemmas.{no_dropping_damage, no_indexes_at, removed, served_less}
+use Rattle.script_engine.proofs.defining.remove.Goals as goal
+
+pub drop_table-requires-clause-no_indexes : goal.drop_table-requires-clause-no_indexes
+drop_table-requires-clause-no_indexes g c = no_indexes_at c.args.tables.now.catalog c.args.table c.requires.served
+
+pub returns-in_err-drop_table-clause-runs : goal.returns-in_err-drop_table-clause-runs
+returns-in_err-drop_table-clause-runs g c =
+    runs_exit c.from_residual.result c.from_residual.ensures.1
+    (runs_wider c.in_err-drop_table.ensures.runs (λ p there mine. tt) (λ p kind. tt)
+    (λ damage breaks ready. no_dropping_damage g.P.Pages c.args.pages.now c.args.tables.now c.args.table damage c.requires.served breaks ready))
+
+pub returns-clause-does : goal.returns-clause-does
+returns-clause-does g c ready =
+    removed g.P.Pages c.args.pages.now c.drop_table.new.pages c.args.tables.now _ c.args.table (record {
+      served = served_less c.args.tables.now.catalog c.drop_table.new.catalog c.args.table c.requires.served c.in_ok-drop_table.ensures.left c.in_ok-drop_table.ensures.limits;
+      stored = c.in_ok-drop_table.ensures.stored;
+      drops = c.in_ok-drop_table.ensures.drops;
+      stands_for = c.in_ok-drop_table.ensures.stands_for;
+      told = c.in_ok-drop_table.ensures.runs.works.steady.is_told;
+      rooms = c.forget.ensures;
+    }) ready
+
+pub returns-clause-keeps : goal.returns-clause-keeps
+returns-clause-keeps g c = record {
+  shape = c.in_ok-drop_table.ensures.shape;
+  served = served_less c.args.tables.now.catalog c.drop_table.new.catalog c.args.table c.requires.served c.in_ok-drop_table.ensures.left c.in_ok-drop_table.ensures.limits;
+  kept = tt;
+}
+
+pub returns-clause-runs : goal.returns-clause-runs
+returns-clause-runs g c =
+    runs_wider c.in_ok-drop_table.ensures.runs (λ p there mine. tt) (λ p kind. tt)
+    (λ damage breaks ready. no_dropping_damage g.P.Pages c.args.pages.now c.args.tables.now c.args.table damage c.requires.served breaks ready)

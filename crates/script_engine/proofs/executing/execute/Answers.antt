@@ -1,0 +1,29 @@
+use Rattle.mdc_ast.specs.declared.bound.Bound.TheVariants as bound
+use Rattle.store_api.proofs.RunsOverPagesLemmas.{runs_exit_as}
+use Rattle.extent_map.specs.Damages.{store_part_of}
+use Rattle.script_engine.proofs.ExecutingLemmas.{full_as_bound, may_execute, reads_as_bound, runs_wanting, steps_as_bound}
+use Rattle.script_engine.proofs.executing.execute.Goals as goal
+
+pub returns-in_err-whole-clause-runs : goal.returns-in_err-whole-clause-runs
+returns-in_err-whole-clause-runs g c =
+    runs_exit_as store_part_of c.from_residual.result c.from_residual.ensures.1 (runs_wanting g.P.Pages c.args.pages.now c.args.tables.now c.in_err-whole.field-0.0 c.in_err-whole.ensures.memory)
+
+pub insert-requires-clause-there : goal.insert-requires-clause-there
+insert-requires-clause-there g c =
+    let whole = rw c.in-Some.is at c.in_ok-whole.ensures.bound in
+    (may_execute c.args.tables.now.catalog c.args.stmt.now (bound.Insert c.in-Some.whole.table c.in-Some.whole.rows) c.requires.served c.requires.written whole).served
+
+pub returns-in-Some-clause-does : goal.returns-in-Some-clause-does
+returns-in-Some-clause-does g c =
+    let whole = rw c.in-Some.is at c.in_ok-whole.ensures.bound in
+    steps_as_bound g.P.Pages c.args.pages.now c.insert.new.pages c.args.tables.now c.insert.new.tables c.args.stmt.now (bound.Insert c.in-Some.whole.table c.in-Some.whole.rows) c.insert.result whole c.insert.ensures.does
+
+pub returns-in-Some-clause-full : goal.returns-in-Some-clause-full
+returns-in-Some-clause-full g c =
+    let whole = rw c.in-Some.is at c.in_ok-whole.ensures.bound in
+    full_as_bound g.P.Pages c.args.pages.now c.args.tables.now c.args.stmt.now (bound.Insert c.in-Some.whole.table c.in-Some.whole.rows) c.insert.result whole c.insert.ensures.full
+
+pub returns-in-Some-clause-reads : goal.returns-in-Some-clause-reads
+returns-in-Some-clause-reads g c =
+    let whole = rw c.in-Some.is at c.in_ok-whole.ensures.bound in
+    reads_as_bound c.args.tables.now.catalog c.args.stmt.now (bound.Insert c.in-Some.whole.table c.in-Some.whole.rows) whole (λ e. absurd cc)

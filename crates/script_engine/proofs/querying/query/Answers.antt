@@ -1,0 +1,37 @@
+use Rattle.std.proofs.Common.{◌∙◌, ap, map}
+use Rattle.mdc_ast.specs.meaning.Doing.{lines_of}
+use Rattle.block_rows.specs.declared.hit.Hit.{Hit}
+use Rattle.store_api.proofs.RunsOverPagesLemmas.{runs_exit, runs_memory}
+use Rattle.row_judging.specs.Served.{MayShowRows}
+use Rattle.script_engine.proofs.DoneRowsLemmas.{query_does}
+use Rattle.script_engine.proofs.ReadRowsLemmas.{may_judge_read}
+use Rattle.script_engine.proofs.ReadyTablesLemmas.{served_def}
+use Rattle.script_engine.proofs.ScannedTablesLemmas.{is_defined, runs_scan}
+use Rattle.script_engine.proofs.querying.query.Goals as goal
+
+pub find_rows-requires-clause-defined : goal.find_rows-requires-clause-defined
+find_rows-requires-clause-defined g c = (served_def c.args.tables.now.catalog c.args.select.now.table c.in-Some.def.now c.requires.served c.in-Some.ensures).limits
+
+pub find_rows-requires-clause-judged : goal.find_rows-requires-clause-judged
+find_rows-requires-clause-judged g c row read =
+    may_judge_read c.args.select.now.pred c.in-Some.def.now
+    (is_defined _ c.in-Some.def.now (MayShowRows c.args.select.now.outs c.args.select.now.pred) c.in-Some.ensures c.requires.there).judge row read
+
+pub returns-in_err-hits-clause-runs : goal.returns-in_err-hits-clause-runs
+returns-in_err-hits-clause-runs g c =
+    runs_exit c.from_residual.result c.from_residual.ensures.1
+    (runs_scan g.P.Pages c.args.pages.now c.find_rows.new.pages c.args.tables.now c.args.select.now.table c.in-Some.def.now c.requires.served c.in-Some.ensures c.in_err-hits.ensures.runs)
+
+pub returns-in-Ok-clause-does : goal.returns-in-Ok-clause-does
+returns-in-Ok-clause-does g c ready =
+    query_does g.P.Pages c.args.pages.now c.find_rows.new.pages c.args.tables.now c.args.select.now c.in-Some.def.now c.in_ok-hits.hits.items c.in-Ok.lines c.requires.served
+    c.in-Some.ensures c.in_ok-hits.ensures.runs.works.steady.is_told c.find_rows.ensures.same c.in_ok-hits.ensures.finds
+    (c.in-Ok.ensures ∙ ap (λ hits. lines_of c.in-Some.def.now.columns c.args.select.now.outs (map (λ (hit : Hit). hit.row) hits)) c.as_slice.ensures.value) ready
+
+pub returns-in-Ok-clause-runs : goal.returns-in-Ok-clause-runs
+returns-in-Ok-clause-runs g c =
+    runs_scan g.P.Pages c.args.pages.now c.find_rows.new.pages c.args.tables.now c.args.select.now.table c.in-Some.def.now c.requires.served c.in-Some.ensures c.in_ok-hits.ensures.runs
+
+pub returns-clause-runs : goal.returns-clause-runs
+returns-clause-runs g c =
+    runs_memory (runs_scan g.P.Pages c.args.pages.now c.find_rows.new.pages c.args.tables.now c.args.select.now.table c.in-Some.def.now c.requires.served c.in-Some.ensures c.in_ok-hits.ensures.runs)

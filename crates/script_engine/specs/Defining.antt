@@ -1,0 +1,37 @@
+-- What a bound statement needs of the definitions that it is executed on.
+use Rattle.std.specs.Prelude.{◌≡◌, [], IsTrue, is_none, true}
+use Rattle.std.specs.List.{list_all}
+use Rattle.mdc_ast.specs.declared.bound.Bound.{Bound}
+use Rattle.mdc_ast.specs.declared.bound.Bound.TheVariants as bound
+use Rattle.mdc_ast.specs.declared.definition.TableDef.{TableDef}
+use Rattle.mdc_ast.specs.declared.statement.Stmt.{Stmt}
+use Rattle.mdc_ast.specs.meaning.Binding.{bound_of}
+use Rattle.mdc_ast.specs.meaning.Definitions.{Definitions}
+use Rattle.mdc_ast.specs.meaning.Judged.{judged_of}
+use Rattle.mdc_ast.specs.meaning.Judging.{in_order}
+use Rattle.mdc_ast.specs.meaning.Step.{is_built}
+use Rattle.row_judging.specs.Served.{IsServed}
+use Rattle.stored_catalog.specs.NewTables.{IsNewTableDef}
+
+-- the definition of a new table: within the limits, with no generated column, no next row number and no roots yet
+pub record IsPlainNewDef (def : TableDef) : Type 0 where
+  pub limits : IsNewTableDef def
+  pub none_made : IsTrue (list_all (λ column. is_none column.made) def.columns)
+  pub next : def.next ≡ 0
+  pub roots : def.roots ≡ record { map = 0; composite = 0; dims = [] }
+
+-- a table that is to be made is new
+abbrev pub IsNewIfMade : Bound → Type 0
+IsNewIfMade (bound.CreateTable def) = IsPlainNewDef def
+IsNewIfMade statement = Unit {0}
+
+-- what executing needs of a bound statement
+pub record MayBeExecuted (defs : Definitions) (statement : Bound) : Type 0 where
+  pub served : IsServed defs statement
+  pub new : IsNewIfMade statement
+
+-- a statement of a form that is built, against which the definitions say nothing, is bound to this
+pub record IsBoundOn (defs : Definitions) (stmt : Stmt) (statement : Bound) : Type 0 where
+  pub built : is_built stmt ≡ true
+  pub said : in_order (judged_of defs stmt) ≡ []
+  pub is : statement ≡ bound_of defs stmt

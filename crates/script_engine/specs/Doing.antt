@@ -1,0 +1,124 @@
+-- What a statement does to ready pages, and when it runs full.
+use Rattle.std.specs.Prelude.{◌≡◌, ◌<◌, ℕ, Bool, true, false, List, [], AllPairs, map, filter, Option, Some, IsPermutation}
+use Rattle.mdc_ast.specs.declared.bound.Bound.{Bound}
+use Rattle.mdc_ast.specs.declared.bound.Bound.TheVariants as bound
+use Rattle.mdc_ast.specs.declared.bound.BoundSet.{BoundSet}
+use Rattle.mdc_ast.specs.declared.definition.TableDef.{TableDef}
+use Rattle.mdc_ast.specs.declared.predicate.Pred.{Pred}
+use Rattle.mdc_ast.specs.declared.reply.Outcome.{Outcome}
+use Rattle.mdc_ast.specs.declared.reply.Outcome.TheVariants as said
+use Rattle.mdc_ast.specs.declared.row.Row.{Row}
+use Rattle.mdc_ast.specs.declared.statement.Stmt.{Stmt}
+use Rattle.mdc_ast.specs.declared.statement.Stmt.TheVariants.{Query}
+use Rattle.mdc_ast.specs.meaning.Binding.{bound_of}
+use Rattle.mdc_ast.specs.meaning.Database.{Database}
+use Rattle.mdc_ast.specs.meaning.Definitions.{Definitions, def_at}
+use Rattle.mdc_ast.specs.meaning.Doing.{causes_of_rows, changed_row, numbered, qualifies}
+use Rattle.mdc_ast.specs.meaning.Step.{Answer, faults, step}
+use Rattle.store_api.specs.declared.pages.Pages.{Ghosts}
+use Rattle.extent_map.specs.declared.extents.Extents.{Extents}
+use Rattle.table_trees.specs.ToldPages.{PageList}
+use Rattle.mdc_sound.specs.RunningFull.{CreateRunsFull, InsertRunsFull, ShowsTableSpots, UpdateRunsFull}
+use Rattle.mdc_sound.specs.Placing.{Spot, ChangesRows, PutsRows, TakesRows, block_slot_count, rows_from_spot}
+use Rattle.mdc_sound.specs.StandingTable.{pages_of}
+use Rattle.mdc_sound.specs.StandsForDatabase.{PagesStandFor}
+use Rattle.mdc_sound.specs.TableRows.{PlacedRow}
+use Rattle.row_judging.specs.Executing.{answer_of, done}
+use Rattle.script_engine.specs.Ready.{IsReady}
+use Rattle.script_engine.specs.declared.tables.Tables.{Tables}
+
+-- ---- the plain database
+
+-- the pages stand for the database that the end of a statement is, and the outcome says its answer
+pub record StandsAfter (ext : Extents) (pages : PageList) (end_ : Database × Answer) (outcome : Outcome) : Type 0 where
+  pub pages_are : PagesStandFor ext pages end_.0
+  pub answers : end_.1 ≡ answer_of outcome
+
+-- ---- where its rows go
+
+-- the rows that qualify, of these spots, by rising row number
+pub record AreQualifying (spots : List Spot) (pred : Option Pred) (rows : List PlacedRow) : Type 0 where
+  pub are : IsPermutation (filter (λ placed. qualifies pred placed.row.values) (rows_from_spot 0 spots)) rows
+  pub rising : AllPairs (λ a b. a.row.number < b.row.number) rows
+
+-- each row with the one that an UPDATE makes of it
+abbrev pub with_changed : List BoundSet → Option Pred → List PlacedRow → List (PlacedRow × Row)
+with_changed sets pred rows = map (λ placed. (placed, changed_row sets pred placed.row)) rows
+
+-- Where the rows of a statement that is done went, in blocks of n slots: an INSERT puts them in order, a DELETE takes them out, an
+-- UPDATE turns them, each by row number.
+pub data PlacesRows (def : TableDef) (n : ℕ) (was is : List Spot) : Bound → Type 0 where
+  insert : {place : ℕ} {tuples : _} → PutsRows def n was (numbered def.next tuples) is → PlacesRows def n was is (bound.Insert place tuples)
+  delete : {place : ℕ} {pred : Option Pred} (rows : List PlacedRow) → AreQualifying was pred rows → TakesRows was rows is → PlacesRows def n was is (bound.Delete place pred)
+  update : {place : ℕ} {sets : List BoundSet} {pred : Option Pred} (rows : List PlacedRow) → AreQualifying was pred rows
+      → ChangesRows def n was (with_changed sets pred rows) is → PlacesRows def n was is (bound.Update place sets pred)
+
+-- the same on pages: they show the table's spots before and after
+pub record PlacesOnPages (before ext : Extents) (old new : PageList) (def : TableDef) (statement : Bound) : Type 0 where
+  pub was : List Spot
+  pub is : List Spot
+  pub shown_before : ShowsTableSpots before old def was
+  pub shown_after : ShowsTableSpots ext new def is
+  pub places : PlacesRows def (block_slot_count before def) was is statement
+
+-- the place of the table whose rows a statement changes, if it changes any
+abbrev pub changed_place : Bound → Option ℕ
+changed_place (bound.Insert place tuples) = Some place
+changed_place (bound.Delete place pred) = Some place
+changed_place (bound.Update place sets pred) = Some place
+changed_place statement = Option.None
+
+-- ---- a statement
+
+-- A bound statement was done on ready pages, or its rows were against it. They are ready again, stand for the plain database that
+-- it makes of whatever they stood for, and the outcome says its answer. Rows went where placing says.
+pub record DoesStatement {S : Type 0} (g : Ghosts S) (old new : S) (before now : Tables) (statement : Bound) (outcome : Outcome) : Type 0 where
+  pub ready : IsReady g new now
+  pub stands : (db : Database) → PagesStandFor before.ext (pages_of g old) db → StandsAfter now.ext (pages_of g new) (done db statement) outcome
+  pub places : (reply : _) → outcome ≡ said.Done reply → (place : ℕ) (def : TableDef) → changed_place statement ≡ Some place → def_at before.catalog place ≡ Some def
+      → PlacesOnPages before.ext now.ext (pages_of g old) (pages_of g new) def statement
+
+-- A statement was executed on ready pages: the same of its text.
+pub record DoesStep {S : Type 0} (g : Ghosts S) (old new : S) (before now : Tables) (stmt : Stmt) (outcome : Outcome) : Type 0 where
+  pub ready : IsReady g new now
+  pub stands : (db : Database) → PagesStandFor before.ext (pages_of g old) db → StandsAfter now.ext (pages_of g new) (step db stmt) outcome
+  pub places : (reply : _) → outcome ≡ said.Done reply → (place : ℕ) (def : TableDef) → changed_place (bound_of before.catalog stmt) ≡ Some place → def_at before.catalog place ≡ Some def
+      → PlacesOnPages before.ext now.ext (pages_of g old) (pages_of g new) def (bound_of before.catalog stmt)
+
+-- a refused statement left the pages and the definitions
+pub record LeavesAll {S : Type 0} (g : Ghosts S) (old new : S) (before now : Tables) : Type 0 where
+  pub pages : pages_of g new ≡ pages_of g old
+  pub catalog : now.catalog ≡ before.catalog
+
+-- ---- statements that change no page
+
+-- a bound statement is a query
+abbrev pub is_query : Bound → Bool
+is_query (bound.Query select) = true
+is_query statement = false
+
+-- a statement is a query
+abbrev pub is_reading : Stmt → Bool
+is_reading (Query select) = true
+is_reading statement = false
+
+-- ---- running full
+
+-- a statement runs full on these pages
+pub data StatementRunsFull (ext : Extents) (work : PageList) (defs : Definitions) : Bound → Type 0 where
+  create : {def : TableDef} → CreateRunsFull ext work def → StatementRunsFull ext work defs (bound.CreateTable def)
+  insert : {place : ℕ} {tuples : _} (def : TableDef) → def_at defs place ≡ Some def → InsertRunsFull ext work def (numbered def.next tuples)
+      → StatementRunsFull ext work defs (bound.Insert place tuples)
+  update : {place : ℕ} {sets : List BoundSet} {pred : Option Pred} (def : TableDef) (spots : List Spot) (rows : List PlacedRow) → def_at defs place ≡ Some def
+      → ShowsTableSpots ext work def spots → AreQualifying spots pred rows → UpdateRunsFull ext work def (with_changed sets pred rows)
+      → StatementRunsFull ext work defs (bound.Update place sets pred)
+
+-- A bound statement runs full and nothing else is said against it: 70 comes last in the order of refusals.
+pub record RunsFullAlone (ext : Extents) (work : PageList) (defs : Definitions) (statement : Bound) : Type 0 where
+  pub full : StatementRunsFull ext work defs statement
+  pub faultless : (db : Database) → PagesStandFor ext work db → causes_of_rows db statement ≡ []
+
+-- the same of a statement's text
+pub record StepRunsFull (ext : Extents) (work : PageList) (defs : Definitions) (stmt : Stmt) : Type 0 where
+  pub full : StatementRunsFull ext work defs (bound_of defs stmt)
+  pub faultless : (db : Database) → PagesStandFor ext work db → faults db stmt ≡ []

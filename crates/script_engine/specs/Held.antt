@@ -1,0 +1,95 @@
+-- What is held between two statements over pages, and what a statement may do to it.
+use Rattle.std.specs.Prelude.{◌≡◌, ℕ, [], Bool, true, false, Some}
+use Rattle.mdc_ast.specs.declared.definition.TableDef.{TableDef}
+use Rattle.mdc_ast.specs.declared.reply.Outcome.{Outcome}
+use Rattle.mdc_ast.specs.declared.reply.Outcome.TheVariants as said
+use Rattle.mdc_ast.specs.declared.reply.Reply.TheVariants as reply
+use Rattle.mdc_ast.specs.declared.statement.Stmt.{Stmt}
+use Rattle.mdc_ast.specs.declared.statement.Stmt.TheVariants.{Begin, Commit, Query, Rollback}
+use Rattle.mdc_ast.specs.Reading.{IsItemOf, Statement}
+use Rattle.mdc_ast.specs.meaning.Binding.{bound_of}
+use Rattle.mdc_ast.specs.meaning.Cause.{FileFull, State, refusal_of}
+use Rattle.mdc_ast.specs.meaning.Definitions.{Definitions, def_at}
+use Rattle.mdc_ast.specs.meaning.Session.{Session, turn}
+use Rattle.mdc_ast.specs.meaning.Step.{Answer, Refused, Replied, faults}
+use Rattle.extent_map.specs.declared.extents.Extents.{Extents}
+use Rattle.table_trees.specs.ToldPages.{PageList}
+use Rattle.mdc_sound.specs.StandsForDatabase.{PagesStandFor}
+use Rattle.row_judging.specs.Executing.{answer_of}
+use Rattle.script_engine.specs.Doing.{PlacesOnPages, StatementRunsFull, changed_place}
+
+-- ---- transactions, in the words of plain databases
+
+-- 12: a statement that the state of the transaction doesn't allow
+abbrev pub not_now : Session → Session × Answer
+not_now session = (session, Refused (refusal_of State))
+
+-- BEGIN opens a transaction, where none is open
+abbrev pub begun : Session → Bool → Session × Answer
+begun session true = not_now session
+begun session false = (record session { open_ = true }, Replied reply.Done)
+
+-- COMMIT makes the working database the kept one, where a transaction is open
+abbrev pub committed : Session → Bool → Session × Answer
+committed session true = (record session { kept = session.working; open_ = false }, Replied reply.Done)
+committed session false = not_now session
+
+-- ROLLBACK goes back to the kept one
+abbrev pub rolled_back : Session → Bool → Session × Answer
+rolled_back session true = (record session { working = session.kept; open_ = false }, Replied reply.Done)
+rolled_back session false = not_now session
+
+-- a statement in a session with transactions
+abbrev pub turn_over : Session → Stmt → Session × Answer
+turn_over session Begin = begun session session.open_
+turn_over session Commit = committed session session.open_
+turn_over session Rollback = rolled_back session session.open_
+turn_over session stmt = turn session stmt
+
+-- ---- two lists of pages
+
+-- the pages of the last commit, those as they are now, the definitions that these have, and whether a transaction is open
+pub record HeldPages : Type 0 where
+  pub base : PageList
+  pub work : PageList
+  pub defs : Definitions
+  pub open_ : Bool
+
+-- they stand for the session, of one shape
+pub record StandsForSession (ext : Extents) (held : HeldPages) (session : Session) : Type 0 where
+  pub kept : PagesStandFor ext held.base session.kept
+  pub working : PagesStandFor ext held.work session.working
+  pub is_open : session.open_ ≡ held.open_
+
+-- the session after a statement, and its answer, as the pages and the outcome have them
+pub record StandsForTurn (ext : Extents) (held : HeldPages) (turned : Session × Answer) (outcome : Outcome) : Type 0 where
+  pub session : StandsForSession ext held turned.0
+  pub answers : turned.1 ≡ answer_of outcome
+
+-- Where no transaction is open, the pages are those of the last commit; where one is, these stay.
+pub record KeepsBase (old new : HeldPages) : Type 0 where
+  pub closed : new.open_ ≡ false → new.base ≡ new.work
+  pub is_open : new.open_ ≡ true → new.base ≡ old.base
+
+-- a query, BEGIN and COMMIT leave the pages, and ROLLBACK of an open transaction brings back those of the last commit
+abbrev pub KeepsWork : Stmt → HeldPages → HeldPages → Type 0
+KeepsWork (Query select) old new = new.work ≡ old.work
+KeepsWork Begin old new = new.work ≡ old.work
+KeepsWork Commit old new = new.work ≡ old.work
+KeepsWork Rollback old new = old.open_ ≡ true → new.work ≡ old.base
+KeepsWork stmt old new = Unit {0}
+
+-- What a statement may do to what is held: it turns whatever session that stands for, and rows go where placing says; or it is
+-- refused with 70, where it runs full and nothing else is said against it, and nothing changes.
+pub data StepsOnPages (ext : Extents) (old : HeldPages) (stmt : Stmt) (outcome : Outcome) (new : HeldPages) : Type 0 where
+  turns : ((session : Session) → StandsForSession ext old session → StandsForTurn ext new (turn_over session stmt) outcome) → KeepsBase old new → KeepsWork stmt old new
+      → ((done : _) → outcome ≡ said.Done done → (place : ℕ) (def : TableDef) → changed_place (bound_of old.defs stmt) ≡ Some place → def_at old.defs place ≡ Some def
+      → PlacesOnPages ext ext old.work new.work def (bound_of old.defs stmt)) → StepsOnPages ext old stmt outcome new
+  full : outcome ≡ said.Refused (refusal_of (FileFull ext.cap)) → new ≡ old → StatementRunsFull ext old.work old.defs (bound_of old.defs stmt)
+      → ((session : Session) → StandsForSession ext old session → faults session.working stmt ≡ []) → StepsOnPages ext old stmt outcome new
+
+-- ---- which statements there are
+
+-- some bytes spell the statement
+abbrev pub IsWritten : Stmt → Type 0
+IsWritten stmt = (bytes : _) × IsItemOf bytes (Statement stmt)

@@ -1,0 +1,13 @@
+pub mod Committing
+pub mod Defining
+pub mod Doing
+pub mod Held
+pub mod Inserting
+pub mod Leaving
+pub mod Opening
+pub mod Ready
+pub mod Reloading
+pub mod Serving
+pub mod Stops
+pub mod Trying
+pub mod Turns

@@ -1,0 +1,41 @@
+-- Which pages an engine may be opened on, and which catalogs it serves.
+use Rattle.std.specs.Prelude.{◌≡◌, Bool, true, ◌&&◌, IsTrue, Option, Some, None, is_none}
+use Rattle.std.specs.List.{list_all}
+use Rattle.mdc_words.specs.Time.{OverTime}
+use Rattle.mdc_ast.specs.declared.definition.TableDef.{TableDef}
+use Rattle.mdc_ast.specs.meaning.Definitions.{AreValidDefs, Definitions}
+use Rattle.mdc_ast.specs.meaning.Step.{is_empty}
+use Rattle.store_api.specs.Moments.{OnlyBase}
+use Rattle.store_api.specs.declared.pages.Pages.{Ghosts}
+use Rattle.extent_map.specs.declared.extents.Extents.{Extents}
+use Rattle.mdc_sound.specs.SoundDatabase.{IsSoundDatabase}
+use Rattle.mdc_sound.specs.StandingTable.{pages_of}
+use Rattle.stored_catalog.specs.StoredDefinitions.{AreStored}
+
+-- a place has no table, or one with no generated column and no record index
+abbrev pub is_built_place : Option TableDef → Bool
+is_built_place None = true
+is_built_place (Some def) = list_all (λ column. is_none column.made) def.columns && is_empty def.indexes
+
+-- so has each place
+abbrev pub are_built : Definitions → Bool
+are_built defs = list_all is_built_place defs
+
+-- A store tells a sound database of tables of built forms, all of which is committed.
+pub record IsSoundStore {S : Type 0} (g : Ghosts S) (ext : Extents) (s : S) : Type 0 where
+  pub told : IsTrue (g.state s).is_told
+  pub sound : IsSoundDatabase ext (pages_of g s)
+  pub defs : Definitions
+  pub stored : AreStored (pages_of g s) defs
+  pub valid : AreValidDefs defs
+  pub committed : (g.state s).base ≡ (g.state s).work
+
+-- The pages of a store and all else that its calls speak of are as they were, but for the page at hand.
+pub record KeepsPages {S : Type 0} (g : Ghosts S) (old new : S) : Type 0 where
+  pub is_told : (g.state new).is_told ≡ (g.state old).is_told
+  pub base : (g.state new).base ≡ (g.state old).base
+  pub work : (g.state new).work ≡ (g.state old).work
+  pub told : (g.state new).told ≡ (g.state old).told
+  pub attached : (g.state new).attached ≡ (g.state old).attached
+  pub say_faults : g.say_faults new ≡ g.say_faults old
+  pub time : OverTime g.clock g.left (OnlyBase (g.state old)) old new

@@ -1,0 +1,45 @@
+-- When the pages of a store and what is kept of them in memory are ready for a statement.
+use Rattle.std.specs.Prelude.{◌≡◌, IsTrue, List, Some, OnErr, Result}
+use Rattle.mdc_ast.specs.declared.definition.TableDef.{TableDef}
+use Rattle.mdc_ast.specs.meaning.Definitions.{AreValidDefs, Definitions, def_at}
+use Rattle.store_api.specs.declared.fault.Damage.{Damage}
+use Rattle.store_api.specs.declared.pages.Pages.{Ghosts}
+use Rattle.extent_map.specs.Owners.{AreRightNotes, IsSameShape}
+use Rattle.extent_map.specs.declared.extents.Extents.{Extents}
+use Rattle.extent_map.specs.declared.kind.Kind.{Kind}
+use Rattle.mdc_sound.specs.SoundDatabase.{KeepAllRules}
+use Rattle.mdc_sound.specs.SpaceRules.{DatabaseView}
+use Rattle.mdc_sound.specs.StandingTable.{IsReadyTable, StandsTable, TableForests, pages_of}
+use Rattle.cell_rooms.specs.RoomNotes.{room_from}
+use Rattle.stored_catalog.specs.StoredDefinitions.{AreStored, AreWithinLimits}
+use Rattle.script_engine.specs.declared.tables.Tables.{Tables}
+
+-- the definitions may be written to their pages, and are of forms that are built: no generated columns, and no record indexes
+pub record AreServed (defs : Definitions) : Type 0 where
+  pub limits : AreWithinLimits defs
+  pub valid : AreValidDefs defs
+
+-- The pages are told and sound, the catalog is that of their table pages, and the notes in memory are right: of the extents, and
+-- of the table whose rooms are noted, where it is there.
+pub record IsReady {S : Type 0} (g : Ghosts S) (s : S) (tables : Tables) : Type 0 where
+  pub told : IsTrue (g.state s).is_told
+  pub view : DatabaseView
+  pub sound : KeepAllRules tables.ext (pages_of g s) view
+  pub stored : AreStored (pages_of g s) tables.catalog
+  pub notes : AreRightNotes tables.ext view.owners
+  pub rooms : (def : TableDef) → def_at tables.catalog tables.noted ≡ Some def
+      → (forests : TableForests) × IsReadyTable g tables.ext (room_from tables.rooms) s def view.owners forests
+
+-- what may be named as damage: the pages weren't ready
+abbrev pub BreaksDatabase : {S : Type 0} → Ghosts S → S → Tables → Damage → Type 0
+BreaksDatabase g s tables damage = IsReady g s tables → ⊥
+
+-- the table wasn't told to stand
+abbrev pub IsNoStandingTable : {S : Type 0} → Ghosts S → Extents → S → TableDef → Damage → Type 0
+IsNoStandingTable g ext s def damage = (owners : List Kind) (forests : TableForests) → StandsTable g ext s def owners forests → ⊥
+
+-- A statement left the shape of the database, and definitions of built forms; after a fault they are those that there were.
+pub record KeepsServed {X E : Type 0} (result : Result X E) (old new : Tables) : Type 0 where
+  pub shape : IsSameShape old.ext new.ext
+  pub served : AreServed new.catalog
+  pub kept : OnErr result (new.catalog ≡ old.catalog)

@@ -1,0 +1,34 @@
+-- What going back to the pages of the last commit leaves of a store and of what is kept of it in memory.
+use Rattle.std.specs.Prelude.{◌≡◌, Bool, IsTrue, IfOk, OnOk, IsErrOf, List, Result, Err, None}
+use Rattle.mdc_words.specs.Faults.{CountsFault}
+use Rattle.mdc_ast.specs.meaning.Definitions.{AllDefsDiffer}
+use Rattle.store_api.specs.Works.{Steady}
+use Rattle.store_api.specs.declared.fault.Damage.{Damage}
+use Rattle.store_api.specs.declared.pages.Pages.{Ghosts}
+use Rattle.extent_map.specs.Owners.{AreRightNotes, IsSameShape}
+use Rattle.extent_map.specs.declared.extents.Extents.{Extents}
+use Rattle.extent_map.specs.declared.kind.Kind.{Kind}
+use Rattle.mdc_sound.specs.SoundDatabase.{IsSoundDatabase}
+use Rattle.cell_rooms.specs.RoomNotes.{IsForgotten}
+use Rattle.stored_catalog.specs.StoredDefinitions.{AreStored, AreWithinLimits}
+use Rattle.script_engine.specs.Opening.{are_built}
+use Rattle.script_engine.specs.declared.stop.EngineStop.{EngineStop}
+use Rattle.script_engine.specs.declared.stop.EngineStop.TheVariants.{Damaged, Device, Output}
+use Rattle.script_engine.specs.declared.tables.Tables.{Tables}
+
+-- The work is the base, the catalog is that of its table pages, nothing is noted, and it is answered whether all tables are of
+-- built forms.
+pub record Reloads {S : Type 0} (g : Ghosts S) (result : Result Bool EngineStop) (old new : S) (before now : Tables) : Type 0 where
+  pub steady : Steady g old new
+  pub work : (g.state new).work ≡ (g.state old).base
+  pub unmarked : (g.state new).marked ≡ None
+  pub shape : IsSameShape before.ext now.ext
+  pub notes : (owners : List Kind) → AreRightNotes now.ext owners
+  pub rooms : IsForgotten now.rooms
+  pub stored : OnOk result (IsTrue (g.state old).is_told → AreStored (g.state old).base now.catalog)
+  pub limits : OnOk result (AreWithinLimits now.catalog)
+  pub names : OnOk result (AllDefsDiffer now.catalog)
+  pub built : IfOk result (λ served. served ≡ are_built now.catalog)
+  pub device : CountsFault (IsErrOf result Device) (g.disk_faults old) (g.disk_faults new)
+  pub damaged : (damage : Damage) → result ≡ Err (Damaged damage) → IsTrue (g.state old).is_told → (ext : Extents) → IsSoundDatabase ext (g.state old).base → ⊥
+  pub output : IsErrOf result Output → ⊥

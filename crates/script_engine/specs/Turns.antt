@@ -1,0 +1,63 @@
+-- What each call on an engine does: to what it holds, to its store, and to what is outside.
+use Rattle.std.specs.Prelude.{◌≡◌, false, IfOk, OnOk, IsErrOf, Result, Ok, Err}
+use Rattle.mdc_words.specs.Faults.{CountsFault}
+use Rattle.mdc_words.specs.Time.{OverTime, ReachesBack}
+use Rattle.mdc_ast.specs.declared.refusal.Refusal.{Refusal}
+use Rattle.mdc_ast.specs.declared.reply.Outcome.{Outcome}
+use Rattle.mdc_ast.specs.declared.reply.Outcome.TheVariants as said
+use Rattle.mdc_ast.specs.declared.statement.Stmt.{Stmt}
+use Rattle.mdc_ast.specs.declared.statement.Stmt.TheVariants as statement
+use Rattle.mdc_ast.specs.meaning.Cause.{NotBuilt, refusal_of}
+use Rattle.store_api.specs.Moments.{BaseOrNow}
+use Rattle.store_api.specs.Works.{Rests}
+use Rattle.store_api.specs.declared.fault.Damage.{Damage}
+use Rattle.store_api.specs.declared.pages.Pages.{Ghosts}
+use Rattle.extent_map.specs.Owners.{IsSameShape}
+use Rattle.script_engine.specs.Held.{KeepsBase, StepsOnPages}
+use Rattle.script_engine.specs.Leaving.{IsAllCommitted, LeftWithin, MayBeLeft}
+use Rattle.script_engine.specs.Serving.{IsReadyEngine, MayCall, held_by}
+use Rattle.script_engine.specs.declared.engine.Engine.{Engine}
+use Rattle.script_engine.specs.declared.stop.EngineStop.{EngineStop}
+use Rattle.script_engine.specs.declared.stop.EngineStop.TheVariants.{Damaged, Device, Output}
+use Rattle.script_engine.specs.declared.transactions.Control.{Control}
+use Rattle.script_engine.specs.declared.transactions.Control.TheVariants as control
+
+-- which of BEGIN, COMMIT and ROLLBACK a statement is, if one of them
+abbrev pub control_of : Stmt → Control
+control_of statement.Begin = control.Begin
+control_of statement.Commit = control.Commit
+control_of statement.Rollback = control.Rollback
+control_of stmt = control.Other
+
+-- the law of a store: what may be left since a time may be left since an earlier one
+abbrev pub KeepsTime : {S : Type 0} → Ghosts S → Type 0
+KeepsTime g = (s : _) → ReachesBack g.clock g.left s
+
+-- What a statement leaves outside of an engine: a count of faults of the disk rises with `Device` alone, nothing is told, a crash
+-- within it leaves the base before, or the pages now, and one after it what the store says of itself at rest.
+pub record LeavesOutside {S X : Type 0} (g : Ghosts S) (result : Result X EngineStop) (old new : Engine S) : Type 0 where
+  pub device : CountsFault (IsErrOf result Device) (g.disk_faults old.store) (g.disk_faults new.store)
+  pub output : IsErrOf result Output → ⊥
+  pub say_faults : g.say_faults new.store ≡ g.say_faults old.store
+  pub is_told : (g.state new.store).is_told ≡ (g.state old.store).is_told
+  pub told : (g.state new.store).told ≡ (g.state old.store).told
+  pub attached : (g.state new.store).attached ≡ (g.state old.store).attached
+  pub time : OverTime g.clock g.left (BaseOrNow (g.state old.store) (g.state new.store)) old.store new.store
+  pub rests : KeepsTime g → (g.state old.store).ended ≡ false → Rests g old.store → Rests g new.store
+
+-- What a statement leaves of the pages of the last commit, in a crash within it and at its end, at a stop too.
+pub record LeavesCommitted {S : Type 0} (g : Ghosts S) (stmt : Stmt) (old new : Engine S) : Type 0 where
+  pub time : OverTime g.clock g.left (LeftWithin old.tables.ext (held_by g old) stmt (g.state old.store)) old.store new.store
+  pub base : MayBeLeft old.tables.ext (held_by g old) stmt (g.state new.store).base
+
+-- What a statement did to an engine: it steps on sound pages, a refusal changes nothing, and no damage is named of sound pages.
+pub record Executes {S : Type 0} (g : Ghosts S) (stmt : Stmt) (result : Result Outcome EngineStop) (old new : Engine S) : Type 0 where
+  pub steps : IfOk result (λ outcome. IsReadyEngine g old → StepsOnPages old.tables.ext (held_by g old) stmt outcome (held_by g new) × IsReadyEngine g new)
+  pub may : OnOk result (MayCall g new)
+  pub keeps : OnOk result (IsAllCommitted (held_by g old) → KeepsBase (held_by g old) (held_by g new))
+  pub leaves : IsReadyEngine g old → LeavesCommitted g stmt old new
+  pub refused : (refusal : Refusal) → result ≡ Ok (said.Refused refusal) → held_by g new ≡ held_by g old
+  pub unserved : old.served ≡ false → control_of stmt ≡ control.Other → (outcome : Outcome) → result ≡ Ok outcome → outcome ≡ said.Refused (refusal_of NotBuilt)
+  pub damaged : (damage : Damage) → result ≡ Err (Damaged damage) → IsReadyEngine g old → ⊥
+  pub shape : IsSameShape old.tables.ext new.tables.ext
+  pub outside : LeavesOutside g result old new

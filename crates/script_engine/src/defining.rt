@@ -1,0 +1,65 @@
+// Tables that come and go.
+ghost use Rattle.std.specs.Prelude.{◌≡◌, false, None, IfOk, IfErr, IsSome, Ok};
+ghost use Rattle.mdc_ast.specs.declared.bound.Bound.TheVariants as bound;
+ghost use Rattle.mdc_ast.specs.declared.refusal.Refusal.{Refusal};
+ghost use Rattle.mdc_ast.specs.meaning.Definitions.{def_at, empty_place, place_of};
+ghost use Rattle.store_api.specs.Causes.{fault_of, store_fault_in};
+ghost use Rattle.store_api.specs.RunsOverPages.{RunsOverPages};
+ghost use Rattle.extent_map.specs.Damages.{IfFull, store_part_of};
+ghost use Rattle.mdc_sound.specs.StandingTable.{pages_of};
+ghost use Rattle.statement_rows.specs.RowsOfStatement.{AnyPage};
+ghost use Rattle.script_engine.specs.Defining.{IsPlainNewDef};
+ghost use Rattle.script_engine.specs.Doing.{DoesStatement, RunsFullAlone};
+ghost use Rattle.script_engine.specs.Ready.{AreServed, BreaksDatabase, IsReady, KeepsServed};
+
+use crate::tables::Tables;
+use extent_map::SpaceFault;
+use mdc_ast::{Outcome, Reply, TableDef};
+use store_api::{Pages, StoreFault};
+use stored_catalog::{add_table, drop_table};
+
+/// A CREATE TABLE of this definition, in the lowest empty place.
+pub fn create<P: Pages>(
+    tables: &mut Tables,
+    pages: &mut P,
+    def: TableDef,
+) -> Result<Outcome, SpaceFault>
+    requires served { AreServed tables.old.catalog }
+    requires room { IsSome (empty_place tables.old.catalog) }
+    requires free { place_of tables.old.catalog def.name ≡ None }
+    requires plain { IsPlainNewDef def }
+    requires going { (P.state pages.old).ended ≡ false }
+    ensures does { IfOk result (λ outcome. IsReady P.Pages pages.old tables.old → DoesStatement P.Pages pages.old pages.new tables.old tables.new (bound.CreateTable def) outcome) }
+    ensures done { (refusal : Refusal) → result ≡ Ok (Outcome.Refused refusal) → ⊥ }
+    ensures full { IfErr result (λ fault. IfFull fault (λ cap. (cap ≡ tables.old.ext.cap)
+        × (IsReady P.Pages pages.old tables.old → RunsFullAlone tables.old.ext (pages_of P.Pages pages.old) tables.old.catalog (bound.CreateTable def)))) }
+    ensures keeps { KeepsServed result tables.old tables.new }
+    ensures runs { RunsOverPages P.Pages AnyPage AnyPage (BreaksDatabase P.Pages pages.old tables.old) pages.old pages.new (store_fault_in store_part_of result) }
+{
+    let alloc = tables.alloc;
+    let place = add_table(alloc, &mut tables.catalog, &mut tables.ext, pages, def)?;
+    tables.noted = place;
+    tables.rooms.forget();
+    Ok(Outcome::Done(Reply::Done))
+}
+
+/// A DROP TABLE.
+pub fn remove<P: Pages>(
+    tables: &mut Tables,
+    pages: &mut P,
+    table: u8,
+) -> Result<Outcome, StoreFault>
+    requires served { AreServed tables.old.catalog }
+    requires there { IsSome (def_at tables.old.catalog table) }
+    requires going { (P.state pages.old).ended ≡ false }
+    ensures does { IfOk result (λ outcome. IsReady P.Pages pages.old tables.old → DoesStatement P.Pages pages.old pages.new tables.old tables.new (bound.DropTable table) outcome) }
+    ensures done { (refusal : Refusal) → result ≡ Ok (Outcome.Refused refusal) → ⊥ }
+    ensures keeps { KeepsServed result tables.old tables.new }
+    ensures runs { RunsOverPages P.Pages AnyPage AnyPage (BreaksDatabase P.Pages pages.old tables.old) pages.old pages.new (fault_of result) }
+{
+    let alloc = tables.alloc;
+    drop_table(alloc, &mut tables.catalog, &mut tables.ext, pages, table)?;
+    tables.noted = table;
+    tables.rooms.forget();
+    Ok(Outcome::Done(Reply::Done))
+}

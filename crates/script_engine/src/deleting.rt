@@ -1,0 +1,70 @@
+// The rows of a DELETE.
+ghost use Rattle.std.specs.Prelude.{◌≡◌, false, IfOk, Ok};
+ghost use Rattle.mdc_ast.specs.declared.bound.Bound.TheVariants as bound;
+ghost use Rattle.mdc_ast.specs.declared.refusal.Refusal.{Refusal};
+ghost use Rattle.mdc_ast.specs.declared.reply.Outcome.TheVariants as said;
+ghost use Rattle.mdc_ast.specs.declared.reply.Reply.TheVariants as reply;
+ghost use Rattle.mdc_ast.specs.meaning.Definitions.{def_at};
+ghost use Rattle.store_api.specs.Causes.{fault_of};
+ghost use Rattle.store_api.specs.RunsOverPages.{RunsOverPages};
+ghost use Rattle.extent_map.specs.Owners.{IsSameShape};
+ghost use Rattle.row_judging.specs.Served.{IsDefined, MayJudge};
+ghost use Rattle.statement_rows.specs.RowsOfStatement.{AnyPage};
+ghost use Rattle.script_engine.specs.Doing.{DoesStatement};
+ghost use Rattle.script_engine.specs.Ready.{AreServed, BreaksDatabase, IsReady, KeepsServed};
+
+use crate::tables::Tables;
+use mdc_ast::{Outcome, Pred, Reply};
+use statement_rows::delete_rows;
+use store_api::{Pages, StoreFault};
+use table_scan::find_rows;
+
+/// A DELETE of the rows of a table that qualify, one by one.
+pub fn delete<P: Pages>(
+    tables: &mut Tables,
+    pages: &mut P,
+    table: u8,
+    pred: &Option<Pred>,
+) -> Result<Outcome, StoreFault>
+    requires served { AreServed tables.old.catalog }
+    requires there { IsDefined (def_at tables.old.catalog table) (MayJudge pred.now) }
+    requires going { (P.state pages.old).ended ≡ false }
+    ensures does { IfOk result (λ outcome. IsReady P.Pages pages.old tables.old → DoesStatement P.Pages pages.old pages.new tables.old tables.new (bound.Delete table pred.now) outcome) }
+    ensures done { (refusal : Refusal) → result ≡ Ok (Outcome.Refused refusal) → ⊥ }
+    ensures keeps { KeepsServed result tables.old tables.new }
+    ensures runs { RunsOverPages P.Pages AnyPage AnyPage (BreaksDatabase P.Pages pages.old tables.old) pages.old pages.new (fault_of result) }
+{
+    tables.turn_to(table);
+    let count = delete_found(tables, pages, pred)?;
+    Ok(Outcome::Done(Reply::Deleted(count)))
+}
+
+// Deletes the rows that qualify of the table that is noted, and tells their number.
+fn delete_found<P: Pages>(
+    tables: &mut Tables,
+    pages: &mut P,
+    pred: &Option<Pred>,
+) -> Result<u64, StoreFault>
+    requires served { AreServed tables.old.catalog }
+    requires there { IsDefined (def_at tables.old.catalog tables.old.noted) (MayJudge pred.now) }
+    requires going { (P.state pages.old).ended ≡ false }
+    ensures does { IfOk result (λ count. IsReady P.Pages pages.old tables.old
+        → DoesStatement P.Pages pages.old pages.new tables.old tables.new (bound.Delete tables.old.noted pred.now) (said.Done (reply.Deleted count))) }
+    ensures catalog { tables.new.catalog ≡ tables.old.catalog }
+    ensures shape { IsSameShape tables.old.ext tables.new.ext }
+    ensures runs { RunsOverPages P.Pages AnyPage AnyPage (BreaksDatabase P.Pages pages.old tables.old) pages.old pages.new (fault_of result) }
+{
+    let Some(def) = tables.catalog.def(tables.noted) else {
+        unreachable!()
+    };
+    let hits = find_rows(tables.alloc, def, &tables.ext, pages, pred)?;
+    delete_rows(
+        tables.alloc,
+        def,
+        &mut tables.ext,
+        &mut tables.rooms,
+        pages,
+        hits.as_slice(),
+    )?;
+    Ok(hits.len() as u64)
+}

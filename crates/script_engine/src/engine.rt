@@ -1,0 +1,96 @@
+// The engine: tables over a store, in transactions.
+ghost use Rattle.std.specs.Prelude.{◌≡◌, false, IfErr, IfOk, IsErrOf, OnErr, OnOk, Ok, Err};
+ghost use Rattle.mdc_words.specs.Faults.{CountsFault};
+ghost use Rattle.mdc_words.specs.Time.{OverTime};
+ghost use Rattle.mdc_ast.specs.declared.refusal.Refusal.{Refusal};
+ghost use Rattle.mdc_ast.specs.meaning.Cause.{NotBuilt, refusal_of};
+ghost use Rattle.store_api.specs.Calls.{Tells, TellsPart};
+ghost use Rattle.store_api.specs.Moments.{BaseOrNow, BaseWithFront};
+ghost use Rattle.store_api.specs.Works.{Rests};
+ghost use Rattle.store_api.specs.declared.fault.Damage.{Damage};
+ghost use Rattle.extent_map.specs.Owners.{IsSameShape};
+ghost use Rattle.script_engine.specs.Held.{IsWritten, KeepsBase, StepsOnPages};
+ghost use Rattle.script_engine.specs.Leaving.{IsAllCommitted, LeftWithin, MayBeLeft};
+ghost use Rattle.script_engine.specs.Serving.{IsReadyEngine, MayCall, held_by};
+ghost use Rattle.script_engine.specs.Turns.{control_of};
+ghost use Rattle.script_engine.specs.declared.transactions.Control.{Control};
+
+use crate::stop::EngineStop;
+use crate::tables::Tables;
+use mdc_ast::{Outcome, Stmt};
+use store_api::Store;
+
+/// An engine over a store, which it owns.
+#[derive(Drop)]
+pub struct Engine<S: Store> {
+    pub(crate) store: S,
+    pub(crate) tables: Tables,
+    // Whether all tables are of forms that are built.
+    pub(crate) served: bool,
+    // Whether a transaction is open.
+    pub(crate) is_open: bool,
+}
+
+impl<S: Store> Engine<S> {
+    /// The store as it is.
+    pub fn close(self) -> S
+        ensures { result ≡ self.store }
+    {
+        self.store
+    }
+
+    /// Executes a statement. Outside a transaction its change is committed before the answer; where it is refused, nothing has
+    /// changed. A crash within it leaves the pages of the last commit before it, or those that it commits, and so does a stop, after
+    /// which the engine takes no further call but `close`.
+    pub fn execute(&mut self, stmt: &Stmt) -> Result<Outcome, EngineStop>
+        requires may { MayCall S.Pages self.old }
+        requires written { IsWritten stmt.now }
+        ensures steps { IfOk result (λ outcome. IsReadyEngine S.Pages self.old → StepsOnPages self.old.tables.ext (held_by S.Pages self.old) stmt.now outcome (held_by S.Pages self.new) × IsReadyEngine S.Pages self.new) }
+        ensures may { OnOk result (MayCall S.Pages self.new) }
+        ensures commits { OnOk result (IsAllCommitted (held_by S.Pages self.old) → KeepsBase (held_by S.Pages self.old) (held_by S.Pages self.new)) }
+        ensures left { IsReadyEngine S.Pages self.old → OverTime S.clock S.left (LeftWithin self.old.tables.ext (held_by S.Pages self.old) stmt.now (S.state self.old.store)) self.old.store self.new.store }
+        ensures base { IsReadyEngine S.Pages self.old → MayBeLeft self.old.tables.ext (held_by S.Pages self.old) stmt.now (S.state self.new.store).base }
+        ensures unserved { self.old.served ≡ false → control_of stmt.now ≡ Control.Other → (outcome : Outcome) → result ≡ Ok outcome → outcome ≡ Outcome.Refused (refusal_of NotBuilt) }
+        ensures refused { (refusal : Refusal) → result ≡ Ok (Outcome.Refused refusal) → held_by S.Pages self.new ≡ held_by S.Pages self.old }
+        ensures device { CountsFault (IsErrOf result EngineStop.Device) (S.disk_faults self.old.store) (S.disk_faults self.new.store) }
+        ensures damaged { (damage : Damage) → result ≡ Err (EngineStop.Damaged damage) → IsReadyEngine S.Pages self.old → ⊥ }
+        ensures output { IsErrOf result EngineStop.Output → ⊥ }
+        ensures say_faults { S.say_faults self.new.store ≡ S.say_faults self.old.store }
+        ensures is_told { (S.state self.new.store).is_told ≡ (S.state self.old.store).is_told }
+        ensures told { (S.state self.new.store).told ≡ (S.state self.old.store).told }
+        ensures attached { (S.state self.new.store).attached ≡ (S.state self.old.store).attached }
+        ensures shape { IsSameShape self.old.tables.ext self.new.tables.ext }
+        ensures time { OverTime S.clock S.left (BaseOrNow (S.state self.old.store) (S.state self.new.store)) self.old.store self.new.store }
+        ensures rests { Rests S.Pages self.old.store → Rests S.Pages self.new.store }
+    {
+        self.turn(stmt)
+    }
+
+    /// Tells bytes. After `Output` a front of them may have been told, and the engine takes no further call but `close`.
+    pub fn tell(&mut self, bytes: &[u8]) -> Result<(), EngineStop>
+        requires may { MayCall S.Pages self.old }
+        ensures ok { OnOk result (Tells bytes.now (S.state self.old.store) (S.state self.new.store)) }
+        ensures err { OnErr result (TellsPart bytes.now (S.state self.old.store) (S.state self.new.store)) }
+        ensures stays { self.new ≡ record self.old { store = self.new.store } }
+        ensures held { held_by S.Pages self.new ≡ held_by S.Pages self.old }
+        ensures ready { IsReadyEngine S.Pages self.old → IsReadyEngine S.Pages self.new }
+        ensures may { OnOk result (MayCall S.Pages self.new) }
+        ensures output { CountsFault (IsErrOf result EngineStop.Output) (S.say_faults self.old.store) (S.say_faults self.new.store) }
+        ensures only_output { IfErr result (λ stop. stop ≡ EngineStop.Output) }
+        ensures disk_faults { S.disk_faults self.new.store ≡ S.disk_faults self.old.store }
+        ensures time { OverTime S.clock S.left (BaseWithFront bytes.now (S.state self.old.store)) self.old.store self.new.store }
+        ensures rests { Rests S.Pages self.new.store }
+    {
+        self.store.tell(bytes)?;
+        Ok(())
+    }
+
+    /// Does what is left to be done after an answer. There is nothing yet.
+    pub fn settle(&mut self) -> Result<(), EngineStop>
+        requires may { MayCall S.Pages self.old }
+        ensures done { result ≡ Ok tt }
+        ensures stays { self.new ≡ self.old }
+    {
+        Ok(())
+    }
+}

@@ -1,0 +1,145 @@
+// A statement on the tables of a database.
+ghost use Rattle.std.specs.Prelude.{◌≡◌, false, true, IfOk, IfErr, IfSome, Ok};
+ghost use Rattle.mdc_ast.specs.declared.bound.Bound.TheVariants as bound;
+ghost use Rattle.mdc_ast.specs.declared.refusal.Refusal.{Refusal};
+ghost use Rattle.store_api.specs.Causes.{store_fault_in};
+ghost use Rattle.store_api.specs.RunsOverPages.{RunsOverPages};
+ghost use Rattle.store_api.specs.declared.fault.StoreFault.TheVariants as store_fault;
+ghost use Rattle.extent_map.specs.Damages.{IfFull, store_part_of};
+ghost use Rattle.extent_map.specs.declared.fault.SpaceFault.TheVariants.{Store};
+ghost use Rattle.mdc_sound.specs.StandingTable.{pages_of};
+ghost use Rattle.statement_rows.specs.RowsOfStatement.{AnyPage};
+ghost use Rattle.script_engine.specs.Defining.{IsBoundOn, MayBeExecuted};
+ghost use Rattle.script_engine.specs.Doing.{DoesStatement, DoesStep, LeavesAll, RunsFullAlone, StepRunsFull, is_query, is_reading};
+ghost use Rattle.script_engine.specs.Held.{IsWritten};
+ghost use Rattle.script_engine.specs.Ready.{AreServed, BreaksDatabase, IsReady, KeepsServed};
+
+use crate::defining::{create, remove};
+use crate::deleting::delete;
+use crate::inserting::insert;
+use crate::querying::query;
+use crate::tables::Tables;
+use crate::updating::update;
+use binder::{BindFault, WholeRows, bind, bind_whole, built};
+use extent_map::SpaceFault;
+use mdc_ast::{Bound, Outcome, Reply, Stmt};
+use mdc_values::Memory;
+use row_judging::not_built;
+use store_api::{Pages, StoreFault};
+
+/// Executes a statement that is written so in a script. Where it is refused, pages and definitions stay. After a fault the
+/// definitions are as they were, `undo` goes back to a mark, and the notes are to be forgotten.
+pub fn execute<P: Pages>(
+    tables: &mut Tables,
+    pages: &mut P,
+    stmt: &Stmt,
+) -> Result<Outcome, SpaceFault>
+    requires served { AreServed tables.old.catalog }
+    requires written { IsWritten stmt.now }
+    requires going { (P.state pages.old).ended ≡ false }
+    ensures does { IfOk result (λ outcome. IsReady P.Pages pages.old tables.old → DoesStep P.Pages pages.old pages.new tables.old tables.new stmt.now outcome) }
+    ensures refused { (refusal : Refusal) → result ≡ Ok (Outcome.Refused refusal) → LeavesAll P.Pages pages.old pages.new tables.old tables.new }
+    ensures full { IfErr result (λ fault. IfFull fault (λ cap. (cap ≡ tables.old.ext.cap)
+        × (IsReady P.Pages pages.old tables.old → StepRunsFull tables.old.ext (pages_of P.Pages pages.old) tables.old.catalog stmt.now))) }
+    ensures reads { is_reading stmt.now ≡ true → (P.state pages.new).work ≡ (P.state pages.old).work }
+    ensures keeps { KeepsServed result tables.old tables.new }
+    ensures runs { RunsOverPages P.Pages AnyPage AnyPage (BreaksDatabase P.Pages pages.old tables.old) pages.old pages.new (store_fault_in store_part_of result) }
+{
+    // Most statements are INSERTs against which nothing is said.
+    if let Some(whole) = whole_rows(tables, stmt)? {
+        return insert(tables, pages, whole.table, whole.rows);
+    }
+    execute_any(tables, pages, stmt)
+}
+
+/// The rows of an INSERT that names no columns and against which nothing is said, bound in one go.
+fn whole_rows(tables: &Tables, stmt: &Stmt) -> Result<Option<WholeRows>, SpaceFault>
+    requires served { AreServed tables.now.catalog }
+    ensures bound { IfOk result (λ found. IfSome found (λ whole. IsBoundOn tables.now.catalog stmt.now (bound.Insert whole.table whole.rows))) }
+    ensures memory { IfErr result (λ fault. fault ≡ Store store_fault.Memory) }
+{
+    let Stmt::Insert {
+        table,
+        columns,
+        rows,
+    } = stmt
+    else {
+        return Ok(None);
+    };
+    if columns.is_some() {
+        return Ok(None);
+    }
+    match bind_whole(tables.alloc, table, rows.as_slice(), &tables.catalog) {
+        Ok(found) => Ok(found),
+        Err(Memory) => Err(SpaceFault::Store(StoreFault::Memory)),
+    }
+}
+
+/// Executes a statement of any form.
+fn execute_any<P: Pages>(
+    tables: &mut Tables,
+    pages: &mut P,
+    stmt: &Stmt,
+) -> Result<Outcome, SpaceFault>
+    requires served { AreServed tables.old.catalog }
+    requires written { IsWritten stmt.now }
+    requires going { (P.state pages.old).ended ≡ false }
+    ensures does { IfOk result (λ outcome. IsReady P.Pages pages.old tables.old → DoesStep P.Pages pages.old pages.new tables.old tables.new stmt.now outcome) }
+    ensures refused { (refusal : Refusal) → result ≡ Ok (Outcome.Refused refusal) → LeavesAll P.Pages pages.old pages.new tables.old tables.new }
+    ensures full { IfErr result (λ fault. IfFull fault (λ cap. (cap ≡ tables.old.ext.cap)
+        × (IsReady P.Pages pages.old tables.old → StepRunsFull tables.old.ext (pages_of P.Pages pages.old) tables.old.catalog stmt.now))) }
+    ensures reads { is_reading stmt.now ≡ true → (P.state pages.new).work ≡ (P.state pages.old).work }
+    ensures keeps { KeepsServed result tables.old tables.new }
+    ensures runs { RunsOverPages P.Pages AnyPage AnyPage (BreaksDatabase P.Pages pages.old tables.old) pages.old pages.new (store_fault_in store_part_of result) }
+{
+    if !built(stmt) {
+        return Ok(Outcome::Refused(not_built(tables.alloc)));
+    }
+    match bind(tables.alloc, stmt, &tables.catalog) {
+        Ok(bound) => carry_out(tables, pages, bound),
+        Err(BindFault::Refused(refusal)) => Ok(Outcome::Refused(refusal)),
+        Err(BindFault::Memory) => Err(SpaceFault::Store(StoreFault::Memory)),
+    }
+}
+
+/// Does a bound statement, unless its rows are against it.
+fn carry_out<P: Pages>(
+    tables: &mut Tables,
+    pages: &mut P,
+    bound: Bound,
+) -> Result<Outcome, SpaceFault>
+    requires served { AreServed tables.old.catalog }
+    requires may { MayBeExecuted tables.old.catalog bound }
+    requires going { (P.state pages.old).ended ≡ false }
+    ensures does { IfOk result (λ outcome. IsReady P.Pages pages.old tables.old → DoesStatement P.Pages pages.old pages.new tables.old tables.new bound outcome) }
+    ensures refused { (refusal : Refusal) → result ≡ Ok (Outcome.Refused refusal) → LeavesAll P.Pages pages.old pages.new tables.old tables.new }
+    ensures full { IfErr result (λ fault. IfFull fault (λ cap. (cap ≡ tables.old.ext.cap)
+        × (IsReady P.Pages pages.old tables.old → RunsFullAlone tables.old.ext (pages_of P.Pages pages.old) tables.old.catalog bound))) }
+    ensures reads { is_query bound ≡ true → (P.state pages.new).work ≡ (P.state pages.old).work }
+    ensures keeps { KeepsServed result tables.old tables.new }
+    ensures runs { RunsOverPages P.Pages AnyPage AnyPage (BreaksDatabase P.Pages pages.old tables.old) pages.old pages.new (store_fault_in store_part_of result) }
+{
+    match bound {
+        Bound::CreateTable(def) => create(tables, pages, def),
+        Bound::DropTable(table) => Ok(remove(tables, pages, table)?),
+        Bound::Insert { table, rows } => insert(tables, pages, table, rows),
+        Bound::Update { table, sets, pred } => {
+            update(tables, pages, table, sets.as_slice(), &pred)
+        }
+        Bound::Delete { table, pred } => Ok(delete(tables, pages, table, &pred)?),
+        Bound::Query(select) => Ok(query(tables, pages, &select)?),
+        Bound::CreateIndex { .. }
+        | Bound::DropIndex { .. }
+        | Bound::Explain(_)
+        | Bound::SetRollout(_)
+        | Bound::SetPlan(_)
+        | Bound::SetPace(_)
+        | Bound::Clean(_)
+        | Bound::CleanTable(_)
+        | Bound::ListBlocks(_)
+        | Bound::Reclaim(_)
+        | Bound::Begin
+        | Bound::Commit
+        | Bound::Rollback => Ok(Outcome::Done(Reply::Done)),
+    }
+}

@@ -1,0 +1,160 @@
+// The rows of an INSERT.
+ghost use Rattle.std.specs.Prelude.{◌≡◌, ◌≤◌, ◌<◌, ◌-◌, [], List, false, length, Some, IfOk, IfErr, IfSome, OnErr, OnOk, Ok};
+ghost use Rattle.mdc_ast.specs.declared.bound.Bound.TheVariants as bound;
+ghost use Rattle.mdc_ast.specs.declared.definition.TableDef.{TableDef};
+ghost use Rattle.mdc_ast.specs.declared.refusal.Refusal.{Refusal};
+ghost use Rattle.mdc_ast.specs.meaning.Definitions.{def_at, with_def};
+ghost use Rattle.mdc_ast.specs.meaning.Doing.{appended, numbered};
+ghost use Rattle.store_api.specs.Causes.{store_fault_in};
+ghost use Rattle.store_api.specs.RunsOverPages.{RunsOverPages};
+ghost use Rattle.extent_map.specs.Damages.{IfFull, store_part_of};
+ghost use Rattle.extent_map.specs.Owners.{IsSameShape};
+ghost use Rattle.extent_map.specs.declared.kind.Kind.{Kind};
+ghost use Rattle.mdc_sound.specs.Placing.{PutsRows, block_slot_count};
+ghost use Rattle.mdc_sound.specs.RunningFull.{InsertRunsFull};
+ghost use Rattle.mdc_sound.specs.StandingTable.{TableForests, pages_of};
+ghost use Rattle.cell_rooms.specs.RoomNotes.{room_from};
+ghost use Rattle.row_judging.specs.Served.{IsDefined, MayPut};
+ghost use Rattle.statement_rows.specs.RowsOfStatement.{AnyPage, ChangesRowsOf, IsReadyBetween};
+ghost use Rattle.script_engine.specs.Doing.{DoesStatement, LeavesAll, RunsFullAlone};
+ghost use Rattle.script_engine.specs.Inserting.{first_refusal, numbered_on, tuple_causes};
+ghost use Rattle.script_engine.specs.Ready.{AreServed, BreaksDatabase, IsReady, KeepsServed};
+
+use crate::tables::Tables;
+use extent_map::SpaceFault;
+use mdc_ast::{Outcome, Refusal, Reply};
+use mdc_values::{List, Value};
+use row_judging::{first_null_in, numbers_used_up, unfit};
+use statement_rows::insert_rows;
+use store_api::{Pages, StoreFault};
+use stored_catalog::save_table;
+
+/// An INSERT of these tuples into a table. All are judged before a row goes in; the table page is written once.
+pub fn insert<P: Pages>(
+    tables: &mut Tables,
+    pages: &mut P,
+    table: u8,
+    tuples: List<List<Value>>,
+) -> Result<Outcome, SpaceFault>
+    requires served { AreServed tables.old.catalog }
+    requires there { IsDefined (def_at tables.old.catalog table) (MayPut tuples) }
+    requires going { (P.state pages.old).ended ≡ false }
+    ensures does { IfOk result (λ outcome. IsReady P.Pages pages.old tables.old → DoesStatement P.Pages pages.old pages.new tables.old tables.new (bound.Insert table tuples) outcome) }
+    ensures refused { (refusal : Refusal) → result ≡ Ok (Outcome.Refused refusal) → LeavesAll P.Pages pages.old pages.new tables.old tables.new }
+    ensures full { IfErr result (λ fault. IfFull fault (λ cap. (cap ≡ tables.old.ext.cap)
+        × (IsReady P.Pages pages.old tables.old → RunsFullAlone tables.old.ext (pages_of P.Pages pages.old) tables.old.catalog (bound.Insert table tuples)))) }
+    ensures keeps { KeepsServed result tables.old tables.new }
+    ensures runs { RunsOverPages P.Pages AnyPage AnyPage (BreaksDatabase P.Pages pages.old tables.old) pages.old pages.new (store_fault_in store_part_of result) }
+{
+    tables.turn_to(table);
+    if let Some(refusal) = judge(tables, tuples.as_slice())? {
+        return Ok(Outcome::Refused(refusal));
+    }
+    put(tables, pages, tuples)
+}
+
+/// Why these tuples may not go into the table that is turned to, if they may not.
+fn judge(tables: &Tables, tuples: &[List<Value>]) -> Result<Option<Refusal>, SpaceFault>
+    requires place { tables.now.noted < 16 }
+    requires there { IsDefined (def_at tables.now.catalog tables.now.noted) (MayPut tuples.now) }
+    ensures judges { IfOk result (λ refusal. IfSome (def_at tables.now.catalog tables.now.noted) (λ def. first_refusal (tuple_causes def tuples.now) ≡ refusal)) }
+    ensures memory { IfErr result (λ fault. fault ≡ SpaceFault.Store StoreFault.Memory) }
+{
+    let Some(def) = tables.catalog.def(tables.noted) else {
+        unreachable!()
+    };
+    if let Some(misfit) = first_null_in(def.columns.as_slice(), tuples) {
+        return match unfit(tables.alloc, misfit) {
+            Ok(refusal) => Ok(Some(refusal)),
+            Err(_) => Err(SpaceFault::Store(StoreFault::Memory)),
+        };
+    }
+    if def.next.checked_add(tuples.len() as u64).is_none() {
+        return Ok(Some(numbers_used_up(tables.alloc, def.next)));
+    }
+    Ok(None)
+}
+
+/// Puts tuples against which nothing is said into the table that is turned to, and writes its page.
+fn put<P: Pages>(
+    tables: &mut Tables,
+    pages: &mut P,
+    tuples: List<List<Value>>,
+) -> Result<Outcome, SpaceFault>
+    requires served { AreServed tables.old.catalog }
+    requires there { IsDefined (def_at tables.old.catalog tables.old.noted) (MayPut tuples) }
+    requires unsaid { IfSome (def_at tables.old.catalog tables.old.noted) (λ def. tuple_causes def tuples ≡ []) }
+    requires going { (P.state pages.old).ended ≡ false }
+    ensures does { IfOk result (λ outcome. IsReady P.Pages pages.old tables.old → DoesStatement P.Pages pages.old pages.new tables.old tables.new (bound.Insert tables.old.noted tuples) outcome) }
+    ensures done { (refusal : Refusal) → result ≡ Ok (Outcome.Refused refusal) → ⊥ }
+    ensures full { IfErr result (λ fault. IfFull fault (λ cap. (cap ≡ tables.old.ext.cap)
+        × (IsReady P.Pages pages.old tables.old → RunsFullAlone tables.old.ext (pages_of P.Pages pages.old) tables.old.catalog (bound.Insert tables.old.noted tuples)))) }
+    ensures keeps { KeepsServed result tables.old tables.new }
+    ensures runs { RunsOverPages P.Pages AnyPage AnyPage (BreaksDatabase P.Pages pages.old tables.old) pages.old pages.new (store_fault_in store_part_of result) }
+{
+    let count = tuples.len() as u64;
+    put_rows(tables, pages, tuples)?;
+    match save_table(&tables.catalog, pages, tables.noted) {
+        Ok(()) => Ok(Outcome::Done(Reply::Inserted(count))),
+        Err(fault) => {
+            number_back(tables, count);
+            Err(SpaceFault::Store(fault))
+        }
+    }
+}
+
+/// Puts the rows, and leaves the table's page to be written. The definition is taken out meanwhile, and put back whatever came.
+fn put_rows<P: Pages>(
+    tables: &mut Tables,
+    pages: &mut P,
+    tuples: List<List<Value>>,
+) -> Result<(), SpaceFault>
+    requires served { AreServed tables.old.catalog }
+    requires there { IsDefined (def_at tables.old.catalog tables.old.noted) (MayPut tuples) }
+    requires unsaid { IfSome (def_at tables.old.catalog tables.old.noted) (λ def. tuple_causes def tuples ≡ []) }
+    requires going { (P.state pages.old).ended ≡ false }
+    ensures inserts { (def : TableDef) → def_at tables.old.catalog tables.old.noted ≡ Some def
+        → OnOk result ((owners : List Kind) (forests : TableForests) → IsReadyBetween P.Pages tables.old.ext (room_from tables.old.rooms) pages.old def owners forests
+        → ChangesRowsOf P.Pages tables.old.ext tables.new.ext (room_from tables.new.rooms) pages.old pages.new def (numbered_on def (length tuples)) owners forests
+        (λ was is. PutsRows def (block_slot_count tables.old.ext def) was (numbered def.next tuples) is) (appended tuples)) }
+    ensures numbers { (def : TableDef) → def_at tables.old.catalog tables.old.noted ≡ Some def
+        → OnOk result (tables.new.catalog ≡ with_def tables.old.catalog tables.old.noted (numbered_on def (length tuples))) }
+    ensures kept { OnErr result (tables.new.catalog ≡ tables.old.catalog) }
+    ensures noted { tables.new.noted ≡ tables.old.noted }
+    ensures full { (def : TableDef) → def_at tables.old.catalog tables.old.noted ≡ Some def → IfErr result (λ fault. IfFull fault (λ cap. (cap ≡ tables.old.ext.cap)
+        × ((owners : List Kind) (forests : TableForests) → IsReadyBetween P.Pages tables.old.ext (room_from tables.old.rooms) pages.old def owners forests
+        → InsertRunsFull tables.old.ext (pages_of P.Pages pages.old) def (numbered def.next tuples)))) }
+    ensures shape { IsSameShape tables.old.ext tables.new.ext }
+    ensures runs { RunsOverPages P.Pages AnyPage AnyPage (BreaksDatabase P.Pages pages.old tables.old) pages.old pages.new (store_fault_in store_part_of result) }
+{
+    let noted = tables.noted;
+    let Some(mut def) = tables.catalog.take(noted) else {
+        unreachable!()
+    };
+    let result = insert_rows(
+        tables.alloc,
+        &mut def,
+        &mut tables.ext,
+        &mut tables.rooms,
+        pages,
+        tuples,
+    );
+    tables.catalog.put(noted, def);
+    result
+}
+
+/// Takes so many row numbers back from the table that is turned to, whose page wasn't written.
+fn number_back(tables: &mut Tables, count: u64)
+    requires served { AreServed tables.old.catalog }
+    requires there { IsDefined (def_at tables.old.catalog tables.old.noted) (λ def. count ≤ def.next) }
+    ensures same { tables.new ≡ record tables.old { catalog = tables.new.catalog } }
+    ensures numbers { (def : TableDef) → def_at tables.old.catalog tables.old.noted ≡ Some def
+        → tables.new.catalog ≡ with_def tables.old.catalog tables.old.noted (record def { next = def.next - count }) }
+{
+    let noted = tables.noted;
+    let Some(mut def) = tables.catalog.take(noted) else {
+        unreachable!()
+    };
+    def.next -= count;
+    tables.catalog.put(noted, def);
+}

@@ -1,0 +1,120 @@
+// An engine on the pages of a store, as they are at its opening.
+ghost use Rattle.std.specs.Prelude.{◌≡◌, ◌<◌, false, true, is_none, IsTrue, IfErr, IfOk, List, MatchOption, MatchResult, None, Some};
+ghost use Rattle.std.specs.List.{list_all};
+ghost use Rattle.mdc_words.specs.Faults.{CountsFault};
+ghost use Rattle.store_api.specs.Works.{Rests};
+ghost use Rattle.store_api.specs.declared.fault.Damage.{Damage};
+ghost use Rattle.cell_rooms.specs.RoomNotes.{IsForgotten};
+ghost use Rattle.extent_map.specs.Owners.{AreRightNotes, IsSameShape};
+ghost use Rattle.extent_map.specs.declared.kind.Kind.{Kind};
+ghost use Rattle.mdc_sound.specs.SoundDatabase.{IsSoundDatabase};
+ghost use Rattle.stored_catalog.specs.StoredDefinitions.{AreWithinLimits, BreaksTablePages};
+ghost use Rattle.script_engine.specs.Opening.{IsSoundStore, KeepsPages, are_built, is_built_place};
+ghost use Rattle.script_engine.specs.Serving.{IsReadyEngine, MayCall};
+
+use crate::engine::Engine;
+use crate::stop::EngineStop;
+use crate::tables::Tables;
+use catalog::Catalog;
+use extent_map::Extents;
+use mdc_ast::{ColumnDef, TableDef};
+use mdc_table::Rooms;
+use std::alloc::Global;
+use store_api::Store;
+use stored_catalog::load_catalog;
+
+/// How many places for tables there are.
+const PLACES: u8 = 16;
+
+/// Why no engine was opened, and the store.
+#[derive(Drop)]
+pub struct Stopped<S: Store> {
+    pub stop: EngineStop,
+    pub store: S,
+}
+
+impl<S: Store> Engine<S> {
+    /// An engine on a store, whose extents are of this shape. No page is changed. `Damaged` names a table page that is neither
+    /// zeros alone nor that of a definition, or the lower one of two of one name.
+    pub fn open(alloc: Global, store: S, ext: Extents) -> Result<Engine<S>, Stopped<S>>
+        requires going { (S.state store).ended ≡ false }
+        requires unmarked { (S.state store).marked ≡ None }
+        ensures may { IfOk result (λ engine. MayCall S.Pages engine) }
+        ensures ready { IfOk result (λ engine. IsSoundStore S.Pages ext store → IsReadyEngine S.Pages engine) }
+        ensures closed { IfOk result (λ engine. engine.is_open ≡ false) }
+        ensures shape { IfOk result (λ engine. IsSameShape ext engine.tables.ext) }
+        ensures pages { MatchResult result (λ engine. KeepsPages S.Pages store engine.store) (λ stopped. KeepsPages S.Pages store stopped.store) }
+        ensures disk_faults { IfOk result (λ engine. S.disk_faults engine.store ≡ S.disk_faults store) }
+        ensures device { IfErr result (λ stopped. CountsFault (stopped.stop ≡ EngineStop.Device) (S.disk_faults store) (S.disk_faults stopped.store)) }
+        ensures damaged { IfErr result (λ stopped. (damage : Damage) → stopped.stop ≡ EngineStop.Damaged damage → IsTrue (S.state store).is_told → IsSoundDatabase ext (S.state store).work → ⊥) }
+        ensures names { IfErr result (λ stopped. (damage : Damage) → stopped.stop ≡ EngineStop.Damaged damage → BreaksTablePages S.Pages store damage) }
+        ensures rests { MatchResult result (λ engine. Rests S.Pages store → Rests S.Pages engine.store) (λ stopped. Rests S.Pages store → Rests S.Pages stopped.store) }
+        ensures output { IfErr result (λ stopped. stopped.stop ≡ EngineStop.Output → ⊥) }
+    {
+        let mut store = store;
+        match load_catalog(alloc, &mut store) {
+            Ok(catalog) => Ok(engine_on(alloc, store, ext, catalog)),
+            Err(fault) => Err(Stopped {
+                stop: EngineStop::from(fault),
+                store,
+            }),
+        }
+    }
+}
+
+/// An engine on a store whose catalog is this.
+fn engine_on<S: Store>(alloc: Global, store: S, ext: Extents, catalog: Catalog) -> Engine<S>
+    requires limits { AreWithinLimits catalog }
+    ensures is { result ≡ record { store = store; tables = result.tables; served = are_built catalog; is_open = false } }
+    ensures catalog { result.tables.catalog ≡ catalog }
+    ensures shape { IsSameShape ext result.tables.ext }
+    ensures notes { (owners : List Kind) → AreRightNotes result.tables.ext owners }
+    ensures rooms { IsForgotten result.tables.rooms }
+{
+    let mut ext = ext;
+    ext.forget();
+    let served = are_served(&catalog);
+    let tables = Tables {
+        alloc,
+        ext,
+        catalog,
+        noted: 0,
+        rooms: Rooms::new(alloc),
+    };
+    Engine {
+        store,
+        tables,
+        served,
+        is_open: false,
+    }
+}
+
+/// Whether no table has a generated column or a record index.
+pub(crate) fn are_served(catalog: &Catalog) -> bool
+    requires limits { AreWithinLimits catalog.now }
+    ensures { result ≡ are_built catalog.now }
+{
+    for place in 0..PLACES {
+        if !is_served(catalog.def(place)) {
+            return false;
+        }
+    }
+    true
+}
+
+/// Whether a table, where there is one, has no generated column and no record index.
+fn is_served(def: Option<&TableDef>) -> bool
+    ensures { MatchOption def.entry (result ≡ true) (λ def. result ≡ is_built_place (Some def.now)) }
+{
+    match def {
+        Some(def) => has_no_generated(def.columns.as_slice()) && def.indexes.len() == 0,
+        None => true,
+    }
+}
+
+/// Whether no column is generated.
+fn has_no_generated(columns: &[ColumnDef]) -> bool
+    ensures { result ≡ list_all (λ column. is_none column.made) columns.now }
+{
+    columns.iter().all(|column| column.made.is_none())
+}

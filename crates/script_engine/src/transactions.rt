@@ -1,0 +1,187 @@
+// Statements in transactions.
+ghost use Rattle.std.specs.Prelude.{◌≡◌, false, None, Ok};
+ghost use Rattle.mdc_ast.specs.meaning.Session.{is_refusal};
+ghost use Rattle.script_engine.specs.Held.{IsWritten};
+ghost use Rattle.script_engine.specs.Ready.{AreServed};
+ghost use Rattle.script_engine.specs.Reloading.{Reloads};
+ghost use Rattle.script_engine.specs.Serving.{MayCall};
+ghost use Rattle.script_engine.specs.Trying.{TriesStep};
+ghost use Rattle.script_engine.specs.Turns as turns;
+ghost use Rattle.script_engine.specs.Turns.{Executes};
+
+use crate::committing::commit_work;
+use crate::engine::Engine;
+use crate::executing::execute;
+use crate::opening::are_served;
+use crate::stop::EngineStop;
+use crate::tables::Tables;
+use extent_map::SpaceFault;
+use mdc_ast::{Outcome, Reply, Stmt};
+use row_judging::{file_full, not_built, not_in_state};
+use store_api::{Pages, Store};
+use stored_catalog::load_catalog;
+
+/// What a statement is to a transaction.
+#[derive(Clone, Copy, Debug, PartialEq, Eq)]
+pub(crate) enum Control {
+    Begin,
+    Commit,
+    Rollback,
+    Other,
+}
+
+/// Which of BEGIN, COMMIT and ROLLBACK a statement is, if one of them.
+fn control_of(stmt: &Stmt) -> Control
+    ensures { result ≡ turns.control_of stmt.now }
+{
+    match stmt {
+        Stmt::Begin => Control::Begin,
+        Stmt::Commit => Control::Commit,
+        Stmt::Rollback => Control::Rollback,
+        Stmt::CreateTable { .. }
+        | Stmt::CreateIndex { .. }
+        | Stmt::DropTable(_)
+        | Stmt::DropIndex(_)
+        | Stmt::Insert { .. }
+        | Stmt::Update { .. }
+        | Stmt::Delete { .. }
+        | Stmt::Query(_)
+        | Stmt::Explain(_)
+        | Stmt::SetRollout(_)
+        | Stmt::SetPlan(_)
+        | Stmt::SetPace(_)
+        | Stmt::Clean(_)
+        | Stmt::CleanTable(_)
+        | Stmt::ListBlocks(_)
+        | Stmt::Reclaim(_) => Control::Other,
+    }
+}
+
+/// Whether a statement was refused.
+fn is_refused(outcome: &Outcome) -> bool
+    ensures { result ≡ is_refusal outcome.now }
+{
+    match outcome {
+        Outcome::Done(_) => false,
+        Outcome::Refused(_) => true,
+    }
+}
+
+impl<S: Store> Engine<S> {
+    /// Executes a statement that is written so in a script.
+    pub(crate) fn turn(&mut self, stmt: &Stmt) -> Result<Outcome, EngineStop>
+        requires may { MayCall S.Pages self.old }
+        requires written { IsWritten stmt.now }
+        ensures executes { Executes S.Pages stmt.now result self.old self.new }
+    {
+        match control_of(stmt) {
+            Control::Begin => Ok(self.begin()),
+            Control::Commit => self.commit(),
+            Control::Rollback => self.roll_back(),
+            Control::Other => self.change(stmt),
+        }
+    }
+
+    /// A BEGIN.
+    #[tactic(auto, using(crate::proofs::LeavingLemmas::leaves_still))]
+    fn begin(&mut self) -> Outcome
+        requires may { MayCall S.Pages self.old }
+        ensures executes { Executes S.Pages Stmt.Begin (Ok result) self.old self.new }
+    {
+        if self.is_open {
+            return Outcome::Refused(not_in_state(self.tables.alloc));
+        }
+        self.is_open = true;
+        Outcome::Done(Reply::Done)
+    }
+
+    /// A COMMIT.
+    #[tactic(auto, using(crate::proofs::LeavingLemmas::leaves_still))]
+    fn commit(&mut self) -> Result<Outcome, EngineStop>
+        requires may { MayCall S.Pages self.old }
+        ensures executes { Executes S.Pages Stmt.Commit result self.old self.new }
+    {
+        if !self.is_open {
+            return Ok(Outcome::Refused(not_in_state(self.tables.alloc)));
+        }
+        commit_work(&mut self.store)?;
+        self.is_open = false;
+        Ok(Outcome::Done(Reply::Done))
+    }
+
+    /// A ROLLBACK.
+    #[tactic(auto, using(crate::proofs::LeavingLemmas::leaves_still))]
+    fn roll_back(&mut self) -> Result<Outcome, EngineStop>
+        requires may { MayCall S.Pages self.old }
+        ensures executes { Executes S.Pages Stmt.Rollback result self.old self.new }
+    {
+        if !self.is_open {
+            return Ok(Outcome::Refused(not_in_state(self.tables.alloc)));
+        }
+        self.served = go_back(&mut self.tables, &mut self.store)?;
+        self.is_open = false;
+        Ok(Outcome::Done(Reply::Done))
+    }
+
+    /// Any other statement. Its change is committed where no transaction is open.
+    #[tactic(auto, using(crate::proofs::LeavingLemmas::leaves_still))]
+    fn change(&mut self, stmt: &Stmt) -> Result<Outcome, EngineStop>
+        requires may { MayCall S.Pages self.old }
+        requires written { IsWritten stmt.now }
+        requires other { turns.control_of stmt.now ≡ Control.Other }
+        ensures executes { Executes S.Pages stmt.now result self.old self.new }
+    {
+        if !self.served {
+            return Ok(Outcome::Refused(not_built(self.tables.alloc)));
+        }
+        let outcome = try_statement(&mut self.tables, &mut self.store, stmt)?;
+        if self.is_open {
+            return Ok(outcome);
+        }
+        if is_refused(&outcome) {
+            return Ok(outcome);
+        }
+        commit_work(&mut self.store)?;
+        Ok(outcome)
+    }
+}
+
+/// Goes back to the pages of the last commit, and answers whether their tables are of forms that are built.
+fn go_back<S: Store>(tables: &mut Tables, store: &mut S) -> Result<bool, EngineStop>
+    requires going { (S.state store.old).ended ≡ false }
+    ensures reloads { Reloads S.Pages result store.old store.new tables.old tables.new }
+{
+    store.rollback();
+    tables.forget();
+    let catalog = load_catalog(tables.alloc, store)?;
+    let served = are_served(&catalog);
+    tables.catalog = catalog;
+    Ok(served)
+}
+
+/// Executes a statement, without a commit. One that runs full is refused, and all is as it was.
+fn try_statement<P: Pages>(
+    tables: &mut Tables,
+    pages: &mut P,
+    stmt: &Stmt,
+) -> Result<Outcome, EngineStop>
+    requires served { AreServed tables.old.catalog }
+    requires written { IsWritten stmt.now }
+    requires going { (P.state pages.old).ended ≡ false }
+    requires unmarked { (P.state pages.old).marked ≡ None }
+    ensures tries { TriesStep P.Pages stmt.now result pages.old pages.new tables.old tables.new }
+{
+    pages.mark();
+    match execute(tables, pages, stmt) {
+        Ok(outcome) => {
+            pages.keep()?;
+            Ok(outcome)
+        }
+        Err(SpaceFault::Full(extents)) => {
+            pages.undo();
+            tables.forget();
+            Ok(Outcome::Refused(file_full(tables.alloc, extents)))
+        }
+        Err(SpaceFault::Store(fault)) => Err(EngineStop::from(fault)),
+    }
+}

@@ -1,0 +1,229 @@
+// The rows of an UPDATE.
+ghost use Rattle.std.specs.Prelude.{◌≡◌, ◌<◌, List, None, flat_map, is_none, length, map, option_map, false, IfOk, IfErr, IsTrue, Ok};
+ghost use Rattle.std.specs.List.{list_all};
+ghost use Rattle.mdc_ast.specs.declared.bound.Bound.TheVariants as bound;
+ghost use Rattle.mdc_ast.specs.declared.refusal.Refusal.{Refusal};
+ghost use Rattle.mdc_ast.specs.declared.row.Row.{Row};
+ghost use Rattle.mdc_ast.specs.meaning.Cause.{refusal_of};
+ghost use Rattle.mdc_ast.specs.meaning.Database.{fits_all};
+ghost use Rattle.mdc_ast.specs.meaning.Definitions.{def_at};
+ghost use Rattle.mdc_ast.specs.meaning.Doing.{changed_causes, changed_row, set_on};
+ghost use Rattle.store_api.specs.Causes.{fault_of, store_fault_in};
+ghost use Rattle.store_api.specs.Extents.{first_page_of};
+ghost use Rattle.store_api.specs.Frame.{NoPage};
+ghost use Rattle.store_api.specs.RunsOverPages.{RunsOverPages};
+ghost use Rattle.extent_map.specs.Damages.{IfFull, store_part_of};
+ghost use Rattle.extent_map.specs.Owners.{IsSameShape};
+ghost use Rattle.extent_map.specs.declared.kind.Kind.{Kind};
+ghost use Rattle.block_rows.specs.HeldRows.{HasReadValues, HaveReadValues, placed_row};
+ghost use Rattle.table_page.specs.TableLimits.{IsTableDef};
+ghost use Rattle.mdc_sound.specs.StandingTable.{StandsTable, TableForests, pages_of};
+ghost use Rattle.binder.specs.Saying.{first_of};
+ghost use Rattle.row_judging.specs.Filtering.{may_change, may_filter};
+ghost use Rattle.row_judging.specs.RowChange.{are_storable, are_within, misfit_cause};
+ghost use Rattle.row_judging.specs.Served.{IsDefined, MaySet};
+ghost use Rattle.statement_rows.specs.RowsOfStatement.{AnyPage};
+ghost use Rattle.statement_rows.specs.Turning.{turned_row};
+ghost use Rattle.table_scan.specs.FoundRows.{FindsRows};
+ghost use Rattle.script_engine.specs.Doing.{DoesStatement, LeavesAll, RunsFullAlone};
+ghost use Rattle.script_engine.specs.Ready.{AreServed, BreaksDatabase, IsNoStandingTable, IsReady, KeepsServed};
+
+use crate::tables::Tables;
+use extent_map::{Extents, SpaceFault};
+use mdc_ast::{BoundSet, ColumnDef, Outcome, Pred, Reply, Row, TableDef};
+use mdc_table::Hit;
+use mdc_values::{List, Memory, Value};
+use row_judging::{Misfit, do_fit, first_misfit, new_values, put_values, unfit};
+use statement_rows::{Turned, change_rows};
+use std::alloc::Global;
+use store_api::{Damage, Pages, StoreFault};
+use table_scan::find_rows;
+
+/// The rule that damage of a row names: it fits the columns of its table.
+const ROW_PAGE_RULE: u16 = 7;
+
+/// An UPDATE of the rows of a table that qualify. All are judged before one is changed.
+pub fn update<P: Pages>(
+    tables: &mut Tables,
+    pages: &mut P,
+    table: u8,
+    sets: &[BoundSet],
+    pred: &Option<Pred>,
+) -> Result<Outcome, SpaceFault>
+    requires served { AreServed tables.old.catalog }
+    requires there { IsDefined (def_at tables.old.catalog table) (MaySet sets.now pred.now) }
+    requires going { (P.state pages.old).ended ≡ false }
+    ensures does { IfOk result (λ outcome. IsReady P.Pages pages.old tables.old → DoesStatement P.Pages pages.old pages.new tables.old tables.new (bound.Update table sets.now pred.now) outcome) }
+    ensures refused { (refusal : Refusal) → result ≡ Ok (Outcome.Refused refusal) → LeavesAll P.Pages pages.old pages.new tables.old tables.new }
+    ensures full { IfErr result (λ fault. IfFull fault (λ cap. (cap ≡ tables.old.ext.cap)
+        × (IsReady P.Pages pages.old tables.old → RunsFullAlone tables.old.ext (pages_of P.Pages pages.old) tables.old.catalog (bound.Update table sets.now pred.now)))) }
+    ensures keeps { KeepsServed result tables.old tables.new }
+    ensures runs { RunsOverPages P.Pages AnyPage AnyPage (BreaksDatabase P.Pages pages.old tables.old) pages.old pages.new (store_fault_in store_part_of result) }
+{
+    tables.turn_to(table);
+    update_found(tables, pages, sets, pred)
+}
+
+// Changes the rows that qualify of the table that is noted.
+fn update_found<P: Pages>(
+    tables: &mut Tables,
+    pages: &mut P,
+    sets: &[BoundSet],
+    pred: &Option<Pred>,
+) -> Result<Outcome, SpaceFault>
+    requires served { AreServed tables.old.catalog }
+    requires there { IsDefined (def_at tables.old.catalog tables.old.noted) (MaySet sets.now pred.now) }
+    requires going { (P.state pages.old).ended ≡ false }
+    ensures does { IfOk result (λ outcome. IsReady P.Pages pages.old tables.old
+        → DoesStatement P.Pages pages.old pages.new tables.old tables.new (bound.Update tables.old.noted sets.now pred.now) outcome) }
+    ensures refused { (refusal : Refusal) → result ≡ Ok (Outcome.Refused refusal) → pages_of P.Pages pages.new ≡ pages_of P.Pages pages.old }
+    ensures full { IfErr result (λ fault. IfFull fault (λ cap. (cap ≡ tables.old.ext.cap)
+        × (IsReady P.Pages pages.old tables.old → RunsFullAlone tables.old.ext (pages_of P.Pages pages.old) tables.old.catalog (bound.Update tables.old.noted sets.now pred.now)))) }
+    ensures catalog { tables.new.catalog ≡ tables.old.catalog }
+    ensures shape { IsSameShape tables.old.ext tables.new.ext }
+    ensures runs { RunsOverPages P.Pages AnyPage AnyPage (BreaksDatabase P.Pages pages.old tables.old) pages.old pages.new (store_fault_in store_part_of result) }
+{
+    let Some(def) = tables.catalog.def(tables.noted) else {
+        unreachable!()
+    };
+    let hits = find_fitting(tables.alloc, def, &tables.ext, pages, pred)?;
+    if let Some(misfit) = first_misfit_of_hits(def.columns.as_slice(), sets, hits.as_slice()) {
+        return refused(tables.alloc, misfit);
+    }
+    let Ok(turned) = turned_rows(tables.alloc, sets, hits) else {
+        return Err(SpaceFault::Store(StoreFault::Memory));
+    };
+    change_rows(
+        tables.alloc,
+        def,
+        &mut tables.ext,
+        &mut tables.rooms,
+        pages,
+        turned.as_slice(),
+    )?;
+    Ok(Outcome::Done(Reply::Updated(turned.len() as u64)))
+}
+
+// The rows that qualify, each of which fits its columns. One that doesn't is damage of its block.
+fn find_fitting<P: Pages>(
+    alloc: Global,
+    def: &TableDef,
+    ext: &Extents,
+    pages: &mut P,
+    pred: &Option<Pred>,
+) -> Result<Vec<Hit>, StoreFault>
+    requires defined { IsTableDef def.now.number def.now }
+    requires judged { (row : Row) → HasReadValues def.now.columns row → IsTrue (may_filter pred.now row.values) }
+    requires going { (P.state pages.old).ended ≡ false }
+    ensures finds { IfOk result (λ hits. (owners : List Kind) (forests : TableForests) → StandsTable P.Pages ext.now pages.old def.now owners forests
+        → FindsRows P.Pages ext.now pages.old def.now pred.now hits.items forests) }
+    ensures keyed { IfOk result (λ hits. HaveReadValues def.now.columns hits.items) }
+    ensures fit { IfOk result (λ hits. IsTrue (list_all (λ hit. fits_all def.now.columns hit.row.values) hits.items)) }
+    ensures same { (P.state pages.new).work ≡ (P.state pages.old).work }
+    ensures runs { RunsOverPages P.Pages NoPage AnyPage (IsNoStandingTable P.Pages ext.now pages.old def.now) pages.old pages.new (fault_of result) }
+{
+    let hits = find_rows(alloc, def, ext, pages, pred)?;
+    if let Some(hit) = first_unfit(def.columns.as_slice(), hits.as_slice()) {
+        return Err(StoreFault::Damaged(unfit_row(ext, hit)));
+    }
+    Ok(hits)
+}
+
+// The first row that doesn't fit its columns.
+fn first_unfit<'h>(columns: &[ColumnDef], hits: &'h [Hit]) -> Option<&'h Hit>
+    ensures { is_none result ≡ list_all (λ hit. fits_all columns.now hit.row.values) hits.now }
+{
+    for hit in hits {
+        if !do_fit(columns, hit.row.values.as_slice()) {
+            return Some(hit);
+        }
+    }
+    None
+}
+
+// Damage of the block in which a row doesn't fit: it names the block's first page.
+fn unfit_row(ext: &Extents, hit: &Hit) -> Damage
+    ensures page { hit.now.rid.block < ext.now.cap → result.page ≡ first_page_of ext.now.cap ext.now.extent_pages hit.now.rid.block }
+    ensures rule { result.rule ≡ 7 }
+{
+    let block = hit.rid.block;
+    let page = if block < ext.cap {
+        ext.first_page(block)
+    } else {
+        0
+    };
+    Damage {
+        page,
+        rule: ROW_PAGE_RULE,
+    }
+}
+
+// What is said first against the rows as they would be, row by row. It takes no memory.
+fn first_misfit_of_hits<'c>(
+    columns: &'c [ColumnDef],
+    sets: &[BoundSet],
+    hits: &[Hit],
+) -> Option<Misfit<'c>>
+    requires within { IsTrue (are_within (length columns.now) sets.now) }
+    requires fit { IsTrue (list_all (λ hit. fits_all columns.now hit.row.values) hits.now) }
+    ensures { first_of (flat_map (λ hit. changed_causes columns.now sets.now None hit.row) hits.now) ≡ option_map misfit_cause result }
+{
+    for hit in hits {
+        let found = first_misfit(columns, sets, hit.row.values.as_slice());
+        if found.is_some() {
+            return found;
+        }
+    }
+    None
+}
+
+// An UPDATE that is refused.
+fn refused(alloc: Global, misfit: Misfit<'_>) -> Result<Outcome, SpaceFault>
+    ensures said { IfOk result (λ outcome. outcome ≡ Outcome.Refused (refusal_of (misfit_cause misfit.entry))) }
+    ensures memory { IfErr result (λ fault. fault ≡ SpaceFault.Store StoreFault.Memory) }
+{
+    match unfit(alloc, misfit) {
+        Ok(refusal) => Ok(Outcome::Refused(refusal)),
+        Err(_) => Err(SpaceFault::Store(StoreFault::Memory)),
+    }
+}
+
+// The rows, each with the one that it becomes. It needs that no new number is too large for 64 bits.
+fn turned_rows(alloc: Global, sets: &[BoundSet], hits: Vec<Hit>) -> Result<Vec<Turned>, Memory>
+    requires settable { IsTrue (list_all (λ hit. may_change sets.now None hit.row) hits.items) }
+    ensures { IfOk result (λ turned. map turned_row turned.items ≡ map (λ hit. (placed_row hit, changed_row sets.now None hit.row)) hits.items) }
+{
+    let mut turned = Vec::with_capacity(alloc, hits.len())?;
+    for hit in hits {
+        let values = changed_values(alloc, sets, hit.row.values.as_slice())?;
+        let row = Row {
+            number: hit.row.number,
+            values,
+        };
+        turned.push(Turned { hit, row })?;
+    }
+    Ok(turned)
+}
+
+// The values of a row once columns are set.
+fn changed_values(alloc: Global, sets: &[BoundSet], values: &[Value]) -> Result<List<Value>, Memory>
+    requires within { IsTrue (are_within (length values.now) sets.now) }
+    requires storable { IsTrue (are_storable values.now sets.now) }
+    ensures { IfOk result (λ changed. changed ≡ set_on values.now sets.now values.now) }
+{
+    let news = new_values(alloc, sets, values)?;
+    let mut changed = copied_values(alloc, values)?;
+    put_values(news, &mut changed);
+    Ok(changed)
+}
+
+// Equal values.
+fn copied_values(alloc: Global, values: &[Value]) -> Result<List<Value>, Memory>
+    ensures { IfOk result (λ copies. copies ≡ values.now) }
+{
+    let mut copies = Vec::with_capacity(alloc, values.len())?;
+    for value in values {
+        copies.push(value.copy(alloc)?)?;
+    }
+    Ok(List::from_vec(copies))
+}
