@@ -1,3 +1,4 @@
+pub mod AttachedLemmas
 pub mod Cached
 pub mod Calls
 pub mod Commits

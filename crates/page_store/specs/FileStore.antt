@@ -1,5 +1,6 @@
 -- What a store in a file is seen as.
-use Rattle.std.specs.Prelude.{◌≡◌, ◌⊎◌, ◌≤◌, ℕ, Bool, IsTrue, List, Option, Some, None}
+use Rattle.std.specs.Prelude.{◌≡◌, ◌⊎◌, ◌≤◌, ℕ, Bool, IsTrue, List, [], ◌∷◌, Option, Some, None, is_some}
+use Rattle.std.specs.Option.{unwrap_or}
 use Rattle.store_api.specs.Moments.{Outcomes}
 use Rattle.mdc_outside.specs.Disk.{File}
 use Rattle.page_store.specs.declared.desk.Desk.{Desk}
@@ -16,6 +17,11 @@ pub record HeldStore (H : Type 0) : Type 0 where
 pub record FitsFile (is_attached : Bool) (told : Option File) (desk : Desk) : Type 0 where
   pub attached : IsTrue is_attached
   pub kept : desk.halt ≡ None → IsKept desk told
+
+-- What a store tells of what is attached: first the shape of its file, and whether the host tells its attaches, and then
+-- these.
+abbrev pub attached_of : Shape → Option (List (List ℕ × Bool)) → Option (List (List ℕ × Bool))
+attached_of shape attaches = Some ((shape.extents ∷ shape.extent_pages ∷ [], is_some attaches) ∷ unwrap_or attaches [])
 
 -- what a crash may leave: an image and a tape that the host may leave, by what the image reopens to
 abbrev pub left_of : Shape → Option File → Option (List ℕ) → (ℕ → List ℕ → List ℕ → Type 0) → ℕ → Outcomes

@@ -57,9 +57,9 @@ pub record IsEmptyDesk (desk : Desk) : Type 0 where
   pub prepared : desk.prepared ≡ false
   pub halt : desk.halt ≡ None
 
--- a store that was just opened over a host that tells its file or not, this tape and these attaches
+-- a store that was just opened over a host that tells its file or not and this tape, and what it tells of what is attached
 abbrev pub IsJustOpened : Bool → Option (List ℕ) → Option (List (List ℕ × Bool)) → StoreState → Type 0
-IsJustOpened is_told tape attaches state =
+IsJustOpened is_told tape attached state =
     state ≡ record {
       is_told = is_told;
       base = state.base;
@@ -70,5 +70,5 @@ IsJustOpened is_told tape attaches state =
       ended = false;
       told = tape;
       fetched = None;
-      attached = attaches;
+      attached = attached;
     }

@@ -1,15 +1,16 @@
 use Rattle.store_api.specs.Moments.{BaseOrWork}
 use Rattle.page_store.specs.Desk.{state_of}
+use Rattle.page_store.proofs.AttachedLemmas.{attached_of-same}
 use Rattle.page_store.proofs.FrontAgreesLemmas.{agrees_after, agrees_at_rest}
 use Rattle.page_store.proofs.Passing.{passes, rests, commit_rests, commit_agrees, either_reopens, if_said}
 use Rattle.page_store.proofs.Wholes.{still_going}
 use Rattle.page_store.proofs.file_store.FileStoreStore.commit.Goals as goal
 
 pub returns-clause-ok : goal.returns-clause-ok
-returns-clause-ok g c = rw (← c.self.view_is, c.commit.ensures.leaves.beside, c.commit.ensures.leaves.listed) (c.commit.ensures.ok _ _)
+returns-clause-ok g c = rw (← c.self.view_is, c.commit.ensures.leaves.beside, c.commit.ensures.leaves.listed, attached_of-same (g.H.Disk.attaches c.self.inside.host) c.commit.ensures.shape) (c.commit.ensures.ok _ _)
 
 pub returns-clause-err : goal.returns-clause-err
-returns-clause-err g c = rw (← c.self.view_is, c.commit.ensures.leaves.beside, c.commit.ensures.leaves.listed) (c.commit.ensures.err _ _)
+returns-clause-err g c = rw (← c.self.view_is, c.commit.ensures.leaves.beside, c.commit.ensures.leaves.listed, attached_of-same (g.H.Disk.attaches c.self.inside.host) c.commit.ensures.shape) (c.commit.ensures.err _ _)
 
 pub returns-clause-time : goal.returns-clause-time
 returns-clause-time g c =
