@@ -1,0 +1,120 @@
+-- What a crash leaves of a run of items: of one run and then another, and as a part of a longer run.
+use Rattle.std.proofs.Common.{◌≡◌, ◌+◌, ℕ, List, [], ◌∷◌, ◌++◌, length, length-append, Option, sym, ◌∙◌, ap, append_assoc, arith}
+use Rattle.std.proofs.lemmas.Grind.{flat_map-append}
+use Rattle.mdc_ast.specs.declared.reply.Outcome.{Outcome}
+use Rattle.mdc_ast.specs.Reading.{Item}
+use Rattle.mdc_ast.specs.meaning.Texts.{outcome_text, texts}
+use Rattle.extent_map.specs.Owners.{IsSameShape}
+use Rattle.extent_map.specs.declared.extents.Extents.{Extents}
+use Rattle.table_trees.specs.ToldPages.{PageList}
+use Rattle.script_engine.proofs.ShapeLemmas.{keeps_along}
+use Rattle.script_engine.specs.Held.{HeldPages}
+use Rattle.script_session.specs.Ending.{IsPartOfNext, Says}
+use Rattle.script_session.specs.Going.{held_last}
+use Rattle.script_session.specs.Leaving.{AreKept, AreServedPages, HasBegun, LeftByServing, done, stopped}
+use Rattle.script_session.proofs.GoingLemmas.{held_after-behind, held_after-front, held_last-append, steps_in_shape}
+
+-- ---- what is said
+
+next_more : (left more : List Outcome) (part : List ℕ) → IsPartOfNext left part → IsPartOfNext (left ++ more) part
+next_more [] [] part none = none
+next_more [] (outcome ∷ more) part none = (outcome_text outcome, ap (λ p. p ++ outcome_text outcome) (sym none))
+next_more (outcome ∷ left) more part next = next
+
+-- the same of more outcomes
+pub says_wider : {outcomes : List Outcome} {said : List ℕ} {answered : ℕ} (more : List Outcome) → Says outcomes said answered → Says (outcomes ++ more) said answered
+says_wider more says = record {
+  done = says.done;
+  left = says.left ++ more;
+  part = says.part;
+  all = ap (λ (xs : List Outcome). xs ++ more) says.all ∙ append_assoc says.done says.left more;
+  next = next_more says.left more says.part says.next;
+  bytes = says.bytes;
+  count = says.count;
+}
+
+-- all of these, and then some of others
+pub says_then : {others : List Outcome} {said : List ℕ} {answered : ℕ} (outcomes : List Outcome) → Says others said answered → Says (outcomes ++ others) (texts outcomes ++ said) (length outcomes + answered)
+says_then outcomes says = record {
+  done = outcomes ++ says.done;
+  left = says.left;
+  part = says.part;
+  all = ap (λ (xs : List Outcome). outcomes ++ xs) says.all ∙ sym (append_assoc outcomes says.done says.left);
+  next = says.next;
+  bytes = ap (λ (xs : List ℕ). texts outcomes ++ xs) says.bytes
+      ∙ (sym (append_assoc (texts outcomes) (texts says.done) says.part) ∙ ap (λ (xs : List ℕ). xs ++ says.part) (sym (flat_map-append outcome_text outcomes says.done)));
+  count = omega (arith, says.count, length-append outcomes says.done);
+}
+
+begun_wider : {outcomes : List Outcome} {said : List ℕ} {begun : ℕ} (more : List Outcome) → HasBegun outcomes said begun → HasBegun (outcomes ++ more) said begun
+unfolding says_wider
+begun_wider more begun = record { answered = begun.answered; says = says_wider more begun.says; count = begun.count }
+
+begun_then : {others : List Outcome} {said : List ℕ} {begun : ℕ} (outcomes : List Outcome) → HasBegun others said begun → HasBegun (outcomes ++ others) (texts outcomes ++ said) (length outcomes + begun)
+unfolding says_then
+begun_then outcomes begun = record { answered = length outcomes + begun.answered; says = says_then outcomes begun.says; count = omega (arith, begun.count) }
+
+-- ---- which pages are kept
+
+-- pages that may be served in extents of this shape
+pub served_in_shape : {ext mid : Extents} {pages : PageList} → IsSameShape ext mid → AreServedPages mid pages → AreServedPages ext pages
+served_in_shape {ext} {mid} {pages} same served = record {
+  sound = (served.sound.0, keeps_along mid ext pages served.sound.0 (record { cap = sym same.cap; extent_pages = sym same.extent_pages }) served.sound.1);
+  defs = served.defs;
+  stored = served.stored;
+  valid = served.valid;
+}
+
+-- after some of the first items
+pub kept_wider : {ext : Extents} {held : HeldPages} {states : List HeldPages} {pages : PageList} {items : ℕ} (more : List HeldPages) (in_hand : List Item)
+    → AreKept ext held states [] pages items → AreKept ext held (states ++ more) in_hand pages items
+kept_wider {ext} {held} {states} {pages} {items} more in_hand (done few same) =
+    done (omega (arith, few, length-append states more)) (same ∙ ap (λ (h : HeldPages). h.base) (sym (held_after-front held states more items few)))
+kept_wider more in_hand (stopped stmt outcome new none count steps closed same) = absurd (cc)
+
+-- after items behind these
+pub kept_then : {ext mid : Extents} {held : HeldPages} {others : List HeldPages} {in_hand : List Item} {pages : PageList} {items : ℕ} (states : List HeldPages) → IsSameShape ext mid
+    → AreKept mid (held_last held states) others in_hand pages items → AreKept ext held (states ++ others) in_hand pages (length states + items)
+kept_then {held = held} {others = others} {items = items} states shape (done few same) =
+    done (omega (arith, few, length-append states others)) (same ∙ ap (λ (h : HeldPages). h.base) (sym (held_after-behind held states others items)))
+kept_then {ext} {mid} {held} {others} states shape (stopped stmt outcome new in_hand count steps closed same) =
+    stopped stmt outcome new in_hand (omega (arith, count, length-append states others)) (rw (held_last-append held states others) (steps_in_shape shape steps)) closed same
+
+-- ---- what is left
+
+-- as a part of a longer run
+pub left_wider : {ext : Extents} {held : HeldPages} {states : List HeldPages} {outcomes : List Outcome} {before told : List ℕ} {left : Option PageList}
+    (more : List HeldPages) (others : List Outcome) (in_hand : List Item) → LeftByServing ext held states outcomes [] before left told → LeftByServing ext held (states ++ more) (outcomes ++ others) in_hand before left told
+unfolding begun_wider
+left_wider more others in_hand is = record {
+  pages = is.pages;
+  reopens = is.reopens;
+  served = is.served;
+  items = is.items;
+  kept = kept_wider more in_hand is.kept;
+  more = is.more;
+  told_is = is.told_is;
+  begun = is.begun;
+  has_begun = begun_wider others is.has_begun;
+  all_begun = is.all_begun;
+  one_more = is.one_more;
+}
+
+-- of a run behind another
+pub left_then : {ext mid : Extents} {held : HeldPages} {more : List HeldPages} {others : List Outcome} {in_hand : List Item} {before told : List ℕ} {left : Option PageList}
+    (states : List HeldPages) (outcomes : List Outcome) → IsSameShape ext mid → length states ≡ length outcomes
+    → LeftByServing mid (held_last held states) more others in_hand (before ++ texts outcomes) left told → LeftByServing ext held (states ++ more) (outcomes ++ others) in_hand before left told
+unfolding begun_then
+left_then {before = before} states outcomes shape count is = record {
+  pages = is.pages;
+  reopens = is.reopens;
+  served = served_in_shape shape is.served;
+  items = length states + is.items;
+  kept = kept_then states shape is.kept;
+  more = texts outcomes ++ is.more;
+  told_is = is.told_is ∙ append_assoc before (texts outcomes) is.more;
+  begun = length outcomes + is.begun;
+  has_begun = begun_then outcomes is.has_begun;
+  all_begun = omega (arith, is.all_begun, count);
+  one_more = omega (arith, is.one_more, count);
+}

@@ -1,0 +1,12 @@
+pub mod AnsweringLemmas
+pub mod AskingLemmas
+pub mod EndingLemmas
+pub mod GoingLemmas
+pub mod LeftLemmas
+pub mod ListsLemmas
+pub mod RunsLemmas
+pub mod ScriptItemsLemmas
+pub mod ServingLemmas
+pub mod ToldLemmas
+pub mod TurningLemmas
+pub mod WrittenLemmas

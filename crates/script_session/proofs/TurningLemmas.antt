@@ -1,0 +1,181 @@
+-- The turn of one item, as a run of it alone.
+use Rattle.std.proofs.Common.{◌≡◌, ◌≤◌, ℕ, List, [], ◌∷◌, Option, Some, IfSome, refl, sym, ◌∙◌, ap, subst, inl, inr, arith}
+use Rattle.std.proofs.lemmas.List.{append-nil}
+use Rattle.mdc_words.specs.Time.{OverTime}
+use Rattle.mdc_words.proofs.TimeLemmas.{over_time_then, over_time_wider}
+use Rattle.mdc_ast.specs.declared.reply.Outcome.{Outcome}
+use Rattle.mdc_ast.specs.declared.reply.Outcome.TheVariants as said
+use Rattle.mdc_ast.specs.declared.refusal.Refusal.{Refusal}
+use Rattle.mdc_ast.specs.declared.statement.Stmt.{Stmt}
+use Rattle.mdc_ast.specs.Reading.{Item, Statement}
+use Rattle.mdc_ast.specs.meaning.Texts.{outcome_text}
+use Rattle.mdc_outside.specs.Outside.{Takes}
+use Rattle.sql_reader.specs.Item.{item_of}
+use Rattle.sql_reader.specs.declared.statements.Read.{Read}
+use Rattle.store_api.specs.Calls.{continued}
+use Rattle.store_api.specs.Moments.{BaseOrNow, BaseWithFront}
+use Rattle.store_api.specs.StoreState.{StoreState}
+use Rattle.store_api.specs.declared.pages.Pages.{Ghosts}
+use Rattle.extent_map.specs.Owners.{IsSameShape}
+use Rattle.extent_map.specs.declared.extents.Extents.{Extents}
+use Rattle.table_trees.specs.ToldPages.{PageList}
+use Rattle.script_engine.specs.Held.{HeldPages}
+use Rattle.script_engine.specs.Leaving.{LeftWithin, MayBeLeft}
+use Rattle.script_engine.specs.Leaving as leaving
+use Rattle.script_engine.specs.Serving.{IsReadyEngine, held_by}
+use Rattle.script_engine.specs.declared.engine.Engine.{Engine}
+use Rattle.script_session.specs.Answering.{BaseBeforeOrAfter, StopsAt}
+use Rattle.script_session.specs.Going.{MeetsItem, MeetsOnPages, nothing, one}
+use Rattle.script_session.specs.Leaving.{AreKept, AreServedPages, HasBegun, LeftByServing, ReopensAlways, done, some_told, stopped}
+use Rattle.script_session.specs.Turning.{RunsItems}
+use Rattle.script_session.proofs.GoingLemmas.{same_shape}
+use Rattle.script_session.proofs.LeftLemmas.{served_in_shape}
+use Rattle.script_session.proofs.ToldLemmas.{takes_nothing}
+
+-- the bytes told, where they are known
+bytes_told : {tape : Option (List ℕ)} {before told : List ℕ} → tape ≡ Some before → IfSome tape (λ bytes. told ≡ bytes) → told ≡ before
+bytes_told {told = told} is known = subst (λ (t : Option (List ℕ)). IfSome t (λ bytes. told ≡ bytes)) is known
+
+-- nothing is told of the reply to the next item
+begun_none : (outcomes : List Outcome) → HasBegun outcomes [] 0
+begun_none [] = record { answered = 0; says = record { done = []; left = []; part = []; all = refl; next = refl; bytes = refl; count = refl }; count = refl }
+begun_none (outcome ∷ outcomes) = record {
+  answered = 0;
+  says = record { done = []; left = outcome ∷ outcomes; part = []; all = refl; next = (outcome_text outcome, refl); bytes = refl; count = refl };
+  count = refl;
+}
+
+some_told-one : (part : List ℕ) → some_told part ≤ 1
+some_told-one [] = omega arith
+some_told-one (byte ∷ part) = omega arith
+
+-- the pages that may be left of the statement in hand are those before it, or those that it commits
+kept_at : {ext : Extents} (item : Item) (stmt : Stmt) (held : HeldPages) (pages : PageList) → item ≡ Statement stmt → MayBeLeft ext held stmt pages → (n : ℕ) × AreKept ext held [] (item ∷ []) pages n × (n ≤ 1)
+kept_at item stmt held pages hand (leaving.before same) = (0, done (omega arith) same, omega arith)
+kept_at {ext} item stmt held pages hand (leaving.after outcome new steps closed same sound defs stored valid) =
+    (1, stopped stmt outcome new (ap (λ (i : Item). i ∷ []) hand) refl (record { noted = ext; shape = same_shape ext; steps = steps }) closed same, omega arith)
+
+module _ {S : Type 0} (g : Ghosts S) where
+  -- the pages of the last commit of a sound engine
+  served_base : (engine : Engine S) → IsReadyEngine g engine → AreServedPages engine.tables.ext (g.state engine.store).base
+  served_base engine ready = record { sound = (ready.base_view, ready.base_sound); defs = ready.base_defs; stored = ready.base_stored; valid = ready.base_valid }
+
+  -- a crash while an outcome is found
+  left_answering : (outcome : Outcome) (old mid new : Engine S) → IsReadyEngine g old → IsReadyEngine g mid → IsSameShape old.tables.ext mid.tables.ext → held_by g new ≡ held_by g mid
+      → (before : List ℕ) → (g.state old.store).told ≡ Some before → (left : Option PageList) (told : List ℕ) → BaseBeforeOrAfter (g.state old.store) (g.state mid.store) left told
+      → LeftByServing old.tables.ext (held_by g old) (held_by g new ∷ []) (outcome ∷ []) [] before left told
+  unfolding begun_none
+  left_answering outcome old mid new ready ready_mid shape held before is left told (inl base, known) = record {
+    pages = (g.state old.store).base;
+    reopens = base;
+    served = served_base old ready;
+    items = 0;
+    kept = done (omega arith) refl;
+    more = [];
+    told_is = bytes_told is known ∙ sym (append-nil before);
+    begun = 0;
+    has_begun = begun_none (outcome ∷ []);
+    all_begun = omega arith;
+    one_more = omega arith;
+  }
+  left_answering outcome old mid new ready ready_mid shape held before is left told (inr base, known) = record {
+    pages = (g.state mid.store).base;
+    reopens = base;
+    served = served_in_shape shape (served_base mid ready_mid);
+    items = 1;
+    kept = done (omega arith) (ap (λ (h : HeldPages). h.base) (sym held));
+    more = [];
+    told_is = bytes_told is known ∙ sym (append-nil before);
+    begun = 0;
+    has_begun = begun_none (outcome ∷ []);
+    all_begun = omega arith;
+    one_more = omega arith;
+  }
+
+  -- a crash while its text is told
+  left_telling : (outcome : Outcome) (old mid new : Engine S) → IsReadyEngine g mid → IsSameShape old.tables.ext mid.tables.ext → held_by g new ≡ held_by g mid
+      → (before : List ℕ) → (g.state mid.store).told ≡ Some before → (left : Option PageList) (told : List ℕ) → BaseWithFront (outcome_text outcome) (g.state mid.store) left told
+      → LeftByServing old.tables.ext (held_by g old) (held_by g new ∷ []) (outcome ∷ []) [] before left told
+  left_telling outcome old mid new ready shape held before is left told (base, part, front, known) = record {
+    pages = (g.state mid.store).base;
+    reopens = base;
+    served = served_in_shape shape (served_base mid ready);
+    items = 1;
+    kept = done (omega arith) (ap (λ (h : HeldPages). h.base) (sym held));
+    more = part;
+    told_is = subst (λ (t : Option (List ℕ)). IfSome (continued part t) (λ bytes. told ≡ bytes)) is known;
+    begun = some_told part;
+    has_begun = record {
+      answered = 0;
+      says = record { done = []; left = outcome ∷ []; part = part; all = refl; next = front; bytes = refl; count = refl };
+      count = omega arith;
+    };
+    all_begun = some_told-one part;
+    one_more = omega arith;
+  }
+
+  -- an item that has an outcome, of whose text this is told
+  pub runs_one : {item : Item} {outcome : Outcome} {part : List ℕ} {old mid new : Engine S} → IsReadyEngine g old → IsReadyEngine g mid
+      → MeetsOnPages old.tables.ext (held_by g old) item outcome (held_by g mid) → ((refusal : Refusal) → outcome ≡ said.Refused refusal → held_by g mid ≡ held_by g old) → IsSameShape old.tables.ext mid.tables.ext → held_by g new ≡ held_by g mid
+      → (g.state mid.store).told ≡ (g.state old.store).told → Takes (g.state mid.store).told part (g.state new.store).told
+      → OverTime g.clock g.left (BaseBeforeOrAfter (g.state old.store) (g.state mid.store)) old.store mid.store
+      → OverTime g.clock g.left (BaseWithFront (outcome_text outcome) (g.state mid.store)) mid.store new.store
+      → RunsItems g (item ∷ []) [] (outcome ∷ []) (held_by g new ∷ []) part old new
+  runs_one {item} {outcome} {part} {old} {mid} {new} ready ready_mid meets refused shape held same takes answering telling = record {
+    goes = one (subst (λ (h : HeldPages). MeetsItem old.tables.ext (held_by g old) item outcome h) (sym held) (record { meets = meets; refused = refused; stored = ready_mid.work.stored })) nothing;
+    told = subst (λ (t : Option (List ℕ)). Takes t part (g.state new.store).told) same takes;
+    base = (1, done (omega arith) refl);
+    time = λ before is. over_time_then (over_time_wider answering (left_answering outcome old mid new ready ready_mid shape held before is))
+        (over_time_wider telling (left_telling outcome old mid new ready_mid shape held before (same ∙ is)));
+  }
+
+  -- the pages that may be left of a statement may be served
+  served_at : (stmt : Stmt) (old : Engine S) (pages : PageList) → IsReadyEngine g old → MayBeLeft old.tables.ext (held_by g old) stmt pages → AreServedPages old.tables.ext pages
+  served_at stmt old pages ready (leaving.before same) = subst (AreServedPages old.tables.ext) (sym same) (served_base old ready)
+  served_at stmt old pages ready (leaving.after outcome new steps closed same sound defs stored valid) = record { sound = sound; defs = defs; stored = stored; valid = valid }
+
+  -- a crash before an engine stopped at a statement
+  left_at : (item : Item) (stmt : Stmt) (old : Engine S) → IsReadyEngine g old → item ≡ Statement stmt → (before : List ℕ) → (g.state old.store).told ≡ Some before
+      → (left : Option PageList) (told : List ℕ) → LeftWithin old.tables.ext (held_by g old) stmt (g.state old.store) left told
+      → LeftByServing old.tables.ext (held_by g old) [] [] (item ∷ []) before left told
+  unfolding begun_none
+  left_at item stmt old ready hand before is left told ((pages, reopens, may), known) =
+      let kept = kept_at item stmt (held_by g old) pages hand may in
+      record {
+        pages = pages;
+        reopens = reopens;
+        served = served_at stmt old pages ready may;
+        items = kept.0;
+        kept = kept.1;
+        more = [];
+        told_is = bytes_told is known ∙ sym (append-nil before);
+        begun = 0;
+        has_begun = begun_none [];
+        all_begun = omega arith;
+        one_more = omega (arith, kept.2);
+      }
+
+  -- an engine that stopped at a statement
+  pub runs_stopped : (read : Read) (old new : Engine S) → IsReadyEngine g old → StopsAt g read old new → (g.state new.store).told ≡ (g.state old.store).told
+      → RunsItems g [] (item_of read ∷ []) [] [] [] old new
+  runs_stopped read old new ready stops same =
+      let kept = kept_at (item_of read) stops.stmt (held_by g old) (g.state new.store).base stops.hand stops.leaves.base in
+      record {
+        goes = nothing;
+        told = subst (Takes (g.state old.store).told []) (sym same) (takes_nothing (g.state old.store).told);
+        base = (kept.0, kept.1);
+        time = λ before is. over_time_wider stops.leaves.time (left_at (item_of read) stops.stmt old ready stops.hand before is);
+      }
+
+-- ---- whatever the pages are
+
+-- a crash while an outcome is found leaves a file that reopens
+pub reopens_answering : (old new : StoreState) (left : Option PageList) (told : List ℕ) → BaseOrNow old new left told → ReopensAlways left told
+reopens_answering old new left told (inl base, known) = (old.base, base)
+reopens_answering old new left told (inr work, known) = (new.work, work)
+
+-- and so does one while its text is told
+pub reopens_then : {S : Type 0} (g : Ghosts S) {text : List ℕ} (old mid new : S) → OverTime g.clock g.left (BaseOrNow (g.state old) (g.state mid)) old mid
+    → OverTime g.clock g.left (BaseWithFront text (g.state mid)) mid new → OverTime g.clock g.left ReopensAlways old new
+reopens_then g old mid new answering telling =
+    over_time_then (over_time_wider answering (reopens_answering (g.state old) (g.state mid))) (over_time_wider telling (λ left told is. ((g.state mid).base, is.0)))

@@ -1,0 +1,37 @@
+use Rattle.std.proofs.Common.{◌≡◌, ◌≤◌, List}
+use Rattle.mdc_ast.specs.Reading.{Item}
+use Rattle.sql_reader.specs.Holding.{work_left}
+use Rattle.extent_map.specs.Owners.{IsSameShape}
+use Rattle.script_engine.specs.Serving.{IsReadyEngine, MayCall}
+use Rattle.mdc_words.specs.Time.{OverTime}
+use Rattle.script_session.specs.Leaving.{ReopensAlways}
+use Rattle.script_session.specs.Told.{TellsMore}
+use Rattle.script_session.proofs.AskingLemmas.{HasGiven}
+use Rattle.script_session.proofs.ServingLemmas.{HasAnswered}
+use Rattle.script_session.proofs.serving.serve.Given as goal
+
+-- the items given so far are answered
+abbrev pub invariant-loop-reply : goal.invariant-loop-reply
+invariant-loop-reply g l =
+    let left = g.I.Source.left in
+    let state = g.S.Pages.state in
+    record {
+      items : List Item;
+      given : HasGiven (left l.fn.input) (left l.input) l.statements items;
+      answered : IsReadyEngine g.S.Pages l.fn.engine → HasAnswered g.S.Pages items l.refused l.fn.engine l.engine;
+      may : MayCall g.S.Pages l.engine;
+      fits : l.statements.count ≤ 67108864;
+      shape : IsSameShape l.fn.engine.tables.ext l.engine.tables.ext;
+      reads : g.I.Source.read_faults l.input ≡ g.I.Source.read_faults l.fn.input;
+      unsaid : g.S.Pages.say_faults l.engine.store ≡ g.S.Pages.say_faults l.fn.engine.store;
+      device : g.S.Pages.disk_faults l.engine.store ≡ g.S.Pages.disk_faults l.fn.engine.store;
+      attached : (state l.engine.store).attached ≡ (state l.fn.engine.store).attached;
+      is_told : (state l.engine.store).is_told ≡ (state l.fn.engine.store).is_told;
+      told : TellsMore (state l.fn.engine.store).told (state l.engine.store).told;
+      reopens : OverTime g.S.Pages.clock g.S.Pages.left ReopensAlways l.fn.engine.store l.engine.store;
+      later : g.S.Pages.clock l.fn.engine.store ≤ g.S.Pages.clock l.engine.store;
+    }
+
+-- with each item less is left to go over
+abbrev pub decreases-loop-reply : goal.decreases-loop-reply
+decreases-loop-reply g l = work_left l.statements

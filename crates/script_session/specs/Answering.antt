@@ -1,0 +1,43 @@
+-- What the answer to one item does to an engine.
+use Rattle.std.specs.Prelude.{◌≡◌, ◌⊎◌, IfOk, OnErr, OnOk, Some, IfSome, Result, Ok, Err}
+use Rattle.mdc_words.specs.Time.{OverTime}
+use Rattle.mdc_ast.specs.declared.reply.Outcome.{Outcome}
+use Rattle.mdc_ast.specs.declared.reply.Outcome.TheVariants as said
+use Rattle.mdc_ast.specs.declared.refusal.Refusal.{Refusal}
+use Rattle.mdc_ast.specs.declared.statement.Stmt.{Stmt}
+use Rattle.mdc_ast.specs.Reading.{Statement}
+use Rattle.store_api.specs.Moments.{Outcomes}
+use Rattle.store_api.specs.StoreState.{StoreState}
+use Rattle.store_api.specs.declared.fault.Damage.{Damage}
+use Rattle.store_api.specs.declared.pages.Pages.{Ghosts}
+use Rattle.extent_map.specs.Owners.{IsSameShape}
+use Rattle.script_engine.specs.Serving.{IsReadyEngine, MayCall, held_by}
+use Rattle.script_engine.specs.Turns.{LeavesCommitted, LeavesOutside}
+use Rattle.script_engine.specs.declared.engine.Engine.{Engine}
+use Rattle.script_engine.specs.declared.stop.EngineStop.{EngineStop}
+use Rattle.script_engine.specs.declared.stop.EngineStop.TheVariants.{Damaged}
+use Rattle.sql_reader.specs.Item.{item_of}
+use Rattle.sql_reader.specs.declared.statements.Read.{Read}
+use Rattle.script_session.specs.Going.{MeetsOnPages}
+
+-- the pages of the last commit before, or those after, with the bytes told before, where they are told
+abbrev pub BaseBeforeOrAfter : StoreState → StoreState → Outcomes
+BaseBeforeOrAfter old new pages told = ((pages ≡ Some old.base) ⊎ (pages ≡ Some new.base)) × IfSome old.told (λ bytes. told ≡ bytes)
+
+-- the engine stopped at a statement
+pub record StopsAt {S : Type 0} (g : Ghosts S) (read : Read) (old new : Engine S) : Type 0 where
+  pub stmt : Stmt
+  pub hand : item_of read ≡ Statement stmt
+  pub leaves : LeavesCommitted g stmt old new
+
+-- What the answer to an item does: on a sound engine the item does what it may, and leaves the pages of the last commit before or
+-- after it, or the engine stops at its statement. No damage is named of sound pages, and nothing is told.
+pub record AnswersItem {S : Type 0} (g : Ghosts S) (read : Read) (result : Result Outcome EngineStop) (old new : Engine S) : Type 0 where
+  pub meets : IfOk result (λ outcome. IsReadyEngine g old → MeetsOnPages old.tables.ext (held_by g old) (item_of read) outcome (held_by g new) × IsReadyEngine g new)
+  pub may : OnOk result (MayCall g new)
+  pub done : OnOk result (IsReadyEngine g old → OverTime g.clock g.left (BaseBeforeOrAfter (g.state old.store) (g.state new.store)) old.store new.store)
+  pub stopped : OnErr result (IsReadyEngine g old → StopsAt g read old new)
+  pub refused : (refusal : Refusal) → result ≡ Ok (said.Refused refusal) → held_by g new ≡ held_by g old
+  pub damaged : (damage : Damage) → result ≡ Err (Damaged damage) → IsReadyEngine g old → ⊥
+  pub shape : IsSameShape old.tables.ext new.tables.ext
+  pub outside : LeavesOutside g result old new

@@ -1,0 +1,58 @@
+-- What a crash within a run leaves: pages of the last commit, and bytes that were told.
+use Rattle.std.specs.Prelude.{◌≡◌, ◌≤◌, ◌+◌, ℕ, List, [], ◌∷◌, ◌++◌, length, Option, Some, false}
+use Rattle.mdc_ast.specs.declared.reply.Outcome.{Outcome}
+use Rattle.mdc_ast.specs.declared.statement.Stmt.{Stmt}
+use Rattle.mdc_ast.specs.Reading.{Item, Statement}
+use Rattle.mdc_ast.specs.meaning.Definitions.{AreValidDefs, Definitions}
+use Rattle.store_api.specs.Moments.{Outcomes}
+use Rattle.extent_map.specs.declared.extents.Extents.{Extents}
+use Rattle.table_trees.specs.ToldPages.{PageList}
+use Rattle.mdc_sound.specs.SoundDatabase.{IsSoundDatabase}
+use Rattle.stored_catalog.specs.StoredDefinitions.{AreStored}
+use Rattle.script_engine.specs.Held.{HeldPages}
+use Rattle.script_session.specs.Ending.{Says}
+use Rattle.script_session.specs.Going.{StepsInShape, held_after, held_last}
+
+-- pages that may be served: a sound database of tables of built forms
+pub record AreServedPages (ext : Extents) (pages : PageList) : Type 0 where
+  pub sound : IsSoundDatabase ext pages
+  pub defs : Definitions
+  pub stored : AreStored pages defs
+  pub valid : AreValidDefs defs
+
+-- The pages of the last commit after so many items of a run. An item in hand, at which the run stopped, counts as one that was
+-- executed where the pages are those that it committed.
+pub data AreKept (ext : Extents) (held : HeldPages) (states : List HeldPages) (in_hand : List Item) (pages : PageList) (items : ℕ) : Type 0 where
+  done : items ≤ length states → pages ≡ (held_after held states items).base → AreKept ext held states in_hand pages items
+  stopped : (stmt : Stmt) (outcome : Outcome) (new : HeldPages) → in_hand ≡ Statement stmt ∷ [] → items ≡ length states + 1
+      → StepsInShape ext (held_last held states) stmt outcome new → new.open_ ≡ false → pages ≡ new.base → AreKept ext held states in_hand pages items
+
+-- whether something is told of a text counts as one
+abbrev pub some_told : List ℕ → ℕ
+some_told [] = 0
+some_told (byte ∷ part) = 1
+
+-- the bytes are a front of the texts, which tells all of some, and so many are begun
+pub record HasBegun (outcomes : List Outcome) (told : List ℕ) (begun : ℕ) : Type 0 where
+  pub answered : ℕ
+  pub says : Says outcomes told answered
+  pub count : begun ≡ answered + some_told says.part
+
+-- A crash within a run leaves sound pages, those of the last commit after some of its first items, and a front of its replies:
+-- each item whose reply was begun is among these, and at most one more than those whose reply was told whole.
+pub record LeftByServing (ext : Extents) (held : HeldPages) (states : List HeldPages) (outcomes : List Outcome) (in_hand : List Item) (before : List ℕ) (left : Option PageList) (told : List ℕ) : Type 0 where
+  pub pages : PageList
+  pub reopens : left ≡ Some pages
+  pub served : AreServedPages ext pages
+  pub items : ℕ
+  pub kept : AreKept ext held states in_hand pages items
+  pub more : List ℕ
+  pub told_is : told ≡ before ++ more
+  pub begun : ℕ
+  pub has_begun : HasBegun outcomes more begun
+  pub all_begun : begun ≤ items
+  pub one_more : items ≤ has_begun.answered + 1
+
+-- a crash leaves a file that reopens to some pages
+abbrev pub ReopensAlways : Outcomes
+ReopensAlways left told = (pages : PageList) × (left ≡ Some pages)

@@ -1,0 +1,11 @@
+pub mod Answering
+pub mod Ending
+pub mod Going
+pub mod Leaving
+pub mod Lists
+pub mod ScriptLaws
+pub mod Serving
+pub mod Stops
+pub mod Told
+pub mod Turning
+pub mod Written

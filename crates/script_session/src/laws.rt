@@ -1,0 +1,16 @@
+// What a run over pages is over plain lists of rows.
+ghost use Rattle.std.specs.Prelude.{List};
+ghost use Rattle.mdc_ast.specs.declared.reply.Outcome.{Outcome};
+ghost use Rattle.mdc_ast.specs.Reading.{Item};
+ghost use Rattle.mdc_ast.specs.meaning.Session.{Session};
+ghost use Rattle.extent_map.specs.declared.extents.Extents.{Extents};
+ghost use Rattle.script_engine.specs.Held.{HeldPages, StandsForSession};
+ghost use Rattle.script_session.specs.Going.{GoesOnPages};
+ghost use Rattle.script_session.specs.Lists.{GoesOnLists};
+
+/// A run over pages that stand for a session is a run over that session's lists: each outcome is that of the lists, or 70 where
+/// nothing else is said against the statement, and the pages that are held after each item stand for the lists after it.
+pub fn goes_on_lists()
+    ensures { (ext : Extents) (held : HeldPages) (items : List Item) (outcomes : List Outcome) (states : List HeldPages) → GoesOnPages ext held items outcomes states
+        → (session : Session) → StandsForSession ext held session → (sessions : List Session) × GoesOnLists ext held session items outcomes states sessions }
+{}

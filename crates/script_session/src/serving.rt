@@ -1,0 +1,98 @@
+// The statements of a script, answered one after another as they close.
+ghost use Rattle.std.specs.Prelude.{◌≡◌, ◌≤◌, IfErr, IfSome, IfOk, IsErrOf, Err, OnErr, OnOk};
+ghost use Rattle.mdc_words.specs.Faults.{CountsFault};
+ghost use Rattle.mdc_words.specs.Time.{OverTime};
+ghost use Rattle.mdc_ast.specs.meaning.Session.{is_refusal};
+ghost use Rattle.extent_map.specs.Owners.{IsSameShape};
+ghost use Rattle.script_session.specs.Told.{TellsMore};
+ghost use Rattle.store_api.specs.declared.fault.Damage.{Damage};
+ghost use Rattle.script_engine.specs.Serving.{IsReadyEngine, MayCall};
+ghost use Rattle.script_session.specs.ScriptLaws.{ScriptLaws};
+ghost use Rattle.script_session.specs.Leaving.{ReopensAlways};
+ghost use Rattle.script_session.specs.Serving.{RunsScript, TakesScript};
+ghost use Rattle.script_session.specs.Turning.{EndsTold, IsTurnStop, StopsTurn};
+ghost use Rattle.script_session.specs.Written.{IsReadWritten};
+ghost use Rattle.sql_reader.specs.Item.{item_of};
+
+use crate::answering::{outcome_of, tell_outcome};
+use crate::stop::{Served, SessionStop};
+use mdc_ast::Outcome;
+use mdc_outside::Source;
+use script_engine::Engine;
+use sql_reader::{Read, Statements, one_closing, one_reading};
+use std::alloc::Global;
+use store_api::Store;
+
+/// Answers the statements of a script on an engine, and tells whether one was refused. Each reply is told before the next
+/// statement is asked for. After a stop the engine takes no further call but `close`.
+pub fn serve<I: Source, S: Store>(
+    alloc: Global,
+    input: &mut I,
+    engine: &mut Engine<S>,
+) -> Result<Served, SessionStop>
+    requires may { MayCall S.Pages engine.old }
+    ensures runs { IsReadyEngine S.Pages engine.old → RunsScript S.Pages (I.left input.old) (I.left input.new) engine.old engine.new result }
+    ensures reads { CountsFault (IsErrOf result SessionStop.Unread) (I.read_faults input.old) (I.read_faults input.new) }
+    ensures unsaid { CountsFault (IsErrOf result SessionStop.Unsaid) (S.say_faults engine.old.store) (S.say_faults engine.new.store) }
+    ensures device { CountsFault (IsErrOf result SessionStop.Device) (S.disk_faults engine.old.store) (S.disk_faults engine.new.store) }
+    ensures damaged { (damage : Damage) → result ≡ Err (SessionStop.Damaged damage) → IsReadyEngine S.Pages engine.old → ⊥ }
+    ensures attached { (S.state engine.new.store).attached ≡ (S.state engine.old.store).attached }
+    ensures is_told { (S.state engine.new.store).is_told ≡ (S.state engine.old.store).is_told }
+    ensures takes { IfSome (I.left input.old) (λ script. TakesScript script (I.left input.new) result) }
+    ensures tells { TellsMore (S.state engine.old.store).told (S.state engine.new.store).told }
+    // Whatever the pages are, a crash leaves a file that reopens.
+    ensures reopens { OverTime S.clock S.left ReopensAlways engine.old.store engine.new.store }
+    ensures later { S.clock engine.old.store ≤ S.clock engine.new.store }
+{
+    script_laws();
+    let mut statements = Statements::new(alloc)?;
+    let mut reply = Vec::new(alloc);
+    let mut refused = false;
+    while let Some(read) = statements.next(input)? {
+        refused |= answer(engine, read, &mut reply)?;
+    }
+    Ok(Served::by_refusal(refused))
+}
+
+// The laws that a script has one list of items, and that what a reader has given begins it.
+fn script_laws()
+    ensures { ScriptLaws }
+{
+    one_reading();
+    one_closing();
+}
+
+// Answers an item, and tells whether it was refused.
+fn answer<S: Store>(
+    engine: &mut Engine<S>,
+    read: Read,
+    reply: &mut Vec<u8>,
+) -> Result<bool, SessionStop>
+    requires may { MayCall S.Pages engine.old }
+    requires written { IsReadWritten read }
+    ensures ends { IfOk result (λ refused. IsReadyEngine S.Pages engine.old → EndsTold S.Pages (item_of read) refused engine.old engine.new) }
+    ensures stops { OnErr result (IsReadyEngine S.Pages engine.old → StopsTurn S.Pages (item_of read) engine.old engine.new) }
+    ensures may { OnOk result (MayCall S.Pages engine.new) }
+    ensures stop { IfErr result IsTurnStop }
+    ensures unsaid { CountsFault (IsErrOf result SessionStop.Unsaid) (S.say_faults engine.old.store) (S.say_faults engine.new.store) }
+    ensures device { CountsFault (IsErrOf result SessionStop.Device) (S.disk_faults engine.old.store) (S.disk_faults engine.new.store) }
+    ensures damaged { (damage : Damage) → result ≡ Err (SessionStop.Damaged damage) → IsReadyEngine S.Pages engine.old → ⊥ }
+    ensures attached { (S.state engine.new.store).attached ≡ (S.state engine.old.store).attached }
+    ensures is_told { (S.state engine.new.store).is_told ≡ (S.state engine.old.store).is_told }
+    ensures tells { TellsMore (S.state engine.old.store).told (S.state engine.new.store).told }
+    ensures reopens { OverTime S.clock S.left ReopensAlways engine.old.store engine.new.store }
+    ensures shape { IsSameShape engine.old.tables.ext engine.new.tables.ext }
+    ensures later { S.clock engine.old.store ≤ S.clock engine.new.store }
+{
+    let outcome = outcome_of(engine, read)?;
+    tell_outcome(engine, &outcome, reply)?;
+    engine.settle()?;
+    Ok(is_refused(&outcome))
+}
+
+// Whether it is a refusal.
+fn is_refused(outcome: &Outcome) -> bool
+    ensures { result ≡ is_refusal outcome.now }
+{
+    matches!(outcome, Outcome::Refused(_))
+}
