@@ -1,0 +1,46 @@
+-- What a crash leaves that comes before the first statement of a run changes a page.
+use Rattle.std.proofs.Common.{◌≡◌, ℕ, List, [], ◌∷◌, Option, Some, IfSome, refl, sym, ◌∙◌, arith, append-nil, subst}
+use Rattle.mdc_ast.specs.declared.reply.Outcome.{Outcome}
+use Rattle.mdc_ast.specs.Reading.{Item}
+use Rattle.store_api.specs.Moments.{OnlyBase}
+use Rattle.store_api.specs.StoreState.{StoreState}
+use Rattle.extent_map.specs.declared.extents.Extents.{Extents}
+use Rattle.table_trees.specs.ToldPages.{PageList}
+use Rattle.script_engine.specs.Held.{HeldPages}
+use Rattle.script_session.specs.Ending.{IsPartOfNext}
+use Rattle.script_session.specs.Going.{held_after}
+use Rattle.script_session.specs.Leaving.{AreKept, AreServedPages, LeftByServing}
+
+-- nothing is a first part of each text
+part_nothing : (outcomes : List Outcome) → IsPartOfNext outcomes []
+part_nothing [] = refl
+part_nothing (outcome ∷ outcomes) = (_, refl)
+
+-- before the first item what was held is held
+held_first : (held : HeldPages) (states : List HeldPages) → held_after held states 0 ≡ held
+held_first held [] = refl
+held_first held (next ∷ states) = refl
+
+-- the pages that were held at the start, with nothing said, are left by each run
+pub left_first : (ext : Extents) (held : HeldPages) (states : List HeldPages) (outcomes : List Outcome) (in_hand : List Item) (before : List ℕ) (pages : PageList) (left : Option PageList) (heard : List ℕ)
+    → AreServedPages ext pages → held.base ≡ pages → left ≡ Some pages → heard ≡ before → LeftByServing ext held states outcomes in_hand before left heard
+left_first ext held states outcomes in_hand before pages left heard served base is said = record {
+  pages = pages;
+  reopens = is;
+  served = served;
+  items = 0;
+  kept = AreKept.done (omega arith) (subst (λ (h : HeldPages). pages ≡ h.base) (sym (held_first held states)) (sym base));
+  more = [];
+  told_is = said ∙ sym (append-nil before);
+  begun = 0;
+  has_begun = record { answered = 0; says = record { done = []; left = outcomes; part = []; all = refl; next = part_nothing outcomes; bytes = refl; count = refl }; count = refl };
+  all_begun = omega arith;
+  one_more = omega arith;
+}
+
+-- and so is what a store leaves whose base is these
+pub left_only_base : (ext : Extents) (held : HeldPages) (states : List HeldPages) (outcomes : List Outcome) (in_hand : List Item) (before : List ℕ) (s : StoreState) (left : Option PageList) (heard : List ℕ)
+    → AreServedPages ext s.base → held.base ≡ s.base → s.told ≡ Some before → OnlyBase s left heard → LeftByServing ext held states outcomes in_hand before left heard
+left_only_base ext held states outcomes in_hand before s left heard served base told only =
+    left_first ext held states outcomes in_hand before s.base left heard served base only.0
+    (subst (λ (o : Option (List ℕ)). IfSome o (λ bytes. heard ≡ bytes)) told only.1)

@@ -1,0 +1,115 @@
+-- Runs on a store, as the host has them to which the store is closed.
+use Rattle.std.proofs.Common.{◌≡◌, ◌≤◌, ℕ, List, ◌++◌, Option, Some, None, Result, Err, IfSome, sym, ◌∙◌, subst, inl, inr}
+use Rattle.mdc_words.specs.Time.{OverTime}
+use Rattle.mdc_ast.specs.declared.reply.Outcome.{Outcome}
+use Rattle.mdc_ast.specs.Reading.{Item}
+use Rattle.mdc_ast.specs.meaning.Database.{Database}
+use Rattle.mdc_ast.specs.meaning.Session.{Session, session_on}
+use Rattle.mdc_outside.specs.declared.disk.Disk as disk
+use Rattle.store_api.specs.declared.fault.Damage.{Damage}
+use Rattle.store_api.specs.declared.pages.Pages as pages
+use Rattle.extent_map.specs.Owners.{IsSameShape}
+use Rattle.extent_map.specs.declared.extents.Extents.{Extents}
+use Rattle.table_trees.specs.ToldPages.{PageList}
+use Rattle.mdc_sound.specs.SoundDatabase.{IsSoundDatabase}
+use Rattle.mdc_sound.specs.StandsForDatabase.{PagesStandFor}
+use Rattle.page_store.specs.FileStore.{IsLeft}
+use Rattle.page_store.specs.declared.shape.Shape.{Shape}
+use Rattle.page_store.specs.Standing.{pages_of}
+use Rattle.script_engine.specs.Held.{HeldPages, StandsForSession}
+use Rattle.script_session.specs.Going.{GoesOnPages}
+use Rattle.script_session.specs.Leaving.{AreServedPages, LeftByServing}
+use Rattle.script_session.specs.Lists.{GoesOnLists}
+use Rattle.script_session.specs.Serving.{EndsScript}
+use Rattle.script_session.specs.declared.stop.Served.{Served}
+use Rattle.script_session.specs.declared.stop.SessionStop.{SessionStop}
+use Rattle.script_session.specs.declared.stop.SessionStop.TheVariants as session
+use Rattle.script_session.proofs.ToldLemmas.{told_behind}
+use Rattle.file_session.specs.Ending.{end_of_session}
+use Rattle.file_session.specs.Running.{IsLeftSince, RunsOnStore, ServesStore}
+use Rattle.file_session.specs.Serving.{IsOpened, RunsItems}
+use Rattle.file_session.specs.Well.{StatesExtents}
+use Rattle.file_session.specs.declared.stop.FileStop.{FileStop}
+
+-- the laws by which a run over sound pages is one over lists of rows
+pub record ListLaws : Type 0 where
+  pub stand : (ext : Extents) (pages : PageList) → IsSoundDatabase ext pages → (db : Database) × PagesStandFor ext pages db
+  pub lists : (ext : Extents) (held : HeldPages) (items : List Item) (outcomes : List Outcome) (states : List HeldPages) → GoesOnPages ext held items outcomes states
+      → (session : Session) → StandsForSession ext held session → (sessions : List Session) × GoesOnLists ext held session items outcomes states sessions
+
+-- the run over the lists of rows for which the pages stand
+pub items_on_lists : (laws : ListLaws) (ext : Extents) (pages : PageList) (said : List ℕ) (script left tape : Option (List ℕ)) (result : Result Served FileStop) (held : HeldPages) → AreServedPages ext pages → IsOpened pages held
+    → (items : List Item) (outcomes : List Outcome) (states : List HeldPages) (in_hand : List Item) → GoesOnPages ext held items outcomes states → (more : List ℕ) → tape ≡ Some (said ++ more)
+    → (end_ : Result Served SessionStop) → ((damage : Damage) → end_ ≡ Err (session.Damaged damage) → ⊥) → result ≡ end_of_session end_
+    → IfSome script (λ script. EndsScript script left more items in_hand outcomes end_) → RunsItems ext pages said script left tape result
+items_on_lists laws ext pages said script left tape result held served opened items outcomes states in_hand goes more tape_is end_ undamaged result_is ends =
+    let stands = laws.stand ext pages served.sound in
+    let on_lists = laws.lists ext held items outcomes states goes (session_on stands.0) (record {
+      kept = subst (λ (p : PageList). PagesStandFor ext p stands.0) (sym opened.base) stands.1;
+      working = subst (λ (p : PageList). PagesStandFor ext p stands.0) (sym opened.work) stands.1;
+      is_open = sym opened.closed;
+    }) in
+    record {
+      held = held;
+      opened = opened;
+      db = stands.0;
+      stands = stands.1;
+      items = items;
+      outcomes = outcomes;
+      states = states;
+      in_hand = in_hand;
+      goes = goes;
+      sessions = on_lists.0;
+      lists = on_lists.1;
+      more = more;
+      tape_is = tape_is;
+      end_ = end_;
+      undamaged = undamaged;
+      result_is = result_is;
+      ends = ends;
+    }
+
+-- an image of the store at its end is one of the store at its opening, or the run leaves it
+left_since : {S : Type 0} (clock : S → ℕ) (left : S → ℕ → Option PageList → List ℕ → Type 0) (Run : Option PageList → List ℕ → Type 0) (ext : Extents) (old last : S) (t : ℕ) (image heard : List ℕ)
+    → OverTime clock left Run old last → t ≤ clock old → (Run None heard → ⊥)
+    → IsLeftSince (λ pages heard. ⊥) ext (left last t) image heard → IsLeftSince (λ pages heard. Run (Some pages) heard) ext (left old t) image heard
+left_since clock left Run ext old last t image heard time early never (inl (formed, states, inl is)) = inl (formed, states, time.only t (Some (pages_of image)) heard early is)
+left_since clock left Run ext old last t image heard time early never (inl (formed, states, inr is)) = absurd is
+left_since clock left Run ext old last t image heard time early never (inr none) = elim (time.only t None heard early none) [ inl was ↦ inr was | inr within ↦ absurd (never within) ]
+
+-- no run leaves a file that doesn't reopen
+reopens : {ext : Extents} {held : HeldPages} {states : List HeldPages} {outcomes : List Outcome} {in_hand : List Item} {before heard : List ℕ} → LeftByServing ext held states outcomes in_hand before None heard → ⊥
+reopens left = let none : None ≡ Some left.pages = left.reopens in cc
+
+-- extents of one shape are stated by the same images
+pub states_along : (image : List ℕ) (before now : Extents) → IsSameShape before now → StatesExtents image before → StatesExtents image now
+states_along image before now shape states = record { extents = states.extents ∙ sym shape.cap; extent_pages = states.extent_pages ∙ sym shape.extent_pages }
+
+same_shape : (before now : Extents) (left : Option PageList → List ℕ → Type 0) (image heard : List ℕ) → IsSameShape before now
+    → IsLeftSince (λ pages heard. ⊥) before left image heard → IsLeftSince (λ pages heard. ⊥) now left image heard
+same_shape before now left image heard shape (inl (formed, states, is)) = inl (formed, states_along image before now shape states, is)
+same_shape before now left image heard shape (inr none) = inr none
+
+-- a run on a store, as the host has it to which the store was closed
+pub run_on_host : {S D : Type 0} (g : pages.Ghosts S) (d : disk.Ghosts D) (laws : ListLaws) (stated : Extents) (said : List ℕ) (script left : Option (List ℕ)) (old last : S) (new : D) (end_ : Result Served SessionStop) (result : Result Served FileStop)
+    → RunsOnStore g stated script left old last end_ → (g.state old).told ≡ Some said → (d.beside new).tape ≡ (g.state last).told → result ≡ end_of_session end_
+    → ((t : ℕ) (image heard : List ℕ) → d.moment new t image heard → IsLeftSince (λ pages heard. ⊥) stated (g.left last t) image heard)
+    → ServesStore g d stated said script left old new result
+unfolding items_on_lists
+run_on_host g d laws stated said script left old last new end_ result runs told tape_is result_is closes = record {
+  ext = runs.ext;
+  shape = runs.shape;
+  served = runs.served;
+  run = items_on_lists laws runs.ext (g.state old).base said script left (d.beside new).tape result runs.held runs.served runs.opened runs.items runs.outcomes runs.states runs.in_hand runs.goes runs.said
+      (tape_is ∙ told_behind (g.state old).told (g.state last).told runs.said said told runs.told) end_ runs.undamaged result_is runs.ends;
+  since = λ t early image heard now.
+      left_since g.clock g.left (LeftByServing runs.ext runs.held runs.states runs.outcomes runs.in_hand said) runs.ext old last t image heard (runs.time said told) early reopens
+      (same_shape stated runs.ext (g.left last t) image heard runs.shape (closes t image heard now));
+}
+
+-- what a store leaves in a file of a shape, in extents of that shape
+pub left_in_shape : (ext : Extents) (shape : Shape) (file : List ℕ) (left : Option PageList → List ℕ → Type 0) (image heard : List ℕ) → shape.extents ≡ ext.cap → shape.extent_pages ≡ ext.extent_pages
+    → IsLeft shape file left image heard → IsLeftSince (λ pages heard. ⊥) ext left image heard
+left_in_shape ext shape file left image heard extents extent_pages (inl (is, was)) =
+    inl (is.formed.formed, record { extents = is.formed.extents ∙ extents; extent_pages = is.formed.extent_pages ∙ extent_pages }, inl was)
+left_in_shape ext shape file left image heard extents extent_pages (inr none) = inr none

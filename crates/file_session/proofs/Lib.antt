@@ -1,0 +1,10 @@
+pub mod CausesLemmas
+pub mod EndOfSessionLemmas
+pub mod FileRunsLemmas
+pub mod FirstEndsLemmas
+pub mod FirstLeftLemmas
+pub mod HostRunsLemmas
+pub mod MadeFilesLemmas
+pub mod StoreRunsLemmas
+pub mod ToldLemmas
+pub mod WellFilesLemmas

@@ -1,0 +1,73 @@
+-- Files that were just made: what they state and which pages they stand for.
+use Rattle.std.proofs.Common.{◌≡◌, ◌<◌, ℕ, IsTrue, List, sym, ◌∙◌, ap, subst, arith}
+use Rattle.std.proofs.Math.Nat.{mul-le-mul_right}
+use Rattle.mdc_ast.specs.meaning.Database.{empty_database}
+use Rattle.mdc_outside.specs.Disk.{File, IsImage, all_synced}
+use Rattle.store_api.specs.Extents.{is_shape}
+use Rattle.extent_map.specs.declared.extents.Extents.{Extents}
+use Rattle.table_trees.specs.ToldPages.{PageList}
+use Rattle.mdc_sound.specs.StandsForDatabase.{PagesStandFor}
+use Rattle.page_file.specs.Layout.{file_page}
+use Rattle.page_store.specs.Empty.{IsEmptyDatabase}
+use Rattle.page_store.specs.Fresh.{HoldsFresh, fresh_file}
+use Rattle.page_store.specs.Shape.{extent_pages_in, extents_in}
+use Rattle.page_store.specs.Standing.{pages_of}
+use Rattle.page_store.proofs.Crashes.{only_itself}
+use Rattle.page_store.proofs.FreshDatabase.{fresh_birth, fresh_is_empty, is_birth}
+use Rattle.page_store.proofs.Roots.{limits_of}
+use Rattle.made_database.specs.MadePages.{made_pages}
+use Rattle.script_session.specs.Leaving.{AreServedPages}
+use Rattle.file_session.specs.Well.{AreWell, IsWell, StatesExtents}
+
+-- the numbers of a shape have four bytes
+fits_extents : (extents extent_pages : ℕ) → IsTrue (is_shape extents extent_pages) → extents < 4294967296
+fits_extents extents extent_pages shape = omega (arith, (limits_of extents extent_pages shape).few)
+
+fits_pages : (extents extent_pages : ℕ) → IsTrue (is_shape extents extent_pages) → extent_pages < 4294967296
+fits_pages extents extent_pages shape =
+    let limits = limits_of extents extent_pages shape in
+    omega (arith, limits.all, mul-le-mul_right extent_pages limits.some)
+
+-- a file that was made states its shape
+pub made_states : (extents extent_pages : ℕ) (file : List ℕ) → IsTrue (is_shape extents extent_pages) → file ≡ fresh_file extents extent_pages
+    → (extents_in (file_page file 1) ≡ extents) × (extent_pages_in (file_page file 1) ≡ extent_pages)
+made_states extents extent_pages file shape is =
+    let birth = is_birth extents extent_pages (file_page file 1) (fits_extents extents extent_pages shape) (fits_pages extents extent_pages shape) shape
+    (ap (λ bytes. file_page bytes 1) is ∙ fresh_birth extents extent_pages) in
+    (birth.1, birth.2)
+
+-- it is an empty database
+made_empty : (extents extent_pages : ℕ) (file : List ℕ) → IsTrue (is_shape extents extent_pages) → file ≡ fresh_file extents extent_pages → IsEmptyDatabase extents file
+made_empty extents extent_pages file shape is =
+    subst (IsEmptyDatabase extents) (sym is) (fresh_is_empty extents extent_pages (fits_extents extents extent_pages shape) (fits_pages extents extent_pages shape) shape)
+
+-- its pages are those that are made of so many extents
+made_pages_in : (extents extent_pages : ℕ) (file : List ℕ) (ext : Extents) → IsTrue (is_shape extents extent_pages) → file ≡ fresh_file extents extent_pages → ext.cap ≡ extents
+    → pages_of file ≡ made_pages ext.cap
+made_pages_in extents extent_pages file ext shape is cap = (made_empty extents extent_pages file shape is).pages ∙ ap made_pages (sym cap)
+
+-- a file that was made is well, where its pages may be served
+pub made_well : (extents extent_pages : ℕ) (file : List ℕ) (ext : Extents) → IsTrue (is_shape extents extent_pages) → file ≡ fresh_file extents extent_pages → ext.cap ≡ extents → ext.extent_pages ≡ extent_pages
+    → AreServedPages ext (made_pages ext.cap) → IsWell file
+made_well extents extent_pages file ext shape is cap size served =
+    let states = made_states extents extent_pages file shape is in
+    record {
+      formed = (made_empty extents extent_pages file shape is).formed;
+      ext = ext;
+      states = record { extents = states.0 ∙ sym cap; extent_pages = states.1 ∙ sym size };
+      served = subst (λ (pages : PageList). AreServedPages ext pages) (sym (made_pages_in extents extent_pages file ext shape is cap)) served;
+    }
+
+-- it stands for what its pages do
+pub made_stands : (extents extent_pages : ℕ) (file : List ℕ) (ext : Extents) → IsTrue (is_shape extents extent_pages) → file ≡ fresh_file extents extent_pages → StatesExtents file ext
+    → PagesStandFor ext (made_pages ext.cap) empty_database → PagesStandFor ext (pages_of file) empty_database
+made_stands extents extent_pages file ext shape is states stands =
+    let cap : ext.cap ≡ extents = sym states.extents ∙ (made_states extents extent_pages file shape is).0 in
+    subst (λ (pages : PageList). PagesStandFor ext pages empty_database) (sym (made_pages_in extents extent_pages file ext shape is cap)) stands
+
+-- each image that a crash leaves of a made file is well
+pub made_images : (extents extent_pages : ℕ) (file : File) → ((image : List ℕ) → IsTrue (is_shape extents extent_pages) → image ≡ fresh_file extents extent_pages → IsWell image)
+    → IsTrue (is_shape extents extent_pages) → HoldsFresh extents extent_pages file → AreWell file
+made_images extents extent_pages file well shape holds image left =
+    let synced : IsImage (all_synced file.bytes) image = subst (λ since. IsImage since image) holds.synced left in
+    well image shape (only_itself file.bytes image synced ∙ holds.bytes)

@@ -1,0 +1,156 @@
+-- Runs on a store: of a session that was served, and of an engine that stopped as it was opened.
+use Rattle.std.proofs.Common.{◌≡◌, ℕ, List, [], Option, IfSome, Result, Err, false, refl, sym, ◌∙◌, subst}
+use Rattle.mdc_words.proofs.TimeLemmas.{over_time_then, over_time_wider}
+use Rattle.mdc_outside.specs.Outside.{Takes}
+use Rattle.store_api.specs.declared.fault.Damage.{Damage}
+use Rattle.store_api.specs.declared.pages.Pages as pages
+use Rattle.extent_map.specs.Owners.{IsSameShape}
+use Rattle.extent_map.specs.declared.extents.Extents.{Extents}
+use Rattle.table_trees.specs.ToldPages.{PageList}
+use Rattle.mdc_sound.specs.SoundDatabase.{KeepAllRules}
+use Rattle.stored_catalog.specs.StoredDefinitions.{AreStored}
+use Rattle.script_engine.specs.Held.{HeldPages}
+use Rattle.script_engine.specs.Opening.{IsSoundStore, KeepsPages}
+use Rattle.script_engine.specs.Serving.{IsReadyEngine, held_by}
+use Rattle.script_engine.specs.declared.engine.Engine.{Engine}
+use Rattle.script_engine.specs.declared.stop.EngineStop.{EngineStop}
+use Rattle.script_engine.specs.declared.stop.EngineStop.TheVariants as engine
+use Rattle.script_engine.proofs.ShapeLemmas.{keeps_along}
+use Rattle.script_session.specs.Going.{GoesOnPages}
+use Rattle.script_session.specs.Leaving.{AreServedPages}
+use Rattle.script_session.specs.Serving.{RunsScript, TakesScript}
+use Rattle.script_session.specs.Stops.{stop_of_engine}
+use Rattle.script_session.specs.declared.stop.Served.{Served}
+use Rattle.script_session.specs.declared.stop.SessionStop.{SessionStop}
+use Rattle.script_session.specs.declared.stop.SessionStop.TheVariants as session
+use Rattle.script_session.proofs.ToldLemmas.{takes_nothing}
+use Rattle.file_session.specs.Running.{RunsOnStore}
+use Rattle.file_session.proofs.FirstEndsLemmas.{ends_first, takes_first}
+use Rattle.file_session.proofs.FirstLeftLemmas.{left_only_base}
+
+-- a stop of an engine isn't one of a reader
+unread : (stop : EngineStop) → stop_of_engine stop ≡ session.Unread → ⊥
+unread engine.Device is = cc
+unread engine.Output is = cc
+unread (engine.Damaged damage) is = cc
+unread engine.Memory is = cc
+
+not_long : (stop : EngineStop) → stop_of_engine stop ≡ session.TooLong → ⊥
+not_long engine.Device is = cc
+not_long engine.Output is = cc
+not_long (engine.Damaged damage) is = cc
+not_long engine.Memory is = cc
+
+-- where an engine named no damage, its session names none
+not_damaged : (stop : EngineStop) → ((damage : Damage) → stop ≡ engine.Damaged damage → ⊥) → (damage : Damage) (result : Result Served SessionStop)
+    → result ≡ Err (stop_of_engine stop) → result ≡ Err (session.Damaged damage) → ⊥
+not_damaged engine.Device undamaged damage result was is = cc
+not_damaged engine.Output undamaged damage result was is = cc
+not_damaged (engine.Damaged found) undamaged damage result was is = undamaged found refl
+not_damaged engine.Memory undamaged damage result was is = cc
+
+-- a session whose engine wasn't opened took nothing
+pub takes_stopped : (script : Option (List ℕ)) (stop : EngineStop) (end_ : SessionStop) → end_ ≡ stop_of_engine stop → IfSome script (λ bytes. TakesScript bytes script (Err end_))
+takes_stopped script stop end_ is = takes_first script end_ (λ long. not_long stop (sym is ∙ long))
+
+module _ {S : Type 0} (g : pages.Ghosts S) where
+  -- pages that an engine is ready on may be served
+  served_ready : (engine : Engine S) (base : PageList) → (g.state engine.store).base ≡ base → IsReadyEngine g engine → AreServedPages engine.tables.ext base
+  served_ready engine base same ready = record {
+    sound = (ready.base_view, subst (λ (pages : PageList). KeepAllRules engine.tables.ext pages ready.base_view) same ready.base_sound);
+    defs = ready.base_defs;
+    stored = subst (λ (pages : PageList). AreStored pages ready.base_defs) same ready.base_stored;
+    valid = ready.base_valid;
+  }
+
+  -- so may those of a sound store
+  served_sound : (ext : Extents) (s : S) → IsSoundStore g ext s → AreServedPages ext (g.state s).base
+  served_sound ext s sound = record {
+    sound = (sound.sound.0, subst (λ (pages : PageList). KeepAllRules ext pages sound.sound.0) (sym sound.committed) sound.sound.1);
+    defs = sound.defs;
+    stored = subst (λ (pages : PageList). AreStored pages sound.defs) (sym sound.committed) sound.stored;
+    valid = sound.valid;
+  }
+
+  -- a store is sound in extents of one shape
+  pub sound_along : (before now : Extents) (s : S) → IsSameShape before now → IsSoundStore g before s → IsSoundStore g now s
+  sound_along before now s shape sound = record {
+    told = sound.told;
+    sound = (sound.sound.0, keeps_along before now (g.state s).work sound.sound.0 shape sound.sound.1);
+    defs = sound.defs;
+    stored = sound.stored;
+    valid = sound.valid;
+    committed = sound.committed;
+  }
+
+  -- a session that was served on an engine that was opened
+  pub served_on_store : (script left : Option (List ℕ)) (result : Result Served SessionStop) (ext : Extents) (old : S) (opened new : Engine S) → IsSoundStore g ext old → IsReadyEngine g opened
+      → KeepsPages g old opened.store → opened.is_open ≡ false → IsSameShape ext opened.tables.ext → RunsScript g script left opened new result
+      → ((damage : Damage) → result ≡ Err (session.Damaged damage) → ⊥) → RunsOnStore g ext script left old new.store result
+  served_on_store script left result ext old opened new sound ready keeps closed shape runs undamaged =
+      let work : (g.state opened.store).work ≡ (g.state old).base = keeps.work ∙ sym sound.committed in
+      let served = served_ready opened (g.state old).base keeps.base ready in
+      record {
+        ext = opened.tables.ext;
+        shape = shape;
+        served = served;
+        held = held_by g opened;
+        opened = record { base = keeps.base; work = work; defs = subst (λ (pages : PageList). AreStored pages opened.tables.catalog) work ready.work.stored; closed = closed };
+        items = runs.items;
+        outcomes = runs.outcomes;
+        states = runs.states;
+        in_hand = runs.in_hand;
+        goes = runs.goes;
+        said = runs.said;
+        told = subst (λ (o : Option (List ℕ)). Takes o runs.said (g.state new.store).told) keeps.told runs.told;
+        undamaged = undamaged;
+        ends = runs.ends;
+        time = λ before is. over_time_then
+            (over_time_wider keeps.time (λ left heard only. left_only_base opened.tables.ext (held_by g opened) runs.states runs.outcomes runs.in_hand before (g.state old) left heard served keeps.base is only))
+            (runs.time before (keeps.told ∙ is));
+      }
+
+  -- an engine that stopped as it was opened
+  pub stopped_on_store : (script : Option (List ℕ)) (stop : EngineStop) (ext : Extents) (old new : S) → IsSoundStore g ext old → KeepsPages g old new
+      → ((damage : Damage) → stop ≡ engine.Damaged damage → ⊥) → RunsOnStore g ext script script old new (Err (stop_of_engine stop))
+  stopped_on_store script stop ext old new sound keeps undamaged =
+      let served = served_sound ext old sound in
+      let held : HeldPages = record { base = (g.state old).base; work = (g.state old).base; defs = served.defs; open_ = false } in
+      record {
+        ext = ext;
+        shape = record { cap = refl; extent_pages = refl };
+        served = served;
+        held = held;
+        opened = record { base = refl; work = refl; defs = served.stored; closed = refl };
+        items = [];
+        outcomes = [];
+        states = [];
+        in_hand = [];
+        goes = GoesOnPages.nothing;
+        said = [];
+        told = subst (λ (tape : Option (List ℕ)). Takes (g.state old).told [] tape) (sym keeps.told) (takes_nothing (g.state old).told);
+        undamaged = λ damage is. not_damaged stop undamaged damage (Err (stop_of_engine stop)) refl is;
+        ends = ends_first script (stop_of_engine stop) (unread stop) (not_long stop);
+        time = λ before is. over_time_wider keeps.time (λ left heard only. left_only_base ext held [] [] [] before (g.state old) left heard served refl is only);
+      }
+
+-- a run in extents of a shape is one in others of that shape
+pub runs_along : {S : Type 0} (g : pages.Ghosts S) (before now : Extents) (script left : Option (List ℕ)) (old last : S) (end_ : Result Served SessionStop) → IsSameShape before now
+    → RunsOnStore g now script left old last end_ → RunsOnStore g before script left old last end_
+runs_along g before now script left old last end_ shape runs = record {
+  ext = runs.ext;
+  shape = record { cap = runs.shape.cap ∙ shape.cap; extent_pages = runs.shape.extent_pages ∙ shape.extent_pages };
+  served = runs.served;
+  held = runs.held;
+  opened = runs.opened;
+  items = runs.items;
+  outcomes = runs.outcomes;
+  states = runs.states;
+  in_hand = runs.in_hand;
+  goes = runs.goes;
+  said = runs.said;
+  told = runs.told;
+  undamaged = runs.undamaged;
+  ends = runs.ends;
+  time = runs.time;
+}

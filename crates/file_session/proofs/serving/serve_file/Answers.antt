@@ -1,0 +1,112 @@
+-- A run on the store that was opened, or a refusal.
+use Rattle.std.proofs.Common.{ℕ, List, Option, Err, refl, sym, ◌∙◌, ap, subst}
+use Rattle.mdc_words.proofs.FaultsLemmas.{counts_fault_then}
+use Rattle.page_file.proofs.LeavesLemmas.{sound_image}
+use Rattle.page_store.specs.Faults.{MayComeFirst}
+use Rattle.page_store.specs.FileStore.{attached_of}
+use Rattle.page_store.specs.Standing.{pages_of}
+use Rattle.script_session.specs.Told.{TellsMore}
+use Rattle.script_session.proofs.ToldLemmas.{same-tells_more}
+use Rattle.file_session.proofs.CausesLemmas.{cause_of_opening, cause_of_session, not_device}
+use Rattle.file_session.proofs.FirstEndsLemmas.{takes_refused}
+use Rattle.file_session.proofs.FileRunsLemmas.{kept_beside, refused_on_file, run_on_file, stays_file, stays_well}
+use Rattle.file_session.proofs.ToldLemmas.{test_by_told}
+use Rattle.file_session.proofs.WellFilesLemmas.{sound_opened, states_standing, stop_of_well, well_is_served}
+use Rattle.file_session.proofs.serving.serve_file.Goals as goal
+
+pub returns-in-Ok-clause-runs : goal.returns-in-Ok-clause-runs
+returns-in-Ok-clause-runs g c = λ before said is told well.
+    let opened = c.in-Ok.ensures in
+    let store = c.in-Ok.store in
+    let after = opened.opens.told before is in
+    let base = (opened.served before is).1 in
+    let states = states_standing before.bytes after.0.bytes (pages_of before.bytes) well.ext (after.2.1 well.formed) well.states in
+    let tells = test_by_told (g.H.Disk.file c.args.host) before is in
+    let sound = sound_opened _ store before.bytes _ (g.H.Host.tape c.args.host) (attached_of store.desk.shape (g.H.Disk.attaches c.args.host)) well tells opened.just_opened base in
+    let serves = c.serve_store.ensures.runs after.0 said after.1 (ap (λ b. b.tape) opened.opens.beside ∙ told) well.ext states sound in
+    run_on_file g.H.Disk _ store before said (g.I.Source.left c.args.input.now) (g.I.Source.left c.serve_store.new.input) c.args.host store.host c.serve_store.result.host well.ext c.serve_store.result.end
+    well.states serves base (g.met.H.Disk.only_now c.args.host) is told (opened.opens.crash before said is told) refl c.serve_store.ensures.later (λ t pages heard left. (left.4, left.5)) (opened.base_since before is said)
+
+pub returns-in-Ok-clause-told : goal.returns-in-Ok-clause-told
+returns-in-Ok-clause-told g c =
+    let opens = c.in-Ok.ensures.opens in
+    let Tells : Option (List ℕ) → Type 0 = λ tape. TellsMore tape (g.H.Disk.beside c.serve_store.result.host).tape in (
+      λ was is. let half = opens.told was is in c.serve_store.ensures.told.0 half.0 half.1,
+      subst Tells (ap (λ b. b.tape) opens.beside) c.serve_store.ensures.told.1,
+    )
+
+pub returns-in-Ok-clause-stays_well : goal.returns-in-Ok-clause-stays_well
+returns-in-Ok-clause-stays_well g c = λ before said is told well.
+    let new = c.serve_store.result.host in
+    let after = (returns-in-Ok-clause-told g c).0 before is in
+    let first = well before.bytes (sound_image (g.H.Disk.file c.args.host) before (g.met.H.Disk.sound c.args.host) is) in (
+      after.0,
+      after.1,
+      stays_well g.H.Disk before after.0 said (g.I.Source.left c.args.input.now) (g.I.Source.left c.serve_store.new.input) c.args.host new c.serve_store.result.end
+          (g.met.H.Disk.only_now c.args.host) (g.met.H.Disk.only_now new) (g.met.H.Disk.earlier new) is told after.1 well (returns-in-Ok-clause-runs g c before said is told first),
+    )
+
+pub returns-in-Ok-clause-cause : goal.returns-in-Ok-clause-cause
+returns-in-Ok-clause-cause g c = λ before is.
+    let opened = c.in-Ok.ensures in
+    let after = opened.opens.told before is in
+    let tells = test_by_told (g.H.Disk.file c.args.host) before is in
+    let session = c.serve_store.ensures.takes in
+    cause_of_session before.bytes session.0 c.serve_store.result.end (opened.served before is).0 session.1 (λ damage ends well.
+    c.serve_store.ensures.damaged damage ends after.0 after.1 well.ext (states_standing before.bytes after.0.bytes (pages_of before.bytes) well.ext (after.2.1 well.formed) well.states)
+    (sound_opened _ c.in-Ok.store before.bytes _ (g.H.Host.tape c.args.host) (attached_of c.in-Ok.store.desk.shape (g.H.Disk.attaches c.args.host)) well tells opened.just_opened (opened.served before is).1))
+
+pub returns-in-Ok-clause-unopened : goal.returns-in-Ok-clause-unopened
+returns-in-Ok-clause-unopened g c = λ file is unserved. absurd (unserved (c.in-Ok.ensures.served file is).0)
+
+pub returns-in-Ok-clause-left_alone : goal.returns-in-Ok-clause-left_alone
+returns-in-Ok-clause-left_alone g c = λ file is unserved. absurd (unserved (c.in-Ok.ensures.served file is).0)
+
+pub returns-in-Ok-clause-takes : goal.returns-in-Ok-clause-takes
+returns-in-Ok-clause-takes g c = λ file is served. c.serve_store.ensures.takes
+
+pub returns-in-Ok-clause-unsaid : goal.returns-in-Ok-clause-unsaid
+returns-in-Ok-clause-unsaid g c =
+    counts_fault_then (sym (g.met.H.Host.lies_beside c.in-Ok.store.host).1 ∙ (ap (λ b. b.say_faults) c.in-Ok.ensures.opens.beside ∙ (g.met.H.Host.lies_beside c.args.host).1)) c.serve_store.ensures.unsaid
+
+pub returns-in-Err-clause-runs : goal.returns-in-Err-clause-runs
+returns-in-Err-clause-runs g c = λ before said is told well.
+    let stop = stop_of_well c.in-Err.field-0.fault c.stop_of_opening.result before.bytes (well_is_served before.bytes well) (c.in-Err.ensures.refused before is) c.stop_of_opening.ensures in
+    refused_on_file g.H.Disk (record { stand = c.sound_pages_stand.ensures; lists = c.goes_on_lists.ensures }) before said (g.I.Source.left c.args.input.now) c.args.host c.in-Err.field-0.host
+    (MayComeFirst c.in-Err.field-0.fault) c.stop_of_opening.result stop.0 well stop.1 stop.2 (g.met.H.Disk.only_now c.args.host) is told c.in-Err.ensures.opens_or_leaves
+
+pub returns-in-Err-clause-told : goal.returns-in-Err-clause-told
+returns-in-Err-clause-told g c =
+    let first = MayComeFirst c.in-Err.field-0.fault in
+    let new = c.in-Err.field-0.host in
+    let leaves = c.in-Err.ensures.opens_or_leaves in (
+      stays_file g.H.Disk c.args.host new first leaves,
+      same-tells_more (g.H.Disk.beside c.args.host).tape (g.H.Disk.beside new).tape (ap (λ b. b.tape) (kept_beside g.H.Disk c.args.host new first leaves)),
+    )
+
+pub returns-in-Err-clause-stays_well : goal.returns-in-Err-clause-stays_well
+returns-in-Err-clause-stays_well g c = λ before said is told well.
+    let script = g.I.Source.left c.args.input.now in
+    let new = c.in-Err.field-0.host in
+    let after = (returns-in-Err-clause-told g c).0 before is in
+    let first = well before.bytes (sound_image (g.H.Disk.file c.args.host) before (g.met.H.Disk.sound c.args.host) is) in (
+      after.0,
+      after.1,
+      stays_well g.H.Disk before after.0 said script script c.args.host new (Err c.stop_of_opening.result)
+          (g.met.H.Disk.only_now c.args.host) (g.met.H.Disk.only_now new) (g.met.H.Disk.earlier new) is told after.1 well (returns-in-Err-clause-runs g c before said is told first),
+    )
+
+pub returns-in-Err-clause-cause : goal.returns-in-Err-clause-cause
+returns-in-Err-clause-cause g c = λ before is. cause_of_opening before.bytes c.in-Err.field-0.fault c.stop_of_opening.result (c.in-Err.ensures.refused before is) c.stop_of_opening.ensures
+
+pub returns-in-Err-clause-left_alone : goal.returns-in-Err-clause-left_alone
+returns-in-Err-clause-left_alone g c = λ file is unserved other.
+    let fault = not_device c.in-Err.field-0.fault c.stop_of_opening.result c.stop_of_opening.ensures (λ e. other (ap Err e)) in (
+      c.in-Err.ensures.untouched fault,
+      c.in-Err.ensures.left_alone fault,
+    )
+
+pub returns-in-Err-clause-takes : goal.returns-in-Err-clause-takes
+returns-in-Err-clause-takes g c = λ file is served.
+    let stop = stop_of_well c.in-Err.field-0.fault c.stop_of_opening.result file.bytes served (c.in-Err.ensures.refused file is) c.stop_of_opening.ensures in
+    takes_refused (g.I.Source.left c.args.input.now) c.stop_of_opening.result stop.0 stop.1 stop.2

@@ -1,0 +1,32 @@
+-- A session on an engine that was opened, or none where it wasn't.
+use Rattle.std.proofs.Common.{Err, subst, sym}
+use Rattle.script_session.specs.declared.stop.SessionStop.{SessionStop}
+use Rattle.script_session.proofs.ToldLemmas.{same-tells_more}
+use Rattle.file_session.specs.Running.{RunsOnStore}
+use Rattle.file_session.proofs.StoreRunsLemmas.{served_on_store, stopped_on_store, takes_stopped}
+use Rattle.file_session.proofs.serving.serve_pages.Goals as goal
+
+pub returns-in-Ok-clause-runs : goal.returns-in-Ok-clause-runs
+returns-in-Ok-clause-runs g c = λ sound.
+    let ready = c.in-Ok.ensures.ready sound in
+    let script = g.I.Source.left c.args.input.now in
+    let left = g.I.Source.left c.serve-end.new.input in
+    let Runs : g.row.S.Denot → Type 0 = λ s. RunsOnStore g.S.Pages c.args.ext script left c.args.store s c.serve-end.result in
+    subst Runs (sym c.close.ensures) (served_on_store g.S.Pages script left c.serve-end.result c.args.ext c.args.store c.in-Ok.engine c.serve-end.new.engine sound ready
+    c.in-Ok.ensures.pages c.in-Ok.ensures.closed c.in-Ok.ensures.shape (c.serve-end.ensures.runs ready) (λ damage is. c.serve-end.ensures.damaged damage is ready))
+
+pub returns-in-Ok-clause-damaged : goal.returns-in-Ok-clause-damaged
+returns-in-Ok-clause-damaged g c = λ damage is sound. c.serve-end.ensures.damaged damage is (c.in-Ok.ensures.ready sound)
+
+pub returns-in-Err-clause-runs : goal.returns-in-Err-clause-runs
+returns-in-Err-clause-runs g c = λ sound.
+    let script = g.I.Source.left c.args.input.now in
+    let Runs : SessionStop → Type 0 = λ stop. RunsOnStore g.S.Pages c.args.ext script script c.args.store c.in-Err.field-0.store (Err stop) in
+    subst Runs (sym c.from.ensures) (stopped_on_store g.S.Pages script c.in-Err.field-0.stop c.args.ext c.args.store c.in-Err.field-0.store sound c.in-Err.ensures.pages
+    (λ damage is. c.in-Err.ensures.damaged damage is sound.told sound.sound))
+
+pub returns-in-Err-clause-takes : goal.returns-in-Err-clause-takes
+returns-in-Err-clause-takes g c = takes_stopped (g.I.Source.left c.args.input.now) c.in-Err.field-0.stop c.from.result c.from.ensures
+
+pub returns-in-Err-clause-tells : goal.returns-in-Err-clause-tells
+returns-in-Err-clause-tells g c = same-tells_more _ _ c.in-Err.ensures.pages.told

@@ -1,0 +1,71 @@
+-- What is said of the store, said of its host.
+use Rattle.std.proofs.Common.{◌≡◌, ◌++◌, ℕ, List, Option, is_some, subst, sym, ◌∙◌, ap}
+use Rattle.script_session.specs.Told.{TellsMore}
+use Rattle.script_session.proofs.ToldLemmas.{told_behind}
+use Rattle.script_session.specs.declared.stop.SessionStop.TheVariants as session
+use Rattle.extent_map.specs.Owners.{IsSameShape}
+use Rattle.page_store.specs.FileStore.{left_of}
+use Rattle.page_store.proofs.AttachedLemmas.{attached_of-attaches, attached_of-shape}
+use Rattle.file_session.proofs.EndOfSessionLemmas.{end_counted, end_counted_as, stop_of_end}
+use Rattle.file_session.proofs.HostRunsLemmas.{left_in_shape, run_on_host}
+use Rattle.file_session.proofs.StoreRunsLemmas.{runs_along, sound_along}
+use Rattle.file_session.proofs.ToldLemmas.{stays_by_test, told_by_test}
+use Rattle.file_session.proofs.serving.serve_store.Given.{Over}
+use Rattle.file_session.proofs.serving.serve_store.Goals as goal
+
+-- no call changes the shape of a store: it is told as what is attached
+kept_shape : (g : Over) (c : goal.After-close g) → c.serve_pages-answered.result.store.desk.shape ≡ c.args.store.desk.shape
+kept_shape g c =
+    let last = c.serve_pages-answered.result.store in
+    attached_of-shape last.desk.shape c.args.store.desk.shape (g.H.Disk.attaches last.host) (g.H.Disk.attaches c.args.store.host) c.serve_pages-answered.ensures.attached
+
+pub returns-clause-runs : goal.returns-clause-runs
+returns-clause-runs g c = λ file said is told ext states sound.
+    let last = c.serve_pages-answered.result.store in
+    let script = g.I.Source.left c.args.input.now in
+    let left = g.I.Source.left c.serve_pages-answered.new.input in
+    let stated = c.shape-extents.ensures.stated c.requires.going file is in
+    let extents = sym stated.0 ∙ states.extents in
+    let extent_pages = sym stated.1 ∙ states.extent_pages in
+    let shape : IsSameShape ext c.in-Some.ext = record { cap = c.in-Some.ensures.shape.0 ∙ extents; extent_pages = c.in-Some.ensures.shape.1 ∙ extent_pages } in
+    let runs = c.serve_pages-answered.ensures.runs (sound_along _ ext c.in-Some.ext c.args.store shape sound) in
+    let now_told = told_by_test (g.H.Disk.file last.host) (c.serve_pages-answered.ensures.is_told ∙ ap is_some is) in
+    let heard = told_behind (g.H.Disk.beside c.args.store.host).tape (g.H.Disk.beside last.host).tape runs.said said told runs.told in
+    let left_last = left_of last.desk.shape (g.H.Disk.file last.host) (g.H.Disk.beside last.host).tape (g.H.Disk.moment last.host) in
+    let same_cap = ap (λ shape. shape.extents) (kept_shape g c) ∙ (sym (ap (λ parts. parts.0) c.shape-extents.ensures.parts) ∙ extents) in
+    let same_size = ap (λ shape. shape.extent_pages) (kept_shape g c) ∙ (sym (ap (λ parts. parts.1) c.shape-extents.ensures.parts) ∙ extent_pages) in
+    run_on_host _ g.H.Disk (record { stand = c.sound_pages_stand.ensures; lists = c.goes_on_lists.ensures }) ext said script left c.args.store last c.close.result c.serve_pages-answered.result.end c.end_of.result
+    (runs_along _ ext c.in-Some.ext script left c.args.store last c.serve_pages-answered.result.end shape runs) told (ap (λ host. (g.H.Disk.beside host).tape) c.close.ensures.same) c.end_of.ensures
+    (λ t image heard_then now. left_in_shape ext last.desk.shape now_told.0.bytes (left_last t) image heard_then same_cap same_size (c.close.ensures.left now_told.0 (said ++ runs.said) now_told.1 heard t image heard_then now))
+
+pub returns-clause-damaged : goal.returns-clause-damaged
+returns-clause-damaged g c = λ damage ends file is ext states sound.
+    let stated = c.shape-extents.ensures.stated c.requires.going file is in
+    let shape : IsSameShape ext c.in-Some.ext =
+    record { cap = c.in-Some.ensures.shape.0 ∙ (sym stated.0 ∙ states.extents); extent_pages = c.in-Some.ensures.shape.1 ∙ (sym stated.1 ∙ states.extent_pages) } in
+    c.serve_pages-answered.ensures.damaged damage (stop_of_end c.serve_pages-answered.result.end (session.Damaged damage) (sym c.end_of.ensures ∙ ends))
+    (sound_along _ ext c.in-Some.ext c.args.store shape sound)
+
+pub returns-clause-reads : goal.returns-clause-reads
+returns-clause-reads g c = end_counted session.Unread c.serve_pages-answered.result.end c.end_of.result _ _ c.end_of.ensures c.serve_pages-answered.ensures.reads
+
+pub returns-clause-unsaid : goal.returns-clause-unsaid
+returns-clause-unsaid g c =
+    end_counted_as session.Unsaid c.serve_pages-answered.result.end c.end_of.result _ _ _ c.end_of.ensures c.close.ensures.say_count c.serve_pages-answered.ensures.unsaid
+
+pub returns-clause-device : goal.returns-clause-device
+returns-clause-device g c =
+    end_counted_as session.Device c.serve_pages-answered.result.end c.end_of.result _ _ _ c.end_of.ensures c.close.ensures.disk_count c.serve_pages-answered.ensures.device
+
+pub returns-clause-told : goal.returns-clause-told
+returns-clause-told g c =
+    let Tells : Option (List ℕ) → Type 0 = λ tape. TellsMore (g.H.Disk.beside c.args.store.host).tape tape in (
+      stays_by_test (g.H.Disk.file c.args.store.host) (g.H.Disk.file c.close.result) (ap (λ host. is_some (g.H.Disk.file host)) c.close.ensures.same ∙ c.serve_pages-answered.ensures.is_told),
+      subst Tells (sym (ap (λ host. (g.H.Disk.beside host).tape) c.close.ensures.same)) c.serve_pages-answered.ensures.tells,
+    )
+
+pub returns-clause-attaches : goal.returns-clause-attaches
+returns-clause-attaches g c =
+    let last = c.serve_pages-answered.result.store in
+    ap (λ host. g.H.Disk.attaches host) c.close.ensures.same
+    ∙ attached_of-attaches last.desk.shape c.args.store.desk.shape (g.H.Disk.attaches last.host) (g.H.Disk.attaches c.args.store.host) c.serve_pages-answered.ensures.attached

@@ -1,0 +1,5 @@
+pub mod Ending
+pub mod Leaving
+pub mod Running
+pub mod Serving
+pub mod Well

@@ -1,0 +1,57 @@
+-- What serving a script does to a store, and to the host that the store gives back.
+use Rattle.std.specs.Prelude.{◌≡◌, ◌⊎◌, ◌≤◌, ℕ, List, Option, Some, None, IfSome, Result, Err}
+use Rattle.mdc_words.specs.Time.{OverTime}
+use Rattle.mdc_ast.specs.declared.reply.Outcome.{Outcome}
+use Rattle.mdc_ast.specs.Reading.{Item}
+use Rattle.mdc_outside.specs.Outside.{Takes}
+use Rattle.mdc_outside.specs.declared.disk.Disk as disk
+use Rattle.store_api.specs.declared.fault.Damage.{Damage}
+use Rattle.store_api.specs.declared.pages.Pages as pages
+use Rattle.extent_map.specs.Owners.{IsSameShape}
+use Rattle.extent_map.specs.declared.extents.Extents.{Extents}
+use Rattle.page_store.specs.Standing.{IsFormed, pages_of}
+use Rattle.script_engine.specs.Held.{HeldPages}
+use Rattle.script_session.specs.Going.{GoesOnPages}
+use Rattle.script_session.specs.Leaving.{AreServedPages, LeftByServing}
+use Rattle.script_session.specs.Serving.{EndsScript}
+use Rattle.script_session.specs.declared.stop.Served.{Served}
+use Rattle.script_session.specs.declared.stop.SessionStop.{SessionStop}
+use Rattle.script_session.specs.declared.stop.SessionStop.TheVariants.{Damaged}
+use Rattle.file_session.specs.Serving.{IsOpened, RunsItems}
+use Rattle.file_session.specs.Well.{StatesExtents}
+use Rattle.file_session.specs.declared.stop.FileStop.{FileStop}
+
+-- A run of a script on a store that tells sound pages, all of which are committed: one run of its items on these, whose texts are
+-- told in order, how it ends, and what a crash meanwhile leaves. The extents have the shape that was stated.
+pub record RunsOnStore {S : Type 0} (g : pages.Ghosts S) (stated : Extents) (script left : Option (List ℕ)) (old new : S) (result : Result Served SessionStop) : Type 0 where
+  pub ext : Extents
+  pub shape : IsSameShape stated ext
+  pub served : AreServedPages ext (g.state old).base
+  pub held : HeldPages
+  pub opened : IsOpened (g.state old).base held
+  pub items : List Item
+  pub outcomes : List Outcome
+  pub states : List HeldPages
+  pub in_hand : List Item
+  pub goes : GoesOnPages ext held items outcomes states
+  pub said : List ℕ
+  pub told : Takes (g.state old).told said (g.state new).told
+  pub undamaged : (damage : Damage) → result ≡ Err (Damaged damage) → ⊥
+  pub ends : IfSome script (λ script. EndsScript script left said items in_hand outcomes result)
+  pub time : (before : List ℕ) → (g.state old).told ≡ Some before
+      → OverTime g.clock g.left (LeftByServing ext held states outcomes in_hand before) old new
+
+-- What was left of a store since a time, by an image of the host that it gives back: the image is formed and states the extents, and
+-- the store left the pages that it stands for at its opening, or the run leaves them. Or the store left a file that doesn't reopen.
+abbrev pub IsLeftSince : (List (List ℕ) → List ℕ → Type 0) → Extents → (Option (List (List ℕ)) → List ℕ → Type 0) → List ℕ → List ℕ → Type 0
+IsLeftSince Run ext left image heard =
+    (IsFormed image × StatesExtents image ext × (left (Some (pages_of image)) heard ⊎ Run (pages_of image) heard)) ⊎ left None heard
+
+-- Such a run over the lists of rows that the pages stand for, as the host has it to which the store was closed.
+pub record ServesStore {S D : Type 0} (g : pages.Ghosts S) (d : disk.Ghosts D) (stated : Extents) (said : List ℕ) (script left : Option (List ℕ)) (old : S) (new : D) (result : Result Served FileStop) : Type 0 where
+  pub ext : Extents
+  pub shape : IsSameShape stated ext
+  pub served : AreServedPages ext (g.state old).base
+  pub run : RunsItems ext (g.state old).base said script left (d.beside new).tape result
+  pub since : (t : ℕ) → t ≤ g.clock old → (image heard : List ℕ) → d.moment new t image heard
+      → IsLeftSince (λ pages heard. LeftByServing ext run.held run.states run.outcomes run.in_hand said (Some pages) heard) ext (g.left old t) image heard

@@ -1,0 +1,66 @@
+-- What serving a script on a database file does.
+use Rattle.std.specs.Prelude.{◌≡◌, ◌++◌, ℕ, List, Option, Some, IfSome, Result, Err, false}
+use Rattle.mdc_ast.specs.declared.reply.Outcome.{Outcome}
+use Rattle.mdc_ast.specs.Reading.{Item}
+use Rattle.mdc_ast.specs.meaning.Database.{Database}
+use Rattle.mdc_ast.specs.meaning.Session.{Session, session_on}
+use Rattle.mdc_outside.specs.Disk.{File}
+use Rattle.mdc_outside.specs.declared.disk.Disk.{Ghosts}
+use Rattle.store_api.specs.declared.fault.Damage.{Damage}
+use Rattle.extent_map.specs.declared.extents.Extents.{Extents}
+use Rattle.table_trees.specs.ToldPages.{PageList}
+use Rattle.mdc_sound.specs.StandsForDatabase.{PagesStandFor}
+use Rattle.stored_catalog.specs.StoredDefinitions.{AreStored}
+use Rattle.page_store.specs.Standing.{pages_of}
+use Rattle.script_engine.specs.Held.{HeldPages}
+use Rattle.script_session.specs.Going.{GoesOnPages}
+use Rattle.script_session.specs.Lists.{GoesOnLists}
+use Rattle.script_session.specs.Serving.{EndsScript, TakesScript}
+use Rattle.script_session.specs.declared.stop.Served.{Served}
+use Rattle.script_session.specs.declared.stop.SessionStop.{SessionStop}
+use Rattle.script_session.specs.declared.stop.SessionStop.TheVariants.{Damaged}
+use Rattle.file_session.specs.Ending.{end_of_session}
+use Rattle.file_session.specs.Leaving.{LeavesSince, LeftByRun}
+use Rattle.file_session.specs.Well.{StatesExtents}
+use Rattle.file_session.specs.declared.stop.FileStop.{FileStop}
+
+-- what is held of a file that was opened: its pages, all of which are committed, and no transaction is open
+pub record IsOpened (pages : PageList) (held : HeldPages) : Type 0 where
+  pub base : held.base ≡ pages
+  pub work : held.work ≡ pages
+  pub defs : AreStored pages held.defs
+  pub closed : held.open_ ≡ false
+
+-- A run of a script on these pages, which are sound: one run of its items on them, and so one over the plain lists of rows that
+-- they stand for, whose texts are said in order, and how it ends.
+pub record RunsItems (ext : Extents) (pages : PageList) (said : List ℕ) (script left tape : Option (List ℕ)) (result : Result Served FileStop) : Type 0 where
+  pub held : HeldPages
+  pub opened : IsOpened pages held
+  pub db : Database
+  pub stands : PagesStandFor ext pages db
+  pub items : List Item
+  pub outcomes : List Outcome
+  pub states : List HeldPages
+  pub in_hand : List Item
+  pub goes : GoesOnPages ext held items outcomes states
+  pub sessions : List Session
+  pub lists : GoesOnLists ext held (session_on db) items outcomes states sessions
+  pub more : List ℕ
+  pub tape_is : tape ≡ Some (said ++ more)
+  pub end_ : Result Served SessionStop
+  pub undamaged : (damage : Damage) → end_ ≡ Err (Damaged damage) → ⊥
+  pub result_is : result ≡ end_of_session end_
+  pub ends : IfSome script (λ script. EndsScript script left more items in_hand outcomes end_)
+
+-- how much of a script was taken, by the session whose end is that of the run, whatever the file's pages are
+abbrev pub TakesBySession : Option (List ℕ) → Option (List ℕ) → Result Served FileStop → Type 0
+TakesBySession script left result =
+    (end_ : Result Served SessionStop) × (result ≡ end_of_session end_) × IfSome script (λ script. TakesScript script left end_)
+
+-- A run of a script on a file of these bytes, which is well: such a run on the pages that it stands for, and what a crash leaves at
+-- each moment of it.
+pub record RunsOnFile {D : Type 0} (g : Ghosts D) (before : File) (said : List ℕ) (script left : Option (List ℕ)) (old new : D) (result : Result Served FileStop) : Type 0 where
+  pub ext : Extents
+  pub states_extents : StatesExtents before.bytes ext
+  pub run : RunsItems ext (pages_of before.bytes) said script left (g.beside new).tape result
+  pub leaves : LeavesSince g before said (LeftByRun ext run.held run.states run.outcomes run.in_hand said) old new

@@ -1,0 +1,19 @@
+//! A script on the database file of a host: it is opened, after a crash too, its statements are answered one after another, and
+//! the host is given back.
+//!
+//! It promises, of a file that is well and of a host that tells it: the replies are those of plain lists of rows, statement by
+//! statement, up to a stop, and 70 only where a statement runs full. A crash at any moment leaves a well file, which stands for
+//! those lists after some of the items, with every one whose reply had begun and at most one more; so the next run keeps the
+//! promise too. A file that was just made is well, by a law here, and stands for no table. A file that isn't well is refused for a
+//! cause in its bytes, or served as far as it can be.
+//!
+//! It stands on `page_store` for the pages of a file and on `script_session` for the script.
+#![tactic(auto)]
+
+mod laws;
+mod serving;
+mod stop;
+
+pub use laws::{left_by_run_is_well, made_is_well};
+pub use serving::{Ended, serve_file};
+pub use stop::FileStop;

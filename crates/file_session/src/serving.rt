@@ -1,0 +1,174 @@
+// A script on the file that is attached to a host.
+ghost use Rattle.std.specs.Prelude.{◌≡◌, ◌≢◌, ◌≤◌, ℕ, List, Some, None, IfSome, Result, Err, IsTrue, false};
+ghost use Rattle.std.specs.Option.{ForSome};
+ghost use Rattle.mdc_words.specs.Faults.{CountsFault};
+ghost use Rattle.mdc_outside.specs.Disk.{File};
+ghost use Rattle.store_api.specs.declared.fault.Damage.{Damage};
+ghost use Rattle.extent_map.specs.declared.extents.Extents.{Extents};
+ghost use Rattle.page_file.specs.Bound.{LeavesOf};
+ghost use Rattle.page_store.specs.Opened.{CouldBeLeft, file_bytes};
+ghost use Rattle.page_store.specs.Opening.{IsServed};
+ghost use Rattle.script_engine.specs.Opening.{IsSoundStore};
+ghost use Rattle.script_session.specs.Serving.{TakesScript};
+ghost use Rattle.script_session.specs.Told.{StaysTold, TellsMore};
+ghost use Rattle.file_session.specs.Ending.{IsCauseIn, IsRefused, IsUnopened, StopsOpening, end_of_session};
+ghost use Rattle.file_session.specs.Running.{RunsOnStore, ServesStore};
+ghost use Rattle.file_session.specs.Serving.{RunsOnFile, TakesBySession};
+ghost use Rattle.file_session.specs.Well.{AreWell, IsWell, StatesExtents};
+
+use crate::stop::FileStop;
+use extent_map::Extents;
+use mdc_outside::{Host, Source};
+use page_store::{FileStore, OpenFault, Unopened};
+use script_engine::{Engine, Stopped, sound_pages_stand};
+use script_session::{Served, SessionStop, goes_on_lists, serve};
+use std::alloc::Global;
+use store_api::{Pages, Store};
+
+/// How many clean pages are kept in memory.
+const CACHE: usize = 1_024;
+
+/// How serving a script on a file ended, and the host.
+#[derive(Drop)]
+pub struct Ended<H> {
+    pub end: Result<Served, FileStop>,
+    pub host: H,
+}
+
+/// Serves a script on the database in the attached file: opens it, answers the statements of the script as they close, and gives
+/// the host back. A transaction that is open at the end is rolled back.
+///
+/// `Unmade`, `NotMdc`, `Version` and `Damaged` name a file that isn't served, and nothing is taken from the source where its
+/// opening refuses it. After `Damaged` of a page that a statement met, the statements before it are answered.
+pub fn serve_file<I: Source, H: Host>(alloc: Global, input: &mut I, host: H) -> Ended<H>
+    requires attached { IsTrue (H.is_attached host) }
+    ensures runs { (before : File) (said : List ℕ) → H.file host ≡ Some before → (H.beside host).tape ≡ Some said → IsWell before.bytes
+        → RunsOnFile H.Disk before said (I.left input.old) (I.left input.new) host result.host result.end }
+    ensures stays_well { (before : File) (said : List ℕ) → H.file host ≡ Some before → (H.beside host).tape ≡ Some said → AreWell before
+        → (after : File) × (H.file result.host ≡ Some after) × AreWell after }
+    ensures cause { ForSome (H.file host) (λ file. IsCauseIn file.bytes result.end) }
+    ensures unopened { ForSome (H.file host) (λ file. (IsServed file.bytes → ⊥) → IsUnopened result.end × (input.new ≡ input.old) × ((H.beside result.host).tape ≡ (H.beside host).tape)) }
+    // Nothing is written to a file that isn't served, unless the disk failed: a crash leaves what it could leave before.
+    ensures left_alone { ForSome (H.file host) (λ file. (IsServed file.bytes → ⊥) → (result.end ≡ Err FileStop.Device → ⊥)
+        → (file_bytes (H.file result.host) ≡ file_bytes (H.file host)) × LeavesOf H.Disk CouldBeLeft host result.host) }
+    // Whatever its pages are, of a script on a file that is served so much is taken as its end says.
+    ensures takes { ForSome (H.file host) (λ file. IsServed file.bytes → TakesBySession (I.left input.old) (I.left input.new) result.end) }
+    ensures refused { IsRefused result.end → (input.new ≡ input.old) × ((H.beside result.host).tape ≡ (H.beside host).tape) }
+    ensures reads { CountsFault (result.end ≡ Err FileStop.Unread) (I.read_faults input.old) (I.read_faults input.new) }
+    ensures unsaid { CountsFault (result.end ≡ Err FileStop.Unsaid) (H.say_faults host) (H.say_faults result.host) }
+    ensures device { CountsFault (result.end ≡ Err FileStop.Device) (H.disk_faults host) (H.disk_faults result.host) }
+    ensures attaches { H.attaches result.host ≡ H.attaches host }
+    ensures told { StaysTold (H.file host) (H.file result.host) × TellsMore (H.beside host).tape (H.beside result.host).tape }
+    ensures later { H.clock host ≤ H.clock result.host }
+{
+    // A run over sound pages is one over lists of rows, also one of no item.
+    goes_on_lists();
+    sound_pages_stand();
+    match FileStore::open(alloc, host, CACHE) {
+        Ok(store) => serve_store(alloc, input, store),
+        Err(Unopened { fault, host }) => Ended {
+            end: Err(stop_of_opening(fault)),
+            host,
+        },
+    }
+}
+
+// How a script on a store ended, and the store.
+#[derive(Drop)]
+struct Answered<S: Store> {
+    end: Result<Served, SessionStop>,
+    store: S,
+}
+
+// Serves a script on a store that was opened, and gives its host back.
+fn serve_store<I: Source, H: Host>(alloc: Global, input: &mut I, store: FileStore<H>) -> Ended<H>
+    requires going { (⟦<FileStore<H> as Pages>⟧.state store).ended ≡ false }
+    requires unmarked { (⟦<FileStore<H> as Pages>⟧.state store).marked ≡ None }
+    ensures runs { (file : File) (said : List ℕ) → H.file store.host ≡ Some file → (H.beside store.host).tape ≡ Some said
+        → (ext : Extents) → StatesExtents file.bytes ext → IsSoundStore ⟦<FileStore<H> as Pages>⟧ ext store
+        → ServesStore ⟦<FileStore<H> as Pages>⟧ H.Disk ext said (I.left input.old) (I.left input.new) store result.host result.end }
+    ensures damaged { (damage : Damage) → result.end ≡ Err (FileStop.Damaged damage) → (file : File) → H.file store.host ≡ Some file
+        → (ext : Extents) → StatesExtents file.bytes ext → IsSoundStore ⟦<FileStore<H> as Pages>⟧ ext store → ⊥ }
+    ensures takes { TakesBySession (I.left input.old) (I.left input.new) result.end }
+    ensures reads { CountsFault (result.end ≡ Err FileStop.Unread) (I.read_faults input.old) (I.read_faults input.new) }
+    ensures unsaid { CountsFault (result.end ≡ Err FileStop.Unsaid) (H.say_faults store.host) (H.say_faults result.host) }
+    ensures device { CountsFault (result.end ≡ Err FileStop.Device) (H.disk_faults store.host) (H.disk_faults result.host) }
+    ensures attaches { H.attaches result.host ≡ H.attaches store.host }
+    ensures told { StaysTold (H.file store.host) (H.file result.host) × TellsMore (H.beside store.host).tape (H.beside result.host).tape }
+    ensures later { H.clock store.host ≤ H.clock result.host }
+{
+    // A run over sound pages is one over lists of rows.
+    goes_on_lists();
+    sound_pages_stand();
+    let (extents, extent_pages) = store.shape();
+    let Some(ext) = Extents::new(extents, extent_pages) else {
+        unreachable!()
+    };
+    let answered = serve_pages(alloc, input, store, ext);
+    Ended {
+        end: end_of(answered.end),
+        host: answered.store.close(),
+    }
+}
+
+// Serves a script on the pages of a store, whose extents are these.
+fn serve_pages<I: Source, S: Store>(
+    alloc: Global,
+    input: &mut I,
+    store: S,
+    ext: Extents,
+) -> Answered<S>
+    requires going { (S.state store).ended ≡ false }
+    requires unmarked { (S.state store).marked ≡ None }
+    ensures runs { IsSoundStore S.Pages ext store → RunsOnStore S.Pages ext (I.left input.old) (I.left input.new) store result.store result.end }
+    ensures damaged { (damage : Damage) → result.end ≡ Err (SessionStop.Damaged damage) → IsSoundStore S.Pages ext store → ⊥ }
+    ensures reads { CountsFault (result.end ≡ Err SessionStop.Unread) (I.read_faults input.old) (I.read_faults input.new) }
+    ensures unsaid { CountsFault (result.end ≡ Err SessionStop.Unsaid) (S.say_faults store) (S.say_faults result.store) }
+    ensures device { CountsFault (result.end ≡ Err SessionStop.Device) (S.disk_faults store) (S.disk_faults result.store) }
+    ensures attached { (S.state result.store).attached ≡ (S.state store).attached }
+    ensures is_told { (S.state result.store).is_told ≡ (S.state store).is_told }
+    ensures takes { IfSome (I.left input.old) (λ script. TakesScript script (I.left input.new) result.end) }
+    ensures tells { TellsMore (S.state store).told (S.state result.store).told }
+    ensures later { S.clock store ≤ S.clock result.store }
+{
+    match Engine::open(alloc, store, ext) {
+        Ok(engine) => {
+            let mut engine = engine;
+            let end = serve(alloc, input, &mut engine);
+            Answered {
+                end,
+                store: engine.close(),
+            }
+        }
+        Err(Stopped { stop, store }) => Answered {
+            end: Err(SessionStop::from(stop)),
+            store,
+        },
+    }
+}
+
+// The end of a run, by that of its session.
+fn end_of(served: Result<Served, SessionStop>) -> Result<Served, FileStop>
+    ensures { result ≡ end_of_session served }
+{
+    match served {
+        Ok(served) => Ok(served),
+        Err(stop) => Err(FileStop::from(stop)),
+    }
+}
+
+// Why a file isn't opened, as a stop of the run.
+fn stop_of_opening(fault: OpenFault) -> FileStop
+    requires { fault ≢ OpenFault.Exists }
+    ensures { StopsOpening fault result }
+{
+    match fault {
+        OpenFault::Exists => unreachable!(),
+        OpenFault::Unmade => FileStop::Unmade,
+        OpenFault::NotMdc => FileStop::NotMdc,
+        OpenFault::Version(version) => FileStop::Version(version),
+        OpenFault::Device => FileStop::Device,
+        OpenFault::Damaged(damage) => FileStop::Damaged(damage),
+        OpenFault::Memory => FileStop::Memory,
+    }
+}
