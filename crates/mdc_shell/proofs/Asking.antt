@@ -14,7 +14,7 @@ use Rattle.mdc_shell.specs.Asked.{Asks, AsksCreate, AsksRun}
 use Rattle.mdc_shell.specs.Found.{Finds, FindsCreate, FindsRun, IsSplit, subcommand_in, value_in}
 use Rattle.mdc_shell.specs.Grammar.{mdc_app}
 use Rattle.mdc_shell.proofs.ClapWords.{mdc_is_free, mdc_is_simple, split_is_taken, taken_finds}
-use Rattle.mdc_shell.specs.Words.{CreateFile, IsCreateLine, IsNoLine, IsNumeral, IsPath, IsPlain, IsRequest, IsRunLine, Line, RunScript, SpellsLine}
+use Rattle.mdc_shell.specs.Words.{CreateFile, IsCreateLine, IsNoLine, IsNumeral, IsPath, IsPlain, IsRequest, IsRunFileLine, IsRunLine, Line, RunFile, RunScript, SpellsLine}
 
 -- a text without a sign in front is read as its number
 pub number_read : {E : Type 0} (text : List ℕ) (r : Result ℕ E) → 0 < length text → length text ≤ 9 → get_or text 0 0 ≢ 48 → get_or text 0 0 ≢ 43 → ParsesUnsigned 32 10 text r
@@ -57,18 +57,27 @@ all_unmapped P f (x ∷ xs) all = All-cons (λ y. P (f y)) x xs (All-head P (f x
 pub no_both : codes "create" ≡ codes "run" → ⊥
 no_both e = let n : 99 ≡ 114 = ap (λ t. get_or t 0 0) e in absurd (omega (arith, n))
 
--- words that spell neither command are no command line
-no_line : (words : List Text) → (IsRunLine words → ⊥) → ((path : Text) (n m : ℕ) → IsCreateLine words path n m → ⊥) → IsNoLine words
-no_line words no_run no_create RunScript spelled = no_run spelled
-no_line words no_run no_create (CreateFile path n m) spelled = no_create path n m spelled
+-- two words aren't four
+no_two_and_four : {words : List Text} {a b c d e f : Text} → words ≡ a ∷ b ∷ [] → words ≡ c ∷ d ∷ e ∷ f ∷ [] → ⊥
+no_two_and_four {a = a} {b = b} {c = c} {d = d} {e = e} {f = f} two four =
+    let same : a ∷ b ∷ [] ≡ c ∷ d ∷ e ∷ f ∷ [] = sym two ∙ four in
+    absurd (omega (arith, ap length same))
+
+-- the file behind `run` is one
+one_file : {words : List Text} {name file other : Text} → words ≡ name ∷ file ∷ [] → words ≡ name ∷ other ∷ [] → file ≡ other
+one_file {name = name} {file = file} {other = other} first second = let e : name ∷ file ∷ [] ≡ name ∷ other ∷ [] = sym first ∙ second in cc
+
+-- words that spell none of the commands are no command line
+no_line : (words : List Text) → (IsRunLine words → ⊥) → ((path : Text) → IsRunFileLine words path → ⊥)
+    → ((path : Text) (n m : ℕ) → IsCreateLine words path n m → ⊥) → IsNoLine words
+no_line words no_run no_file no_create RunScript spelled = no_run spelled
+no_line words no_run no_file no_create (RunFile path) spelled = no_file path spelled
+no_line words no_run no_file no_create (CreateFile path n m) spelled = no_create path n m spelled
 
 -- what the values behind `create` ask for, the words do
 pub asks_create : (words : List Text) (found : Option (Text × List Row)) (asked : Option Command) (finds : FindsCreate words found)
     → AsksCreate finds.file finds.extents finds.pages asked → Asks words asked
-asks_create words found None finds asks = no_line words
-    (λ run.
-    let e : codes "create" ∷ finds.file ∷ finds.extents ∷ finds.pages ∷ [] ≡ codes "run" ∷ codes "-" ∷ [] = sym finds.are ∙ run in
-    absurd (no_both (cc)))
+asks_create words found None finds asks = no_line words (λ run. no_two_and_four run finds.are) (λ path line. no_two_and_four line.0 finds.are)
     (λ path n m line.
     let e : codes "create" ∷ finds.file ∷ finds.extents ∷ finds.pages ∷ [] ≡ codes "create" ∷ path ∷ line.extents_text ∷ line.pages_text ∷ [] = sym finds.are ∙ line.are in
     let file : finds.file ≡ path = cc in
@@ -76,6 +85,7 @@ asks_create words found None finds asks = no_line words
     let pages : finds.pages ≡ line.pages_text = cc in
     asks n m (rw (file, extents, pages) line.request))
 asks_create words found (Some command.RunScript) finds asks = absurd asks
+asks_create words found (Some (command.RunFile path)) finds asks = absurd asks
 asks_create words found (Some (command.Create path shape)) finds asks = record {
   extents_text = finds.extents;
   pages_text = finds.pages;
@@ -86,14 +96,10 @@ asks_create words found (Some (command.Create path shape)) finds asks = record {
 -- what the file behind `run` asks for, the words do
 pub asks_run : (words : List Text) (found : Option (Text × List Row)) (asked : Option Command) (finds : FindsRun words found)
     → AsksRun finds.file asked → Asks words asked
-asks_run words found None finds asks = no_line words
-    (λ run.
-    let e : codes "run" ∷ finds.file ∷ [] ≡ codes "run" ∷ codes "-" ∷ [] = sym finds.are ∙ run in
-    asks (cc))
-    (λ path n m line.
-    let e : codes "run" ∷ finds.file ∷ [] ≡ codes "create" ∷ path ∷ line.extents_text ∷ line.pages_text ∷ [] = sym finds.are ∙ line.are in
-    absurd (no_both (cc)))
+asks_run words found None finds asks = no_line words (λ run. asks.0 (one_file finds.are run)) (λ path line. asks.1 (subst IsPath (one_file line.0 finds.are) line.1))
+    (λ path n m line. no_two_and_four finds.are line.are)
 asks_run words found (Some command.RunScript) finds asks = finds.are ∙ ap (λ t. codes "run" ∷ t ∷ []) asks
+asks_run words found (Some (command.RunFile path)) finds asks = (rw asks.0 finds.are, rw asks.0 asks.1)
 asks_run words found (Some (command.Create path shape)) finds asks = absurd asks
 
 -- a path is plain
@@ -109,8 +115,8 @@ numeral_plain (x ∷ xs) n number =
     inl (λ e. absurd (omega (arith, digit, e)))
 
 -- the words of a command line are plain
-run_plain : All IsPlain (codes "run" ∷ codes "-" ∷ [])
-run_plain = All-cons IsPlain (codes "run") (codes "-" ∷ []) (inl (λ e. absurd (omega (arith, e)))) (All-cons IsPlain (codes "-") [] (inr refl) (All-nil IsPlain))
+run_plain : (file : Text) → IsPlain file → All IsPlain (codes "run" ∷ file ∷ [])
+run_plain file plain = All-cons IsPlain (codes "run") (file ∷ []) (inl (λ e. absurd (omega (arith, e)))) (All-cons IsPlain file [] plain (All-nil IsPlain))
 
 create_plain : (path a b : Text) (n m : ℕ) → IsRequest path a b n m → All IsPlain (codes "create" ∷ path ∷ a ∷ b ∷ [])
 create_plain path a b n m is = All-cons IsPlain (codes "create") (path ∷ a ∷ b ∷ []) (inl (λ e. absurd (omega (arith, e))))
@@ -120,7 +126,8 @@ create_plain path a b n m is = All-cons IsPlain (codes "create") (path ∷ a ∷
 
 -- words that aren't plain are no command line
 pub no_line_unplain : (words : List Text) → (All IsPlain words → ⊥) → IsNoLine words
-no_line_unplain words unplain = no_line words (λ run. unplain (subst (All IsPlain) (sym run) run_plain))
+no_line_unplain words unplain = no_line words (λ run. unplain (subst (All IsPlain) (sym run) (run_plain (codes "-") (inr refl))))
+    (λ path line. unplain (subst (All IsPlain) (sym line.0) (run_plain path (path_plain path line.1))))
     (λ path n m line. unplain (subst (All IsPlain) (sym line.are) (create_plain path line.extents_text line.pages_text n m line.request)))
 
 -- where clap takes plain words, it finds what they say
@@ -158,15 +165,20 @@ same_line words path other n m k l first second =
       same_pages = first.request.pages_written.value ∙ (ap (digits_value 10) pages ∙ sym second.request.pages_written.value);
     }
 
+-- `-` behind `run` is no path
+no_script_file : {words : List Text} {path : Text} → IsRunLine words → IsRunFileLine words path → ⊥
+no_script_file script file = subst IsPath (one_file file.0 script) file.1 refl
+
 -- words spell one command line at most
 pub one_line : (words : List Text) (line other : Line) → SpellsLine words line → SpellsLine words other → line ≡ other
 one_line words RunScript RunScript first second = refl
-one_line words RunScript (CreateFile path n m) first second =
-    let same : codes "run" ∷ codes "-" ∷ [] ≡ codes "create" ∷ path ∷ second.extents_text ∷ second.pages_text ∷ [] = sym first ∙ second.are in
-    absurd (omega (arith, ap length same))
-one_line words (CreateFile path n m) RunScript first second =
-    let same : codes "create" ∷ path ∷ first.extents_text ∷ first.pages_text ∷ [] ≡ codes "run" ∷ codes "-" ∷ [] = sym first.are ∙ second in
-    absurd (omega (arith, ap length same))
+one_line words RunScript (RunFile path) first second = absurd (no_script_file first second)
+one_line words RunScript (CreateFile path n m) first second = absurd (no_two_and_four first second.are)
+one_line words (RunFile path) RunScript first second = absurd (no_script_file second first)
+one_line words (RunFile path) (RunFile other) first second = ap RunFile (one_file first.0 second.0)
+one_line words (RunFile path) (CreateFile other n m) first second = absurd (no_two_and_four first.0 second.are)
+one_line words (CreateFile path n m) RunScript first second = absurd (no_two_and_four second first.are)
+one_line words (CreateFile path n m) (RunFile other) first second = absurd (no_two_and_four second.0 first.are)
 one_line words (CreateFile path n m) (CreateFile other k l) first second =
     let same = same_line words path other n k m l first second in
     rw (same.same_path, same.same_extents, same.same_pages) refl

@@ -11,8 +11,11 @@ use Rattle.page_store.specs.declared.fault.OpenFault.TheVariants as fault
 use Rattle.mdc_shell.specs.declared.create.Created.{Created}
 use Rattle.mdc_shell.specs.declared.create.Created.TheVariants.{Exists, Made, Unsaid}
 use Rattle.mdc_shell.specs.Status.{status_of_created}
-use Rattle.mdc_shell.specs.Leaving.{StaysTold}
-use Rattle.mdc_shell.proofs.Told.{same-told, takes-told, takes_part-told, told_then}
+use Rattle.script_session.specs.Told.{StaysTold}
+use Rattle.mdc_shell.specs.Words.{CreateFile, SpellsLine}
+use Rattle.mdc_shell.proofs.Asking.{one_line}
+use Rattle.script_session.proofs.ToldLemmas.{same-told, takes-told, told_then}
+use Rattle.mdc_shell.proofs.ToldLemmas.{takes_part-told}
 use Rattle.mdc_shell.specs.Create.{Completes, Creates, HoldsEmpty, IsLeftByMaking, IsMadeOfNothing, StaysAsItWas, StaysWhereFull, made_line, exists_line}
 
 -- a file that a failed attach left, which is as it was or made with no byte, is one that a crash could leave before
@@ -151,3 +154,12 @@ left_by_making-told extents extent_pages old mid new left same = λ was is. let 
 pub says_end-told : (tape mid new : Option (List ℕ)) (line : List ℕ) (end result : Created) → mid ≡ tape → SaysEnd mid line new end result → StaysTold tape new
 says_end-told tape mid new line end result same said =
     told_then tape mid new (same-told tape mid same) (elim said [ inl all ↦ takes-told mid new line all.1 | inr part ↦ takes_part-told mid new line part.1 ])
+
+-- what is said of one create that the words spell is said of each
+pub create_line-one : (words : List (List ℕ)) (path other : List ℕ) (n m k l : ℕ) (Said : ℕ → ℕ → Type 0) → SpellsLine words (CreateFile path n m) → SpellsLine words (CreateFile other k l)
+    → Said n m → Said k l
+create_line-one words path other n m k l Said first second said =
+    let e : CreateFile path n m ≡ CreateFile other k l = one_line words (CreateFile path n m) (CreateFile other k l) first second in
+    let extents : n ≡ k = cc in
+    let extent_pages : m ≡ l = cc in
+    subst (λ (j : ℕ). Said k j) extent_pages (subst (λ (i : ℕ). Said i m) extents said)

@@ -1,9 +1,8 @@
 pub mod Asking
 pub mod ClapWords
 pub mod CreateLemmas
-pub mod Ends
 pub mod LeavingLemmas
-pub mod Scripts
-pub mod Serving
-pub mod Sessions
-pub mod Told
+pub mod MadeFileLemmas
+pub mod NothingRunLemmas
+pub mod RunsLemmas
+pub mod ToldLemmas

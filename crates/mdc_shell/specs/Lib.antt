@@ -3,7 +3,6 @@ pub mod Create
 pub mod Found
 pub mod Grammar
 pub mod Leaving
-pub mod Reader
 pub mod Run
 pub mod Status
 pub mod Untouched

@@ -35,14 +35,20 @@ pub record IsCreateLine (words : List (List ℕ)) (path : List ℕ) (extents ext
   pub are : words ≡ codes "create" ∷ path ∷ extents_text ∷ pages_text ∷ []
   pub request : IsRequest path extents_text pages_text extents extent_pages
 
+-- the words are `run FILE`, of this path
+abbrev pub IsRunFileLine : List (List ℕ) → List ℕ → Type 0
+IsRunFileLine words path = (words ≡ codes "run" ∷ path ∷ []) × IsPath path
+
 -- what a command line asks for
 pub data Line : Type 0 where
   RunScript : Line
+  RunFile : (path : List ℕ) → Line
   CreateFile : (path : List ℕ) (extents extent_pages : ℕ) → Line
 
 -- the words spell a command line
 abbrev pub SpellsLine : List (List ℕ) → Line → Type 0
 SpellsLine words RunScript = IsRunLine words
+SpellsLine words (RunFile path) = IsRunFileLine words path
 SpellsLine words (CreateFile path extents extent_pages) = IsCreateLine words path extents extent_pages
 
 -- the words spell no command line

@@ -19,8 +19,10 @@ use std::alloc::Global;
 pub enum Command<'w> {
     /// To make an empty database in the file at the path.
     Create { path: &'w str, shape: Shape },
-    /// To run the script of the input.
+    /// To run the script of the input on a scratch file.
     RunScript,
+    /// To run the script of the input on the file at the path.
+    RunFile { path: &'w str },
 }
 
 impl<'w> Command<'w> {
@@ -93,13 +95,15 @@ fn create_of<'w>(path: &'w str, extents: &str, extent_pages: &str) -> Option<Com
     Some(Command::Create { path, shape })
 }
 
-// The command of the file that is to be run: today only a script on the input is.
-fn run_of<'w>(file: &str) -> Option<Command<'w>>
+// The command of the file that is to be run: `-` is the scratch file.
+fn run_of<'w>(file: &'w str) -> Option<Command<'w>>
     ensures { AsksRun file.now result }
 {
     if file == "-" {
-        Some(Command::RunScript)
-    } else {
-        None
+        return Some(Command::RunScript);
     }
+    if !is_path(file) {
+        return None;
+    }
+    Some(Command::RunFile { path: file })
 }

@@ -1,5 +1,5 @@
 // The command `create`: an empty database in a file.
-ghost use Rattle.std.specs.Prelude.{◌≡◌, ◌≢◌, ◌⊎◌, ◌≤◌, ◌<◌, ℕ, List, Some, length, IsErrOf, OnOk, OnErr};
+ghost use Rattle.std.specs.Prelude.{◌≡◌, ◌≢◌, ◌⊎◌, ◌≤◌, ◌<◌, ℕ, List, Some, length, IsErrOf, IsTrue, OnOk, OnErr};
 ghost use Rattle.std.specs.Option.{ForSome};
 ghost use Rattle.mdc_outside.specs.Disk.{File};
 ghost use Rattle.mdc_outside.specs.Moments.{IsWithinCall};
@@ -8,8 +8,10 @@ ghost use Rattle.mdc_words.specs.Faults.{CountsFault};
 ghost use Rattle.mdc_words.specs.Time.{OverTime};
 ghost use Rattle.page_file.specs.Leaving.{LeavesImage};
 ghost use Rattle.page_store.specs.Fresh.{IsOfMaking};
+ghost use Rattle.script_session.specs.Told.{StaysTold};
+ghost use Rattle.store_api.specs.Extents.{is_shape};
 ghost use Rattle.mdc_shell.specs.Create.{Completes, Creates, HoldsEmpty, IsLeftByMaking, MayAttach, StaysAsItWas, StaysWhereFull};
-ghost use Rattle.mdc_shell.specs.Leaving.{LeftByCreate, StaysTold};
+ghost use Rattle.mdc_shell.specs.Leaving.{LeftByCreate};
 ghost use Rattle.mdc_shell.specs.Status.{status_of_created};
 
 use mdc_outside::{Disk, Failed, Host};
@@ -17,7 +19,8 @@ use page_store::{OpenFault, Shape, make};
 
 const MADE: &[u8] = b"OK\n";
 
-const EXISTS: &[u8] = b"FILE EXISTS\n";
+/// What is said of a file that has a byte already.
+pub(crate) const EXISTS: &[u8] = b"FILE EXISTS\n";
 
 /// How a create ends.
 #[derive(Clone, Copy, Debug, PartialEq, Eq)]
@@ -45,7 +48,7 @@ pub fn create<H: Host>(host: &mut H, path: &str, shape: Shape) -> Created
         → OverTime H.clock H.moment (LeftByCreate shape.extents shape.extent_pages before said) host.old host.new }
     ensures complete { (result ≡ Created.DiskFailed → ⊥) → (result ≡ Created.Unsaid → ⊥) → Completes (H.file host.old) (status_of_created result) }
 {
-    match make_at(host, path, shape) {
+    match make_at(host, path, shape.extents, shape.extent_pages) {
         Ok(()) => end_with(host, MADE, Created::Made),
         Err(fault) => match fault {
             OpenFault::Exists => end_with(host, EXISTS, Created::Exists),
@@ -54,9 +57,16 @@ pub fn create<H: Host>(host: &mut H, path: &str, shape: Shape) -> Created
     }
 }
 
-// Attaches the file at the path, and makes an empty database in it.
-fn make_at<D: Disk>(disk: &mut D, path: &str, shape: Shape) -> Result<(), OpenFault>
-    ensures made { OnOk result (HoldsEmpty shape.extents shape.extent_pages (D.file disk.new)) }
+/// Attaches the file at the path, and makes an empty database in it, of so many extents of so many pages.
+pub(crate) fn make_at<D: Disk>(
+    disk: &mut D,
+    path: &str,
+    extents: u32,
+    extent_pages: u32,
+) -> Result<(), OpenFault>
+    requires { IsTrue (is_shape extents extent_pages) }
+    ensures attached { OnOk result (IsTrue (D.is_attached disk.new)) }
+    ensures made { OnOk result (HoldsEmpty extents extent_pages (D.file disk.new)) }
     ensures exists { IsErrOf result OpenFault.Exists → StaysAsItWas (D.file disk.old) (D.file disk.new) }
     ensures untouched { StaysWhereFull (D.file disk.old) (D.file disk.new) }
     ensures refused { ForSome (D.file disk.old) (λ file. 0 < length file.bytes → IsErrOf result OpenFault.Exists ⊎ IsErrOf result OpenFault.Device) }
@@ -64,17 +74,17 @@ fn make_at<D: Disk>(disk: &mut D, path: &str, shape: Shape) -> Result<(), OpenFa
     ensures disk { CountsFault (IsErrOf result OpenFault.Device) (D.disk_faults disk.old) (D.disk_faults disk.new) }
     ensures attaches { MayAttach (D.attaches disk.old) path.now (D.attaches disk.new) }
     ensures beside { D.beside disk.new ≡ D.beside disk.old }
-    ensures told { IsLeftByMaking shape.extents shape.extent_pages (D.file disk.old) (D.file disk.new) }
+    ensures told { IsLeftByMaking extents extent_pages (D.file disk.old) (D.file disk.new) }
     ensures later { D.clock disk.old ≤ D.clock disk.new }
     ensures time { (before : File) (said : List ℕ) → D.file disk.old ≡ Some before → (D.beside disk.old).tape ≡ Some said
-        → OverTime D.clock D.moment (LeavesImage (IsOfMaking shape.extents shape.extent_pages before) said) disk.old disk.new }
+        → OverTime D.clock D.moment (LeavesImage (IsOfMaking extents extent_pages before) said) disk.old disk.new }
 {
     disk.attach(path, true)?;
-    make(disk, shape.extents, shape.extent_pages)
+    make(disk, extents, extent_pages)
 }
 
-// Says the line of an end.
-fn end_with<H: Host>(host: &mut H, line: &[u8], end: Created) -> Created
+/// Says the line of an end.
+pub(crate) fn end_with<H: Host>(host: &mut H, line: &[u8], end: Created) -> Created
     requires { end ≢ Created.Unsaid }
     ensures said { ((result ≡ end) × Takes (H.tape host.old) line.now (H.tape host.new)) ⊎ ((result ≡ Created.Unsaid) × TakesPart (H.tape host.old) line.now (H.tape host.new)) }
     ensures says { CountsFault (result ≡ Created.Unsaid) (H.say_faults host.old) (H.say_faults host.new) }

@@ -1,25 +1,28 @@
-//! The program `mdc`. `run -` runs a script from standard input in memory, with one reply a statement on standard output.
-//! `create FILE EXTENTS PAGES` makes an empty database in a file. For all other words it says a usage line.
+//! The program `mdc`. `run FILE` runs a script from standard input on a database file, with one reply a statement on standard
+//! output, and `run -` on a scratch file. `create FILE EXTENTS PAGES` makes an empty database in a file. For all other words it
+//! says a usage line.
 //!
-//! Its one call is `run` (`program`). For a script it promises, at each status, which bytes were taken and which replies
-//! were said; for a create, what the file holds, what was said, and what a crash leaves at each moment; for all other words,
-//! that nothing is read. `main` only makes the real source and host, of which nothing is told, and sees to it that no file
-//! is taken for a standard stream.
+//! Its one call is `run` (`program`). Of a script on a file that is well it promises that the replies are those of plain lists of
+//! rows, up to a stop, and that a crash at each moment leaves a well file, which stands for those lists after some of the items,
+//! with each whose reply had begun; for a create, what the file holds, what was said, and what a crash leaves; for all other words,
+//! that nothing is read. `main` only makes the real source and host, of which nothing is told, and sees to it that no file is taken
+//! for a standard stream.
 //!
-//! It stands on `sql_reader` for the items of a script, on `plain_engine` for what statements do and on `answer_text` for how
-//! they are answered, each by what `mdc_ast` says that they mean; on `page_store` for a database in a file, on `host_edge`
-//! for the real source and host (`mdc_outside`), and on `clap` for the words.
+//! It stands on `file_session` for scripts on files, on `page_store` for making one and on the law of `made_database` for what is
+//! made, on `host_edge` for the real source and host (`mdc_outside`), and on `clap` for the words.
 #![tactic(auto)]
 
 mod command;
 mod create;
+mod ending;
 mod grammar;
+mod laws;
 mod numeral;
 mod plain;
 mod program;
 #[cfg(test)]
 mod program_tests;
-mod session;
+mod running;
 mod status;
 
 use host_edge::{FileHost, StandIns, StdinSource};

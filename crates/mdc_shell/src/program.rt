@@ -1,24 +1,28 @@
 // The program's one call: a command line, a source and a host in, a status and the host out.
-ghost use Rattle.std.specs.Prelude.{◌≡◌, ◌⊎◌, ◌≤◌, List, ℕ, Some, map, string_bytes};
+ghost use Rattle.std.specs.Prelude.{◌≡◌, ◌⊎◌, ◌≤◌, ◌<◌, List, ℕ, Some, codes, map, string_bytes, length, true, false};
+ghost use Rattle.std.specs.Option.{ForSome};
 ghost use Rattle.mdc_outside.specs.Disk.{File};
-ghost use Rattle.mdc_outside.specs.Moments.{IsWithinCall};
+ghost use Rattle.mdc_outside.specs.Moments.{IsMoment, IsWithinCall};
 ghost use Rattle.mdc_words.specs.Faults.{CountsFault, Rose};
 ghost use Rattle.mdc_words.specs.Time.{OverTime};
+ghost use Rattle.page_store.specs.Opening.{IsServed};
+ghost use Rattle.script_session.specs.Told.{StaysTold};
+ghost use Rattle.file_session.specs.Well.{AreWell, IsWell};
 ghost use Rattle.mdc_shell.specs.Create.{Completes, Creates, MayAttach};
-ghost use Rattle.mdc_shell.specs.Leaving.{LeavesReplies, LeftByCreate, LeftByRun, LeftByScript, StaysTold};
-ghost use Rattle.mdc_shell.specs.Run.{RunsFrom, IsWithinLimit};
+ghost use Rattle.mdc_shell.specs.Leaving.{LeftByCreate};
+ghost use Rattle.mdc_shell.specs.Run.{IsComplete, IsWithinLimit, MayAttachAt, RefusesFile, RefusesScratch, RunsPath, RunsScratch, ServesPath, StandsForNothing};
 ghost use Rattle.mdc_shell.specs.Status.{IsScriptStatus, IsStatus};
 ghost use Rattle.mdc_shell.specs.Untouched.{IsUntouched};
-ghost use Rattle.mdc_shell.specs.Words.{CreateFile, IsNoLine, RunScript, SaysUsage, SpellsLine, usage};
+ghost use Rattle.mdc_shell.specs.Words.{CreateFile, IsNoLine, RunFile, RunScript, SaysUsage, SpellsLine, usage};
 
 use crate::command::Command;
 use crate::create::create;
-use crate::session::serve;
+use crate::laws::{made_files_are_well, nothing_is_run};
+use crate::running::{run_path, run_scratch};
 use crate::status::Status;
 use mdc_outside::{Failed, Host, Source};
 use mdc_values::Memory;
 use page_store::Shape;
-use sql_reader::{one_closing, one_reading};
 use std::alloc::Global;
 
 /// What a call of `run` ends with: its status, and the host that it was given.
@@ -30,10 +34,10 @@ pub struct Ended<H> {
 
 const USAGE: &[u8] = b"usage: mdc create FILE EXTENTS PAGES | run FILE | check FILE | work N\n";
 
-/// Runs the program on the words after its name. `run -` runs the script of `input` in memory and says one reply for
-/// each statement, as the statement closes. `create FILE EXTENTS PAGES` makes an empty database in the file, and says
-/// `OK` once it is on the disk, or `FILE EXISTS` where the file has a byte. For all other words nothing is read, and the
-/// usage line is said.
+/// Runs the program on the words after its name. `run FILE` runs the script of `input` on the database in the file, and says one
+/// reply for each statement, as the statement closes. `run -` runs it on a scratch file, which is made first. `create FILE EXTENTS
+/// PAGES` makes an empty database in the file, and says `OK` once it is on the disk, or `FILE EXISTS` where the file has a byte.
+/// For all other words nothing is read, and the usage line is said.
 pub fn run<I: Source, H: Host>(
     alloc: Global,
     words: &Vec<String>,
@@ -42,43 +46,81 @@ pub fn run<I: Source, H: Host>(
 ) -> Ended<H>
     ensures statuses { IsStatus result.status.0 }
 
-    // The words of a script: what it says, and what it takes, for each status.
-    ensures script { SpellsLine (map string_bytes words.now.items) RunScript
-        → RunsFrom (I.left input.old) (H.tape host) (I.left input.new) (H.tape result.host) result.status.0
-        (LeavesReplies H.clock H.moment H.file H.tape host result.host)
-        × IsScriptStatus result.status.0 }
+    // `run FILE`, on any file: the end has its cause in the file, and its line is said behind all else.
+    ensures served { (path : List ℕ) → SpellsLine (map string_bytes words.now.items) (RunFile path)
+        → ServesPath (H.file host) (H.tape host) (H.tape result.host) result.status.0
+        × MayAttachAt (H.attaches host) path false (H.attaches result.host) × IsScriptStatus result.status.0 }
 
-    // The words of a create: what it does to the file and says, for each status.
+    // On a file that is well: one run of the script's items, whose replies are those of plain lists of rows, and what a crash
+    // leaves at each moment of it.
+    ensures runs { (path : List ℕ) → SpellsLine (map string_bytes words.now.items) (RunFile path)
+        → (before : File) (said : List ℕ) → H.file host ≡ Some before → H.tape host ≡ Some said → IsWell before.bytes
+        → RunsPath H.Disk before said (I.left input.old) (I.left input.new) host result.host result.status.0 }
+
+    // So the next run keeps the promise too.
+    ensures stays_well { (path : List ℕ) → SpellsLine (map string_bytes words.now.items) (RunFile path)
+        → (before : File) (said : List ℕ) → H.file host ≡ Some before → H.tape host ≡ Some said → AreWell before
+        → (after : File) × (H.file result.host ≡ Some after) × AreWell after }
+
+    // On a file that can't be opened: the line of its cause, and nothing is read.
+    ensures refuses { (path : List ℕ) → SpellsLine (map string_bytes words.now.items) (RunFile path)
+        → (before : File) (said : List ℕ) → H.file host ≡ Some before → H.tape host ≡ Some said → (IsServed before.bytes → ⊥)
+        → RefusesFile before.bytes said (H.tape result.host) result.status.0 × (input.new ≡ input.old) }
+
+    // Such a file stays, unless the disk failed.
+    ensures keeps_refused { (path : List ℕ) → SpellsLine (map string_bytes words.now.items) (RunFile path)
+        → (before : File) → H.file host ≡ Some before → (IsServed before.bytes → ⊥) → (result.status.0 ≡ 3 → ⊥)
+        → (after : File) × (H.file result.host ≡ Some after) × (after.bytes ≡ before.bytes) }
+
+    // `run -`: a scratch file without a byte is made a database, and the script runs on it.
+    ensures scratch { SpellsLine (map string_bytes words.now.items) RunScript
+        → (before : File) (said : List ℕ) → H.file host ≡ Some before → H.tape host ≡ Some said → length before.bytes ≡ 0
+        → RunsScratch said (I.left input.old) (I.left input.new) (H.tape result.host) result.status.0 }
+    ensures scratch_full { SpellsLine (map string_bytes words.now.items) RunScript
+        → (before : File) (said : List ℕ) → H.file host ≡ Some before → H.tape host ≡ Some said → 0 < length before.bytes
+        → RefusesScratch said (H.tape result.host) result.status.0 × (H.file result.host ≡ H.file host) × (input.new ≡ input.old) }
+    ensures scratch_any { SpellsLine (map string_bytes words.now.items) RunScript
+        → MayAttachAt (H.attaches host) (codes "-") true (H.attaches result.host) × IsScriptStatus result.status.0 }
+
+    // The words of a create: what it does to the file and says, for each status, and what a crash leaves.
     ensures created { (path : List ℕ) (extents extent_pages : ℕ) → SpellsLine (map string_bytes words.now.items) (CreateFile path extents extent_pages)
         → Creates extents extent_pages (H.file host) (H.file result.host) (H.tape host) (H.tape result.host) result.status.0
         × MayAttach (H.attaches host) path (H.attaches result.host) × (input.new ≡ input.old) }
+    ensures created_time { (path : List ℕ) (extents extent_pages : ℕ) → SpellsLine (map string_bytes words.now.items) (CreateFile path extents extent_pages)
+        → (before : File) (said : List ℕ) → H.file host ≡ Some before → H.tape host ≡ Some said
+        → OverTime H.clock H.moment (LeftByCreate extents extent_pages before said) host result.host }
+
+    // What it makes is well, and stands for no table: `run FILE` serves it.
+    ensures makes_well { (path : List ℕ) (extents extent_pages : ℕ) → SpellsLine (map string_bytes words.now.items) (CreateFile path extents extent_pages)
+        → result.status.0 ≡ 0 → ForSome (H.file result.host) (λ file. AreWell file × StandsForNothing file.bytes) }
 
     // All other words: nothing is read.
     ensures usage { IsNoLine (map string_bytes words.now.items)
-        → SaysUsage (H.tape host) (H.tape result.host) result.status.0 × (input.new ≡ input.old) }
-
-    // Only a create calls the disk.
-    ensures no_disk { ((path : List ℕ) (extents extent_pages : ℕ) → SpellsLine (map string_bytes words.now.items) (CreateFile path extents extent_pages) → ⊥)
-        → IsUntouched H.file H.attaches H.disk_faults host result.host }
+        → SaysUsage (H.tape host) (H.tape result.host) result.status.0 × (input.new ≡ input.old)
+        × IsUntouched H.file H.attaches H.disk_faults host result.host }
+    ensures usage_time { IsNoLine (map string_bytes words.now.items)
+        → (before : File) (said : List ℕ) → H.file host ≡ Some before → H.tape host ≡ Some said
+        → OverTime H.clock H.moment (IsMoment before.since said usage) host result.host }
 
     // The outside stops a run exactly where a call to it failed: each count of faults rose, or is as it was.
     ensures disk { CountsFault (result.status.0 ≡ 3) (H.disk_faults host) (H.disk_faults result.host) }
     ensures reads { CountsFault (result.status.0 ≡ 4) (I.read_faults input.old) (I.read_faults input.new) }
     ensures says { CountsFault (result.status.0 ≡ 5) (H.say_faults host) (H.say_faults result.host) }
 
-    // Time goes on, so that one run may follow another. What a crash could leave before the run it may leave still, and
-    // each command has moments of its own.
+    // Time goes on, and what was told is told still.
     ensures later { H.clock host ≤ H.clock result.host }
     ensures told { StaysTold (H.file host) (H.file result.host) × StaysTold (H.tape host) (H.tape result.host) }
-    ensures time { (before : File) (said : List ℕ) → H.file host ≡ Some before → H.tape host ≡ Some said
-        → OverTime H.clock H.moment (LeftByRun (map string_bytes words.now.items) (I.left input.old) before said) host result.host }
 
-    // Where nothing failed, a script within the limit is run to its end, unless memory is wanted.
-    ensures complete { SpellsLine (map string_bytes words.now.items) RunScript
+    // Where nothing failed, a script within the limit is run to its end on a file that is well, and on a scratch file without a
+    // byte, unless memory is wanted.
+    ensures complete { (Rose (H.disk_faults host) (H.disk_faults result.host) → ⊥)
         → (Rose (I.read_faults input.old) (I.read_faults input.new) → ⊥)
         → (Rose (H.say_faults host) (H.say_faults result.host) → ⊥)
         → IsWithinLimit (I.left input.old)
-        → (result.status.0 ≡ 0) ⊎ (result.status.0 ≡ 1) ⊎ (result.status.0 ≡ 8) }
+        → (before : File) (said : List ℕ) → H.file host ≡ Some before → H.tape host ≡ Some said
+        → ((path : List ℕ) × SpellsLine (map string_bytes words.now.items) (RunFile path) × IsWell before.bytes)
+        ⊎ (SpellsLine (map string_bytes words.now.items) RunScript × (length before.bytes ≡ 0))
+        → IsComplete result.status.0 }
 
     // Where nothing failed, a create makes a database of a file without a byte, unless memory is wanted.
     ensures completes { (path : List ℕ) (extents extent_pages : ℕ) → SpellsLine (map string_bytes words.now.items) (CreateFile path extents extent_pages)
@@ -86,38 +128,16 @@ pub fn run<I: Source, H: Host>(
         → (Rose (H.say_faults host) (H.say_faults result.host) → ⊥)
         → Completes (H.file host) result.status.0 }
 {
-    // The laws that a script has one list of items, and that what a reader has given begins it.
-    one_reading();
-    one_closing();
+    nothing_is_run();
     match Command::of_words(alloc, words.as_slice()) {
-        Ok(Some(Command::RunScript)) => run_script(alloc, input, host),
+        Ok(Some(Command::RunScript)) => run_scratch(alloc, input, host),
+        Ok(Some(Command::RunFile { path })) => run_path(alloc, path, input, host),
         Ok(Some(Command::Create { path, shape })) => create_file(host, path, shape),
         Ok(None) => say_usage(host),
         Err(Memory) => Ended {
             status: Status::MEMORY,
             host,
         },
-    }
-}
-
-// Runs the script of the input.
-fn run_script<I: Source, H: Host>(alloc: Global, input: &mut I, host: H) -> Ended<H>
-    ensures runs { RunsFrom (I.left input.old) (H.tape host) (I.left input.new) (H.tape result.host) result.status.0
-        (LeavesReplies H.clock H.moment H.file H.tape host result.host) }
-    ensures statuses { IsScriptStatus result.status.0 }
-    ensures disk { IsUntouched H.file H.attaches H.disk_faults host result.host }
-    ensures reads { CountsFault (result.status.0 ≡ 4) (I.read_faults input.old) (I.read_faults input.new) }
-    ensures says { CountsFault (result.status.0 ≡ 5) (H.say_faults host) (H.say_faults result.host) }
-    ensures later { H.clock host ≤ H.clock result.host }
-    ensures told { StaysTold (H.tape host) (H.tape result.host) }
-    ensures time { (before : File) (said : List ℕ) → H.file host ≡ Some before → H.tape host ≡ Some said
-        → OverTime H.clock H.moment (LeftByScript (I.left input.old) before said) host result.host }
-{
-    let mut host = host;
-    let served = serve(alloc, input, &mut host);
-    Ended {
-        status: Status::of(&served),
-        host,
     }
 }
 
@@ -134,7 +154,9 @@ fn create_file<H: Host>(host: H, path: &str, shape: Shape) -> Ended<H>
     ensures completes { (Rose (H.disk_faults host) (H.disk_faults result.host) → ⊥)
         → (Rose (H.say_faults host) (H.say_faults result.host) → ⊥)
         → Completes (H.file host) result.status.0 }
+    ensures makes_well { result.status.0 ≡ 0 → ForSome (H.file result.host) (λ file. AreWell file × StandsForNothing file.bytes) }
 {
+    made_files_are_well();
     let mut host = host;
     let created = create(&mut host, path, shape);
     Ended {

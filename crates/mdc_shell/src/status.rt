@@ -1,13 +1,10 @@
-// How a run ends.
+// The statuses of the program.
 ghost use Rattle.std.specs.Prelude.{◌≡◌};
-ghost use Rattle.mdc_shell.specs.declared.status.Stop.TheVariants.{Unsaid, Memory};
-ghost use Rattle.mdc_shell.specs.Reader.{stop_of};
-ghost use Rattle.mdc_shell.specs.Status.{served_by, status_of, status_of_created};
+ghost use Rattle.mdc_shell.specs.Status.{status_of, status_of_created};
 
 use crate::create::Created;
-use mdc_outside::Failed;
-use mdc_values::Memory;
-use sql_reader::ReadStop;
+use file_session::FileStop;
+use script_session::Served;
 
 /// The status that the program ends with.
 #[derive(Clone, Copy, Debug, PartialEq, Eq)]
@@ -32,8 +29,8 @@ impl Status {
     /// The host failed to take what was said.
     pub const UNSAID: Status = Status(5);
 
-    /// The file to be made has a byte already.
-    pub const EXISTS: Status = Status(6);
+    /// The file is refused: to be made, it has a byte already; to be run, it is no database of this version.
+    pub const FILE_REFUSED: Status = Status(6);
 
     /// The script has more bytes than its limit.
     pub const TOO_LONG: Status = Status(7);
@@ -41,17 +38,24 @@ impl Status {
     /// Want of memory.
     pub const MEMORY: Status = Status(8);
 
+    /// The file is damaged.
+    pub const DAMAGED: Status = Status(9);
+
     /// The status of a script that was read to its end, with a refusal or without, or stopped.
-    pub fn of(served: &Result<Served, Stop>) -> Status
-        ensures { result.0 ≡ status_of served.now }
+    pub fn of(end: &Result<Served, FileStop>) -> Status
+        ensures { result.0 ≡ status_of end.now }
     {
-        match served {
+        match end {
             Ok(Served::AllDone) => Status::DONE,
             Ok(Served::SomeRefused) => Status::REFUSED,
-            Err(Stop::Unread) => Status::UNREAD,
-            Err(Stop::Unsaid) => Status::UNSAID,
-            Err(Stop::TooLong) => Status::TOO_LONG,
-            Err(Stop::Memory) => Status::MEMORY,
+            Err(FileStop::Device) => Status::DISK_FAILED,
+            Err(FileStop::Unread) => Status::UNREAD,
+            Err(FileStop::Unsaid) => Status::UNSAID,
+            Err(FileStop::Unmade) | Err(FileStop::NotMdc) | Err(FileStop::Version(_)) =>
+                Status::FILE_REFUSED,
+            Err(FileStop::TooLong) => Status::TOO_LONG,
+            Err(FileStop::Memory) => Status::MEMORY,
+            Err(FileStop::Damaged(_)) => Status::DAMAGED,
         }
     }
 
@@ -63,70 +67,7 @@ impl Status {
             Created::Made => Status::DONE,
             Created::DiskFailed => Status::DISK_FAILED,
             Created::Unsaid => Status::UNSAID,
-            Created::Exists => Status::EXISTS,
-        }
-    }
-}
-
-/// How the statements of a script were answered that was read to its end.
-#[derive(Clone, Copy, Debug, PartialEq, Eq)]
-pub enum Served {
-    /// None was refused.
-    AllDone,
-    /// One at least was refused.
-    SomeRefused,
-}
-
-impl Served {
-    /// By whether a statement was refused.
-    pub fn by_refusal(refused: bool) -> Served
-        ensures { result ≡ served_by refused }
-    {
-        if refused {
-            Served::SomeRefused
-        } else {
-            Served::AllDone
-        }
-    }
-}
-
-/// Why a script isn't run to its end.
-#[derive(Clone, Copy, Debug, PartialEq, Eq)]
-pub enum Stop {
-    /// A read of the source failed.
-    Unread,
-    /// The host failed to take a reply.
-    Unsaid,
-    /// The script has more bytes than its limit.
-    TooLong,
-    /// Want of memory.
-    Memory,
-}
-
-impl From<Memory> for Stop {
-    ghost from_gives = { λ _ stop. stop ≡ Memory };
-
-    fn from(_: Memory) -> Stop {
-        Stop::Memory
-    }
-}
-
-impl From<Failed> for Stop {
-    ghost from_gives = { λ _ stop. stop ≡ Unsaid };
-
-    fn from(_: Failed) -> Stop {
-        Stop::Unsaid
-    }
-}
-
-impl From<ReadStop> for Stop {
-    ghost from_gives = { λ read stop. stop ≡ stop_of read };
-
-    fn from(read: ReadStop) -> Stop {
-        match read {
-            ReadStop::Source => Stop::Unread,
-            ReadStop::TooLong => Stop::TooLong,
-            ReadStop::Memory => Stop::Memory,
+            Created::Exists => Status::FILE_REFUSED,
         }
     }
 }

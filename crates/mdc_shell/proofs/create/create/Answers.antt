@@ -1,7 +1,7 @@
 use Rattle.std.proofs.Common.{◌∙◌, Err, refl, ap}
 use Rattle.mdc_words.proofs.TimeLemmas.{over_time_then, over_time_wider}
 use Rattle.mdc_shell.proofs.CreateLemmas.{completes_made, creates_exists, creates_failed, creates_made, left_by_making-told, made_of_nothing, says_end-told, tape_stays}
-use Rattle.mdc_shell.proofs.Told.{same-told}
+use Rattle.script_session.proofs.ToldLemmas.{same-told}
 use Rattle.mdc_shell.proofs.LeavingLemmas.{left_by_create-exists, left_by_create-made, left_by_create-making}
 use Rattle.mdc_shell.proofs.create.create.Goals as goal
 

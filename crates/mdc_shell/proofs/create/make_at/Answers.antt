@@ -8,17 +8,17 @@ use Rattle.mdc_shell.proofs.create.make_at.Goals as goal
 
 pub returns-in_err-attach-clause-time : goal.returns-in_err-attach-clause-time
 returns-in_err-attach-clause-time g c = λ before said is told.
-    over_time_wider c.attach.ensures.time (of_making-quiet c.args.shape.extents c.args.shape.extent_pages _ _ before said is told)
+    over_time_wider c.attach.ensures.time (of_making-quiet c.args.extents c.args.extent_pages _ _ before said is told)
 
 pub returns-clause-made : goal.returns-clause-made
-returns-clause-made g c = both_made c.make.result c.args.shape.extents c.args.shape.extent_pages _ c.make.ensures.made c.make.ensures.empty
+returns-clause-made g c = both_made c.make.result c.args.extents c.args.extent_pages _ c.make.ensures.made c.make.ensures.empty
 
 pub returns-clause-refused : goal.returns-clause-refused
 returns-clause-refused g c = λ before is. c.make.ensures.refused (opened before) (c.in_ok-attach.ensures.opened ∙ ap (option_map opened) is)
 
 pub returns-clause-time : goal.returns-clause-time
 returns-clause-time g c = λ before said is told.
-    over_time_then (over_time_wider c.attach.ensures.time (of_making-quiet c.args.shape.extents c.args.shape.extent_pages _ _ before said is told))
+    over_time_then (over_time_wider c.attach.ensures.time (of_making-quiet c.args.extents c.args.extent_pages _ _ before said is told))
     (c.make.ensures.leaves.crash (opened before) said (c.in_ok-attach.ensures.opened ∙ ap (option_map opened) is) (ap (λ b. b.tape) c.attach.ensures.beside ∙ told))
 
 pub returns-clause-exists : goal.returns-clause-exists
@@ -27,10 +27,10 @@ returns-clause-exists g c = λ is.
     (some, c.make.ensures.as_before is ∙ opens_as_it_was _ _ (g.met.D.Disk.sound c.args.disk.now) c.in_ok-attach.ensures.opened some)
 
 pub returns-in_err-attach-clause-told : goal.returns-in_err-attach-clause-told
-returns-in_err-attach-clause-told g c = left_by_attach c.args.shape.extents c.args.shape.extent_pages _ _ true (g.met.D.Disk.sound c.args.disk.now) c.in_err-attach.ensures.file_failed
+returns-in_err-attach-clause-told g c = left_by_attach c.args.extents c.args.extent_pages _ _ true (g.met.D.Disk.sound c.args.disk.now) c.in_err-attach.ensures.file_failed
 
 pub returns-clause-told : goal.returns-clause-told
-returns-clause-told g c = left_by_making c.args.shape.extents c.args.shape.extent_pages _ _ _ c.in_ok-attach.ensures.opened
+returns-clause-told g c = left_by_making c.args.extents c.args.extent_pages _ _ _ c.in_ok-attach.ensures.opened
     (λ before is. let left = c.make.ensures.leaves.told before is in (left.0, left.1, left.2))
 
 pub returns-clause-untouched : goal.returns-clause-untouched

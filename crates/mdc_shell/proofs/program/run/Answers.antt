@@ -1,34 +1,72 @@
-use Rattle.std.proofs.Common.{[], Err, refl, inr}
-use Rattle.mdc_shell.specs.declared.status.Stop.TheVariants.{Memory}
-use Rattle.mdc_words.proofs.TimeLemmas.{over_time_none, over_time_wider}
-use Rattle.mdc_outside.proofs.MomentLemmas.{within_call-told}
-use Rattle.mdc_shell.specs.Words.{CreateFile, RunScript}
-use Rattle.mdc_shell.specs.Leaving.{LeavesReplies}
-use Rattle.mdc_shell.proofs.LeavingLemmas.{leaves_replies-none, leaves_replies-wider, left_by_line, left_by_usage}
-use Rattle.mdc_shell.proofs.Ends.{ends_first, runs_to}
-use Rattle.mdc_shell.proofs.Scripts.{ScriptLaws, laws_by}
-use Rattle.mdc_shell.proofs.Told.{same-told, takes_nothing, took_nothing}
+use Rattle.std.proofs.Common.{◌∙◌, inl, inr, refl, sym}
+use Rattle.mdc_words.specs.Time.{OverTime}
+use Rattle.mdc_words.proofs.TimeLemmas.{over_time_none}
+use Rattle.file_session.specs.declared.stop.FileStop.TheVariants.{Memory}
+use Rattle.mdc_shell.specs.Leaving.{LeftByCreate}
+use Rattle.mdc_shell.specs.Words.{CreateFile, RunFile, RunScript}
+use Rattle.mdc_shell.proofs.Asking.{one_line}
+use Rattle.mdc_shell.proofs.CreateLemmas.{create_line-one}
+use Rattle.mdc_shell.proofs.RunsLemmas.{refuses_file-before, runs_items-complete, runs_path-before, runs_scratch-ended, serves_path-before}
 use Rattle.mdc_shell.proofs.program.run.Goals as goal
 
-pub returns-in-Ok-Some-RunScript-clause-time : goal.returns-in-Ok-Some-RunScript-clause-time
-returns-in-Ok-Some-RunScript-clause-time g c = λ before said is told.
+pub returns-in-Ok-Some-RunScript-clause-complete : goal.returns-in-Ok-Some-RunScript-clause-complete
+returns-in-Ok-Some-RunScript-clause-complete g c = λ no_disk no_read no_say within before said is told asks.
     let a = c.in-Ok-Some-RunScript in
     let asked = rw (a.field-0-is, a.field-0-0-is, c.as_slice.ensures.value) at a.ensures in
-    over_time_wider (c.run_script.ensures.time before said is told) (left_by_line _ RunScript _ before said asked)
+    elim asks [
+      | inl file ↦ absurd (let e = one_line _ RunScript (RunFile file.0) asked file.1 in cc)
+      | inr scratch ↦
+          let run = c.run_scratch.ensures.runs before said is told scratch.1 in
+          runs_items-complete said _ _ _ run.end_ c.run_scratch.result.status.0 run.run run.status_is within
+          (λ e. no_disk (c.run_scratch.ensures.disk.rose e)) (λ e. no_read (c.run_scratch.ensures.reads.rose e)) (λ e. no_say (c.run_scratch.ensures.says.rose e))
+    ]
 
-pub returns-in-Ok-Some-Create-clause-time : goal.returns-in-Ok-Some-Create-clause-time
-returns-in-Ok-Some-Create-clause-time g c = λ before said is told.
+pub returns-in-Ok-Some-RunFile-clause-complete : goal.returns-in-Ok-Some-RunFile-clause-complete
+returns-in-Ok-Some-RunFile-clause-complete g c = λ no_disk no_read no_say within before said is told asks.
+    let a = c.in-Ok-Some-RunFile in
+    let asked = rw (a.field-0-is, a.field-0-0-is, c.as_slice.ensures.value) at a.ensures in
+    elim asks [
+      | inl file ↦
+          let run = c.run_path.ensures.runs before said is told file.2 in
+          runs_items-complete said _ _ _ run.end_ c.run_path.result.status.0 run.run.run run.status_is within
+          (λ e. no_disk (c.run_path.ensures.disk.rose e)) (λ e. no_read (c.run_path.ensures.reads.rose e)) (λ e. no_say (c.run_path.ensures.says.rose e))
+      | inr scratch ↦ absurd (let e = one_line _ (RunFile a.path.now) RunScript asked scratch.0 in cc)
+    ]
+
+pub returns-in-Ok-Some-Create-clause-created_time : goal.returns-in-Ok-Some-Create-clause-created_time
+returns-in-Ok-Some-Create-clause-created_time g c = λ path extents extent_pages line before said is told.
     let a = c.in-Ok-Some-Create in
     let asked = rw (a.field-0-is, a.field-0-0-is, c.as_slice.ensures.value) at a.ensures in
-    over_time_wider (c.create_file.ensures.time before said is told) (left_by_line _ (CreateFile a.path.now a.shape.extents a.shape.extent_pages) _ before said asked)
+    create_line-one _ a.path.now path a.shape.extents a.shape.extent_pages extents extent_pages
+    (λ n m. OverTime g.H.Disk.clock g.H.Disk.moment (LeftByCreate n m before said) c.args.host c.create_file.result.host) asked line (c.create_file.ensures.time before said is told)
 
-pub returns-in-Ok-None-clause-script : goal.returns-in-Ok-None-clause-script
-returns-in-Ok-None-clause-script g c = λ line.
+pub returns-in-Ok-None-clause-served : goal.returns-in-Ok-None-clause-served
+returns-in-Ok-None-clause-served g c = λ path line.
+    let asked = rw (c.in-Ok-None.field-0-is, c.as_slice.ensures.value) at c.in-Ok-None.ensures in
+    absurd (asked (RunFile path) line)
+
+pub returns-in-Ok-None-clause-runs : goal.returns-in-Ok-None-clause-runs
+returns-in-Ok-None-clause-runs g c = λ path line.
+    let asked = rw (c.in-Ok-None.field-0-is, c.as_slice.ensures.value) at c.in-Ok-None.ensures in
+    absurd (asked (RunFile path) line)
+
+pub returns-in-Ok-None-clause-refuses : goal.returns-in-Ok-None-clause-refuses
+returns-in-Ok-None-clause-refuses g c = λ path line.
+    let asked = rw (c.in-Ok-None.field-0-is, c.as_slice.ensures.value) at c.in-Ok-None.ensures in
+    absurd (asked (RunFile path) line)
+
+pub returns-in-Ok-None-clause-scratch : goal.returns-in-Ok-None-clause-scratch
+returns-in-Ok-None-clause-scratch g c = λ line.
     let asked = rw (c.in-Ok-None.field-0-is, c.as_slice.ensures.value) at c.in-Ok-None.ensures in
     absurd (asked RunScript line)
 
-pub returns-in-Ok-None-clause-complete : goal.returns-in-Ok-None-clause-complete
-returns-in-Ok-None-clause-complete g c = λ line.
+pub returns-in-Ok-None-clause-scratch_full : goal.returns-in-Ok-None-clause-scratch_full
+returns-in-Ok-None-clause-scratch_full g c = λ line.
+    let asked = rw (c.in-Ok-None.field-0-is, c.as_slice.ensures.value) at c.in-Ok-None.ensures in
+    absurd (asked RunScript line)
+
+pub returns-in-Ok-None-clause-scratch_any : goal.returns-in-Ok-None-clause-scratch_any
+returns-in-Ok-None-clause-scratch_any g c = λ line.
     let asked = rw (c.in-Ok-None.field-0-is, c.as_slice.ensures.value) at c.in-Ok-None.ensures in
     absurd (asked RunScript line)
 
@@ -37,29 +75,44 @@ returns-in-Ok-None-clause-created g c = λ path extents extent_pages line.
     let asked = rw (c.in-Ok-None.field-0-is, c.as_slice.ensures.value) at c.in-Ok-None.ensures in
     absurd (asked (CreateFile path extents extent_pages) line)
 
-pub returns-in-Ok-None-clause-time : goal.returns-in-Ok-None-clause-time
-returns-in-Ok-None-clause-time g c = λ before said is told.
+pub returns-in-Ok-None-clause-created_time : goal.returns-in-Ok-None-clause-created_time
+returns-in-Ok-None-clause-created_time g c = λ path extents extent_pages line.
     let asked = rw (c.in-Ok-None.field-0-is, c.as_slice.ensures.value) at c.in-Ok-None.ensures in
-    over_time_wider c.say_usage.ensures.time (λ image taken within. left_by_usage _ _ before said asked image taken (within_call-told before said image taken is told within))
+    absurd (asked (CreateFile path extents extent_pages) line)
+
+pub returns-in-Ok-None-clause-makes_well : goal.returns-in-Ok-None-clause-makes_well
+returns-in-Ok-None-clause-makes_well g c = λ path extents extent_pages line.
+    let asked = rw (c.in-Ok-None.field-0-is, c.as_slice.ensures.value) at c.in-Ok-None.ensures in
+    absurd (asked (CreateFile path extents extent_pages) line)
 
 pub returns-in-Ok-None-clause-completes : goal.returns-in-Ok-None-clause-completes
 returns-in-Ok-None-clause-completes g c = λ path extents extent_pages line.
     let asked = rw (c.in-Ok-None.field-0-is, c.as_slice.ensures.value) at c.in-Ok-None.ensures in
     absurd (asked (CreateFile path extents extent_pages) line)
 
-pub returns-in-Err-clause-script : goal.returns-in-Err-clause-script
-returns-in-Err-clause-script g c = λ line.
-    let laws : ScriptLaws = laws_by c.one_reading.ensures.some c.one_closing.ensures.some c.one_closing.ensures.one c.one_closing.ensures.front c.one_closing.ensures.first in
-    (runs_to _ _ _ _ [] [] (Err Memory) (LeavesReplies g.H.Disk.clock g.H.Disk.moment g.H.Disk.file g.H.Host.tape c.args.host c.args.host) [] (leaves_replies-wider g.H.Disk.clock g.H.Disk.moment g.H.Disk.file g.H.Host.tape c.args.host c.args.host) (leaves_replies-none g.H.Disk.clock g.H.Disk.moment g.H.Disk.file g.H.Host.tape c.args.host []) (took_nothing _ []) (takes_nothing _) (λ rest is. ends_first laws rest), inr (inr (inr (inr (inr refl)))))
+pub returns-in-Ok-None-clause-complete : goal.returns-in-Ok-None-clause-complete
+returns-in-Ok-None-clause-complete g c = λ no_disk no_read no_say within before said is told asks.
+    let asked = rw (c.in-Ok-None.field-0-is, c.as_slice.ensures.value) at c.in-Ok-None.ensures in
+    elim asks [ inl file ↦ absurd (asked (RunFile file.0) file.1) | inr scratch ↦ absurd (asked RunScript scratch.0) ]
 
-pub returns-in-Err-clause-time : goal.returns-in-Err-clause-time
-returns-in-Err-clause-time g c = λ before said is told. over_time_none
+pub returns-in-Err-clause-served : goal.returns-in-Err-clause-served
+returns-in-Err-clause-served g c = λ path line. (serves_path-before _ _ _ Memory tt refl, inr refl, inr (inr (inr (inr (inr (inr (inr (inl refl))))))))
 
-pub returns-in-Ok-Some-RunScript-clause-told : goal.returns-in-Ok-Some-RunScript-clause-told
-returns-in-Ok-Some-RunScript-clause-told g c = (same-told _ _ c.run_script.ensures.disk.same_file, c.run_script.ensures.told)
+pub returns-in-Err-clause-runs : goal.returns-in-Err-clause-runs
+returns-in-Err-clause-runs g c = λ path line before said is told well.
+    runs_path-before g.H.Disk before said _ c.args.host c.args.host Memory well (c.nothing_is_run.ensures.well before.bytes said _ Memory tt well)
+    ((g.met.H.Host.lies_beside c.args.host).0 ∙ told) over_time_none
 
-pub returns-in-Ok-None-clause-told : goal.returns-in-Ok-None-clause-told
-returns-in-Ok-None-clause-told g c = (same-told _ _ c.say_usage.ensures.disk.same_file, c.say_usage.ensures.told)
+pub returns-in-Err-clause-refuses : goal.returns-in-Err-clause-refuses
+returns-in-Err-clause-refuses g c = λ path line before said is told not_served. (refuses_file-before before.bytes said _ Memory tt told, refl)
 
-pub returns-in-Err-clause-told : goal.returns-in-Err-clause-told
-returns-in-Err-clause-told g c = (same-told _ _ refl, same-told _ _ refl)
+pub returns-in-Err-clause-scratch : goal.returns-in-Err-clause-scratch
+returns-in-Err-clause-scratch g c = λ line before said is told empty. runs_scratch-ended said _ _ _ _ _ 8 (c.nothing_is_run.ensures.scratch said _ Memory tt) (sym told) refl
+
+pub returns-in-Ok-None-clause-keeps_refused : goal.returns-in-Ok-None-clause-keeps_refused
+returns-in-Ok-None-clause-keeps_refused g c = λ path line.
+    let asked = rw (c.in-Ok-None.field-0-is, c.as_slice.ensures.value) at c.in-Ok-None.ensures in
+    absurd (asked (RunFile path) line)
+
+pub returns-in-Err-clause-keeps_refused : goal.returns-in-Err-clause-keeps_refused
+returns-in-Err-clause-keeps_refused g c = λ path line before is not_served not_failed. (before, is, refl)

@@ -1,4 +1,4 @@
-use Rattle.mdc_shell.proofs.Told.{says-told}
+use Rattle.mdc_shell.proofs.ToldLemmas.{says-told}
 use Rattle.mdc_shell.proofs.program.say_usage.Goals as goal
 
 pub returns-clause-told : goal.returns-clause-told

@@ -1,0 +1,96 @@
+-- A run on a file that was just made is one on a database without a table.
+use Rattle.std.proofs.Common.{◌≡◌, ℕ, List, IsTrue, Option, Some, Result, Err, refl, sym, subst, ◌∙◌}
+use Rattle.mdc_ast.specs.Reading.{Item}
+use Rattle.mdc_ast.specs.declared.reply.Outcome.{Outcome}
+use Rattle.mdc_ast.specs.meaning.Database.{empty_database}
+use Rattle.mdc_ast.specs.meaning.Definitions.{AreValidDefs, no_tables}
+use Rattle.mdc_ast.specs.meaning.Session.{Session, session_on}
+use Rattle.mdc_outside.specs.Disk.{File}
+use Rattle.store_api.specs.Extents.{is_shape}
+use Rattle.extent_map.specs.declared.extents.Extents.{Extents}
+use Rattle.table_trees.specs.ToldPages.{PageList}
+use Rattle.mdc_sound.specs.SoundDatabase.{IsSoundDatabase}
+use Rattle.mdc_sound.specs.StandsForDatabase.{PagesStandFor}
+use Rattle.stored_catalog.specs.StoredDefinitions.{AreStored}
+use Rattle.page_store.specs.Empty.{IsEmptyDatabase}
+use Rattle.page_store.specs.Fresh.{HoldsFresh}
+use Rattle.page_store.specs.Standing.{pages_of}
+use Rattle.made_database.specs.MadePages.{made_pages}
+use Rattle.script_engine.specs.Held.{HeldPages, StandsForSession}
+use Rattle.script_session.specs.Going.{GoesOnPages}
+use Rattle.script_session.specs.Leaving.{AreServedPages}
+use Rattle.script_session.specs.Lists.{GoesOnLists}
+use Rattle.script_session.specs.declared.stop.Served.{Served}
+use Rattle.file_session.specs.Serving.{RunsItems}
+use Rattle.file_session.specs.Well.{StatesExtents}
+use Rattle.file_session.specs.declared.stop.FileStop.{FileStop}
+use Rattle.mdc_shell.specs.Run.{IsStopBefore, RunsScratch}
+use Rattle.mdc_shell.specs.Status.{status_of}
+use Rattle.file_session.proofs.MadeFilesLemmas.{made_states}
+use Rattle.mdc_shell.proofs.NothingRunLemmas.{nothing_run, opened_session}
+
+-- The laws of the pages of a database that was just made.
+pub record MadeLaws : Type 0 where
+  pub sound : (ext : Extents) → IsSoundDatabase ext (made_pages ext.cap)
+  pub stands : (ext : Extents) → PagesStandFor ext (made_pages ext.cap) empty_database
+  pub stored : (ext : Extents) → AreStored (made_pages ext.cap) no_tables
+  pub valid : AreValidDefs no_tables
+  pub extents : (extents extent_pages : ℕ) → IsTrue (is_shape extents extent_pages) → (ext : Extents) × (ext.cap ≡ extents) × (ext.extent_pages ≡ extent_pages)
+
+-- the pages that are made are served
+made_pages-served : MadeLaws → (ext : Extents) → AreServedPages ext (made_pages ext.cap)
+made_pages-served laws ext = record { sound = laws.sound ext; defs = no_tables; stored = laws.stored ext; valid = laws.valid }
+
+-- the law of a run over pages: it is one over lists
+abbrev pub OverLists : Type 0
+OverLists = (ext : Extents) (held : HeldPages) (items : List Item) (outcomes : List Outcome) (states : List HeldPages) → GoesOnPages ext held items outcomes states
+    → (session : Session) → StandsForSession ext held session → (sessions : List Session) × GoesOnLists ext held session items outcomes states sessions
+
+-- a run on pages that stand for no table is one over a database without a table
+over_nothing : OverLists → (ext : Extents) (pages : PageList) (said : List ℕ) (script left tape : Option (List ℕ)) (end_ : Result Served FileStop) → PagesStandFor ext pages empty_database
+    → RunsItems ext pages said script left tape end_ → (run : RunsItems ext pages said script left tape end_) × (run.db ≡ empty_database)
+over_nothing over ext pages said script left tape end_ stands run =
+    let all = over ext run.held run.items run.outcomes run.states run.goes (session_on empty_database) (opened_session ext pages run.held empty_database run.opened stands) in (
+      record {
+        held = run.held;
+        opened = run.opened;
+        db = empty_database;
+        stands = stands;
+        items = run.items;
+        outcomes = run.outcomes;
+        states = run.states;
+        in_hand = run.in_hand;
+        goes = run.goes;
+        sessions = all.0;
+        lists = all.1;
+        more = run.more;
+        tape_is = run.tape_is;
+        end_ = run.end_;
+        undamaged = run.undamaged;
+        result_is = run.result_is;
+        ends = run.ends;
+      },
+      refl,
+    )
+
+-- a run on a scratch file that was just made
+pub made_file-runs : MadeLaws → OverLists → (file : File) (ext : Extents) (said : List ℕ) (script left tape : Option (List ℕ)) (end_ : Result Served FileStop) → HoldsFresh 4096 4 file
+    → IsEmptyDatabase 4096 file.bytes → StatesExtents file.bytes ext → RunsItems ext (pages_of file.bytes) said script left tape end_ → RunsScratch said script left tape (status_of end_)
+made_file-runs laws over file ext said script left tape end_ fresh empty states run =
+    let stated = made_states 4096 4 file.bytes refl fresh.bytes in
+    let cap : ext.cap ≡ 4096 = sym states.extents ∙ stated.0 in
+    let pages : ext.extent_pages ≡ 4 = sym states.extent_pages ∙ stated.1 in
+    let stands : PagesStandFor ext (made_pages 4096) empty_database = subst (λ (n : ℕ). PagesStandFor ext (made_pages n) empty_database) cap (laws.stands ext) in
+    let on_made : RunsItems ext (made_pages 4096) said script left tape end_ = subst (λ (p : PageList). RunsItems ext p said script left tape end_) empty.pages run in
+    let whole = over_nothing over ext (made_pages 4096) said script left tape end_ stands on_made in
+    record { end_ = end_; ext = ext; extents = cap; extent_pages = pages; run = whole.0; empty = whole.1; status_is = refl }
+
+-- a run of none of a script's items on a scratch file
+pub nothing_run-scratch : MadeLaws → (said : List ℕ) (script : Option (List ℕ)) (stop : FileStop) → IsStopBefore stop → RunsScratch said script script (Some said) (status_of (Err stop))
+nothing_run-scratch laws said script stop before =
+    let found = laws.extents 4096 4 refl in
+    let ext : Extents = found.0 in
+    let served : AreServedPages ext (made_pages 4096) = subst (λ (n : ℕ). AreServedPages ext (made_pages n)) found.1 (made_pages-served laws ext) in
+    let stands : PagesStandFor ext (made_pages 4096) empty_database = subst (λ (n : ℕ). PagesStandFor ext (made_pages n) empty_database) found.1 (laws.stands ext) in
+    let run = nothing_run ext (made_pages 4096) empty_database said script stop before served stands in
+    record { end_ = Err stop; ext = ext; extents = found.1; extent_pages = found.2; run = run.0; empty = run.1; status_is = refl }

@@ -1,0 +1,73 @@
+-- A run that stops before anything is taken of the script is a run of none of its items.
+use Rattle.std.proofs.Common.{◌≡◌, ℕ, List, [], false, Option, Some, IfSome, Result, Err, refl, sym, ap, subst}
+use Rattle.std.proofs.lemmas.List.{append-nil}
+use Rattle.mdc_ast.specs.meaning.Database.{Database}
+use Rattle.mdc_ast.specs.meaning.Session.{session_on}
+use Rattle.store_api.specs.declared.fault.Damage.{Damage}
+use Rattle.extent_map.specs.declared.extents.Extents.{Extents}
+use Rattle.table_trees.specs.ToldPages.{PageList}
+use Rattle.mdc_sound.specs.StandsForDatabase.{PagesStandFor}
+use Rattle.script_engine.specs.Held.{HeldPages, StandsForSession}
+use Rattle.script_session.specs.Going.{GoesOnPages}
+use Rattle.script_session.specs.Leaving.{AreServedPages}
+use Rattle.script_session.specs.Lists.{GoesOnLists}
+use Rattle.script_session.specs.Serving.{EndsScript}
+use Rattle.script_session.specs.declared.stop.Served.{Served}
+use Rattle.script_session.specs.declared.stop.SessionStop.{SessionStop}
+use Rattle.script_session.specs.declared.stop.SessionStop.TheVariants as session
+use Rattle.file_session.specs.Ending.{end_of_session}
+use Rattle.file_session.specs.Serving.{IsOpened, RunsItems}
+use Rattle.file_session.specs.declared.stop.FileStop.{FileStop}
+use Rattle.file_session.specs.declared.stop.FileStop.TheVariants.{Damaged, Device, Memory, NotMdc, TooLong, Unmade, Unread, Unsaid, Version}
+use Rattle.file_session.proofs.FirstEndsLemmas.{ends_first}
+use Rattle.mdc_shell.specs.Run.{IsStopBefore}
+
+-- what is held of pages that were opened stands for a session on each database that these stand for
+pub opened_session : (ext : Extents) (pages : PageList) (held : HeldPages) (db : Database) → IsOpened pages held → PagesStandFor ext pages db → StandsForSession ext held (session_on db)
+opened_session ext pages held db opened stands = record {
+  kept = subst (λ (p : PageList). PagesStandFor ext p db) (sym opened.base) stands;
+  working = subst (λ (p : PageList). PagesStandFor ext p db) (sym opened.work) stands;
+  is_open = sym opened.closed;
+}
+
+-- a run of no items on pages that are served, which stand for this database, up to this end of its session
+run_to : (ext : Extents) (pages : PageList) (db : Database) (said : List ℕ) (script : Option (List ℕ)) (end_ : Result Served SessionStop) → AreServedPages ext pages → PagesStandFor ext pages db
+    → ((damage : Damage) → end_ ≡ Err (session.Damaged damage) → ⊥) → IfSome script (λ bytes. EndsScript bytes script [] [] [] [] end_)
+    → (run : RunsItems ext pages said script script (Some said) (end_of_session end_)) × (run.db ≡ db)
+run_to ext pages db said script end_ served stands undamaged ends =
+    let held : HeldPages = record { base = pages; work = pages; defs = served.defs; open_ = false } in
+    let opened : IsOpened pages held = record { base = refl; work = refl; defs = served.stored; closed = refl } in (
+      record {
+        held = held;
+        opened = opened;
+        db = db;
+        stands = stands;
+        items = [];
+        outcomes = [];
+        states = [];
+        in_hand = [];
+        goes = GoesOnPages.nothing;
+        sessions = [];
+        lists = GoesOnLists.nothing (opened_session ext pages held db opened stands);
+        more = [];
+        tape_is = ap Some (sym (append-nil said));
+        end_ = end_;
+        undamaged = undamaged;
+        result_is = refl;
+        ends = ends;
+      },
+      refl,
+    )
+
+-- such a run up to a stop that comes before anything is taken
+pub nothing_run : (ext : Extents) (pages : PageList) (db : Database) (said : List ℕ) (script : Option (List ℕ)) (stop : FileStop) → IsStopBefore stop → AreServedPages ext pages
+    → PagesStandFor ext pages db → (run : RunsItems ext pages said script script (Some said) (Err stop)) × (run.db ≡ db)
+nothing_run ext pages db said script Device before served stands = run_to ext pages db said script (Err session.Device) served stands (λ damage is. cc) (ends_first script session.Device (λ e. cc) (λ e. cc))
+nothing_run ext pages db said script Memory before served stands = run_to ext pages db said script (Err session.Memory) served stands (λ damage is. cc) (ends_first script session.Memory (λ e. cc) (λ e. cc))
+nothing_run ext pages db said script Unmade before served stands = absurd before
+nothing_run ext pages db said script NotMdc before served stands = absurd before
+nothing_run ext pages db said script (Version version) before served stands = absurd before
+nothing_run ext pages db said script Unread before served stands = absurd before
+nothing_run ext pages db said script TooLong before served stands = absurd before
+nothing_run ext pages db said script Unsaid before served stands = absurd before
+nothing_run ext pages db said script (Damaged damage) before served stands = absurd before

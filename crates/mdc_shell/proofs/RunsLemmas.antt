@@ -1,0 +1,202 @@
+-- The runs of scripts: how they end, what an attach before them changes, and what is left where nothing was run.
+use Rattle.std.proofs.Common.{◌≡◌, ◌⊎◌, ◌≤◌, ℕ, List, [], IsTrue, false, Option, Some, None, IfSome, Result, Ok, Err, length, length-append, refl, sym, ap, subst, ◌∙◌, inl, inr, arith}
+use Rattle.mdc_ast.specs.declared.reply.Outcome.{Outcome}
+use Rattle.mdc_ast.specs.Reading.{Item}
+use Rattle.mdc_words.specs.Time.{OverTime}
+use Rattle.mdc_words.proofs.TimeLemmas.{over_time_then}
+use Rattle.mdc_outside.specs.Disk.{Becomes, File, opened}
+use Rattle.mdc_outside.specs.Moments.{IsMoment, IsWithinCall}
+use Rattle.mdc_outside.specs.Outside.{Takes}
+use Rattle.mdc_outside.specs.declared.disk.Disk.{Ghosts}
+use Rattle.mdc_outside.proofs.MomentLemmas.{within_call-told}
+use Rattle.store_api.specs.declared.fault.Damage.{Damage}
+use Rattle.extent_map.specs.declared.extents.Extents.{Extents}
+use Rattle.table_trees.specs.ToldPages.{PageList}
+use Rattle.page_file.specs.Leaving.{LeavesImage}
+use Rattle.page_file.proofs.LeavesLemmas.{nothing_said}
+use Rattle.page_store.specs.Opened.{CouldBeLeft, file_bytes}
+use Rattle.page_store.specs.Standing.{pages_of}
+use Rattle.script_session.specs.Serving.{EndsScript}
+use Rattle.script_session.specs.declared.stop.Served.{Served}
+use Rattle.script_session.specs.declared.stop.Served.TheVariants.{AllDone, SomeRefused}
+use Rattle.script_session.specs.declared.stop.SessionStop.{SessionStop}
+use Rattle.script_session.specs.declared.stop.SessionStop.TheVariants as session
+use Rattle.file_session.specs.Ending.{IsCauseIn, IsUnopened, end_of_session}
+use Rattle.file_session.specs.Serving.{RunsItems, RunsOnFile}
+use Rattle.file_session.specs.Leaving.{WasTold}
+use Rattle.file_session.specs.Well.{IsWell}
+use Rattle.file_session.specs.declared.stop.FileStop.{FileStop}
+use Rattle.file_session.specs.declared.stop.FileStop.TheVariants.{Damaged, Device, Memory, NotMdc, TooLong, Unmade, Unread, Unsaid, Version}
+use Rattle.mdc_shell.specs.Run.{IsComplete, IsStopBefore, IsWithinLimit, RefusesFile, RunsPath, RunsScratch, ServesPath}
+use Rattle.mdc_shell.specs.Status.{SaysEnd, line_of_end, status_of, status_of_stop}
+use Rattle.script_session.proofs.ToldLemmas.{same-tells_more, takes_nothing}
+
+-- ---- how a run ends
+
+-- a session that names no damage ends with no line
+end_of_session-quiet : (end_ : Result Served SessionStop) → ((damage : Damage) → end_ ≡ Err (session.Damaged damage) → ⊥) → line_of_end (end_of_session end_) ≡ []
+end_of_session-quiet (Ok served) undamaged = refl
+end_of_session-quiet (Err session.Unread) undamaged = refl
+end_of_session-quiet (Err session.TooLong) undamaged = refl
+end_of_session-quiet (Err session.Unsaid) undamaged = refl
+end_of_session-quiet (Err session.Device) undamaged = refl
+end_of_session-quiet (Err (session.Damaged damage)) undamaged = absurd (undamaged damage refl)
+end_of_session-quiet (Err session.Memory) undamaged = refl
+
+-- so does a run of items
+pub runs_items-quiet : {ext : Extents} {pages : PageList} {said : List ℕ} {script left tape : Option (List ℕ)} {end_ : Result Served FileStop} → RunsItems ext pages said script left tape end_
+    → line_of_end end_ ≡ []
+runs_items-quiet run = ap line_of_end run.result_is ∙ end_of_session-quiet run.end_ run.undamaged
+
+-- a run on a file whose end says nothing
+pub runs_path-ended : {D : Type 0} (g : Ghosts D) (before : File) (said : List ℕ) (script left : Option (List ℕ)) (old mid new : D) (end_ : Result Served FileStop) (status : ℕ)
+    → RunsOnFile g before said script left old mid end_ → new ≡ mid → status ≡ status_of end_ → RunsPath g before said script left old new status
+runs_path-ended {D} g before said script left old mid new end_ status run same is =
+    record { end_ = end_; run = subst (λ (d : D). RunsOnFile g before said script left old d end_) (sym same) run; status_is = is }
+
+-- a run on a scratch file, by its tape and its status
+pub runs_scratch-ended : (said : List ℕ) (script left tape new_tape : Option (List ℕ)) (status new_status : ℕ) → RunsScratch said script left tape status → tape ≡ new_tape → new_status ≡ status
+    → RunsScratch said script left new_tape new_status
+runs_scratch-ended said script left tape new_tape status new_status run same is =
+    subst (λ (t : Option (List ℕ)). RunsScratch said script left t new_status) same (subst (λ (n : ℕ). RunsScratch said script left tape n) (sym is) run)
+
+-- ---- behind an attach
+
+-- a file whose attach failed is as it was, where none was to be made
+pub attach_failed : (old new : Option File) → Becomes old (λ old new. (new ≡ old) ⊎ (IsTrue false × (new ≡ opened old))) new → new ≡ old
+attach_failed None new becomes = becomes
+attach_failed (Some file) new becomes = becomes.1 ∙ elim becomes.2 [ inl same ↦ ap Some same | inr made ↦ absurd (no_true made.0) ]
+  where
+    no_true : IsTrue false → ⊥
+    no_true e = cc
+
+-- a moment at which nothing is said leaves what could be left before
+pub could_be_left-quiet : (file : Option File) (tape : Option (List ℕ)) (before : File) (said : List ℕ) → file ≡ Some before → tape ≡ Some said
+    → (image taken : List ℕ) → IsWithinCall file tape [] image taken → LeavesImage (CouldBeLeft before) said image taken
+could_be_left-quiet file tape before said is told image taken within =
+    let moment : IsMoment before.since said [] image taken = within_call-told before said image taken is told within in
+    (moment.left, nothing_said moment.said.0 moment.said.1 said taken moment.said.2 moment.said.3)
+
+-- what was told since a time before an attach
+behind_attach : {D : Type 0} (g : Ghosts D) (before : File) (said : List ℕ) {Left : List ℕ → List ℕ → Type 0} (old mid new : D) → OverTime g.clock g.moment (LeavesImage (CouldBeLeft before) said) old mid
+    → ((t : ℕ) (image tape : List ℕ) → t ≤ g.clock mid → g.moment new t image tape → Left image tape ⊎ WasTold g t said mid tape)
+    → (t : ℕ) (image tape : List ℕ) → t ≤ g.clock old → g.moment new t image tape → Left image tape ⊎ WasTold g t said old tape
+behind_attach g before said old mid new attached behind t image tape early now = elim (behind t image tape (omega (arith, early, attached.later)) now) [
+  | inl left ↦ inl left
+  | inr told ↦ inr (elim told [
+    | inl same ↦ inl same
+    | inr other ↦ elim (attached.only t other.0 tape early other.1) [ inl was ↦ inr (other.0, was) | inr could ↦ inl could.1 ]
+  ])
+]
+
+-- a run on a file that an attach opened is one on the file as it was
+pub runs_path-opened : {D : Type 0} (g : Ghosts D) (before : File) (said : List ℕ) (script left : Option (List ℕ)) (old mid new : D) (status : ℕ)
+    → OverTime g.clock g.moment (LeavesImage (CouldBeLeft before) said) old mid → RunsPath g (opened before) said script left mid new status → RunsPath g before said script left old new status
+runs_path-opened g before said script left old mid new status attached run = record {
+  end_ = run.end_;
+  run = record {
+    ext = run.run.ext;
+    states_extents = run.run.states_extents;
+    run = run.run.run;
+    leaves = elim run.run.leaves [
+      | inl rest ↦ inl (record { origin = rest.origin; until = over_time_then attached rest.until; later = rest.later; since = rest.since; behind = behind_attach g before said old mid new attached rest.behind })
+      | inr meanwhile ↦ inr (over_time_then attached meanwhile)
+    ];
+  };
+  status_is = run.status_is;
+}
+
+-- ---- where nothing was run
+
+-- the end of a stop that says nothing
+says_end-quiet : (tape new : Option (List ℕ)) (stop : FileStop) → IsStopBefore stop → new ≡ tape → SaysEnd tape new (status_of_stop stop) (Err stop)
+says_end-quiet tape new Device before same = inl (refl, subst (λ (t : Option (List ℕ)). Takes tape [] t) (sym same) (takes_nothing tape))
+says_end-quiet tape new Memory before same = inl (refl, subst (λ (t : Option (List ℕ)). Takes tape [] t) (sym same) (takes_nothing tape))
+says_end-quiet tape new Unmade before same = absurd before
+says_end-quiet tape new NotMdc before same = absurd before
+says_end-quiet tape new (Version version) before same = absurd before
+says_end-quiet tape new Unread before same = absurd before
+says_end-quiet tape new TooLong before same = absurd before
+says_end-quiet tape new Unsaid before same = absurd before
+says_end-quiet tape new (Damaged damage) before same = absurd before
+
+-- it has no cause in a file
+cause-before : (file : List ℕ) (stop : FileStop) → IsStopBefore stop → IsCauseIn file (Err stop)
+cause-before file Device before = tt
+cause-before file Memory before = tt
+cause-before file Unmade before = absurd before
+cause-before file NotMdc before = absurd before
+cause-before file (Version version) before = absurd before
+cause-before file Unread before = tt
+cause-before file TooLong before = tt
+cause-before file Unsaid before = tt
+cause-before file (Damaged damage) before = absurd before
+
+-- and it may be that of a file that isn't opened
+unopened-before : (stop : FileStop) → IsStopBefore stop → IsUnopened (Err stop)
+unopened-before Device before = tt
+unopened-before Memory before = tt
+unopened-before Unmade before = tt
+unopened-before NotMdc before = tt
+unopened-before (Version version) before = tt
+unopened-before Unread before = absurd before
+unopened-before TooLong before = absurd before
+unopened-before Unsaid before = absurd before
+unopened-before (Damaged damage) before = tt
+
+pub serves_path-before : (file : Option File) (tape new : Option (List ℕ)) (stop : FileStop) → IsStopBefore stop → new ≡ tape → ServesPath file tape new (status_of_stop stop)
+serves_path-before file tape new stop before same = record {
+  end_ = Err stop;
+  cause = λ f is. cause-before f.bytes stop before;
+  before_line = tape;
+  kept = same-tells_more tape tape refl;
+  ends = says_end-quiet tape new stop before same;
+}
+
+pub refuses_file-before : (file said : List ℕ) (new : Option (List ℕ)) (stop : FileStop) → IsStopBefore stop → new ≡ Some said → RefusesFile file said new (status_of_stop stop)
+refuses_file-before file said new stop before same =
+    record { end_ = Err stop; unopened = unopened-before stop before; cause = cause-before file stop before; ends = says_end-quiet (Some said) new stop before same }
+
+pub runs_path-before : {D : Type 0} (g : Ghosts D) (before : File) (said : List ℕ) (script : Option (List ℕ)) (old new : D) (stop : FileStop) (well : IsWell before.bytes)
+    → RunsItems well.ext (pages_of before.bytes) said script script (Some said) (Err stop) → (g.beside new).tape ≡ Some said
+    → OverTime g.clock g.moment (LeavesImage (CouldBeLeft before) said) old new → RunsPath g before said script script old new (status_of_stop stop)
+runs_path-before g before said script old new stop well items tape meanwhile = record {
+  end_ = Err stop;
+  run = record {
+    ext = well.ext;
+    states_extents = well.states;
+    run = subst (λ (t : Option (List ℕ)). RunsItems well.ext (pages_of before.bytes) said script script t (Err stop)) (sym tape) items;
+    leaves = inr meanwhile;
+  };
+  status_is = refl;
+}
+
+-- ---- where nothing failed
+
+-- a session within the limit is run to its end, unless memory is wanted
+completes_session : (end_ : Result Served SessionStop) (script left : Option (List ℕ)) (said : List ℕ) (items in_hand : List Item) (outcomes : List Outcome)
+    → ((damage : Damage) → end_ ≡ Err (session.Damaged damage) → ⊥) → IfSome script (λ script. EndsScript script left said items in_hand outcomes end_) → IsWithinLimit script
+    → (status_of (end_of_session end_) ≡ 3 → ⊥) → (status_of (end_of_session end_) ≡ 4 → ⊥) → (status_of (end_of_session end_) ≡ 5 → ⊥) → IsComplete (status_of (end_of_session end_))
+completes_session (Ok AllDone) script left said items in_hand outcomes undamaged ends within no_disk no_read no_say = inl refl
+completes_session (Ok SomeRefused) script left said items in_hand outcomes undamaged ends within no_disk no_read no_say = inr (inl refl)
+completes_session (Err session.Unread) script left said items in_hand outcomes undamaged ends within no_disk no_read no_say = absurd (no_read refl)
+completes_session (Err session.TooLong) None left said items in_hand outcomes undamaged ends within no_disk no_read no_say = absurd within
+completes_session (Err session.TooLong) (Some script) left said items in_hand outcomes undamaged ends within no_disk no_read no_say =
+    absurd (omega (arith, ends.ends.1, within, ap length ends.script_is, length-append ends.taken ends.rest))
+completes_session (Err session.Unsaid) script left said items in_hand outcomes undamaged ends within no_disk no_read no_say = absurd (no_say refl)
+completes_session (Err session.Device) script left said items in_hand outcomes undamaged ends within no_disk no_read no_say = absurd (no_disk refl)
+completes_session (Err (session.Damaged damage)) script left said items in_hand outcomes undamaged ends within no_disk no_read no_say = absurd (undamaged damage refl)
+completes_session (Err session.Memory) script left said items in_hand outcomes undamaged ends within no_disk no_read no_say = inr (inr refl)
+
+-- so is a run of items, whose status is that of its end
+pub runs_items-complete : {ext : Extents} {pages : PageList} (said : List ℕ) (script left tape : Option (List ℕ)) (end_ : Result Served FileStop) (status : ℕ)
+    → RunsItems ext pages said script left tape end_ → status ≡ status_of end_ → IsWithinLimit script → (status ≡ 3 → ⊥) → (status ≡ 4 → ⊥) → (status ≡ 5 → ⊥) → IsComplete status
+runs_items-complete said script left tape end_ status run is within no_disk no_read no_say =
+    let same : status ≡ status_of (end_of_session run.end_) = is ∙ ap status_of run.result_is in
+    subst IsComplete (sym same) (completes_session run.end_ script left run.more run.items run.in_hand run.outcomes run.undamaged run.ends within
+    (λ e. no_disk (same ∙ e)) (λ e. no_read (same ∙ e)) (λ e. no_say (same ∙ e)))
+
+-- a told file, by its bytes
+pub file_of_bytes : (told : Option File) (bytes : List ℕ) → file_bytes told ≡ Some bytes → (file : File) × (told ≡ Some file) × (file.bytes ≡ bytes)
+file_of_bytes None bytes is = absurd (cc)
+file_of_bytes (Some file) bytes is = (file, refl, cc)

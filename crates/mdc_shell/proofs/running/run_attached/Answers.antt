@@ -1,0 +1,46 @@
+use Rattle.std.proofs.Common.{◌≡◌, ℕ, List, Option, Err, sym, subst, ◌∙◌, ap}
+use Rattle.page_store.specs.Opened.{file_bytes}
+use Rattle.file_session.specs.declared.stop.FileStop.TheVariants.{Device}
+use Rattle.mdc_shell.specs.Status.{SaysEnd, line_of_end, status_of}
+use Rattle.mdc_shell.proofs.RunsLemmas.{file_of_bytes, runs_items-quiet, runs_path-ended}
+use Rattle.script_session.proofs.ToldLemmas.{same-told, tells_more-told, told_then}
+use Rattle.mdc_shell.proofs.running.run_attached.Goals as goal
+
+pub returns-clause-runs : goal.returns-clause-runs
+returns-clause-runs g c = λ before said is told well.
+    let run = c.serve_file-ended.ensures.runs before said is ((g.met.H.Host.lies_beside c.args.host).0 ∙ told) well in
+    let quiet = c.end_run.ensures.quiet (runs_items-quiet run.run) in
+    runs_path-ended g.H.Disk before said _ _ c.args.host c.serve_file-ended.result.host c.end_run.result.host c.serve_file-ended.result.end c.end_run.result.status.0 run quiet.0 quiet.1
+
+pub returns-clause-stays_well : goal.returns-clause-stays_well
+returns-clause-stays_well g c = λ before said is told well.
+    let after = c.serve_file-ended.ensures.stays_well before said is ((g.met.H.Host.lies_beside c.args.host).0 ∙ told) well in
+    (after.0, c.end_run.ensures.disk.same_file ∙ after.1, after.2)
+
+pub returns-clause-refuses : goal.returns-clause-refuses
+returns-clause-refuses g c = λ before said is told not_served.
+    let lies = g.met.H.Host.lies_beside in
+    let unopened = c.serve_file-ended.ensures.unopened before is not_served in
+    let tape = sym (lies c.serve_file-ended.result.host).0 ∙ (unopened.2 ∙ ((lies c.args.host).0 ∙ told)) in (
+      record {
+        end_ = c.serve_file-ended.result.end;
+        unopened = unopened.0;
+        cause = c.serve_file-ended.ensures.cause before is;
+        ends = subst (λ (t : Option (List ℕ)). SaysEnd t (g.H.Host.tape c.end_run.result.host) c.end_run.result.status.0 c.serve_file-ended.result.end) tape c.end_run.ensures.ends;
+      },
+      unopened.1,
+    )
+
+pub returns-clause-told : goal.returns-clause-told
+returns-clause-told g c =
+    let lies = g.met.H.Host.lies_beside in (
+      told_then _ _ _ c.serve_file-ended.ensures.told.0 (same-told _ _ c.end_run.ensures.disk.same_file),
+      λ was is. let mid = tells_more-told _ _ c.serve_file-ended.ensures.told.1 was ((lies c.args.host).0 ∙ is) in c.end_run.ensures.told mid.0 (sym (lies c.serve_file-ended.result.host).0 ∙ mid.1),
+    )
+
+pub returns-clause-keeps_refused : goal.returns-clause-keeps_refused
+returns-clause-keeps_refused g c = λ before is not_served not_failed.
+    let failed : c.serve_file-ended.result.end ≡ Err Device → ⊥ = λ ends. not_failed ((c.end_run.ensures.quiet (ap line_of_end ends)).1 ∙ ap status_of ends) in
+    let left = c.serve_file-ended.ensures.left_alone before is not_served failed in
+    let after = file_of_bytes (g.H.Disk.file c.serve_file-ended.result.host) before.bytes (left.0 ∙ ap file_bytes is) in
+    (after.0, c.end_run.ensures.disk.same_file ∙ after.1, after.2)

@@ -1,0 +1,56 @@
+use Rattle.std.proofs.Common.{◌∙◌, ap, refl}
+use Rattle.std.specs.Option.{option_map}
+use Rattle.mdc_words.proofs.TimeLemmas.{over_time_wider}
+use Rattle.mdc_outside.specs.Disk.{opened}
+use Rattle.file_session.specs.declared.stop.FileStop.TheVariants.{Device}
+use Rattle.mdc_shell.proofs.CreateLemmas.{tape_stays}
+use Rattle.mdc_shell.proofs.RunsLemmas.{attach_failed, could_be_left-quiet, refuses_file-before, runs_path-before, runs_path-opened, serves_path-before}
+use Rattle.mdc_shell.proofs.running.run_path.Goals as goal
+
+pub returns-in-Ok-clause-runs : goal.returns-in-Ok-clause-runs
+returns-in-Ok-clause-runs g c = λ before said is told well.
+    let lies = g.met.H.Host.lies_beside in
+    let tape = tape_stays _ _ _ _ c.attach.ensures.beside (lies c.attach.new.self).0 (lies c.args.host).0 ∙ told in
+    let meanwhile = over_time_wider c.attach.ensures.time (could_be_left-quiet _ _ before said is ((lies c.args.host).0 ∙ told)) in
+    let run = c.run_attached.ensures.runs (opened before) said (c.in-Ok.ensures.opened ∙ ap (option_map opened) is) tape well in
+    runs_path-opened g.H.Disk before said _ _ c.args.host c.attach.new.self c.run_attached.result.host c.run_attached.result.status.0 meanwhile run
+
+pub returns-in-Ok-clause-stays_well : goal.returns-in-Ok-clause-stays_well
+returns-in-Ok-clause-stays_well g c = λ before said is told well.
+    let lies = g.met.H.Host.lies_beside in
+    let tape = tape_stays _ _ _ _ c.attach.ensures.beside (lies c.attach.new.self).0 (lies c.args.host).0 ∙ told in
+    c.run_attached.ensures.stays_well (opened before) said (c.in-Ok.ensures.opened ∙ ap (option_map opened) is) tape well
+
+pub returns-in-Ok-clause-refuses : goal.returns-in-Ok-clause-refuses
+returns-in-Ok-clause-refuses g c = λ before said is told not_served.
+    let lies = g.met.H.Host.lies_beside in
+    let tape = tape_stays _ _ _ _ c.attach.ensures.beside (lies c.attach.new.self).0 (lies c.args.host).0 ∙ told in
+    c.run_attached.ensures.refuses (opened before) said (c.in-Ok.ensures.opened ∙ ap (option_map opened) is) tape not_served
+
+pub returns-in-Err-clause-served : goal.returns-in-Err-clause-served
+returns-in-Err-clause-served g c =
+    let lies = g.met.H.Host.lies_beside in
+    serves_path-before _ _ _ Device tt (tape_stays _ _ _ _ c.attach.ensures.beside (lies c.attach.new.self).0 (lies c.args.host).0)
+
+pub returns-in-Err-clause-runs : goal.returns-in-Err-clause-runs
+returns-in-Err-clause-runs g c = λ before said is told well.
+    let lies = g.met.H.Host.lies_beside in
+    let meanwhile = over_time_wider c.attach.ensures.time (could_be_left-quiet _ _ before said is ((lies c.args.host).0 ∙ told)) in
+    runs_path-before g.H.Disk before said _ c.args.host c.attach.new.self Device well (c.nothing_is_run.ensures.well before.bytes said _ Device tt well)
+    (ap (λ b. b.tape) c.attach.ensures.beside ∙ ((lies c.args.host).0 ∙ told)) meanwhile
+
+pub returns-in-Err-clause-stays_well : goal.returns-in-Err-clause-stays_well
+returns-in-Err-clause-stays_well g c = λ before said is told well. (before, attach_failed _ _ c.in-Err.ensures.file_failed ∙ is, well)
+
+pub returns-in-Err-clause-refuses : goal.returns-in-Err-clause-refuses
+returns-in-Err-clause-refuses g c = λ before said is told not_served.
+    let lies = g.met.H.Host.lies_beside in
+    let tape = tape_stays _ _ _ _ c.attach.ensures.beside (lies c.attach.new.self).0 (lies c.args.host).0 ∙ told in
+    (refuses_file-before before.bytes said _ Device tt tape, refl)
+
+pub returns-in-Ok-clause-keeps_refused : goal.returns-in-Ok-clause-keeps_refused
+returns-in-Ok-clause-keeps_refused g c = λ before is not_served not_failed.
+    c.run_attached.ensures.keeps_refused (opened before) (c.in-Ok.ensures.opened ∙ ap (option_map opened) is) not_served not_failed
+
+pub returns-in-Err-clause-keeps_refused : goal.returns-in-Err-clause-keeps_refused
+returns-in-Err-clause-keeps_refused g c = λ before is not_served not_failed. absurd (not_failed refl)

@@ -1,0 +1,48 @@
+// What holds of every run of which nothing is run, and of every file that was just made.
+ghost use Rattle.std.specs.Prelude.{IsTrue, ℕ, List, Option, Some, Result, Err};
+ghost use Rattle.mdc_outside.specs.Disk.{File};
+ghost use Rattle.store_api.specs.Extents.{is_shape};
+ghost use Rattle.extent_map.specs.declared.extents.Extents.{Extents};
+ghost use Rattle.page_store.specs.Empty.{IsEmptyDatabase};
+ghost use Rattle.page_store.specs.Fresh.{HoldsFresh};
+ghost use Rattle.page_store.specs.Standing.{pages_of};
+ghost use Rattle.script_session.specs.declared.stop.Served.{Served};
+ghost use Rattle.file_session.specs.Serving.{RunsItems};
+ghost use Rattle.file_session.specs.Well.{AreWell, IsWell, StatesExtents};
+ghost use Rattle.file_session.specs.declared.stop.FileStop.{FileStop};
+ghost use Rattle.mdc_shell.specs.Run.{IsStopBefore, RunsScratch, StandsForNothing};
+ghost use Rattle.mdc_shell.specs.Status.{status_of};
+
+use file_session::made_is_well;
+use made_database::made_database_is_sound;
+use script_engine::sound_pages_stand;
+use script_session::goes_on_lists;
+
+/// A stop before anything is taken of the script is a run of none of its items: on a file that is well, and on a scratch file.
+pub(crate) fn nothing_is_run()
+    ensures well { (file said : List ℕ) (script : Option (List ℕ)) (stop : FileStop) → IsStopBefore stop → (well : IsWell file)
+        → RunsItems well.ext (pages_of file) said script script (Some said) (Err stop) }
+    ensures scratch { (said : List ℕ) (script : Option (List ℕ)) (stop : FileStop) → IsStopBefore stop
+        → RunsScratch said script script (Some said) (status_of (Err stop)) }
+{
+    sound_pages_stand();
+    made_database_is_sound();
+}
+
+/// A file that was just made is well, and stands for no table.
+pub(crate) fn made_files_are_well()
+    ensures { (extents extent_pages : ℕ) (file : File) → IsTrue (is_shape extents extent_pages) → HoldsFresh extents extent_pages file
+        → AreWell file × StandsForNothing file.bytes }
+{
+    made_is_well();
+}
+
+/// A run on a scratch file that was just made is one on a database without a table.
+pub(crate) fn scratch_runs()
+    ensures { (file : File) (ext : Extents) (said : List ℕ) (script left tape : Option (List ℕ)) (end_ : Result Served FileStop) → HoldsFresh 4096 4 file
+        → IsEmptyDatabase 4096 file.bytes → StatesExtents file.bytes ext → RunsItems ext (pages_of file.bytes) said script left tape end_
+        → RunsScratch said script left tape (status_of end_) }
+{
+    goes_on_lists();
+    made_database_is_sound();
+}
