@@ -49,7 +49,7 @@ given_first laws script reader at = record {
   progress = at_start;
   at = at;
   given = none_given;
-  read_to = record { took = took_nothing script []; at_end = λ e. absurd (cc); in_time = in_time_first laws };
+  read_to = record { took = took_nothing script []; at_end = λ e. absurd (cc); in_time = in_time_first };
 }
 
 read_on : (laws : ScriptLaws) {Object : Type 0} (left : Object → Option (List ℕ)) (before after : Object) (old new : Progress) (result : Result (Option Read) ReadStop) (script : Option (List ℕ)) (items : List Item)

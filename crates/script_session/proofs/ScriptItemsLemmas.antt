@@ -1,8 +1,9 @@
 -- The items that a reader has given, among those of its script.
-use Rattle.std.proofs.Common.{◌≡◌, ◌⊎◌, ◌≤◌, ℕ, List, [], ◌++◌, length, Bool, true, false, refl, sym, ap, subst, inl, inr, arith}
+use Rattle.std.proofs.Common.{◌≡◌, ◌⊎◌, ◌≤◌, ℕ, List, [], ◌∷◌, ◌++◌, length, Bool, true, false, refl, sym, ap, subst, inl, inr, arith}
 use Rattle.std.proofs.lemmas.List.{append-nil}
+use Rattle.std.specs.List.{flat_map}
 use Rattle.mdc_ast.specs.Cutting.{nothing}
-use Rattle.mdc_ast.specs.Reading.{Item, Reads, Closes, none}
+use Rattle.mdc_ast.specs.Reading.{Closes, Item, ItemsOf, Reads, none}
 use Rattle.sql_reader.specs.Progress.{Given, IsGivenAt, IsLastRead, Progress, at_start}
 use Rattle.script_session.specs.Ending.{AnswersInTime, AreTaken}
 use Rattle.script_session.specs.ScriptLaws.{ScriptLaws}
@@ -27,14 +28,29 @@ taken_more laws false taken rest past given closes empty =
 
 -- ---- in time
 
+-- pieces that semicolons close have a byte
+no_piece : (closed : List (List ℕ)) (last : List ℕ) → [] ≡ flat_map (λ piece. piece ++ 59 ∷ []) closed ++ last → closed ≡ []
+no_piece [] last whole = refl
+no_piece ([] ∷ closed) last whole = cc
+no_piece ((b ∷ piece) ∷ closed) last whole = cc
+
+-- no pieces have no items
+no_item : (closed : List (List ℕ)) (items : List Item) → closed ≡ [] → ItemsOf closed items → items ≡ []
+no_item [] items is none = refl
+no_item (piece ∷ closed) items is of = cc
+
+-- so nothing closes no other items
+closes_none : (items : List Item) → Closes [] items → items ≡ []
+closes_none items closes = no_item closes.closed items (no_piece closes.closed closes.last closes.cut.bytes) closes.items_of
+
 -- before the first read nothing has closed
-pub in_time_first : ScriptLaws → AnswersInTime [] 0
-in_time_first laws = record {
+pub in_time_first : AnswersInTime [] 0
+in_time_first = record {
   before = [];
   piece = [];
   is = refl;
   short = omega arith;
-  closed = λ items closes. let e : items ≡ [] = laws.one_closing [] [] items closes_nothing closes in omega (arith, ap length e);
+  closed = λ items closes. let e : items ≡ [] = closes_none items closes in omega (arith, ap length e);
 }
 
 -- a read comes only once each closed statement was given

@@ -90,7 +90,7 @@ module _ {S : Type 0} (g : Ghosts S) where
     said = [];
     told = (runs_none g engine).told;
     ends = ends_script script script [] [] [] [] [] (Err Memory) (took_nothing script []) (λ rest is.
-        stops_within laws at_start rest [] [] [] [] 0 none_given (λ e. absurd (cc)) (says_all [] 0 refl) (omega arith) (inl refl) (in_time_first laws) (omega arith));
+        stops_within laws at_start rest [] [] [] [] 0 none_given (λ e. absurd (cc)) (says_all [] 0 refl) (omega arith) (inl refl) in_time_first (omega arith));
     last = tt;
     base = (runs_none g engine).base;
     time = (runs_none g engine).time;
