@@ -70,13 +70,6 @@ module _ {D : Type 0} (d : disk.Ghosts D) where
     | inr within ↦ within
   ]
 
-  -- a crash now leaves what was said
-  said_now : (before : File) (said : List ℕ) (host : D) → TellsNow host → d.file host ≡ Some before → (d.beside host).tape ≡ Some said → (image heard : List ℕ) → d.moment host (d.clock host) image heard → heard ≡ said
-  said_now before said host now_host is told image heard now =
-      let tells = where_told (d.file host) (d.beside host).tape before said (λ file said. (image tape : List ℕ) → d.moment host (d.clock host) image tape ↔ IsMoment file.since said [] image tape) is told now_host in
-      let moment = (tells image heard).0 now in
-      nothing_said moment.said.0 moment.said.1 said heard moment.said.2 moment.said.3
-
   -- since a time before an opening a crash leaves what was said as it began, or could be left before
   said_by_opening : (before : File) (said : List ℕ) (old origin new : D) → StandsSince d.clock d.moment before said old origin new
       → (t : ℕ) (image heard : List ℕ) → t ≤ d.clock old → d.moment new t image heard → WasTold d t said old heard

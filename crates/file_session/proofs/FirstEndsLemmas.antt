@@ -1,44 +1,15 @@
 -- The end of a run that stopped before its first read, and what it took.
 use Rattle.std.proofs.Common.{◌≡◌, ◌⊎◌, ◌++◌, ℕ, List, [], ◌∷◌, length, Option, Some, None, Err, IfSome, refl, ap, inl, inr, arith}
-use Rattle.std.specs.List.{flat_map}
-use Rattle.mdc_ast.specs.Cutting.{nothing}
-use Rattle.mdc_ast.specs.Reading.{Closes, Item, ItemsOf, none}
-use Rattle.script_session.specs.Ending.{AnswersInTime, EndsSo, StopsWithin}
+use Rattle.script_session.specs.Ending.{EndsSo, StopsWithin}
 use Rattle.script_session.specs.Serving.{EndsScript, IsTakenBy, TakesScript}
 use Rattle.script_session.specs.declared.stop.SessionStop.{SessionStop}
 use Rattle.script_session.specs.declared.stop.SessionStop.TheVariants.{Damaged, Device, Memory, TooLong, Unread, Unsaid}
-use Rattle.file_session.specs.Ending.{stop_of_session}
+use Rattle.script_session.proofs.ScriptItemsLemmas.{closes_nothing, in_time_first}
+use Rattle.page_store.specs.declared.fault.OpenFault.{OpenFault}
+use Rattle.page_store.specs.declared.fault.OpenFault.TheVariants as opening
+use Rattle.file_session.specs.Ending.{IsRefused, StopsOpening, stop_of_session}
 use Rattle.file_session.specs.Serving.{TakesBySession}
 use Rattle.file_session.specs.declared.stop.FileStop.{FileStop}
-
--- nothing closes no item
-closes_nothing : Closes [] []
-closes_nothing = record { closed = []; last = []; cut = record { each = tt; behind = nothing; bytes = refl }; items_of = none }
-
--- pieces that semicolons close have a byte
-no_piece : (closed : List (List ℕ)) (last : List ℕ) → [] ≡ flat_map (λ piece. piece ++ 59 ∷ []) closed ++ last → closed ≡ []
-no_piece [] last whole = refl
-no_piece ([] ∷ closed) last whole = cc
-no_piece ((b ∷ piece) ∷ closed) last whole = cc
-
--- no pieces have no items
-no_item : (closed : List (List ℕ)) (items : List Item) → closed ≡ [] → ItemsOf closed items → items ≡ []
-no_item [] items is none = refl
-no_item (piece ∷ closed) items is of = cc
-
--- and it closes no others
-closes_none : (items : List Item) → Closes [] items → items ≡ []
-closes_none items closes = no_item closes.closed items (no_piece closes.closed closes.last closes.cut.bytes) closes.items_of
-
--- before the first read nothing has closed
-in_time_first : AnswersInTime [] 0
-in_time_first = record {
-  before = [];
-  piece = [];
-  is = refl;
-  short = omega arith;
-  closed = λ items closes. let e : items ≡ [] = closes_none items closes in omega (arith, ap length e);
-}
 
 stops_first : (rest : List ℕ) → StopsWithin [] rest [] [] [] []
 stops_first rest = record {
@@ -83,6 +54,12 @@ pub takes_first : (script : Option (List ℕ)) (stop : SessionStop) → (stop �
 takes_first None stop long = tt
 takes_first (Some bytes) stop long = record { taken = []; rest = bytes; script_is = refl; left_is = refl; by_end = none_taken stop bytes long }
 
--- nor was it by a run that stopped before any item
-pub takes_refused : (script : Option (List ℕ)) (stop : FileStop) (end_ : SessionStop) → (end_ ≡ Device) ⊎ (end_ ≡ Memory) → stop ≡ stop_of_session end_ → TakesBySession script script (Err stop)
-takes_refused script stop end_ is_one is = (Err end_, ap Err is, takes_first script end_ (λ e. elim is_one [ inl f ↦ cc | inr f ↦ cc ]))
+-- nor by one whose opening stopped, unless it refused the file
+pub takes_unopened : (script : Option (List ℕ)) (fault : OpenFault) (stop : FileStop) → StopsOpening fault stop → IsRefused (Err stop) ⊎ TakesBySession script script (Err stop)
+takes_unopened script opening.Exists stop is = absurd is
+takes_unopened script opening.Unmade stop is = inl (rw is tt)
+takes_unopened script opening.NotMdc stop is = inl (rw is tt)
+takes_unopened script (opening.Version version) stop is = inl (rw is tt)
+takes_unopened script opening.Device stop is = inr (Err Device, ap Err is, takes_first script Device (λ e. cc))
+takes_unopened script (opening.Damaged damage) stop is = inr (Err (Damaged damage), ap Err is, takes_first script (Damaged damage) (λ e. cc))
+takes_unopened script opening.Memory stop is = inr (Err Memory, ap Err is, takes_first script Memory (λ e. cc))

@@ -1,5 +1,5 @@
 // A script on the file that is attached to a host.
-ghost use Rattle.std.specs.Prelude.{◌≡◌, ◌≢◌, ◌≤◌, ℕ, List, Some, None, IfSome, Result, Err, IsTrue, false};
+ghost use Rattle.std.specs.Prelude.{◌≡◌, ◌≢◌, ◌≤◌, ◌⊎◌, ℕ, List, Some, None, IfSome, Result, Err, IsTrue, false};
 ghost use Rattle.std.specs.Option.{ForSome};
 ghost use Rattle.mdc_words.specs.Faults.{CountsFault};
 ghost use Rattle.mdc_outside.specs.Disk.{File};
@@ -52,7 +52,7 @@ pub fn serve_file<I: Source, H: Host>(alloc: Global, input: &mut I, host: H) -> 
     ensures left_alone { ForSome (H.file host) (λ file. (IsServed file.bytes → ⊥) → (result.end ≡ Err FileStop.Device → ⊥)
         → (file_bytes (H.file result.host) ≡ file_bytes (H.file host)) × LeavesOf H.Disk CouldBeLeft host result.host) }
     // Whatever its pages are, of a script on a file that is served so much is taken as its end says.
-    ensures takes { ForSome (H.file host) (λ file. IsServed file.bytes → TakesBySession (I.left input.old) (I.left input.new) result.end) }
+    ensures takes { IsRefused result.end ⊎ TakesBySession (I.left input.old) (I.left input.new) result.end }
     ensures refused { IsRefused result.end → (input.new ≡ input.old) × ((H.beside result.host).tape ≡ (H.beside host).tape) }
     ensures reads { CountsFault (result.end ≡ Err FileStop.Unread) (I.read_faults input.old) (I.read_faults input.new) }
     ensures unsaid { CountsFault (result.end ≡ Err FileStop.Unsaid) (H.say_faults host) (H.say_faults result.host) }

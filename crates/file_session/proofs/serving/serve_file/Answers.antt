@@ -1,5 +1,5 @@
 -- A run on the store that was opened, or a refusal.
-use Rattle.std.proofs.Common.{ℕ, List, Option, Err, refl, sym, ◌∙◌, ap, subst}
+use Rattle.std.proofs.Common.{Err, List, Option, ap, inr, refl, subst, sym, ℕ, ◌∙◌}
 use Rattle.mdc_words.proofs.FaultsLemmas.{counts_fault_then}
 use Rattle.page_file.proofs.LeavesLemmas.{sound_image}
 use Rattle.page_store.specs.Faults.{MayComeFirst}
@@ -8,7 +8,7 @@ use Rattle.page_store.specs.Standing.{pages_of}
 use Rattle.script_session.specs.Told.{TellsMore}
 use Rattle.script_session.proofs.ToldLemmas.{same-tells_more}
 use Rattle.file_session.proofs.CausesLemmas.{cause_of_opening, cause_of_session, not_device}
-use Rattle.file_session.proofs.FirstEndsLemmas.{takes_refused}
+use Rattle.file_session.proofs.FirstEndsLemmas.{takes_unopened}
 use Rattle.file_session.proofs.FileRunsLemmas.{kept_beside, refused_on_file, run_on_file, stays_file, stays_well}
 use Rattle.file_session.proofs.ToldLemmas.{test_by_told}
 use Rattle.file_session.proofs.WellFilesLemmas.{sound_opened, states_standing, stop_of_well, well_is_served}
@@ -63,7 +63,7 @@ pub returns-in-Ok-clause-left_alone : goal.returns-in-Ok-clause-left_alone
 returns-in-Ok-clause-left_alone g c = λ file is unserved. absurd (unserved (c.in-Ok.ensures.served file is).0)
 
 pub returns-in-Ok-clause-takes : goal.returns-in-Ok-clause-takes
-returns-in-Ok-clause-takes g c = λ file is served. c.serve_store.ensures.takes
+returns-in-Ok-clause-takes g c = inr c.serve_store.ensures.takes
 
 pub returns-in-Ok-clause-unsaid : goal.returns-in-Ok-clause-unsaid
 returns-in-Ok-clause-unsaid g c =
@@ -107,6 +107,4 @@ returns-in-Err-clause-left_alone g c = λ file is unserved other.
     )
 
 pub returns-in-Err-clause-takes : goal.returns-in-Err-clause-takes
-returns-in-Err-clause-takes g c = λ file is served.
-    let stop = stop_of_well c.in-Err.field-0.fault c.stop_of_opening.result file.bytes served (c.in-Err.ensures.refused file is) c.stop_of_opening.ensures in
-    takes_refused (g.I.Source.left c.args.input.now) c.stop_of_opening.result stop.0 stop.1 stop.2
+returns-in-Err-clause-takes g c = takes_unopened (g.I.Source.left c.args.input.now) c.in-Err.field-0.fault c.stop_of_opening.result c.stop_of_opening.ensures
