@@ -1,9 +1,9 @@
 -- The runs of scripts: how they end, what an attach before them changes, and what is left where nothing was run.
-use Rattle.std.proofs.Common.{◌≡◌, ◌⊎◌, ◌≤◌, ℕ, List, [], IsTrue, false, Option, Some, None, IfSome, Result, Ok, Err, length, length-append, refl, sym, ap, subst, ◌∙◌, inl, inr, arith}
+use Rattle.std.proofs.Common.{◌≡◌, ◌⊎◌, ◌≤◌, ℕ, List, [], IsTrue, false, Option, Some, None, IfSome, Result, Ok, Err, length, length-append, refl, sym, ap, subst, ◌∙◌, inl, inr, arith, ◌<◌, ◌++◌}
 use Rattle.mdc_ast.specs.declared.reply.Outcome.{Outcome}
 use Rattle.mdc_ast.specs.Reading.{Item}
 use Rattle.mdc_words.specs.Time.{OverTime}
-use Rattle.mdc_words.proofs.TimeLemmas.{over_time_then}
+use Rattle.mdc_words.proofs.TimeLemmas.{over_time_then, over_time_wider}
 use Rattle.mdc_outside.specs.Disk.{Becomes, File, opened}
 use Rattle.mdc_outside.specs.Moments.{IsMoment, IsWithinCall}
 use Rattle.mdc_outside.specs.Outside.{Takes}
@@ -16,18 +16,21 @@ use Rattle.page_file.specs.Leaving.{LeavesImage}
 use Rattle.page_file.proofs.LeavesLemmas.{nothing_said}
 use Rattle.page_store.specs.Opened.{CouldBeLeft, file_bytes}
 use Rattle.page_store.specs.Standing.{pages_of}
-use Rattle.script_session.specs.Serving.{EndsScript}
+use Rattle.script_session.specs.Serving.{EndsScript, TakesScript}
 use Rattle.script_session.specs.declared.stop.Served.{Served}
 use Rattle.script_session.specs.declared.stop.Served.TheVariants.{AllDone, SomeRefused}
 use Rattle.script_session.specs.declared.stop.SessionStop.{SessionStop}
 use Rattle.script_session.specs.declared.stop.SessionStop.TheVariants as session
-use Rattle.file_session.specs.Ending.{IsCauseIn, IsUnopened, end_of_session}
-use Rattle.file_session.specs.Serving.{RunsItems, RunsOnFile}
+use Rattle.file_session.specs.Ending.{IsCauseIn, IsUnopened, end_of_session, IsRefused}
+use Rattle.file_session.specs.Serving.{RunsItems, RunsOnFile, TakesBySession}
 use Rattle.file_session.specs.Leaving.{WasTold}
 use Rattle.file_session.specs.Well.{IsWell}
 use Rattle.file_session.specs.declared.stop.FileStop.{FileStop}
 use Rattle.file_session.specs.declared.stop.FileStop.TheVariants.{Damaged, Device, Memory, NotMdc, TooLong, Unmade, Unread, Unsaid, Version}
-use Rattle.mdc_shell.specs.Run.{IsComplete, IsStopBefore, IsWithinLimit, RefusesFile, RunsPath, RunsScratch, ServesPath}
+use Rattle.std.proofs.lemmas.List.{append-nil}
+use Rattle.script_session.specs.Ending.{script_limit}
+use Rattle.page_file.specs.Bound.{LeavesOf}
+use Rattle.mdc_shell.specs.Run.{IsComplete, IsStopBefore, IsWithinLimit, RefusesFile, RunsPath, RunsScratch, ServesPath, TakesByStatus}
 use Rattle.mdc_shell.specs.Status.{SaysEnd, line_of_end, status_of, status_of_stop}
 use Rattle.script_session.proofs.ToldLemmas.{same-tells_more, takes_nothing}
 
@@ -153,9 +156,10 @@ serves_path-before file tape new stop before same = record {
   ends = says_end-quiet tape new stop before same;
 }
 
-pub refuses_file-before : (file said : List ℕ) (new : Option (List ℕ)) (stop : FileStop) → IsStopBefore stop → new ≡ Some said → RefusesFile file said new (status_of_stop stop)
-refuses_file-before file said new stop before same =
-    record { end_ = Err stop; unopened = unopened-before stop before; cause = cause-before file stop before; ends = says_end-quiet (Some said) new stop before same }
+pub refuses_file-before : {D : Type 0} (g : Ghosts D) (before : File) (said : List ℕ) (new_tape : Option (List ℕ)) (old new : D) (stop : FileStop) → IsStopBefore stop → new_tape ≡ Some said
+    → ((status_of_stop stop ≡ 3 → ⊥) → OverTime g.clock g.moment (IsMoment before.since said (line_of_end (Err stop))) old new) → RefusesFile g before said new_tape old new (status_of_stop stop)
+refuses_file-before g before said new_tape old new stop is_before same time =
+    record { end_ = Err stop; unopened = unopened-before stop is_before; cause = cause-before before.bytes stop is_before; ends = says_end-quiet (Some said) new_tape stop is_before same; time = time }
 
 pub runs_path-before : {D : Type 0} (g : Ghosts D) (before : File) (said : List ℕ) (script : Option (List ℕ)) (old new : D) (stop : FileStop) (well : IsWell before.bytes)
     → RunsItems well.ext (pages_of before.bytes) said script script (Some said) (Err stop) → (g.beside new).tape ≡ Some said
@@ -200,3 +204,128 @@ runs_items-complete said script left tape end_ status run is within no_disk no_r
 pub file_of_bytes : (told : Option File) (bytes : List ℕ) → file_bytes told ≡ Some bytes → (file : File) × (told ≡ Some file) × (file.bytes ≡ bytes)
 file_of_bytes None bytes is = absurd (cc)
 file_of_bytes (Some file) bytes is = (file, refl, cc)
+
+-- ---- a file that can't be opened
+
+-- an image that could be left before, with nothing said, is one while a line is said
+could_be_left-moment : (before : File) (said line image tape : List ℕ) → LeavesImage (CouldBeLeft before) said image tape → IsMoment before.since said line image tape
+could_be_left-moment before said line image tape left = record { left = left.0; said = ([], line, refl, left.1 ∙ sym (append-nil said)) }
+
+-- a refusal, and then its line
+pub refused_time : {D : Type 0} (g : Ghosts D) (before : File) (said line : List ℕ) (old mid new : D) → g.file old ≡ Some before → (g.beside old).tape ≡ Some said → (tape : Option (List ℕ)) → tape ≡ Some said
+    → LeavesOf g CouldBeLeft old mid → OverTime g.clock g.moment (IsWithinCall (g.file mid) tape line) mid new → OverTime g.clock g.moment (IsMoment before.since said line) old new
+refused_time g before said line old mid new is told tape heard leaves saying =
+    let after = leaves.told before is in
+    over_time_then (over_time_wider (leaves.crash before said is told) (could_be_left-moment before said line))
+    (over_time_wider saying (λ image taken within.
+    let moment = within_call-told after.0 said image taken after.1 heard within in
+    record { left = after.3 image moment.left; said = moment.said }))
+
+-- one behind an attach is one of the file as it was
+pub refuses_file-opened : {D : Type 0} (g : Ghosts D) (before : File) (said : List ℕ) (new_tape : Option (List ℕ)) (old mid new : D) (status : ℕ)
+    → OverTime g.clock g.moment (LeavesImage (CouldBeLeft before) said) old mid → RefusesFile g (opened before) said new_tape mid new status → RefusesFile g before said new_tape old new status
+refuses_file-opened g before said new_tape old mid new status attached refuses = record {
+  end_ = refuses.end_;
+  unopened = refuses.unopened;
+  cause = refuses.cause;
+  ends = refuses.ends;
+  time = λ not_failed. over_time_then (over_time_wider attached (could_be_left-moment before said (line_of_end refuses.end_))) (refuses.time not_failed);
+}
+
+-- ---- what was taken
+
+-- a part within the limit, at a status that allows one
+part_taken : {script : List ℕ} {left : Option (List ℕ)} {status : ℕ} (taken rest : List ℕ) → script ≡ taken ++ rest → left ≡ Some rest → length taken ≤ script_limit
+    → (status ≡ 0 → ⊥) → (status ≡ 1 → ⊥) → (status ≡ 7 → ⊥) → TakesByStatus script left status
+part_taken taken rest is left_is fits not_done not_refused not_long = record {
+  taken = taken;
+  rest = rest;
+  script_is = is;
+  left_is = left_is;
+  all = λ done. elim done [ inl e ↦ absurd (not_done e) | inr e ↦ absurd (not_refused e) ];
+  past = λ e. absurd (not_long e);
+  within = λ e. fits;
+}
+
+-- nothing
+pub takes_none : (script : Option (List ℕ)) (status : ℕ) → (status ≡ 0 → ⊥) → (status ≡ 1 → ⊥) → (status ≡ 7 → ⊥) → IfSome script (λ bytes. TakesByStatus bytes script status)
+takes_none None status not_done not_refused not_long = tt
+takes_none (Some bytes) status not_done not_refused not_long = part_taken [] bytes refl refl (omega arith) not_done not_refused not_long
+
+-- what a session took, by the status of the run
+takes_at : (end_ : Result Served SessionStop) (script : List ℕ) (left : Option (List ℕ)) (status : ℕ) → TakesScript script left end_
+    → (status ≡ status_of (end_of_session end_)) ⊎ (status ≡ 5) ⊎ (status ≡ 8) → (line_of_end (end_of_session end_) ≡ [] → status ≡ status_of (end_of_session end_)) → TakesByStatus script left status
+takes_at (Ok AllDone) script left status takes either quiet =
+    let is : status ≡ 0 = quiet refl in
+    record { taken = takes.taken; rest = takes.rest; script_is = takes.script_is; left_is = takes.left_is; all = λ done. takes.by_end.0; past = λ e. absurd (omega (arith, is, e)); within = λ e. takes.by_end.1 }
+takes_at (Ok SomeRefused) script left status takes either quiet =
+    let is : status ≡ 1 = quiet refl in
+    record { taken = takes.taken; rest = takes.rest; script_is = takes.script_is; left_is = takes.left_is; all = λ done. takes.by_end.0; past = λ e. absurd (omega (arith, is, e)); within = λ e. takes.by_end.1 }
+takes_at (Err session.TooLong) script left status takes either quiet =
+    let is : status ≡ 7 = quiet refl in
+    record {
+      taken = takes.taken;
+      rest = takes.rest;
+      script_is = takes.script_is;
+      left_is = takes.left_is;
+      all = λ done. elim done [ inl e ↦ absurd (omega (arith, is, e)) | inr e ↦ absurd (omega (arith, is, e)) ];
+      past = λ e. takes.by_end;
+      within = λ not_long. absurd (not_long is);
+    }
+takes_at (Err session.Unread) script left status takes either quiet =
+    let is : status ≡ 4 = quiet refl in
+    part_taken takes.taken takes.rest takes.script_is takes.left_is takes.by_end (λ e. omega (arith, is, e)) (λ e. omega (arith, is, e)) (λ e. omega (arith, is, e))
+takes_at (Err session.Unsaid) script left status takes either quiet =
+    let is : status ≡ 5 = quiet refl in
+    part_taken takes.taken takes.rest takes.script_is takes.left_is takes.by_end (λ e. omega (arith, is, e)) (λ e. omega (arith, is, e)) (λ e. omega (arith, is, e))
+takes_at (Err session.Device) script left status takes either quiet =
+    let is : status ≡ 3 = quiet refl in
+    part_taken takes.taken takes.rest takes.script_is takes.left_is takes.by_end (λ e. omega (arith, is, e)) (λ e. omega (arith, is, e)) (λ e. omega (arith, is, e))
+takes_at (Err session.Memory) script left status takes either quiet =
+    let is : status ≡ 8 = quiet refl in
+    part_taken takes.taken takes.rest takes.script_is takes.left_is takes.by_end (λ e. omega (arith, is, e)) (λ e. omega (arith, is, e)) (λ e. omega (arith, is, e))
+takes_at (Err (session.Damaged damage)) script left status takes either quiet = elim either [
+  | inl is ↦ part_taken takes.taken takes.rest takes.script_is takes.left_is takes.by_end (λ e. damaged is e (omega arith)) (λ e. damaged is e (omega arith)) (λ e. damaged is e (omega arith))
+  | inr other ↦ elim other [
+    | inl is ↦ part_taken takes.taken takes.rest takes.script_is takes.left_is takes.by_end (λ e. omega (arith, is, e)) (λ e. omega (arith, is, e)) (λ e. omega (arith, is, e))
+    | inr is ↦ part_taken takes.taken takes.rest takes.script_is takes.left_is takes.by_end (λ e. omega (arith, is, e)) (λ e. omega (arith, is, e)) (λ e. omega (arith, is, e))
+  ]
+]
+  where
+    damaged : {n : ℕ} → status ≡ 9 → status ≡ n → n < 9 → ⊥
+    damaged is e less = omega (arith, is, e, less)
+
+-- a file that was refused has status 6, or that of its line
+refused_status : (end_ : Result Served FileStop) → IsRefused end_ → status_of end_ ≡ 6
+refused_status (Ok AllDone) is = absurd is
+refused_status (Ok SomeRefused) is = absurd is
+refused_status (Err Unmade) is = refl
+refused_status (Err NotMdc) is = refl
+refused_status (Err (Version version)) is = refl
+refused_status (Err Unread) is = absurd is
+refused_status (Err TooLong) is = absurd is
+refused_status (Err Unsaid) is = absurd is
+refused_status (Err Device) is = absurd is
+refused_status (Err (Damaged damage)) is = absurd is
+refused_status (Err Memory) is = absurd is
+
+-- the status is that of the end, or that of a line that wasn't said
+pub status_either : (tape new : Option (List ℕ)) (status : ℕ) (end_ : Result Served FileStop) → SaysEnd tape new status end_ → (status ≡ status_of end_) ⊎ (status ≡ 5) ⊎ (status ≡ 8)
+status_either tape new status end_ (inl is) = inl is.0
+status_either tape new status end_ (inr (inl is)) = inr (inl is.0)
+status_either tape new status end_ (inr (inr is)) = inr (inr is.0)
+
+refused_either : (status : ℕ) (end_ : Result Served FileStop) → IsRefused end_ → (status ≡ status_of end_) ⊎ (status ≡ 5) ⊎ (status ≡ 8) → (5 ≤ status) × (status ≤ 8) × (status ≡ 7 → ⊥)
+refused_either status end_ refused (inl is) = let six = refused_status end_ refused in (omega (arith, is, six), omega (arith, is, six), λ e. omega (arith, is, six, e))
+refused_either status end_ refused (inr (inl is)) = (omega (arith, is), omega (arith, is), λ e. omega (arith, is, e))
+refused_either status end_ refused (inr (inr is)) = (omega (arith, is), omega (arith, is), λ e. omega (arith, is, e))
+
+pub takes_by_status : (script left : Option (List ℕ)) (end_ : Result Served FileStop) (status : ℕ) → (IsRefused end_ → left ≡ script) → IsRefused end_ ⊎ TakesBySession script left end_
+    → (status ≡ status_of end_) ⊎ (status ≡ 5) ⊎ (status ≡ 8) → (line_of_end end_ ≡ [] → status ≡ status_of end_) → IfSome script (λ bytes. TakesByStatus bytes left status)
+takes_by_status None left end_ status same takes either quiet = tt
+takes_by_status (Some bytes) left end_ status same (inl refused) either quiet =
+    let at = refused_either status end_ refused either in
+    part_taken [] bytes refl (same refused) (omega arith) (λ e. omega (arith, at.0, e)) (λ e. omega (arith, at.0, e)) at.2
+takes_by_status (Some bytes) left end_ status same (inr takes) either quiet =
+    takes_at takes.0 bytes left status takes.2 (subst (λ (e : Result Served FileStop). (status ≡ status_of e) ⊎ (status ≡ 5) ⊎ (status ≡ 8)) takes.1 either)
+    (λ none. quiet (ap line_of_end takes.1 ∙ none) ∙ ap status_of takes.1)

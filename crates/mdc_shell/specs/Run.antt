@@ -1,9 +1,10 @@
 -- What the runs of scripts do to their source, their file and their tape, for each end (docs/PROGRAM.md).
-use Rattle.std.specs.Prelude.{◌≡◌, ◌⊎◌, ◌≤◌, ℕ, Bool, List, Option, Some, None, Result, length}
+use Rattle.std.specs.Prelude.{◌≡◌, ◌⊎◌, ◌≤◌, ◌+◌, ◌++◌, ℕ, Bool, List, [], Option, Some, None, Result, length}
 use Rattle.std.specs.Option.{ForSome}
 use Rattle.mdc_ast.specs.meaning.Database.{empty_database}
 use Rattle.mdc_outside.specs.Disk.{File}
-use Rattle.mdc_outside.specs.Moments.{Adds}
+use Rattle.mdc_words.specs.Time.{OverTime}
+use Rattle.mdc_outside.specs.Moments.{Adds, IsMoment}
 use Rattle.mdc_outside.specs.Outside.{Takes, TakesPart}
 use Rattle.mdc_outside.specs.declared.disk.Disk.{Ghosts}
 use Rattle.extent_map.specs.declared.extents.Extents.{Extents}
@@ -19,7 +20,7 @@ use Rattle.file_session.specs.Well.{StatesExtents}
 use Rattle.file_session.specs.declared.stop.FileStop.{FileStop}
 use Rattle.file_session.specs.declared.stop.FileStop.TheVariants.{Device, Memory}
 use Rattle.mdc_shell.specs.Create.{exists_line}
-use Rattle.mdc_shell.specs.Status.{SaysEnd, status_of}
+use Rattle.mdc_shell.specs.Status.{SaysEnd, line_of_end, status_of}
 
 -- the path is attached once more, and made where it wasn't there if so told, or not at all
 abbrev pub MayAttachAt : Option (List (List ℕ × Bool)) → List ℕ → Bool → Option (List (List ℕ × Bool)) → Type 0
@@ -44,12 +45,25 @@ pub record RunsPath {D : Type 0} (g : Ghosts D) (before : File) (said : List ℕ
   pub run : RunsOnFile g before said script left old new end_
   pub status_is : status ≡ status_of end_
 
--- `run FILE` on a file that can't be opened: nothing but the line of its cause is said
-pub record RefusesFile (file said : List ℕ) (new_tape : Option (List ℕ)) (status : ℕ) : Type 0 where
+-- `run FILE` on a file that can't be opened: nothing but the line of its cause is said, and unless the disk failed a crash meanwhile
+-- leaves an image that could be left before.
+pub record RefusesFile {D : Type 0} (g : Ghosts D) (before : File) (said : List ℕ) (new_tape : Option (List ℕ)) (old new : D) (status : ℕ) : Type 0 where
   pub end_ : Result Served FileStop
   pub unopened : IsUnopened end_
-  pub cause : IsCauseIn file end_
+  pub cause : IsCauseIn before.bytes end_
   pub ends : SaysEnd (Some said) new_tape status end_
+  pub time : (status ≡ 3 → ⊥) → OverTime g.clock g.moment (IsMoment before.since said (line_of_end end_)) old new
+
+-- What was taken of a script, by the status of its run, whatever the file is: all of it, one byte more than the limit, or a part
+-- within it.
+pub record TakesByStatus (script : List ℕ) (left : Option (List ℕ)) (status : ℕ) : Type 0 where
+  pub taken : List ℕ
+  pub rest : List ℕ
+  pub script_is : script ≡ taken ++ rest
+  pub left_is : left ≡ Some rest
+  pub all : (status ≡ 0) ⊎ (status ≡ 1) → rest ≡ []
+  pub past : status ≡ 7 → length taken ≡ script_limit + 1
+  pub within : (status ≡ 7 → ⊥) → length taken ≤ script_limit
 
 -- `run -` on a scratch file without a byte: a run of the script's items on a database of 4,096 extents of 4 pages without a table
 pub record RunsScratch (said : List ℕ) (script left new_tape : Option (List ℕ)) (status : ℕ) : Type 0 where

@@ -1,6 +1,8 @@
 // How a run ends: its status, and the line of a stop that has one.
 ghost use Rattle.std.specs.Prelude.{◌≡◌, ◌⊎◌, ◌≤◌, ◌++◌, [], codes, decimal, IfOk, MatchOption, OnErr};
 ghost use Rattle.mdc_words.specs.Faults.{CountsFault};
+ghost use Rattle.mdc_words.specs.Time.{OverTime};
+ghost use Rattle.mdc_outside.specs.Moments.{IsWithinCall};
 ghost use Rattle.script_session.specs.Told.{StaysTold};
 ghost use Rattle.mdc_outside.specs.Outside.{Takes, TakesPart};
 ghost use Rattle.mdc_shell.specs.Status.{SaysEnd, line_of_end, line_of_stop, status_of};
@@ -24,6 +26,7 @@ pub fn end_run<H: Host>(alloc: Global, end: Result<Served, FileStop>, host: H) -
     ensures disk { IsUntouched H.file H.attaches H.disk_faults host result.host }
     ensures later { H.clock host ≤ H.clock result.host }
     ensures told { StaysTold (H.tape host) (H.tape result.host) }
+    ensures time { OverTime H.clock H.moment (IsWithinCall (H.file host) (H.tape host) (line_of_end end)) host result.host }
 {
     let status = Status::of(&end);
     match line_of(alloc, &end) {
@@ -43,6 +46,7 @@ fn say_line<H: Host>(host: H, line: &[u8], status: Status) -> Ended<H>
     ensures disk { IsUntouched H.file H.attaches H.disk_faults host result.host }
     ensures later { H.clock host ≤ H.clock result.host }
     ensures told { StaysTold (H.tape host) (H.tape result.host) }
+    ensures time { OverTime H.clock H.moment (IsWithinCall (H.file host) (H.tape host) line.now) host result.host }
 {
     let mut host = host;
     let status = match host.say(line) {

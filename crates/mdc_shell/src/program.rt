@@ -1,5 +1,5 @@
 // The program's one call: a command line, a source and a host in, a status and the host out.
-ghost use Rattle.std.specs.Prelude.{◌≡◌, ◌⊎◌, ◌≤◌, ◌<◌, List, ℕ, Some, codes, map, string_bytes, length, true, false};
+ghost use Rattle.std.specs.Prelude.{◌≡◌, ◌⊎◌, ◌≤◌, ◌<◌, List, ℕ, Some, IfSome, codes, map, string_bytes, length, true, false};
 ghost use Rattle.std.specs.Option.{ForSome};
 ghost use Rattle.mdc_outside.specs.Disk.{File};
 ghost use Rattle.mdc_outside.specs.Moments.{IsMoment, IsWithinCall};
@@ -10,7 +10,7 @@ ghost use Rattle.script_session.specs.Told.{StaysTold};
 ghost use Rattle.file_session.specs.Well.{AreWell, IsWell};
 ghost use Rattle.mdc_shell.specs.Create.{Completes, Creates, MayAttach};
 ghost use Rattle.mdc_shell.specs.Leaving.{LeftByCreate};
-ghost use Rattle.mdc_shell.specs.Run.{IsComplete, IsWithinLimit, MayAttachAt, RefusesFile, RefusesScratch, RunsPath, RunsScratch, ServesPath, StandsForNothing};
+ghost use Rattle.mdc_shell.specs.Run.{IsComplete, IsWithinLimit, MayAttachAt, RefusesFile, RefusesScratch, RunsPath, RunsScratch, ServesPath, StandsForNothing, TakesByStatus};
 ghost use Rattle.mdc_shell.specs.Status.{IsScriptStatus, IsStatus};
 ghost use Rattle.mdc_shell.specs.Untouched.{IsUntouched};
 ghost use Rattle.mdc_shell.specs.Words.{CreateFile, IsNoLine, RunFile, RunScript, SaysUsage, SpellsLine, usage};
@@ -65,7 +65,7 @@ pub fn run<I: Source, H: Host>(
     // On a file that can't be opened: the line of its cause, and nothing is read.
     ensures refuses { (path : List ℕ) → SpellsLine (map string_bytes words.now.items) (RunFile path)
         → (before : File) (said : List ℕ) → H.file host ≡ Some before → H.tape host ≡ Some said → (IsServed before.bytes → ⊥)
-        → RefusesFile before.bytes said (H.tape result.host) result.status.0 × (input.new ≡ input.old) }
+        → RefusesFile H.Disk before said (H.tape result.host) host result.host result.status.0 × (input.new ≡ input.old) }
 
     // Such a file stays, unless the disk failed.
     ensures keeps_refused { (path : List ℕ) → SpellsLine (map string_bytes words.now.items) (RunFile path)
@@ -81,6 +81,12 @@ pub fn run<I: Source, H: Host>(
         → RefusesScratch said (H.tape result.host) result.status.0 × (H.file result.host ≡ H.file host) × (input.new ≡ input.old) }
     ensures scratch_any { SpellsLine (map string_bytes words.now.items) RunScript
         → MayAttachAt (H.attaches host) (codes "-") true (H.attaches result.host) × IsScriptStatus result.status.0 }
+
+    // What is taken of a script, by the status, whatever the file is.
+    ensures takes { (path : List ℕ) → SpellsLine (map string_bytes words.now.items) (RunFile path)
+        → IfSome (I.left input.old) (λ script. TakesByStatus script (I.left input.new) result.status.0) }
+    ensures scratch_takes { SpellsLine (map string_bytes words.now.items) RunScript
+        → IfSome (I.left input.old) (λ script. TakesByStatus script (I.left input.new) result.status.0) }
 
     // The words of a create: what it does to the file and says, for each status, and what a crash leaves.
     ensures created { (path : List ℕ) (extents extent_pages : ℕ) → SpellsLine (map string_bytes words.now.items) (CreateFile path extents extent_pages)

@@ -1,11 +1,11 @@
 // The runs of scripts: on the file at a path, and on a scratch file.
-ghost use Rattle.std.specs.Prelude.{◌≡◌, ◌⊎◌, ◌≤◌, ◌<◌, ℕ, List, Some, Err, length, codes, true, false, IsTrue};
+ghost use Rattle.std.specs.Prelude.{◌≡◌, ◌⊎◌, ◌≤◌, ◌<◌, ℕ, List, Some, Err, length, codes, true, false, IsTrue, IfSome};
 ghost use Rattle.mdc_outside.specs.Disk.{File};
 ghost use Rattle.mdc_words.specs.Faults.{CountsFault};
 ghost use Rattle.page_store.specs.Opening.{IsServed};
 ghost use Rattle.script_session.specs.Told.{StaysTold};
 ghost use Rattle.file_session.specs.Well.{AreWell, IsWell};
-ghost use Rattle.mdc_shell.specs.Run.{MayAttachAt, RefusesFile, RefusesScratch, RunsPath, RunsScratch, ServesPath};
+ghost use Rattle.mdc_shell.specs.Run.{MayAttachAt, RefusesFile, RefusesScratch, RunsPath, RunsScratch, ServesPath, TakesByStatus};
 ghost use Rattle.mdc_shell.specs.Status.{IsScriptStatus};
 ghost use Rattle.mdc_shell.specs.Untouched.{IsUntouched};
 
@@ -37,11 +37,12 @@ pub fn run_path<I: Source, H: Host>(alloc: Global, path: &str, input: &mut I, ho
     ensures stays_well { (before : File) (said : List ℕ) → H.file host ≡ Some before → H.tape host ≡ Some said → AreWell before
         → (after : File) × (H.file result.host ≡ Some after) × AreWell after }
     ensures refuses { (before : File) (said : List ℕ) → H.file host ≡ Some before → H.tape host ≡ Some said → (IsServed before.bytes → ⊥)
-        → RefusesFile before.bytes said (H.tape result.host) result.status.0 × (input.new ≡ input.old) }
+        → RefusesFile H.Disk before said (H.tape result.host) host result.host result.status.0 × (input.new ≡ input.old) }
     ensures keeps_refused { (before : File) → H.file host ≡ Some before → (IsServed before.bytes → ⊥) → (result.status.0 ≡ 3 → ⊥)
         → (after : File) × (H.file result.host ≡ Some after) × (after.bytes ≡ before.bytes) }
     ensures attaches { MayAttachAt (H.attaches host) path.now false (H.attaches result.host) }
     ensures disk { CountsFault (result.status.0 ≡ 3) (H.disk_faults host) (H.disk_faults result.host) }
+    ensures takes { IfSome (I.left input.old) (λ script. TakesByStatus script (I.left input.new) result.status.0) }
     ensures reads { CountsFault (result.status.0 ≡ 4) (I.read_faults input.old) (I.read_faults input.new) }
     ensures says { CountsFault (result.status.0 ≡ 5) (H.say_faults host) (H.say_faults result.host) }
     ensures later { H.clock host ≤ H.clock result.host }
@@ -67,6 +68,7 @@ pub fn run_scratch<I: Source, H: Host>(alloc: Global, input: &mut I, host: H) ->
     ensures statuses { IsScriptStatus result.status.0 }
     ensures attaches { MayAttachAt (H.attaches host) (codes "-") true (H.attaches result.host) }
     ensures disk { CountsFault (result.status.0 ≡ 3) (H.disk_faults host) (H.disk_faults result.host) }
+    ensures takes { IfSome (I.left input.old) (λ script. TakesByStatus script (I.left input.new) result.status.0) }
     ensures reads { CountsFault (result.status.0 ≡ 4) (I.read_faults input.old) (I.read_faults input.new) }
     ensures says { CountsFault (result.status.0 ≡ 5) (H.say_faults host) (H.say_faults result.host) }
     ensures later { H.clock host ≤ H.clock result.host }
@@ -115,11 +117,12 @@ fn run_attached<I: Source, H: Host>(alloc: Global, input: &mut I, host: H) -> En
     ensures stays_well { (before : File) (said : List ℕ) → H.file host ≡ Some before → H.tape host ≡ Some said → AreWell before
         → (after : File) × (H.file result.host ≡ Some after) × AreWell after }
     ensures refuses { (before : File) (said : List ℕ) → H.file host ≡ Some before → H.tape host ≡ Some said → (IsServed before.bytes → ⊥)
-        → RefusesFile before.bytes said (H.tape result.host) result.status.0 × (input.new ≡ input.old) }
+        → RefusesFile H.Disk before said (H.tape result.host) host result.host result.status.0 × (input.new ≡ input.old) }
     ensures keeps_refused { (before : File) → H.file host ≡ Some before → (IsServed before.bytes → ⊥) → (result.status.0 ≡ 3 → ⊥)
         → (after : File) × (H.file result.host ≡ Some after) × (after.bytes ≡ before.bytes) }
     ensures attaches { H.attaches result.host ≡ H.attaches host }
     ensures disk { CountsFault (result.status.0 ≡ 3) (H.disk_faults host) (H.disk_faults result.host) }
+    ensures takes { IfSome (I.left input.old) (λ script. TakesByStatus script (I.left input.new) result.status.0) }
     ensures reads { CountsFault (result.status.0 ≡ 4) (I.read_faults input.old) (I.read_faults input.new) }
     ensures says { CountsFault (result.status.0 ≡ 5) (H.say_faults host) (H.say_faults result.host) }
     ensures later { H.clock host ≤ H.clock result.host }

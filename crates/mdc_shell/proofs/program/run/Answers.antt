@@ -6,7 +6,7 @@ use Rattle.mdc_shell.specs.Leaving.{LeftByCreate}
 use Rattle.mdc_shell.specs.Words.{CreateFile, RunFile, RunScript}
 use Rattle.mdc_shell.proofs.Asking.{one_line}
 use Rattle.mdc_shell.proofs.CreateLemmas.{create_line-one}
-use Rattle.mdc_shell.proofs.RunsLemmas.{refuses_file-before, runs_items-complete, runs_path-before, runs_scratch-ended, serves_path-before}
+use Rattle.mdc_shell.proofs.RunsLemmas.{refuses_file-before, runs_items-complete, runs_path-before, runs_scratch-ended, serves_path-before, takes_none}
 use Rattle.mdc_shell.proofs.program.run.Goals as goal
 
 pub returns-in-Ok-Some-RunScript-clause-complete : goal.returns-in-Ok-Some-RunScript-clause-complete
@@ -104,7 +104,7 @@ returns-in-Err-clause-runs g c = λ path line before said is told well.
     ((g.met.H.Host.lies_beside c.args.host).0 ∙ told) over_time_none
 
 pub returns-in-Err-clause-refuses : goal.returns-in-Err-clause-refuses
-returns-in-Err-clause-refuses g c = λ path line before said is told not_served. (refuses_file-before before.bytes said _ Memory tt told, refl)
+returns-in-Err-clause-refuses g c = λ path line before said is told not_served. (refuses_file-before g.H.Disk before said _ c.args.host c.args.host Memory tt told (λ not_failed. over_time_none), refl)
 
 pub returns-in-Err-clause-scratch : goal.returns-in-Err-clause-scratch
 returns-in-Err-clause-scratch g c = λ line before said is told empty. runs_scratch-ended said _ _ _ _ _ 8 (c.nothing_is_run.ensures.scratch said _ Memory tt) (sym told) refl
@@ -116,3 +116,19 @@ returns-in-Ok-None-clause-keeps_refused g c = λ path line.
 
 pub returns-in-Err-clause-keeps_refused : goal.returns-in-Err-clause-keeps_refused
 returns-in-Err-clause-keeps_refused g c = λ path line before is not_served not_failed. (before, is, refl)
+
+pub returns-in-Ok-None-clause-takes : goal.returns-in-Ok-None-clause-takes
+returns-in-Ok-None-clause-takes g c = λ path line.
+    let asked = rw (c.in-Ok-None.field-0-is, c.as_slice.ensures.value) at c.in-Ok-None.ensures in
+    absurd (asked (RunFile path) line)
+
+pub returns-in-Ok-None-clause-scratch_takes : goal.returns-in-Ok-None-clause-scratch_takes
+returns-in-Ok-None-clause-scratch_takes g c = λ line.
+    let asked = rw (c.in-Ok-None.field-0-is, c.as_slice.ensures.value) at c.in-Ok-None.ensures in
+    absurd (asked RunScript line)
+
+pub returns-in-Err-clause-takes : goal.returns-in-Err-clause-takes
+returns-in-Err-clause-takes g c = λ path line. takes_none (g.I.Source.left c.args.input.now) 8 (λ e. absurd (cc)) (λ e. absurd (cc)) (λ e. absurd (cc))
+
+pub returns-in-Err-clause-scratch_takes : goal.returns-in-Err-clause-scratch_takes
+returns-in-Err-clause-scratch_takes g c = λ line. takes_none (g.I.Source.left c.args.input.now) 8 (λ e. absurd (cc)) (λ e. absurd (cc)) (λ e. absurd (cc))

@@ -2,7 +2,7 @@ use Rattle.std.proofs.Common.{◌≡◌, ℕ, List, Option, Err, sym, subst, ◌
 use Rattle.page_store.specs.Opened.{file_bytes}
 use Rattle.file_session.specs.declared.stop.FileStop.TheVariants.{Device}
 use Rattle.mdc_shell.specs.Status.{SaysEnd, line_of_end, status_of}
-use Rattle.mdc_shell.proofs.RunsLemmas.{file_of_bytes, runs_items-quiet, runs_path-ended}
+use Rattle.mdc_shell.proofs.RunsLemmas.{file_of_bytes, refused_time, runs_items-quiet, runs_path-ended, status_either, takes_by_status}
 use Rattle.script_session.proofs.ToldLemmas.{same-told, tells_more-told, told_then}
 use Rattle.mdc_shell.proofs.running.run_attached.Goals as goal
 
@@ -20,13 +20,19 @@ returns-clause-stays_well g c = λ before said is told well.
 pub returns-clause-refuses : goal.returns-clause-refuses
 returns-clause-refuses g c = λ before said is told not_served.
     let lies = g.met.H.Host.lies_beside in
+    let mid = c.serve_file-ended.result.host in
     let unopened = c.serve_file-ended.ensures.unopened before is not_served in
-    let tape = sym (lies c.serve_file-ended.result.host).0 ∙ (unopened.2 ∙ ((lies c.args.host).0 ∙ told)) in (
+    let beside = (lies c.args.host).0 ∙ told in
+    let tape = sym (lies mid).0 ∙ (unopened.2 ∙ beside) in (
       record {
         end_ = c.serve_file-ended.result.end;
         unopened = unopened.0;
         cause = c.serve_file-ended.ensures.cause before is;
         ends = subst (λ (t : Option (List ℕ)). SaysEnd t (g.H.Host.tape c.end_run.result.host) c.end_run.result.status.0 c.serve_file-ended.result.end) tape c.end_run.ensures.ends;
+        time = λ not_failed.
+            let failed : c.serve_file-ended.result.end ≡ Err Device → ⊥ = λ ends. not_failed ((c.end_run.ensures.quiet (ap line_of_end ends)).1 ∙ ap status_of ends) in
+            let left = c.serve_file-ended.ensures.left_alone before is not_served failed in
+            refused_time g.H.Disk before said (line_of_end c.serve_file-ended.result.end) c.args.host mid c.end_run.result.host is beside (g.H.Host.tape mid) tape left.1 c.end_run.ensures.time;
       },
       unopened.1,
     )
@@ -44,3 +50,10 @@ returns-clause-keeps_refused g c = λ before is not_served not_failed.
     let left = c.serve_file-ended.ensures.left_alone before is not_served failed in
     let after = file_of_bytes (g.H.Disk.file c.serve_file-ended.result.host) before.bytes (left.0 ∙ ap file_bytes is) in
     (after.0, c.end_run.ensures.disk.same_file ∙ after.1, after.2)
+
+pub returns-clause-takes : goal.returns-clause-takes
+returns-clause-takes g c =
+    let left = g.I.Source.left in
+    let end_ = c.serve_file-ended.result.end in
+    takes_by_status (left c.args.input.now) (left c.serve_file-ended.new.input) end_ c.end_run.result.status.0 (λ refused. ap left (c.serve_file-ended.ensures.refused refused).0) c.serve_file-ended.ensures.takes
+    (status_either _ _ c.end_run.result.status.0 end_ c.end_run.ensures.ends) (λ none. (c.end_run.ensures.quiet none).1)

@@ -4,7 +4,7 @@ use Rattle.mdc_words.proofs.TimeLemmas.{over_time_wider}
 use Rattle.mdc_outside.specs.Disk.{opened}
 use Rattle.file_session.specs.declared.stop.FileStop.TheVariants.{Device}
 use Rattle.mdc_shell.proofs.CreateLemmas.{tape_stays}
-use Rattle.mdc_shell.proofs.RunsLemmas.{attach_failed, could_be_left-quiet, refuses_file-before, runs_path-before, runs_path-opened, serves_path-before}
+use Rattle.mdc_shell.proofs.RunsLemmas.{attach_failed, could_be_left-quiet, refuses_file-before, refuses_file-opened, runs_path-before, runs_path-opened, serves_path-before, takes_none}
 use Rattle.mdc_shell.proofs.running.run_path.Goals as goal
 
 pub returns-in-Ok-clause-runs : goal.returns-in-Ok-clause-runs
@@ -25,7 +25,9 @@ pub returns-in-Ok-clause-refuses : goal.returns-in-Ok-clause-refuses
 returns-in-Ok-clause-refuses g c = λ before said is told not_served.
     let lies = g.met.H.Host.lies_beside in
     let tape = tape_stays _ _ _ _ c.attach.ensures.beside (lies c.attach.new.self).0 (lies c.args.host).0 ∙ told in
-    c.run_attached.ensures.refuses (opened before) said (c.in-Ok.ensures.opened ∙ ap (option_map opened) is) tape not_served
+    let meanwhile = over_time_wider c.attach.ensures.time (could_be_left-quiet _ _ before said is ((lies c.args.host).0 ∙ told)) in
+    let refuses = c.run_attached.ensures.refuses (opened before) said (c.in-Ok.ensures.opened ∙ ap (option_map opened) is) tape not_served in
+    (refuses_file-opened g.H.Disk before said _ c.args.host c.attach.new.self c.run_attached.result.host c.run_attached.result.status.0 meanwhile refuses.0, refuses.1)
 
 pub returns-in-Err-clause-served : goal.returns-in-Err-clause-served
 returns-in-Err-clause-served g c =
@@ -46,7 +48,7 @@ pub returns-in-Err-clause-refuses : goal.returns-in-Err-clause-refuses
 returns-in-Err-clause-refuses g c = λ before said is told not_served.
     let lies = g.met.H.Host.lies_beside in
     let tape = tape_stays _ _ _ _ c.attach.ensures.beside (lies c.attach.new.self).0 (lies c.args.host).0 ∙ told in
-    (refuses_file-before before.bytes said _ Device tt tape, refl)
+    (refuses_file-before g.H.Disk before said _ c.args.host c.attach.new.self Device tt tape (λ not_failed. absurd (not_failed refl)), refl)
 
 pub returns-in-Ok-clause-keeps_refused : goal.returns-in-Ok-clause-keeps_refused
 returns-in-Ok-clause-keeps_refused g c = λ before is not_served not_failed.
@@ -54,3 +56,6 @@ returns-in-Ok-clause-keeps_refused g c = λ before is not_served not_failed.
 
 pub returns-in-Err-clause-keeps_refused : goal.returns-in-Err-clause-keeps_refused
 returns-in-Err-clause-keeps_refused g c = λ before is not_served not_failed. absurd (not_failed refl)
+
+pub returns-in-Err-clause-takes : goal.returns-in-Err-clause-takes
+returns-in-Err-clause-takes g c = takes_none (g.I.Source.left c.args.input.now) 3 (λ e. absurd (cc)) (λ e. absurd (cc)) (λ e. absurd (cc))

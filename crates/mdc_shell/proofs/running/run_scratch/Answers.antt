@@ -2,7 +2,7 @@ use Rattle.std.proofs.Common.{◌∙◌, arith, inl, inr, refl, sym}
 use Rattle.file_session.specs.declared.stop.FileStop.TheVariants.{Device}
 use Rattle.page_file.proofs.LeavesLemmas.{sound_image}
 use Rattle.mdc_shell.proofs.CreateLemmas.{left_by_making-told, made_of_nothing, tape_stays}
-use Rattle.mdc_shell.proofs.RunsLemmas.{runs_scratch-ended}
+use Rattle.mdc_shell.proofs.RunsLemmas.{runs_scratch-ended, takes_none}
 use Rattle.script_session.proofs.ToldLemmas.{same-told, told_then}
 use Rattle.mdc_shell.proofs.running.run_scratch.Goals as goal
 
@@ -47,3 +47,12 @@ returns-in_default-clause-told g c =
       left_by_making-told 4096 4 _ _ _ c.make_at.ensures.told refl,
       same-told _ _ (tape_stays _ _ _ _ c.make_at.ensures.beside (lies c.make_at.new.disk).0 (lies c.args.host).0),
     )
+
+pub returns-in-Exists-clause-takes : goal.returns-in-Exists-clause-takes
+returns-in-Exists-clause-takes g c =
+    let status = c.refuse_scratch.ensures.statuses in
+    takes_none (g.I.Source.left c.args.input.now) c.refuse_scratch.result.status.0 (λ e. elim status [ inl is ↦ omega (arith, is, e) | inr is ↦ omega (arith, is, e) ])
+    (λ e. elim status [ inl is ↦ omega (arith, is, e) | inr is ↦ omega (arith, is, e) ]) (λ e. elim status [ inl is ↦ omega (arith, is, e) | inr is ↦ omega (arith, is, e) ])
+
+pub returns-in_default-clause-takes : goal.returns-in_default-clause-takes
+returns-in_default-clause-takes g c = takes_none (g.I.Source.left c.args.input.now) 3 (λ e. absurd (cc)) (λ e. absurd (cc)) (λ e. absurd (cc))
