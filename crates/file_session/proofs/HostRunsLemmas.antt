@@ -37,6 +37,14 @@ pub record ListLaws : Type 0 where
   pub lists : (ext : Extents) (held : HeldPages) (items : List Item) (outcomes : List Outcome) (states : List HeldPages) → GoesOnPages ext held items outcomes states
       → (session : Session) → StandsForSession ext held session → (sessions : List Session) × GoesOnLists ext held session items outcomes states sessions
 
+-- what is held of pages that were opened stands for a session on each database that these stand for
+pub opened_session : (ext : Extents) (pages : PageList) (held : HeldPages) (db : Database) → IsOpened pages held → PagesStandFor ext pages db → StandsForSession ext held (session_on db)
+opened_session ext pages held db opened stands = record {
+  kept = subst (λ (p : PageList). PagesStandFor ext p db) (sym opened.base) stands;
+  working = subst (λ (p : PageList). PagesStandFor ext p db) (sym opened.work) stands;
+  is_open = sym opened.closed;
+}
+
 -- the run over the lists of rows for which the pages stand
 pub items_on_lists : (laws : ListLaws) (ext : Extents) (pages : PageList) (said : List ℕ) (script left tape : Option (List ℕ)) (result : Result Served FileStop) (held : HeldPages) → AreServedPages ext pages → IsOpened pages held
     → (items : List Item) (outcomes : List Outcome) (states : List HeldPages) (in_hand : List Item) → GoesOnPages ext held items outcomes states → (more : List ℕ) → tape ≡ Some (said ++ more)
@@ -44,11 +52,7 @@ pub items_on_lists : (laws : ListLaws) (ext : Extents) (pages : PageList) (said 
     → IfSome script (λ script. EndsScript script left more items in_hand outcomes end_) → RunsItems ext pages said script left tape result
 items_on_lists laws ext pages said script left tape result held served opened items outcomes states in_hand goes more tape_is end_ undamaged result_is ends =
     let stands = laws.stand ext pages served.sound in
-    let on_lists = laws.lists ext held items outcomes states goes (session_on stands.0) (record {
-      kept = subst (λ (p : PageList). PagesStandFor ext p stands.0) (sym opened.base) stands.1;
-      working = subst (λ (p : PageList). PagesStandFor ext p stands.0) (sym opened.work) stands.1;
-      is_open = sym opened.closed;
-    }) in
+    let on_lists = laws.lists ext held items outcomes states goes (session_on stands.0) (opened_session ext pages held stands.0 opened stands.1) in
     record {
       held = held;
       opened = opened;
