@@ -14,7 +14,7 @@ use Rattle.mdc_shell.specs.Asked.{Asks, AsksCreate, AsksRun}
 use Rattle.mdc_shell.specs.Found.{Finds, FindsCreate, FindsRun, IsSplit, subcommand_in, value_in}
 use Rattle.mdc_shell.specs.Grammar.{mdc_app}
 use Rattle.mdc_shell.proofs.ClapWords.{mdc_is_free, mdc_is_simple, split_is_taken, taken_finds}
-use Rattle.mdc_shell.specs.Words.{CreateFile, IsCreateLine, IsNoLine, IsNumeral, IsPath, IsPlain, IsRequest, IsRunFileLine, IsRunLine, Line, RunFile, RunScript, SpellsLine}
+use Rattle.mdc_shell.specs.Words.{CreateFile, IsCreateLine, IsNoLine, IsNumeral, IsPath, IsPlain, IsRequest, IsRunFileLine, IsScratchLine, Line, RunFile, RunScratch, SpellsLine}
 
 -- a text without a sign in front is read as its number
 pub number_read : {E : Type 0} (text : List ℕ) (r : Result ℕ E) → 0 < length text → length text ≤ 9 → get_or text 0 0 ≢ 48 → get_or text 0 0 ≢ 43 → ParsesUnsigned 32 10 text r
@@ -68,9 +68,9 @@ one_file : {words : List Text} {name file other : Text} → words ≡ name ∷ f
 one_file {name = name} {file = file} {other = other} first second = let e : name ∷ file ∷ [] ≡ name ∷ other ∷ [] = sym first ∙ second in cc
 
 -- words that spell none of the commands are no command line
-no_line : (words : List Text) → (IsRunLine words → ⊥) → ((path : Text) → IsRunFileLine words path → ⊥)
+no_line : (words : List Text) → (IsScratchLine words → ⊥) → ((path : Text) → IsRunFileLine words path → ⊥)
     → ((path : Text) (n m : ℕ) → IsCreateLine words path n m → ⊥) → IsNoLine words
-no_line words no_run no_file no_create RunScript spelled = no_run spelled
+no_line words no_run no_file no_create RunScratch spelled = no_run spelled
 no_line words no_run no_file no_create (RunFile path) spelled = no_file path spelled
 no_line words no_run no_file no_create (CreateFile path n m) spelled = no_create path n m spelled
 
@@ -84,7 +84,7 @@ asks_create words found None finds asks = no_line words (λ run. no_two_and_four
     let extents : finds.extents ≡ line.extents_text = cc in
     let pages : finds.pages ≡ line.pages_text = cc in
     asks n m (rw (file, extents, pages) line.request))
-asks_create words found (Some command.RunScript) finds asks = absurd asks
+asks_create words found (Some command.RunScratch) finds asks = absurd asks
 asks_create words found (Some (command.RunFile path)) finds asks = absurd asks
 asks_create words found (Some (command.Create path shape)) finds asks = record {
   extents_text = finds.extents;
@@ -98,7 +98,7 @@ pub asks_run : (words : List Text) (found : Option (Text × List Row)) (asked : 
     → AsksRun finds.file asked → Asks words asked
 asks_run words found None finds asks = no_line words (λ run. asks.0 (one_file finds.are run)) (λ path line. asks.1 (subst IsPath (one_file line.0 finds.are) line.1))
     (λ path n m line. no_two_and_four finds.are line.are)
-asks_run words found (Some command.RunScript) finds asks = finds.are ∙ ap (λ t. codes "run" ∷ t ∷ []) asks
+asks_run words found (Some command.RunScratch) finds asks = finds.are ∙ ap (λ t. codes "run" ∷ t ∷ []) asks
 asks_run words found (Some (command.RunFile path)) finds asks = (rw asks.0 finds.are, rw asks.0 asks.1)
 asks_run words found (Some (command.Create path shape)) finds asks = absurd asks
 
@@ -166,18 +166,18 @@ same_line words path other n m k l first second =
     }
 
 -- `-` behind `run` is no path
-no_script_file : {words : List Text} {path : Text} → IsRunLine words → IsRunFileLine words path → ⊥
+no_script_file : {words : List Text} {path : Text} → IsScratchLine words → IsRunFileLine words path → ⊥
 no_script_file script file = subst IsPath (one_file file.0 script) file.1 refl
 
 -- words spell one command line at most
 pub one_line : (words : List Text) (line other : Line) → SpellsLine words line → SpellsLine words other → line ≡ other
-one_line words RunScript RunScript first second = refl
-one_line words RunScript (RunFile path) first second = absurd (no_script_file first second)
-one_line words RunScript (CreateFile path n m) first second = absurd (no_two_and_four first second.are)
-one_line words (RunFile path) RunScript first second = absurd (no_script_file second first)
+one_line words RunScratch RunScratch first second = refl
+one_line words RunScratch (RunFile path) first second = absurd (no_script_file first second)
+one_line words RunScratch (CreateFile path n m) first second = absurd (no_two_and_four first second.are)
+one_line words (RunFile path) RunScratch first second = absurd (no_script_file second first)
 one_line words (RunFile path) (RunFile other) first second = ap RunFile (one_file first.0 second.0)
 one_line words (RunFile path) (CreateFile other n m) first second = absurd (no_two_and_four first.0 second.are)
-one_line words (CreateFile path n m) RunScript first second = absurd (no_two_and_four second first.are)
+one_line words (CreateFile path n m) RunScratch first second = absurd (no_two_and_four second first.are)
 one_line words (CreateFile path n m) (RunFile other) first second = absurd (no_two_and_four second.0 first.are)
 one_line words (CreateFile path n m) (CreateFile other k l) first second =
     let same = same_line words path other n k m l first second in

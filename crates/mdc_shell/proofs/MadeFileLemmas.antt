@@ -27,7 +27,8 @@ use Rattle.file_session.specs.declared.stop.FileStop.{FileStop}
 use Rattle.mdc_shell.specs.Run.{IsStopBefore, RunsScratch}
 use Rattle.mdc_shell.specs.Status.{status_of}
 use Rattle.file_session.proofs.MadeFilesLemmas.{made_states}
-use Rattle.mdc_shell.proofs.NothingRunLemmas.{nothing_run, opened_session}
+use Rattle.file_session.proofs.HostRunsLemmas.{opened_session}
+use Rattle.mdc_shell.proofs.NothingRunLemmas.{nothing_run}
 
 -- The laws of the pages of a database that was just made.
 pub record MadeLaws : Type 0 where

@@ -20,15 +20,8 @@ use Rattle.file_session.specs.Serving.{IsOpened, RunsItems}
 use Rattle.file_session.specs.declared.stop.FileStop.{FileStop}
 use Rattle.file_session.specs.declared.stop.FileStop.TheVariants.{Damaged, Device, Memory, NotMdc, TooLong, Unmade, Unread, Unsaid, Version}
 use Rattle.file_session.proofs.FirstEndsLemmas.{ends_first}
+use Rattle.file_session.proofs.HostRunsLemmas.{opened_session}
 use Rattle.mdc_shell.specs.Run.{IsStopBefore}
-
--- what is held of pages that were opened stands for a session on each database that these stand for
-pub opened_session : (ext : Extents) (pages : PageList) (held : HeldPages) (db : Database) → IsOpened pages held → PagesStandFor ext pages db → StandsForSession ext held (session_on db)
-opened_session ext pages held db opened stands = record {
-  kept = subst (λ (p : PageList). PagesStandFor ext p db) (sym opened.base) stands;
-  working = subst (λ (p : PageList). PagesStandFor ext p db) (sym opened.work) stands;
-  is_open = sym opened.closed;
-}
 
 -- a run of no items on pages that are served, which stand for this database, up to this end of its session
 run_to : (ext : Extents) (pages : PageList) (db : Database) (said : List ℕ) (script : Option (List ℕ)) (end_ : Result Served SessionStop) → AreServedPages ext pages → PagesStandFor ext pages db

@@ -1,4 +1,4 @@
--- What `create FILE EXTENTS PAGES` does to its file and its tape, for each status (README.md, "Limits and statuses").
+-- What `create FILE EXTENTS PAGES` does to its file and its tape, for each status (docs/PROGRAM.md).
 use Rattle.std.specs.Prelude.{◌≡◌, ◌⊎◌, ◌<◌, ℕ, Bool, true, List, Option, Some, length, codes}
 use Rattle.std.specs.Option.{ForSome}
 use Rattle.mdc_outside.specs.Disk.{File}
@@ -52,9 +52,9 @@ pub record Creates (extents extent_pages : ℕ) (file new_file : Option File) (t
   -- 8: nothing is said, and the file is as it was
   pub memory : status ≡ 8 → (new_tape ≡ tape) × (new_file ≡ file)
 
--- the path is attached once more, and made where it wasn't there, or not at all
-abbrev pub MayAttach : Option (List (List ℕ × Bool)) → List ℕ → Option (List (List ℕ × Bool)) → Type 0
-MayAttach old path new = Adds old (path, true) new ⊎ (new ≡ old)
+-- the path is attached once more, and made where it wasn't there if so told, or not at all
+abbrev pub MayAttach : Option (List (List ℕ × Bool)) → List ℕ → Bool → Option (List (List ℕ × Bool)) → Type 0
+MayAttach old path make new = Adds old (path, make) new ⊎ (new ≡ old)
 
 -- A told file without a byte becomes a database, and one with a byte is refused, unless memory is wanted.
 pub record Completes (file : Option File) (status : ℕ) : Type 0 where

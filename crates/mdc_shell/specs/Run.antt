@@ -22,10 +22,6 @@ use Rattle.file_session.specs.declared.stop.FileStop.TheVariants.{Device, Memory
 use Rattle.mdc_shell.specs.Create.{exists_line}
 use Rattle.mdc_shell.specs.Status.{SaysEnd, line_of_end, status_of}
 
--- the path is attached once more, and made where it wasn't there if so told, or not at all
-abbrev pub MayAttachAt : Option (List (List ℕ × Bool)) → List ℕ → Bool → Option (List (List ℕ × Bool)) → Type 0
-MayAttachAt old path make new = Adds old (path, make) new ⊎ (new ≡ old)
-
 -- the source tells a script within the limit
 abbrev pub IsWithinLimit : Option (List ℕ) → Type 0
 IsWithinLimit None = ⊥

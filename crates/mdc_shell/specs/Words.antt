@@ -1,12 +1,12 @@
--- The words of the command line (README.md, "Limits and statuses").
+-- The words of the command line (docs/PROGRAM.md).
 use Rattle.std.specs.Prelude.{◌≡◌, ◌≢◌, ◌⊎◌, ◌<◌, ◌≤◌, ℕ, List, [], ◌∷◌, Option, codes, length, slice_index, IsTrue}
 use Rattle.std.specs.Str.Parse.{AllDigits, digits_value}
 use Rattle.store_api.specs.Extents.{is_shape}
 use Rattle.mdc_outside.specs.Outside.{Takes, TakesPart}
 
 -- the words are `run -`
-abbrev pub IsRunLine : List (List ℕ) → Type 0
-IsRunLine words = words ≡ codes "run" ∷ codes "-" ∷ []
+abbrev pub IsScratchLine : List (List ℕ) → Type 0
+IsScratchLine words = words ≡ codes "run" ∷ codes "-" ∷ []
 
 -- one to nine decimal digits without a leading zero, which write this number
 pub record IsNumeral (text : List ℕ) (number : ℕ) : Type 0 where
@@ -41,13 +41,13 @@ IsRunFileLine words path = (words ≡ codes "run" ∷ path ∷ []) × IsPath pat
 
 -- what a command line asks for
 pub data Line : Type 0 where
-  RunScript : Line
+  RunScratch : Line
   RunFile : (path : List ℕ) → Line
   CreateFile : (path : List ℕ) (extents extent_pages : ℕ) → Line
 
 -- the words spell a command line
 abbrev pub SpellsLine : List (List ℕ) → Line → Type 0
-SpellsLine words RunScript = IsRunLine words
+SpellsLine words RunScratch = IsScratchLine words
 SpellsLine words (RunFile path) = IsRunFileLine words path
 SpellsLine words (CreateFile path extents extent_pages) = IsCreateLine words path extents extent_pages
 

@@ -20,7 +20,7 @@ pub enum Command<'w> {
     /// To make an empty database in the file at the path.
     Create { path: &'w str, shape: Shape },
     /// To run the script of the input on a scratch file.
-    RunScript,
+    RunScratch,
     /// To run the script of the input on the file at the path.
     RunFile { path: &'w str },
 }
@@ -100,7 +100,7 @@ fn run_of<'w>(file: &'w str) -> Option<Command<'w>>
     ensures { AsksRun file.now result }
 {
     if file == "-" {
-        return Some(Command::RunScript);
+        return Some(Command::RunScratch);
     }
     if !is_path(file) {
         return None;

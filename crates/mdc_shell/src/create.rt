@@ -1,5 +1,5 @@
 // The command `create`: an empty database in a file.
-ghost use Rattle.std.specs.Prelude.{◌≡◌, ◌≢◌, ◌⊎◌, ◌≤◌, ◌<◌, ℕ, List, Some, length, IsErrOf, IsTrue, OnOk, OnErr};
+ghost use Rattle.std.specs.Prelude.{◌≡◌, ◌≢◌, ◌⊎◌, ◌≤◌, ◌<◌, ℕ, List, Some, length, IsErrOf, IsTrue, OnOk, OnErr, true};
 ghost use Rattle.std.specs.Option.{ForSome};
 ghost use Rattle.mdc_outside.specs.Disk.{File};
 ghost use Rattle.mdc_outside.specs.Moments.{IsWithinCall};
@@ -39,7 +39,7 @@ pub enum Created {
 /// stays as it is.
 pub fn create<H: Host>(host: &mut H, path: &str, shape: Shape) -> Created
     ensures creates { Creates shape.extents shape.extent_pages (H.file host.old) (H.file host.new) (H.tape host.old) (H.tape host.new) (status_of_created result) }
-    ensures attaches { MayAttach (H.attaches host.old) path.now (H.attaches host.new) }
+    ensures attaches { MayAttach (H.attaches host.old) path.now true (H.attaches host.new) }
     ensures disk { CountsFault (result ≡ Created.DiskFailed) (H.disk_faults host.old) (H.disk_faults host.new) }
     ensures says { CountsFault (result ≡ Created.Unsaid) (H.say_faults host.old) (H.say_faults host.new) }
     ensures later { H.clock host.old ≤ H.clock host.new }
@@ -72,7 +72,7 @@ pub(crate) fn make_at<D: Disk>(
     ensures refused { ForSome (D.file disk.old) (λ file. 0 < length file.bytes → IsErrOf result OpenFault.Exists ⊎ IsErrOf result OpenFault.Device) }
     ensures causes { OnErr result (IsErrOf result OpenFault.Exists ⊎ IsErrOf result OpenFault.Device) }
     ensures disk { CountsFault (IsErrOf result OpenFault.Device) (D.disk_faults disk.old) (D.disk_faults disk.new) }
-    ensures attaches { MayAttach (D.attaches disk.old) path.now (D.attaches disk.new) }
+    ensures attaches { MayAttach (D.attaches disk.old) path.now true (D.attaches disk.new) }
     ensures beside { D.beside disk.new ≡ D.beside disk.old }
     ensures told { IsLeftByMaking extents extent_pages (D.file disk.old) (D.file disk.new) }
     ensures later { D.clock disk.old ≤ D.clock disk.new }

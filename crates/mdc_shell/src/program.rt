@@ -10,10 +10,10 @@ ghost use Rattle.script_session.specs.Told.{StaysTold};
 ghost use Rattle.file_session.specs.Well.{AreWell, IsWell};
 ghost use Rattle.mdc_shell.specs.Create.{Completes, Creates, MayAttach};
 ghost use Rattle.mdc_shell.specs.Leaving.{LeftByCreate};
-ghost use Rattle.mdc_shell.specs.Run.{IsComplete, IsWithinLimit, MayAttachAt, RefusesFile, RefusesScratch, RunsPath, RunsScratch, ServesPath, StandsForNothing, TakesByStatus};
+ghost use Rattle.mdc_shell.specs.Run.{IsComplete, IsWithinLimit, RefusesFile, RefusesScratch, RunsPath, RunsScratch, ServesPath, StandsForNothing, TakesByStatus};
 ghost use Rattle.mdc_shell.specs.Status.{IsScriptStatus, IsStatus};
 ghost use Rattle.mdc_shell.specs.Untouched.{IsUntouched};
-ghost use Rattle.mdc_shell.specs.Words.{CreateFile, IsNoLine, RunFile, RunScript, SaysUsage, SpellsLine, usage};
+ghost use Rattle.mdc_shell.specs.Words.{CreateFile, IsNoLine, RunFile, RunScratch, SaysUsage, SpellsLine, usage};
 
 use crate::command::Command;
 use crate::create::create;
@@ -49,7 +49,7 @@ pub fn run<I: Source, H: Host>(
     // `run FILE`, on any file: the end has its cause in the file, and its line is said behind all else.
     ensures served { (path : List ℕ) → SpellsLine (map string_bytes words.now.items) (RunFile path)
         → ServesPath (H.file host) (H.tape host) (H.tape result.host) result.status.0
-        × MayAttachAt (H.attaches host) path false (H.attaches result.host) × IsScriptStatus result.status.0 }
+        × MayAttach (H.attaches host) path false (H.attaches result.host) × IsScriptStatus result.status.0 }
 
     // On a file that is well: one run of the script's items, whose replies are those of plain lists of rows, and what a crash
     // leaves at each moment of it.
@@ -73,25 +73,25 @@ pub fn run<I: Source, H: Host>(
         → (after : File) × (H.file result.host ≡ Some after) × (after.bytes ≡ before.bytes) }
 
     // `run -`: a scratch file without a byte is made a database, and the script runs on it.
-    ensures scratch { SpellsLine (map string_bytes words.now.items) RunScript
+    ensures scratch { SpellsLine (map string_bytes words.now.items) RunScratch
         → (before : File) (said : List ℕ) → H.file host ≡ Some before → H.tape host ≡ Some said → length before.bytes ≡ 0
         → RunsScratch said (I.left input.old) (I.left input.new) (H.tape result.host) result.status.0 }
-    ensures scratch_full { SpellsLine (map string_bytes words.now.items) RunScript
+    ensures scratch_full { SpellsLine (map string_bytes words.now.items) RunScratch
         → (before : File) (said : List ℕ) → H.file host ≡ Some before → H.tape host ≡ Some said → 0 < length before.bytes
         → RefusesScratch said (H.tape result.host) result.status.0 × (H.file result.host ≡ H.file host) × (input.new ≡ input.old) }
-    ensures scratch_any { SpellsLine (map string_bytes words.now.items) RunScript
-        → MayAttachAt (H.attaches host) (codes "-") true (H.attaches result.host) × IsScriptStatus result.status.0 }
+    ensures scratch_any { SpellsLine (map string_bytes words.now.items) RunScratch
+        → MayAttach (H.attaches host) (codes "-") true (H.attaches result.host) × IsScriptStatus result.status.0 }
 
     // What is taken of a script, by the status, whatever the file is.
     ensures takes { (path : List ℕ) → SpellsLine (map string_bytes words.now.items) (RunFile path)
         → IfSome (I.left input.old) (λ script. TakesByStatus script (I.left input.new) result.status.0) }
-    ensures scratch_takes { SpellsLine (map string_bytes words.now.items) RunScript
+    ensures scratch_takes { SpellsLine (map string_bytes words.now.items) RunScratch
         → IfSome (I.left input.old) (λ script. TakesByStatus script (I.left input.new) result.status.0) }
 
     // The words of a create: what it does to the file and says, for each status, and what a crash leaves.
     ensures created { (path : List ℕ) (extents extent_pages : ℕ) → SpellsLine (map string_bytes words.now.items) (CreateFile path extents extent_pages)
         → Creates extents extent_pages (H.file host) (H.file result.host) (H.tape host) (H.tape result.host) result.status.0
-        × MayAttach (H.attaches host) path (H.attaches result.host) × (input.new ≡ input.old) }
+        × MayAttach (H.attaches host) path true (H.attaches result.host) × (input.new ≡ input.old) }
     ensures created_time { (path : List ℕ) (extents extent_pages : ℕ) → SpellsLine (map string_bytes words.now.items) (CreateFile path extents extent_pages)
         → (before : File) (said : List ℕ) → H.file host ≡ Some before → H.tape host ≡ Some said
         → OverTime H.clock H.moment (LeftByCreate extents extent_pages before said) host result.host }
@@ -125,7 +125,7 @@ pub fn run<I: Source, H: Host>(
         → IsWithinLimit (I.left input.old)
         → (before : File) (said : List ℕ) → H.file host ≡ Some before → H.tape host ≡ Some said
         → ((path : List ℕ) × SpellsLine (map string_bytes words.now.items) (RunFile path) × IsWell before.bytes)
-        ⊎ (SpellsLine (map string_bytes words.now.items) RunScript × (length before.bytes ≡ 0))
+        ⊎ (SpellsLine (map string_bytes words.now.items) RunScratch × (length before.bytes ≡ 0))
         → IsComplete result.status.0 }
 
     // Where nothing failed, a create makes a database of a file without a byte, unless memory is wanted.
@@ -136,7 +136,7 @@ pub fn run<I: Source, H: Host>(
 {
     nothing_is_run();
     match Command::of_words(alloc, words.as_slice()) {
-        Ok(Some(Command::RunScript)) => run_scratch(alloc, input, host),
+        Ok(Some(Command::RunScratch)) => run_scratch(alloc, input, host),
         Ok(Some(Command::RunFile { path })) => run_path(alloc, path, input, host),
         Ok(Some(Command::Create { path, shape })) => create_file(host, path, shape),
         Ok(None) => say_usage(host),
@@ -150,7 +150,7 @@ pub fn run<I: Source, H: Host>(
 // Makes an empty database in the file at the path.
 fn create_file<H: Host>(host: H, path: &str, shape: Shape) -> Ended<H>
     ensures creates { Creates shape.extents shape.extent_pages (H.file host) (H.file result.host) (H.tape host) (H.tape result.host) result.status.0 }
-    ensures attaches { MayAttach (H.attaches host) path.now (H.attaches result.host) }
+    ensures attaches { MayAttach (H.attaches host) path.now true (H.attaches result.host) }
     ensures disk { CountsFault (result.status.0 ≡ 3) (H.disk_faults host) (H.disk_faults result.host) }
     ensures says { CountsFault (result.status.0 ≡ 5) (H.say_faults host) (H.say_faults result.host) }
     ensures later { H.clock host ≤ H.clock result.host }

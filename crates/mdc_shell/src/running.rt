@@ -5,7 +5,8 @@ ghost use Rattle.mdc_words.specs.Faults.{CountsFault};
 ghost use Rattle.page_store.specs.Opening.{IsServed};
 ghost use Rattle.script_session.specs.Told.{StaysTold};
 ghost use Rattle.file_session.specs.Well.{AreWell, IsWell};
-ghost use Rattle.mdc_shell.specs.Run.{MayAttachAt, RefusesFile, RefusesScratch, RunsPath, RunsScratch, ServesPath, TakesByStatus};
+ghost use Rattle.mdc_shell.specs.Create.{MayAttach};
+ghost use Rattle.mdc_shell.specs.Run.{RefusesFile, RefusesScratch, RunsPath, RunsScratch, ServesPath, TakesByStatus};
 ghost use Rattle.mdc_shell.specs.Status.{IsScriptStatus};
 ghost use Rattle.mdc_shell.specs.Untouched.{IsUntouched};
 
@@ -40,7 +41,7 @@ pub fn run_path<I: Source, H: Host>(alloc: Global, path: &str, input: &mut I, ho
         → RefusesFile H.Disk before said (H.tape result.host) host result.host result.status.0 × (input.new ≡ input.old) }
     ensures keeps_refused { (before : File) → H.file host ≡ Some before → (IsServed before.bytes → ⊥) → (result.status.0 ≡ 3 → ⊥)
         → (after : File) × (H.file result.host ≡ Some after) × (after.bytes ≡ before.bytes) }
-    ensures attaches { MayAttachAt (H.attaches host) path.now false (H.attaches result.host) }
+    ensures attaches { MayAttach (H.attaches host) path.now false (H.attaches result.host) }
     ensures disk { CountsFault (result.status.0 ≡ 3) (H.disk_faults host) (H.disk_faults result.host) }
     ensures takes { IfSome (I.left input.old) (λ script. TakesByStatus script (I.left input.new) result.status.0) }
     ensures reads { CountsFault (result.status.0 ≡ 4) (I.read_faults input.old) (I.read_faults input.new) }
@@ -66,7 +67,7 @@ pub fn run_scratch<I: Source, H: Host>(alloc: Global, input: &mut I, host: H) ->
     ensures full { (before : File) (said : List ℕ) → H.file host ≡ Some before → H.tape host ≡ Some said → 0 < length before.bytes
         → RefusesScratch said (H.tape result.host) result.status.0 × (H.file result.host ≡ H.file host) × (input.new ≡ input.old) }
     ensures statuses { IsScriptStatus result.status.0 }
-    ensures attaches { MayAttachAt (H.attaches host) (codes "-") true (H.attaches result.host) }
+    ensures attaches { MayAttach (H.attaches host) (codes "-") true (H.attaches result.host) }
     ensures disk { CountsFault (result.status.0 ≡ 3) (H.disk_faults host) (H.disk_faults result.host) }
     ensures takes { IfSome (I.left input.old) (λ script. TakesByStatus script (I.left input.new) result.status.0) }
     ensures reads { CountsFault (result.status.0 ≡ 4) (I.read_faults input.old) (I.read_faults input.new) }

@@ -3,18 +3,18 @@ use Rattle.mdc_words.specs.Time.{OverTime}
 use Rattle.mdc_words.proofs.TimeLemmas.{over_time_none}
 use Rattle.file_session.specs.declared.stop.FileStop.TheVariants.{Memory}
 use Rattle.mdc_shell.specs.Leaving.{LeftByCreate}
-use Rattle.mdc_shell.specs.Words.{CreateFile, RunFile, RunScript}
+use Rattle.mdc_shell.specs.Words.{CreateFile, RunFile, RunScratch}
 use Rattle.mdc_shell.proofs.Asking.{one_line}
 use Rattle.mdc_shell.proofs.CreateLemmas.{create_line-one}
 use Rattle.mdc_shell.proofs.RunsLemmas.{refuses_file-before, runs_items-complete, runs_path-before, runs_scratch-ended, serves_path-before, takes_none}
 use Rattle.mdc_shell.proofs.program.run.Goals as goal
 
-pub returns-in-Ok-Some-RunScript-clause-complete : goal.returns-in-Ok-Some-RunScript-clause-complete
-returns-in-Ok-Some-RunScript-clause-complete g c = λ no_disk no_read no_say within before said is told asks.
-    let a = c.in-Ok-Some-RunScript in
+pub returns-in-Ok-Some-RunScratch-clause-complete : goal.returns-in-Ok-Some-RunScratch-clause-complete
+returns-in-Ok-Some-RunScratch-clause-complete g c = λ no_disk no_read no_say within before said is told asks.
+    let a = c.in-Ok-Some-RunScratch in
     let asked = rw (a.field-0-is, a.field-0-0-is, c.as_slice.ensures.value) at a.ensures in
     elim asks [
-      | inl file ↦ absurd (let e = one_line _ RunScript (RunFile file.0) asked file.1 in cc)
+      | inl file ↦ absurd (let e = one_line _ RunScratch (RunFile file.0) asked file.1 in cc)
       | inr scratch ↦
           let run = c.run_scratch.ensures.runs before said is told scratch.1 in
           runs_items-complete said _ _ _ run.end_ c.run_scratch.result.status.0 run.run run.status_is within
@@ -30,7 +30,7 @@ returns-in-Ok-Some-RunFile-clause-complete g c = λ no_disk no_read no_say withi
           let run = c.run_path.ensures.runs before said is told file.2 in
           runs_items-complete said _ _ _ run.end_ c.run_path.result.status.0 run.run.run run.status_is within
           (λ e. no_disk (c.run_path.ensures.disk.rose e)) (λ e. no_read (c.run_path.ensures.reads.rose e)) (λ e. no_say (c.run_path.ensures.says.rose e))
-      | inr scratch ↦ absurd (let e = one_line _ (RunFile a.path.now) RunScript asked scratch.0 in cc)
+      | inr scratch ↦ absurd (let e = one_line _ (RunFile a.path.now) RunScratch asked scratch.0 in cc)
     ]
 
 pub returns-in-Ok-Some-Create-clause-created_time : goal.returns-in-Ok-Some-Create-clause-created_time
@@ -58,17 +58,17 @@ returns-in-Ok-None-clause-refuses g c = λ path line.
 pub returns-in-Ok-None-clause-scratch : goal.returns-in-Ok-None-clause-scratch
 returns-in-Ok-None-clause-scratch g c = λ line.
     let asked = rw (c.in-Ok-None.field-0-is, c.as_slice.ensures.value) at c.in-Ok-None.ensures in
-    absurd (asked RunScript line)
+    absurd (asked RunScratch line)
 
 pub returns-in-Ok-None-clause-scratch_full : goal.returns-in-Ok-None-clause-scratch_full
 returns-in-Ok-None-clause-scratch_full g c = λ line.
     let asked = rw (c.in-Ok-None.field-0-is, c.as_slice.ensures.value) at c.in-Ok-None.ensures in
-    absurd (asked RunScript line)
+    absurd (asked RunScratch line)
 
 pub returns-in-Ok-None-clause-scratch_any : goal.returns-in-Ok-None-clause-scratch_any
 returns-in-Ok-None-clause-scratch_any g c = λ line.
     let asked = rw (c.in-Ok-None.field-0-is, c.as_slice.ensures.value) at c.in-Ok-None.ensures in
-    absurd (asked RunScript line)
+    absurd (asked RunScratch line)
 
 pub returns-in-Ok-None-clause-created : goal.returns-in-Ok-None-clause-created
 returns-in-Ok-None-clause-created g c = λ path extents extent_pages line.
@@ -93,7 +93,7 @@ returns-in-Ok-None-clause-completes g c = λ path extents extent_pages line.
 pub returns-in-Ok-None-clause-complete : goal.returns-in-Ok-None-clause-complete
 returns-in-Ok-None-clause-complete g c = λ no_disk no_read no_say within before said is told asks.
     let asked = rw (c.in-Ok-None.field-0-is, c.as_slice.ensures.value) at c.in-Ok-None.ensures in
-    elim asks [ inl file ↦ absurd (asked (RunFile file.0) file.1) | inr scratch ↦ absurd (asked RunScript scratch.0) ]
+    elim asks [ inl file ↦ absurd (asked (RunFile file.0) file.1) | inr scratch ↦ absurd (asked RunScratch scratch.0) ]
 
 pub returns-in-Err-clause-served : goal.returns-in-Err-clause-served
 returns-in-Err-clause-served g c = λ path line. (serves_path-before _ _ _ Memory tt refl, inr refl, inr (inr (inr (inr (inr (inr (inr (inl refl))))))))
@@ -125,7 +125,7 @@ returns-in-Ok-None-clause-takes g c = λ path line.
 pub returns-in-Ok-None-clause-scratch_takes : goal.returns-in-Ok-None-clause-scratch_takes
 returns-in-Ok-None-clause-scratch_takes g c = λ line.
     let asked = rw (c.in-Ok-None.field-0-is, c.as_slice.ensures.value) at c.in-Ok-None.ensures in
-    absurd (asked RunScript line)
+    absurd (asked RunScratch line)
 
 pub returns-in-Err-clause-takes : goal.returns-in-Err-clause-takes
 returns-in-Err-clause-takes g c = λ path line. takes_none (g.I.Source.left c.args.input.now) 8 (λ e. absurd (cc)) (λ e. absurd (cc)) (λ e. absurd (cc))
