@@ -1,0 +1,78 @@
+// A file that runs full.
+use crate::hosts::{host_of, small_database};
+use crate::runs::{run_script, said_by};
+use script_session::Served;
+use std::test::Fail;
+
+// A row has 780 bytes, so a page has five and a block ten. The trees of W take three index pages in two of the sixteen extents, so
+// there are fourteen blocks, and each row with a D of its own takes one.
+const SCRIPT: &[u8] =
+    b"CREATE TABLE W (D INTEGER, K INTEGER, X CHAR(254), Y CHAR(254), Z CHAR(254)) ORGANIZE BY (D);
+INSERT INTO W (D, K) VALUES (1, 101);
+INSERT INTO W (D, K) VALUES (2, 102);
+INSERT INTO W (D, K) VALUES (3, 103);
+INSERT INTO W (D, K) VALUES (4, 104);
+INSERT INTO W (D, K) VALUES (5, 105);
+INSERT INTO W (D, K) VALUES (6, 106);
+INSERT INTO W (D, K) VALUES (7, 107);
+INSERT INTO W (D, K) VALUES (8, 108);
+INSERT INTO W (D, K) VALUES (9, 109);
+INSERT INTO W (D, K) VALUES (10, 110);
+INSERT INTO W (D, K) VALUES (11, 111);
+INSERT INTO W (D, K) VALUES (12, 112);
+INSERT INTO W (D, K) VALUES (13, 113);
+INSERT INTO W (D, K) VALUES (14, 114);
+INSERT INTO W (D, K) VALUES (15, 115);
+DELETE FROM W WHERE D = 1;
+INSERT INTO W (D, K) VALUES (15, 115);";
+
+const SAID: &[u8] = b"OK
+1 ROWS INSERTED
+1 ROWS INSERTED
+1 ROWS INSERTED
+1 ROWS INSERTED
+1 ROWS INSERTED
+1 ROWS INSERTED
+1 ROWS INSERTED
+1 ROWS INSERTED
+1 ROWS INSERTED
+1 ROWS INSERTED
+1 ROWS INSERTED
+1 ROWS INSERTED
+1 ROWS INSERTED
+1 ROWS INSERTED
+ERROR 70 file full at 16 extents
+1 ROWS DELETED
+1 ROWS INSERTED
+";
+
+const ROWS: &[u8] = b"D|K
+2|102
+3|103
+4|104
+5|105
+6|106
+7|107
+8|108
+9|109
+10|110
+11|111
+12|112
+13|113
+14|114
+15|115
+14 ROWS
+";
+
+#[test]
+fn a_file_has_fourteen_blocks_and_the_next_run_finds_them(rt: HostRuntime) -> Result<(), Fail> {
+    let alloc = rt.alloc();
+    let file = small_database(alloc)?;
+    let (end, host) = run_script(alloc, SCRIPT, host_of(alloc, &file, &[])?)?;
+    assert_eq!(rt; end, Ok(Served::SomeRefused));
+    assert_eq!(rt; host.said(), SAID);
+    let (end, said) = said_by(alloc, b"SELECT D, K FROM W;", host)?;
+    assert_eq!(rt; end, Ok(Served::AllDone));
+    assert_eq!(rt; said.as_slice(), ROWS);
+    Ok(())
+}
