@@ -4,9 +4,6 @@ use Rattle.mdc_ast.specs.Reading.{Item}
 use Rattle.sql_reader.specs.Holding.{Holding}
 use Rattle.sql_reader.specs.Progress.{Given, Progress}
 use Rattle.sql_reader.specs.Standing.{IsAt}
-use Rattle.sql_reader.specs.declared.statements.Read.{Read}
-use Rattle.sql_reader.specs.declared.statements.Read.TheVariants as read
-use Rattle.script_engine.specs.Held.{IsWritten}
 
 -- The reader may be somewhere in a script, within its limit, of which some items were given.
 pub record IsReading (reader : Holding) : Type 0 where
@@ -15,8 +12,3 @@ pub record IsReading (reader : Holding) : Type 0 where
   pub items : List Item
   pub given : Given now items
   pub few : reader.count ≤ 67108864
-
--- a statement that was given is written so in a script
-abbrev pub IsReadWritten : Read → Type 0
-IsReadWritten (read.Stmt stmt) = IsWritten stmt
-IsReadWritten (read.Refused refusal) = Unit {0}

@@ -1,7 +1,7 @@
 // The same scripts on the plain engine and on the engine over a store.
 ghost use Rattle.std.specs.Prelude.{◌≡◌, false, None, OnOk};
 ghost use Rattle.script_engine.specs.Serving.{MayCall};
-ghost use Rattle.script_engine_tests.specs.Written.{IsReadWritten};
+ghost use Rattle.script_session.specs.Written.{IsReadWritten};
 
 use crate::mixed::script_of;
 use crate::scripts::{AMPLE, reply_to, source_of};

@@ -1,7 +1,7 @@
 // Scripts on an engine, as the program runs them.
 ghost use Rattle.std.specs.Prelude.{◌≡◌, false, None, IfOk, OnOk};
 ghost use Rattle.script_engine.specs.Serving.{MayCall};
-ghost use Rattle.script_engine_tests.specs.Written.{IsReadWritten};
+ghost use Rattle.script_session.specs.Written.{IsReadWritten};
 
 use crate::stores::engine_on;
 use crate::written::{next_written, reader};
