@@ -1,2 +1,3 @@
+pub mod BlockCounts
 pub mod Lines
 pub mod Wordings

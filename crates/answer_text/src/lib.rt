@@ -1,4 +1,4 @@
-//! The whole texts of answers: of replies, of refusals, and the lines of a query.
+//! The whole texts of answers: of replies, of refusals, and the lines of a query and of LIST BLOCKS.
 //!
 //! It promises that they are the texts that the definitions of `mdc_ast` give them, byte for byte, and that nothing is
 //! written where memory is wanting. Each text is written once, where it is to stand. It stands on `mdc_ast`,
@@ -6,6 +6,7 @@
 #![tactic(auto)]
 
 mod appending;
+mod block_counts;
 mod entries;
 mod fault;
 mod lines;
@@ -14,6 +15,7 @@ mod replies;
 mod select;
 mod wordings;
 
+pub use block_counts::blocks_line;
 pub use fault::AnswerFault;
 pub use lines::Lines;
 pub use refusals::refusal_bytes;

@@ -3,7 +3,7 @@ ghost use Rattle.std.specs.Prelude.{◌≡◌, length, IfOk, IsTrue};
 ghost use Rattle.std.specs.List.{list_all};
 ghost use Rattle.answer_text.specs.Lines.{are_outs_within, are_rows_wide, is_column_out, is_plain_select};
 
-use crate::{Lines, outcome_bytes, refusal_bytes, reply_bytes, select_lines};
+use crate::{Lines, blocks_line, outcome_bytes, refusal_bytes, reply_bytes, select_lines};
 use mdc_ast::{
     BoundOut, BoundSelect, ColumnDef, Name, Outcome, Refusal, Reply, Roots, Row, TableDef,
 };
@@ -215,5 +215,12 @@ fn rows_that_were_found_are_shown(rt: HostRuntime) -> Result<(), Fail> {
     let alloc = rt.alloc();
     let lines = select_lines(alloc, &query(alloc)?, &table(alloc)?, &one_row(alloc)?)?;
     assert_eq!(rt; lines.bytes(), b"B|A|C\nNULL|7|NULL\n1 ROWS\n".as_slice());
+    Ok(())
+}
+
+#[test]
+fn blocks_are_told(rt: HostRuntime) -> Result<(), Fail> {
+    let line = blocks_line(rt.alloc(), 2, 0, 15)?;
+    assert_eq!(rt; line.bytes(), b"USED 2 FREE 0 PENDING 15\n".as_slice());
     Ok(())
 }

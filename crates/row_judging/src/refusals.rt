@@ -1,7 +1,7 @@
 // Why a statement isn't done, as a refusal.
 ghost use Rattle.std.specs.Prelude.{◌≡◌, IfOk};
 ghost use Rattle.mdc_ast.specs.meaning.Cause as spec;
-ghost use Rattle.mdc_ast.specs.meaning.Cause.{FileFull, NotBuilt, NumbersUsedUp, State, refusal_of};
+ghost use Rattle.mdc_ast.specs.meaning.Cause.{FileFull, NoTable, NotBuilt, NumbersUsedUp, State, refusal_of};
 ghost use Rattle.row_judging.specs.RowChange.{misfit_cause};
 
 use crate::row_change::Misfit;
@@ -21,6 +21,13 @@ pub fn not_in_state(alloc: Global) -> Refusal
     ensures { result ≡ refusal_of State }
 {
     keeping(alloc, 12, 0)
+}
+
+/// A name that no table has.
+pub fn no_table(alloc: Global, name: &Name) -> Result<Refusal, Memory>
+    ensures { IfOk result (λ refusal. refusal ≡ refusal_of (NoTable name.now)) }
+{
+    naming(alloc, 21, name)
 }
 
 /// A file that has no extent left for the statement.
