@@ -1,13 +1,16 @@
 -- The slots of a block by its pages: page j of it has part j of them.
-use Rattle.std.proofs.Common.{◌≡◌, ◌<◌, ◌≤◌, ◌+◌, ◌-◌, ◌*◌, ◌/◌, ◌%◌, ℕ, IsTrue, List, [], ◌++◌, length, get_or, set, take, drop, replicate, map, Option, Some, None, Result, Ok, Err, IfOk, OnOk, refl, ap, sym, ◌∙◌, inl, inr, arith, subst}
+use Rattle.std.proofs.Common.{◌≡◌, ◌<◌, ◌≤◌, ◌+◌, ◌-◌, ◌*◌, ◌/◌, ◌%◌, ℕ, IsTrue, List, ◌++◌, length, get_or, set, take, drop, replicate, Option, Some, None, Result, Ok, Err, IfOk, OnOk, refl, ap, sym, ◌∙◌, inl, inr, arith, append_assoc, subst}
 use Rattle.std.specs.Prelude.{Contains}
 use Rattle.std.proofs.Math.Nat.{div-lt_iff_lt-mul, mul-le-mul_right}
 use Rattle.std.proofs.lemmas.Bool.{cases_eq}
 use Rattle.std.proofs.lemmas.Nat.{div-add-mod'}
-use Rattle.std.proofs.lemmas.List.{length-replicate, length-set, length-take, length-take-le, take-append-drop, take_all}
+use Rattle.std.proofs.lemmas.List.{append-nil, length-replicate, length-set, length-take, length-take-le, take-append-drop, take_all}
+use Rattle.std.proofs.lemmas.List.Elements.{filter-append}
 use Rattle.mdc_ast.specs.declared.definition.ColumnDef.{ColumnDef}
 use Rattle.mdc_ast.specs.declared.definition.TableDef.{TableDef}
+use Rattle.mdc_ast.specs.declared.predicate.Pred.{Pred}
 use Rattle.mdc_ast.specs.declared.row.Row.{Row}
+use Rattle.mdc_ast.specs.meaning.Doing.{qualifies}
 use Rattle.mdc_words.proofs.ListedLemmas.{length-listed}
 use Rattle.store_api.specs.Extents.{first_page_of}
 use Rattle.store_api.specs.Fetching.{BringsOnce, PagesBetween}
@@ -26,8 +29,7 @@ use Rattle.row_page.specs.RowPage.{IsRowPage, rows_of, slot_count, slot_row}
 use Rattle.mdc_sound.specs.Placing.{HoldsNowhere, IsEmptySlot, IsLowestAt}
 use Rattle.mdc_sound.specs.StandingTable.{IsPageOfBlock, pages_of}
 use Rattle.mdc_sound.specs.TableRows.{PlacedRow, block_page, rows_from_slot}
-use Rattle.block_rows.specs.HeldRows.{BreaksExtent, BreaksRows, HoldsRows, PutsFirst, placed_row}
-use Rattle.block_rows.specs.declared.hit.Hit.{Hit}
+use Rattle.block_rows.specs.HeldRows.{BreaksExtent, BreaksRows, HoldsRows, PutsFirst, qualifying}
 use Rattle.block_rows.specs.PageRows.{HoldsRowPage, PutsInPage, RefusesPage}
 use Rattle.block_rows.proofs.PageRowsLemmas.{rows_along}
 use Rattle.block_rows.proofs.PartsLemmas.{get_or-part, length-parts, part, part-parts, part-replicate, part-set, part-set_other, parts-part, take-parts}
@@ -53,17 +55,19 @@ module _ {X : Type 0} (P : X → Type 0) (c j : ℕ) (slots : List X) where
       (lowest-append P (take (j * c) slots) (drop (j * c) slots) (j * c) k x (length-take-le (j * c) slots within) front rest)
 
 -- the rows of one page more
-pub rows_more : (block c j : ℕ) (slots : List (Option Row)) (hits now : List PlacedRow) → j * c ≤ length slots → hits ≡ rows_from_slot block 0 (take (j * c) slots)
-    → now ≡ hits ++ rows_from_slot block (j * c) (part c j slots) → now ≡ rows_from_slot block 0 (take ((j + 1) * c) slots)
-rows_more block c j slots hits now within so_far is =
-    let behind : j * c ≡ 0 + length (take (j * c) slots) = omega (arith, length-take-le (j * c) slots within) in
-    is ∙ (ap (λ l. l ++ rows_from_slot block (j * c) (part c j slots)) so_far
-    ∙ (ap (λ k. rows_from_slot block 0 (take (j * c) slots) ++ rows_from_slot block k (part c j slots)) behind
-    ∙ (sym (rows_from_slot-append block 0 (take (j * c) slots) (part c j slots)) ∙ ap (rows_from_slot block 0) (sym (take-parts c j slots)))))
+rows_more : (block c j : ℕ) (slots : List (Option Row)) → j * c ≤ length slots
+    → rows_from_slot block 0 (take ((j + 1) * c) slots) ≡ rows_from_slot block 0 (take (j * c) slots) ++ rows_from_slot block (j * c) (part c j slots)
+rows_more block c j slots within =
+    let behind : 0 + length (take (j * c) slots) ≡ j * c = omega (arith, length-take-le (j * c) slots within) in
+    ap (rows_from_slot block 0) (take-parts c j slots)
+    ∙ (rows_from_slot-append block 0 (take (j * c) slots) (part c j slots)
+    ∙ ap (λ k. rows_from_slot block 0 (take (j * c) slots) ++ rows_from_slot block k (part c j slots)) behind)
 
 -- no hit before the first page
-pub none_pushed : (block c : ℕ) (hits : List Hit) (slots : List (Option Row)) → hits ≡ [] → map placed_row hits ≡ rows_from_slot block 0 (take (0 * c) slots)
-none_pushed block c hits slots none = let zero_slots : 0 * c ≡ 0 = omega arith in ap (map placed_row) none ∙ ap (λ k. rows_from_slot block 0 (take k slots)) (sym zero_slots)
+pub none_pushed : (pred : Option Pred) (block c : ℕ) (hits : List PlacedRow) (slots : List (Option Row)) → hits ≡ hits ++ qualifying pred (rows_from_slot block 0 (take (0 * c) slots))
+none_pushed pred block c hits slots =
+    let no_slots : 0 ≡ 0 * c = omega arith in
+    sym (append-nil hits) ∙ ap (λ k. hits ++ qualifying pred (rows_from_slot block 0 (take k slots))) no_slots
 
 -- so many parts are within
 pub parts_within : (n c j length_of : ℕ) → length_of ≡ n * c → j ≤ n → j * c ≤ length_of
@@ -250,16 +254,23 @@ module _ {S : Type 0} (g : Ghosts S) (ext : Extents) (def : TableDef) (block : �
   -- ---- all rows
 
   -- the rows of one page more
-  pub rows_of_page_more : {old mid : S} (p j first_slot : ℕ) (hits now : List PlacedRow) → p ≡ first ext block + j → j < ext.extent_pages → first_slot ≡ j * c
+  pub rows_of_page_more : {old mid : S} (pred : Option Pred) (p j first_slot : ℕ) (initial hits now : List PlacedRow) → p ≡ first ext block + j → j < ext.extent_pages → first_slot ≡ j * c
       → (g.state mid).is_told ≡ (g.state old).is_told → (g.state mid).work ≡ (g.state old).work
-      → ((slots : List (Option Row)) → HoldsRows g ext old def block slots → hits ≡ rows_from_slot block 0 (take (j * c) slots))
-      → ((slots : List (Option Row)) → HoldsRowPage g def.columns mid p slots → now ≡ hits ++ rows_from_slot block first_slot slots)
-      → (slots : List (Option Row)) → HoldsRows g ext old def block slots → now ≡ rows_from_slot block 0 (take ((j + 1) * c) slots)
-  rows_of_page_more {old} {mid} p j first_slot hits now at less begins told same so_far rows slots holds =
+      → ((slots : List (Option Row)) → HoldsRows g ext old def block slots → hits ≡ initial ++ qualifying pred (rows_from_slot block 0 (take (j * c) slots)))
+      → ((slots : List (Option Row)) → HoldsRowPage g def.columns mid p slots → now ≡ hits ++ qualifying pred (rows_from_slot block first_slot slots))
+      → (slots : List (Option Row)) → HoldsRows g ext old def block slots → now ≡ initial ++ qualifying pred (rows_from_slot block 0 (take ((j + 1) * c) slots))
+  rows_of_page_more {old} {mid} pred p j first_slot initial hits now at less begins told same so_far rows slots holds =
       let page : HoldsRowPage g def.columns mid p (part c j slots) =
       subst (λ q. HoldsRowPage g def.columns mid q (part c j slots)) (sym at) (rows_along told same (page_of_rows j less holds)) in
-      rows_more block c j slots hits now (parts_within ext.extent_pages c j (length slots) (length_of_rows holds) (omega (arith, less))) (so_far slots holds)
-      (rows (part c j slots) page ∙ ap (λ k. hits ++ rows_from_slot block k (part c j slots)) begins)
+      let before = rows_from_slot block 0 (take (j * c) slots) in
+      let here = rows_from_slot block (j * c) (part c j slots) in
+      rows (part c j slots) page
+      ∙ (ap (λ k. hits ++ qualifying pred (rows_from_slot block k (part c j slots))) begins
+      ∙ (ap (λ l. l ++ qualifying pred here) (so_far slots holds)
+      ∙ (append_assoc initial (qualifying pred before) (qualifying pred here)
+      ∙ ap (λ l. initial ++ l)
+      (sym (filter-append (λ placed. qualifies pred placed.row.values) before here)
+      ∙ ap (qualifying pred) (sym (rows_more block c j slots (parts_within ext.extent_pages c j (length slots) (length_of_rows holds) (omega (arith, less)))))))))
 
   -- the rows of all pages
   pub rows_of_all : {s : S} (j : ℕ) (slots : List (Option Row)) → ext.extent_pages ≤ j → HoldsRows g ext s def block slots → rows_from_slot block 0 (take (j * c) slots) ≡ rows_from_slot block 0 slots

@@ -1,4 +1,5 @@
 pub mod HeldRowsLemmas
+pub mod KeptRowsLemmas
 pub mod PageRowsLemmas
 pub mod PartsLemmas
 pub mod PlacedRowsLemmas

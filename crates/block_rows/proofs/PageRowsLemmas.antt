@@ -1,7 +1,6 @@
 -- One page of a block: its slots by its bits, and what a call on its bytes makes of the page in the store.
-use Rattle.std.proofs.Common.{◌≡◌, ◌<◌, ◌≤◌, ◌+◌, ℕ, zero, suc, List, [], ◌∷◌, ◌++◌, length, get_or, drop, map, Option, Some, None, Bool, IsTrue, true, false, cond, not, Result, Ok, Err, IfErr, refl, ap, sym, ◌∙◌, arith, subst}
+use Rattle.std.proofs.Common.{◌≡◌, ◌<◌, ◌≤◌, ◌+◌, ℕ, zero, suc, List, [], ◌∷◌, length, get_or, drop, Option, Some, None, Bool, IsTrue, true, false, cond, not, Result, Ok, Err, IfErr, refl, ap, sym, ◌∙◌, arith, subst}
 use Rattle.std.specs.Prelude.{is_some}
-use Rattle.std.proofs.lemmas.List.{map-append}
 use Rattle.std.proofs.lemmas.List.Sums.{count_by-le-length, sum_by-cons}
 use Rattle.mdc_ast.specs.declared.definition.ColumnDef.{ColumnDef}
 use Rattle.mdc_ast.specs.declared.row.Row.{Row}
@@ -19,10 +18,8 @@ use Rattle.store_api.proofs.RunsOverPagesLemmas.{runs_damage, runs_memory, runs_
 use Rattle.row_page.specs.RowPage.{IsFirstSlot, IsRowPage, count_rows, is_slot_filled, rows_of, slot_bytes, slot_count, slot_row}
 use Rattle.row_page.specs.Row.{row_in}
 use Rattle.mdc_sound.specs.Placing.{HoldsNowhere, IsEmptySlot}
-use Rattle.mdc_sound.specs.TableRows.{PlacedRow, rows_from_slot}
-use Rattle.block_rows.specs.HeldRows.{placed_row}
-use Rattle.block_rows.specs.declared.hit.Hit.{Hit}
-use Rattle.block_rows.proofs.PlacedRowsLemmas.{pushed-all, pushed-row}
+use Rattle.mdc_sound.specs.TableRows.{rows_from_slot}
+use Rattle.block_rows.proofs.PlacedRowsLemmas.{rows_from_slot-end, rows_from_slot-next}
 use Rattle.block_rows.specs.PageRows.{HoldsRowPage, IsFaultOfBytes, IsLowestEmpty, RefusesPage}
 
 -- ---- the slots of a page
@@ -114,32 +111,27 @@ module _ (columns view_columns : List ColumnDef) (page view_page : List ℕ) (sa
       → (slots : List (Option Row)) → IsRowPage columns page slots → (k : ℕ) → from ≤ k → k < end → get_or slots k None ≡ None
   passed-view from end most empty slots is k late early = sym (empty-view k (omega (arith, most, early)) (empty k late early) slots is)
 
-  -- the next row pushed, behind the rows of the slots before it
-  pub pushes-view : (block base from slot : ℕ) (row : Row) (row_columns : List ColumnDef) (bytes : List ℕ) (hits now : List PlacedRow)
+  -- the rows that are left are the next one and those behind it
+  pub next-view : (block base from slot : ℕ) (row_columns : List ColumnDef) (bytes : List ℕ)
       → IsFirstSlot (is_slot_filled view_page) from (slot_count view_columns) (Some slot)
-      → row_columns ≡ view_columns → bytes ≡ slot_bytes view_columns view_page slot → row ≡ row_in row_columns bytes
-      → now ≡ hits ++ record { rid = record { block = block; slot = base + slot }; row = row } ∷ []
-      → (slots : List (Option Row)) → IsRowPage columns page slots → (whole : List PlacedRow) → hits ++ rows_from_slot block (base + from) (drop from slots) ≡ whole
-      → now ++ rows_from_slot block (base + (slot + 1)) (drop (slot + 1) slots) ≡ whole
-  pushes-view block base from slot row row_columns bytes hits now first of are is pushed slots has whole so_far =
+      → row_columns ≡ view_columns → bytes ≡ slot_bytes view_columns view_page slot
+      → (slots : List (Option Row)) → IsRowPage columns page slots
+      → rows_from_slot block (base + from) (drop from slots)
+      ≡ record { rid = record { block = block; slot = base + slot }; row = row_in row_columns bytes } ∷ rows_from_slot block (base + (slot + 1)) (drop (slot + 1) slots)
+  next-view block base from slot row_columns bytes first of are slots has =
       let below : slot < slot_count columns = omega (arith, first.1, ap slot_count alike) in
-      ap (λ l. l ++ rows_from_slot block (base + (slot + 1)) (drop (slot + 1) slots)) pushed
-      ∙ pushed-row block base from slots hits whole so_far slot row first.0 (omega (arith, below, length-slots columns page slots has.has))
+      rows_from_slot-next block base from slots slot (row_in row_columns bytes) first.0 (omega (arith, below, length-slots columns page slots has.has))
       (passed-view from slot (omega (arith, below)) first.3 slots has)
-      (sym (filled-view slot row row_columns bytes below first.2 of are is slots has))
+      (sym (filled-view slot (row_in row_columns bytes) row_columns bytes below first.2 of are refl slots has))
 
   -- no row is left
-  pub ends-view : (block base from : ℕ) (hits : List PlacedRow) → from ≤ slot_count columns → IsFirstSlot (is_slot_filled view_page) from (slot_count view_columns) None
-      → (slots : List (Option Row)) → IsRowPage columns page slots → (whole : List PlacedRow) → hits ++ rows_from_slot block (base + from) (drop from slots) ≡ whole → hits ≡ whole
-  ends-view block base from hits within none slots has whole so_far =
+  pub ends-view : (block base from : ℕ) → from ≤ slot_count columns → IsFirstSlot (is_slot_filled view_page) from (slot_count view_columns) None
+      → (slots : List (Option Row)) → IsRowPage columns page slots → rows_from_slot block (base + from) (drop from slots) ≡ []
+  ends-view block base from within none slots has =
       let all : length slots ≡ slot_count columns = length-slots columns page slots has.has in
       let most : slot_count view_columns ≡ slot_count columns = ap slot_count alike in
-      pushed-all block base from slots hits whole so_far (omega (arith, within, all)) (λ k late early.
+      rows_from_slot-end block base from slots (omega (arith, within, all)) (λ k late early.
       passed-view from (slot_count columns) (omega arith) (λ i behind before. none i behind (omega (arith, before, most))) slots has k late (omega (arith, early, all)))
-
--- hits by their places
-pub placed-pushed : (hits now : List Hit) (hit : Hit) → now ≡ hits ++ hit ∷ [] → map placed_row now ≡ map placed_row hits ++ placed_row hit ∷ []
-placed-pushed hits now hit is = ap (map placed_row) is ∙ map-append placed_row hits (hit ∷ [])
 
 -- ---- the page in the store
 

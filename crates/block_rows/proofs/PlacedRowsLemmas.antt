@@ -1,12 +1,12 @@
 -- Rows by their places, and the lowest empty slot, over two lists one behind the other.
-use Rattle.std.proofs.Common.{◌≡◌, ◌<◌, ◌≤◌, ◌+◌, ◌-◌, ℕ, zero, suc, List, [], ◌∷◌, ◌++◌, length, get_or, drop, Option, Some, None, refl, ap, sym, ◌∙◌, inl, inr, arith, append_assoc, length-append, subst}
+use Rattle.std.proofs.Common.{◌≡◌, ◌<◌, ◌≤◌, ◌+◌, ◌-◌, ℕ, zero, suc, List, [], ◌∷◌, ◌++◌, length, get_or, drop, Option, Some, None, refl, ap, sym, ◌∙◌, inl, inr, arith, length-append, subst}
 use Rattle.std.specs.Prelude.{Contains}
 use Rattle.std.proofs.lemmas.Bool.{cases_lt}
 use Rattle.std.proofs.Math.Seq.{drop-cons, drop-length}
-use Rattle.std.proofs.lemmas.List.{append-nil, get_or_append_left, get_or-append_right}
+use Rattle.std.proofs.lemmas.List.{get_or_append_left, get_or-append_right}
 use Rattle.mdc_ast.specs.declared.row.Row.{Row}
 use Rattle.mdc_sound.specs.Placing.{HoldsNowhere, IsEmptySlot, IsLowestAt}
-use Rattle.mdc_sound.specs.TableRows.{PlacedRow, rows_from_slot}
+use Rattle.mdc_sound.specs.TableRows.{rows_from_slot}
 
 -- ---- rows by rising slot
 
@@ -20,7 +20,7 @@ rows_from_slot-append block slot (Some row ∷ xs) ys =
     ap (λ l. record { rid = record { block = block; slot = slot }; row = row } ∷ l)
     (rows_from_slot-append block (slot + 1) xs ys ∙ ap (λ k. rows_from_slot block (slot + 1) xs ++ rows_from_slot block k ys) next)
 
--- ---- rows pushed one by one
+-- ---- the rows that are left
 
 -- empty slots are passed over
 rows_from_slot-skip : (block base from n : ℕ) (slots : List (Option Row)) → ((k : ℕ) → from ≤ k → k < from + n → get_or slots k None ≡ None) → from + n ≤ length slots
@@ -46,25 +46,21 @@ rows_from_slot-row block base slot slots row within is =
     ∙ ap (λ l. record { rid = record { block = block; slot = base + slot }; row = row } ∷ l)
     (ap (λ k. rows_from_slot block k (drop (suc slot) slots)) next ∙ ap (λ k. rows_from_slot block (base + (slot + 1)) (drop k slots)) more)
 
-module _ (block base from : ℕ) (slots : List (Option Row)) (hits whole : List PlacedRow) (so_far : hits ++ rows_from_slot block (base + from) (drop from slots) ≡ whole) where
-  -- one row more
-  pub pushed-row : (slot : ℕ) (row : Row) → from ≤ slot → slot < length slots → ((k : ℕ) → from ≤ k → k < slot → get_or slots k None ≡ None) → get_or slots slot None ≡ Some row
-      → (hits ++ record { rid = record { block = block; slot = base + slot }; row = row } ∷ []) ++ rows_from_slot block (base + (slot + 1)) (drop (slot + 1) slots) ≡ whole
-  pushed-row slot row behind within none is =
+module _ (block base from : ℕ) (slots : List (Option Row)) where
+  -- the next row, and those behind it
+  pub rows_from_slot-next : (slot : ℕ) (row : Row) → from ≤ slot → slot < length slots → ((k : ℕ) → from ≤ k → k < slot → get_or slots k None ≡ None) → get_or slots slot None ≡ Some row
+      → rows_from_slot block (base + from) (drop from slots) ≡ record { rid = record { block = block; slot = base + slot }; row = row } ∷ rows_from_slot block (base + (slot + 1)) (drop (slot + 1) slots)
+  rows_from_slot-next slot row behind within none is =
       let end : from + (slot - from) ≡ slot = omega arith in
-      let skipped : rows_from_slot block (base + from) (drop from slots) ≡ rows_from_slot block (base + slot) (drop slot slots) =
-      rows_from_slot-skip block base from (slot - from) slots (λ k late early. none k late (omega arith)) (omega arith) ∙ ap (λ k. rows_from_slot block (base + k) (drop k slots)) end in
-      append_assoc hits (record { rid = record { block = block; slot = base + slot }; row = row } ∷ []) (rows_from_slot block (base + (slot + 1)) (drop (slot + 1) slots))
-      ∙ (ap (λ l. hits ++ l) (sym (skipped ∙ rows_from_slot-row block base slot slots row within is)) ∙ so_far)
+      rows_from_slot-skip block base from (slot - from) slots (λ k late early. none k late (omega arith)) (omega arith)
+      ∙ (ap (λ k. rows_from_slot block (base + k) (drop k slots)) end ∙ rows_from_slot-row block base slot slots row within is)
 
   -- no row is left
-  pub pushed-all : from ≤ length slots → ((k : ℕ) → from ≤ k → k < length slots → get_or slots k None ≡ None) → hits ≡ whole
-  pushed-all within none =
+  pub rows_from_slot-end : from ≤ length slots → ((k : ℕ) → from ≤ k → k < length slots → get_or slots k None ≡ None) → rows_from_slot block (base + from) (drop from slots) ≡ []
+  rows_from_slot-end within none =
       let end : from + (length slots - from) ≡ length slots = omega arith in
-      let skipped : rows_from_slot block (base + from) (drop from slots) ≡ [] =
       rows_from_slot-skip block base from (length slots - from) slots (λ k late early. none k late (omega arith)) (omega arith)
-      ∙ (ap (λ k. rows_from_slot block (base + k) (drop k slots)) end ∙ ap (rows_from_slot block (base + length slots)) (drop-length slots)) in
-      sym (append-nil hits) ∙ (ap (λ l. hits ++ l) (sym skipped) ∙ so_far)
+      ∙ (ap (λ k. rows_from_slot block (base + k) (drop k slots)) end ∙ ap (rows_from_slot block (base + length slots)) (drop-length slots))
 
 -- ---- the lowest empty slot
 

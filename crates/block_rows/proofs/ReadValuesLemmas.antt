@@ -1,5 +1,5 @@
 -- What is read from the bytes of a row has a key in each column.
-use Rattle.std.proofs.Common.{◌≡◌, ◌≤◌, ◌<◌, ◌+◌, ◌/◌, ◌%◌, ◌^◌, ℕ, zero, suc, Bool, true, false, cond, IsTrue, List, [], ◌∷◌, ◌++◌, length, take, drop, get_or, refl, ap, sym, ◌∙◌, arith, subst}
+use Rattle.std.proofs.Common.{◌≡◌, ◌≤◌, ◌<◌, ◌+◌, ◌/◌, ◌%◌, ◌^◌, ℕ, zero, suc, Bool, true, false, IsTrue, List, [], ◌∷◌, ◌++◌, length, take, drop, get_or, refl, ap, sym, ◌∙◌, arith, subst}
 use Rattle.std.specs.Prelude.{◌==◌, nat_le, nat_lt}
 use Rattle.std.specs.Int.{cast_signed, w32, w64}
 use Rattle.std.proofs.lemmas.Bool.Decides.{nat_tests}
@@ -12,7 +12,7 @@ use Rattle.mdc_values.specs.declared.value.ColType.{ColType}
 use Rattle.mdc_values.specs.declared.value.ColType.TheVariants.{Integer, Bigint, Char, Date}
 use Rattle.mdc_values.specs.declared.value.Value.TheVariants.{Null}
 use Rattle.mdc_values.specs.Fitting.{in_bigint, in_integer}
-use Rattle.mdc_values.specs.Value.{before_text, trimmed}
+use Rattle.mdc_values.specs.Value.{trimmed}
 use Rattle.mdc_ast.specs.declared.definition.ColumnDef.{ColumnDef}
 use Rattle.mdc_ast.specs.declared.row.Row.{Row}
 use Rattle.mdc_ast.specs.Truth.{value_at}
@@ -102,9 +102,6 @@ read-slot columns view_columns row_columns page view_page bytes slot row same al
     subst (HasReadValues columns) (ap (λ k. row_in k bytes) (sym (of ∙ alike)) ∙ sym copy) read
 
 -- ---- rows that were found
-
-pub read-none : (columns : List ColumnDef) (hits : List Hit) → hits ≡ [] → HaveReadValues columns hits
-read-none columns hits none k d within = absurd (omega (arith, within, ap length none))
 
 pub read-pushed : (columns : List ColumnDef) (hits now : List Hit) (hit : Hit) → now ≡ hits ++ hit ∷ [] → HasReadValues columns hit.row → HaveReadValues columns hits → HaveReadValues columns now
 read-pushed columns hits now hit is read were =

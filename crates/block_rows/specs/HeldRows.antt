@@ -1,10 +1,12 @@
 -- The rows that a block is told to hold: the slots of its pages, one page behind the other (docs/FORMAT.md, "Row pages").
 use Rattle.std.specs.Prelude.{◌≡◌, ◌⊎◌, ◌≤◌, ◌<◌, ◌+◌, ℕ, IsTrue, List, length, Option, Some, None, Contains, slice_set}
-use Rattle.std.specs.List.{All}
+use Rattle.std.specs.List.{All, filter}
 use Rattle.mdc_ast.specs.Truth.{value_at}
 use Rattle.mdc_ast.specs.declared.definition.ColumnDef.{ColumnDef}
 use Rattle.mdc_ast.specs.declared.definition.TableDef.{TableDef}
+use Rattle.mdc_ast.specs.declared.predicate.Pred.{Pred}
 use Rattle.mdc_ast.specs.declared.row.Row.{Row}
+use Rattle.mdc_ast.specs.meaning.Doing.{qualifies}
 use Rattle.store_api.specs.Extents.{first_page_of}
 use Rattle.store_api.specs.Frame.{HoldsPage}
 use Rattle.store_api.specs.declared.fault.Damage.{Damage}
@@ -29,6 +31,10 @@ pub record HoldsRows {S : Type 0} (g : Ghosts S) (ext : Extents) (s : S) (def : 
 -- a row and its place, as a call gives them
 abbrev pub placed_row : Hit → PlacedRow
 placed_row hit = record { rid = hit.rid; row = hit.row }
+
+-- those of these rows for whose values a predicate is true, or all if there is none
+abbrev pub qualifying : Option Pred → List PlacedRow → List PlacedRow
+qualifying pred rows = filter (λ placed. qualifies pred placed.row.values) rows
 
 -- a row that was read from bytes has a value in each column, with a key in it
 pub record HasReadValues (columns : List ColumnDef) (row : Row) : Type 0 where

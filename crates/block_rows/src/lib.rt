@@ -2,10 +2,11 @@
 //!
 //! A block is an extent whose pages are row pages. It promises that a row goes into the lowest empty slot, that a change of a
 //! slot changes that slot alone, that a block which comes into use is empty, and that the rows of a block are read by rising
-//! slot, each of its pages once. A call touches pages of its block alone. Pages aren't trusted: one that isn't a row page of the
-//! table's columns is named by rule 7.
+//! slot, each of its pages once, and copied only if a filter takes them. A call touches pages of its block alone. Pages aren't
+//! trusted: one that isn't a row page of the table's columns is named by rule 7.
 //!
-//! It stands on `row_page` for pages, on `extent_map` for where extents lie, and on the words of `mdc_sound`.
+//! It stands on `row_page` for pages, on `row_filter` for which rows are taken, on `extent_map` for where extents lie, and on the
+//! words of `mdc_sound`.
 #![tactic(auto)]
 
 mod changing;
@@ -17,7 +18,7 @@ mod reading;
 
 pub use changing::{clear_slot, put_first, put_slot, wipe_block};
 pub use hit::Hit;
-pub use reading::{row_in_slot, rows_of_block};
+pub use reading::{push_rows_of_block, row_in_slot};
 
 #[cfg(test)]
 mod tests;

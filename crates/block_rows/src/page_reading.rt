@@ -1,5 +1,5 @@
 // What one page of a block holds.
-ghost use Rattle.std.specs.Prelude.{◌≡◌, ◌<◌, ◌+◌, ◌++◌, ℕ, List, Option, Some, None, false, map, length, slice_index_or, IfOk, IfErr, IfSome, OnOk};
+ghost use Rattle.std.specs.Prelude.{◌≡◌, ◌<◌, ◌+◌, [], ◌∷◌, ◌++◌, ℕ, List, Option, Some, None, false, map, length, slice_index_or, IsTrue, IfOk, IfErr, IfSome, OnOk};
 ghost use Rattle.mdc_ast.specs.declared.row.Row.{Row};
 ghost use Rattle.store_api.specs.Causes.{fault_of};
 ghost use Rattle.store_api.specs.Fetching.{BringsOnce};
@@ -8,12 +8,14 @@ ghost use Rattle.store_api.specs.RunsOverPages.{RunsOverPages};
 ghost use Rattle.row_page.specs.Row.{AreRowColumns, row_in};
 ghost use Rattle.row_page.specs.RowPage.{slot_count, IsRowPage};
 ghost use Rattle.mdc_sound.specs.TableRows.{rows_from_slot};
-ghost use Rattle.block_rows.specs.HeldRows.{placed_row, HasReadValues, HaveReadValues};
+ghost use Rattle.row_filter.specs.Filtering.{may_filter};
+ghost use Rattle.block_rows.specs.HeldRows.{placed_row, qualifying, HasReadValues, HaveReadValues};
 ghost use Rattle.block_rows.specs.PageRows.{HoldsRowPage, IsFaultOfBytes, IsLowestEmpty, RefusesPage};
 
 use crate::Hit;
 use mdc_ast::{ColumnDef, Row};
 use mdc_values::{List, Rid};
+use row_filter::RowFilter;
 use row_page::{RowPageView, RowView, capacity};
 use std::alloc::Global;
 use store_api::{Damage, Page, Pages, StoreFault, bring};
@@ -127,47 +129,57 @@ fn copy_of(alloc: Global, row: &RowView) -> Result<Row, StoreFault>
     }
 }
 
-/// Puts copies of the rows of page p last, by rising slot. Its first slot is that of the block which is given.
+/// Puts copies of the rows of page p that a filter takes last, by rising slot. Its first slot is that of the block which is given.
 pub(crate) fn push_rows_of_page<P: Pages>(
     alloc: Global,
     columns: &List<ColumnDef>,
     pages: &mut P,
     p: u32,
     first: Rid,
+    filter: &mut RowFilter,
     hits: &mut Vec<Hit>,
 ) -> Result<(), StoreFault>
     requires columns { AreRowColumns columns.now }
     requires room { first.slot + slot_count columns.now < 65536 }
+    requires wide { length columns.now ≡ length filter.old.values }
+    requires judged { (row : Row) → HasReadValues columns.now row → IsTrue (may_filter filter.old.pred.now row.values) }
     requires going { (P.state pages.old).ended ≡ false }
     requires within { p < length (P.state pages.old).work }
     ensures rows { OnOk result ((slots : List (Option Row)) → HoldsRowPage P.Pages columns.now pages.old p slots
-        → map placed_row hits.new.items ≡ map placed_row hits.old.items ++ rows_from_slot first.block first.slot slots) }
+        → map placed_row hits.new.items ≡ map placed_row hits.old.items ++ qualifying filter.old.pred.now (rows_from_slot first.block first.slot slots)) }
     ensures keyed { OnOk result (HaveReadValues columns.now hits.old.items → HaveReadValues columns.now hits.new.items) }
+    ensures pred { filter.new.pred.now ≡ filter.old.pred.now }
+    ensures width { length filter.new.values ≡ length filter.old.values }
     ensures same { (P.state pages.new).work ≡ (P.state pages.old).work }
     ensures once { BringsOnce P.Pages (OnlyPage p) pages.old pages.new }
     ensures runs { RunsOverPages P.Pages NoPage (OnlyPage p) (RefusesPage P.Pages columns.now pages.old p) pages.old pages.new (fault_of result) }
 {
     bring(pages, p)?;
-    match push_rows(alloc, columns, pages.page(), p, first, hits) {
+    match push_rows(alloc, columns, pages.page(), p, first, filter, hits) {
         Ok(()) => Ok(()),
         Err(fault) => Err(fault),
     }
 }
 
-/// Puts copies of the rows in the bytes of page p last.
+/// Puts copies of the rows in the bytes of page p that a filter takes last.
 fn push_rows(
     alloc: Global,
     columns: &List<ColumnDef>,
     page: &Page,
     p: u32,
     first: Rid,
+    filter: &mut RowFilter,
     hits: &mut Vec<Hit>,
 ) -> Result<(), StoreFault>
     requires columns { AreRowColumns columns.now }
     requires room { first.slot + slot_count columns.now < 65536 }
+    requires wide { length columns.now ≡ length filter.old.values }
+    requires judged { (row : Row) → HasReadValues columns.now row → IsTrue (may_filter filter.old.pred.now row.values) }
     ensures rows { OnOk result ((slots : List (Option Row)) → IsRowPage columns.now page.now slots
-        → map placed_row hits.new.items ≡ map placed_row hits.old.items ++ rows_from_slot first.block first.slot slots) }
+        → map placed_row hits.new.items ≡ map placed_row hits.old.items ++ qualifying filter.old.pred.now (rows_from_slot first.block first.slot slots)) }
     ensures keyed { OnOk result (HaveReadValues columns.now hits.old.items → HaveReadValues columns.now hits.new.items) }
+    ensures pred { filter.new.pred.now ≡ filter.old.pred.now }
+    ensures width { length filter.new.values ≡ length filter.old.values }
     ensures refuses { IfErr result (IsFaultOfBytes columns.now page.now p) }
 {
     let Some(view) = RowPageView::look(page, columns) else {
@@ -182,11 +194,38 @@ fn push_rows(
             block: first.block,
             slot: first.slot + slot,
         };
-        hits.push(Hit {
-            rid,
-            row: copy_of(alloc, &row)?,
-        })?;
+        push_if_taken(alloc, &row, rid, filter, hits)?;
         from = slot + 1;
     }
+    Ok(())
+}
+
+/// Puts a copy of a row that is lent last, if a filter takes it.
+fn push_if_taken(
+    alloc: Global,
+    row: &RowView,
+    rid: Rid,
+    filter: &mut RowFilter,
+    hits: &mut Vec<Hit>,
+) -> Result<(), StoreFault>
+    requires wide { length row.now.columns.now ≡ length filter.old.values }
+    requires read { HasReadValues row.now.columns.now (row_in row.now.columns.now row.now.bytes.now) }
+    requires judged { IsTrue (may_filter filter.old.pred.now (row_in row.now.columns.now row.now.bytes.now).values) }
+    ensures rows { OnOk result (map placed_row hits.new.items ≡ map placed_row hits.old.items ++ qualifying filter.old.pred.now (record { rid = rid; row = row_in row.now.columns.now row.now.bytes.now } ∷ [])) }
+    ensures keyed { OnOk result (HaveReadValues row.now.columns.now hits.old.items → HaveReadValues row.now.columns.now hits.new.items) }
+    ensures pred { filter.new.pred.now ≡ filter.old.pred.now }
+    ensures width { length filter.new.values ≡ length filter.old.values }
+    ensures memory { IfErr result (λ fault. fault ≡ StoreFault.Memory) }
+{
+    let Ok(taken) = filter.takes(alloc, row) else {
+        return Err(StoreFault::Memory);
+    };
+    if !taken {
+        return Ok(());
+    }
+    hits.push(Hit {
+        rid,
+        row: copy_of(alloc, row)?,
+    })?;
     Ok(())
 }

@@ -1,10 +1,11 @@
 // Each call on the rows of a block once, over a store in memory: rows without columns, of which a page has 402.
 ghost use Rattle.std.specs.Prelude.{◌≡◌, ◌<◌, [], IfOk, false};
 
-use crate::{clear_slot, put_first, put_slot, row_in_slot, rows_of_block, wipe_block};
+use crate::{Hit, clear_slot, push_rows_of_block, put_first, put_slot, row_in_slot, wipe_block};
 use extent_map::Extents;
 use mdc_ast::{Name, Roots, Row, TableDef};
 use mdc_values::{Chars, List, Memory, Rid};
+use row_filter::RowFilter;
 use std::alloc::Global;
 use std::test::Fail;
 use store_api::{MemStore, Pages, StoreFault, blank_page};
@@ -74,19 +75,39 @@ fn fill_and_look<P: Pages>(
     let in_second = row_in_slot(alloc, def, ext, pages, rid(402))?;
     let in_emptied = row_in_slot(alloc, def, ext, pages, rid(0))?;
     let third = put_first(def, ext, pages, BLOCK, &row)?;
-    let hits = rows_of_block(alloc, def, ext, pages, BLOCK)?;
+    let hits = all_rows(alloc, def, ext, pages)?;
     let rows = hits.len();
     Ok(Seen {
         put: [first, second, third],
         rows,
         last: if rows > 0 {
-            Some(hits.at(rows - 1).row.number)
+            Some(hits[rows - 1].row.number)
         } else {
             None
         },
         on_second: number_of(&in_second),
         emptied: number_of(&in_emptied),
     })
+}
+
+/// All rows of the block.
+fn all_rows<P: Pages>(
+    alloc: Global,
+    def: &TableDef,
+    ext: &Extents,
+    pages: &mut P,
+) -> Result<Vec<Hit>, StoreFault>
+    requires no_columns { def.now.columns ≡ [] }
+    requires below { BLOCK < ext.now.cap }
+    requires going { (P.state pages.old).ended ≡ false }
+{
+    let all = None;
+    let Ok(mut filter) = RowFilter::new(alloc, &all, def.columns.len()) else {
+        return Err(StoreFault::Memory);
+    };
+    let mut hits = Vec::new(alloc);
+    push_rows_of_block(alloc, def, ext, pages, BLOCK, &mut filter, &mut hits)?;
+    Ok(hits)
 }
 
 /// A row without values.

@@ -7,7 +7,8 @@ use crate::plain_list::{PlainList, any_row, no_rows, put_last, row_in, take_out}
 use crate::rows::{cell_of, is_same_row, row_of, seed_of};
 use crate::stores::fresh_store;
 use crate::tables::{Shape, Table, table_of};
-use mdc_table::{Hit, row_at, rows_of_used_block, used_blocks};
+use mdc_table::{Hit, push_rows_of_used_block, row_at, used_blocks};
+use row_filter::RowFilter;
 use std::alloc::Global;
 use std::test::Fail;
 use store_api::Pages;
@@ -121,6 +122,25 @@ fn are_right(alloc: Global, shape: Shape, list: &PlainList, hits: &[Hit]) -> Res
     Ok(true)
 }
 
+// The rows of a Used block.
+fn rows_of<P: Pages>(
+    alloc: Global,
+    table: &Table,
+    pages: &mut P,
+    block: u32,
+) -> Result<Vec<Hit>, Fail>
+    requires defined { IsTableDef table.now.def.number table.now.def }
+    requires going { (P.state pages.old).ended ≡ false }
+    ensures going { (P.state pages.new).ended ≡ false }
+{
+    let (def, ext) = (&table.def, &table.ext);
+    let all = None;
+    let mut filter = RowFilter::new(alloc, &all, def.columns.len())?;
+    let mut hits = Vec::new(alloc);
+    push_rows_of_used_block(alloc, def, ext, pages, block, &mut filter, &mut hits)?;
+    Ok(hits)
+}
+
 // Looks at all Used blocks: their rows are those of the list.
 fn check<P: Pages>(
     alloc: Global,
@@ -139,7 +159,7 @@ fn check<P: Pages>(
         if *block >= ext.cap {
             return Err("a block that there isn't")?;
         }
-        let hits = rows_of_used_block(alloc, def, ext, pages, *block)?;
+        let hits = rows_of(alloc, table, pages, *block)?;
         if hits.len() == 0 || !are_right(alloc, table.shape, list, hits.as_slice())? {
             return Err("other rows")?;
         }

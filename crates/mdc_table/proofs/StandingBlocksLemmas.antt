@@ -1,6 +1,6 @@
 -- The blocks of a table that stands and the rows in them, and the damage that calls which read them may name.
 use Rattle.std.proofs.Common.{◌≡◌, ◌≢◌, ◌<◌, ◌≤◌, ◌+◌, ◌^◌, ℕ, List, length, refl, ap, arith, sym, ◌∙◌, subst, ◌⊎◌, inl, inr}
-use Rattle.std.specs.Prelude.{Contains, IfOk, Option, Some, None, Result, Ok, Err, map, slice_index_or}
+use Rattle.std.specs.Prelude.{Contains, IfOk, OnOk, Option, Some, None, Result, Ok, Err, slice_index_or}
 use Rattle.std.proofs.lemmas.Bool.{eq-eqb}
 use Rattle.std.proofs.lemmas.List.{get_or_past}
 use Rattle.mdc_values.specs.declared.rid.Rid.{Rid}
@@ -30,13 +30,12 @@ use Rattle.block_map.specs.MapRows.{row_entry, state_number}
 use Rattle.block_map.specs.declared.row.BlockRow.{BlockRow}
 use Rattle.block_map.specs.declared.state.BlockState.TheVariants as state
 use Rattle.block_map.proofs.MapLinesLemmas.{in_state_named, row_block, row_state}
-use Rattle.block_rows.specs.HeldRows.{BreaksRows, HoldsRows, placed_row}
-use Rattle.block_rows.specs.declared.hit.Hit.{Hit}
+use Rattle.block_rows.specs.HeldRows.{BreaksRows, HoldsRows}
 use Rattle.mdc_sound.specs.BlockRules.{AreBlockRowsSound}
 use Rattle.mdc_sound.specs.Placing.{IsRowAt, Spot, block_slot_count, row_at_spot, slots_of_spot}
 use Rattle.mdc_sound.specs.Placing.Spot.{FreeBlock, FreeExtent, IndexExtent, OtherBlock, PendingBlock, UsedBlock}
-use Rattle.mdc_sound.specs.StandingTable.{BreaksExpected, BreaksTable, IsPageOfBlock, IsTableOrMapPage, IsTableTreePage, NamesTablePart, StandsTable, TableForests, pages_of, spots_of}
-use Rattle.mdc_sound.specs.TableRows.{block_slots, rows_from_slot, rows_in_block}
+use Rattle.mdc_sound.specs.StandingTable.{BreaksExpected, BreaksTable, IsPageOfBlock, IsTableTreePage, NamesTablePart, StandsTable, TableForests, pages_of, spots_of}
+use Rattle.mdc_sound.specs.TableRows.{PlacedRow, block_slots, rows_from_slot, rows_in_block}
 use Rattle.mdc_sound.proofs.BlockRulesLemmas.{each_of, named_owned}
 use Rattle.mdc_sound.proofs.PlacingLemmas.{filled_below}
 use Rattle.mdc_sound.proofs.StandingTableLemmas.{stands_same}
@@ -209,9 +208,9 @@ module _ {S : Type 0} {g : Ghosts S} where
       ∙ sym (row_of_used ext old def owners forests st rid there)
   row_found ext old mid def rid (Err fault) told same used found = tt
 
--- the rows of a Used block
-pub rows_found : {S : Type 0} (g : Ghosts S) (ext : Extents) (s : S) (def : TableDef) (block : ℕ) (result : Result (List Hit) StoreFault)
-    → IfOk result (λ hits. (slots : List (Option Row)) → HoldsRows g ext s def block slots → map placed_row hits ≡ rows_from_slot block 0 slots)
-    → IfOk result (λ hits. (owners : List Kind) (forests : TableForests) → StandsTable g ext s def owners forests → Contains (used_blocks forests.map) block → map placed_row hits ≡ rows_in_block ext (pages_of g s) def block)
-rows_found g ext s def block (Ok hits) found = λ owners forests st used. found (block_slots ext (pages_of g s) def block) (rows_held ext s def owners forests st block used)
-rows_found g ext s def block (Err fault) found = tt
+-- what is said of the rows of all slots that a block may hold is so of those of a Used block
+pub rows_found : {S : Type 0} (g : Ghosts S) (ext : Extents) (s : S) (def : TableDef) (block : ℕ) (Said : List PlacedRow → Type 0) (result : Result (Unit {0}) StoreFault)
+    → OnOk result ((slots : List (Option Row)) → HoldsRows g ext s def block slots → Said (rows_from_slot block 0 slots))
+    → OnOk result ((owners : List Kind) (forests : TableForests) → StandsTable g ext s def owners forests → Contains (used_blocks forests.map) block → Said (rows_in_block ext (pages_of g s) def block))
+rows_found g ext s def block Said (Ok done) found = λ owners forests st used. found (block_slots ext (pages_of g s) def block) (rows_held ext s def owners forests st block used)
+rows_found g ext s def block Said (Err fault) found = tt

@@ -1,7 +1,7 @@
 //! The rows of a table, in blocks by cell.
 //!
-//! `row_at`, `rows_of_used_block`, `used_blocks` and `account_of` read them. `place_row` puts a row where placing says: into the
-//! lowest Used block of its cell that has an empty slot, else into the lowest Free block, else into the lowest free extent.
+//! `row_at`, `push_rows_of_used_block`, `used_blocks` and `account_of` read them. `place_row` puts a row where placing says: into
+//! the lowest Used block of its cell that has an empty slot, else into the lowest Free block, else into the lowest free extent.
 //! `take_row` takes one out, and `overwrite_row` puts another of the same cell in its place. Wherever the table was told to
 //! stand, it stands afterwards and has the rows that the call's name says, and all other tables are as they were.
 //!
@@ -22,5 +22,5 @@ pub use block_rows::Hit;
 pub use cell_rooms::Rooms;
 pub use overwriting::overwrite_row;
 pub use placing::place_row;
-pub use reading::{row_at, rows_of_used_block, used_blocks};
+pub use reading::{push_rows_of_used_block, row_at, used_blocks};
 pub use taking::take_row;

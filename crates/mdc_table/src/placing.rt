@@ -1,5 +1,6 @@
 // A row is put where placing says.
-ghost use Rattle.std.specs.Prelude.{◌≡◌, List, false, slice_index_or, IfErr, IfOk};
+ghost use Rattle.std.specs.Prelude.{◌≡◌, ◌≢◌, ◌≤◌, List, false, slice_index_or, IfErr, IfOk};
+ghost use Rattle.mdc_words.specs.ByteOrder.{Entry};
 ghost use Rattle.store_api.specs.Causes.{store_fault_in};
 ghost use Rattle.store_api.specs.RunsOverPages.{RunsOverPages};
 ghost use Rattle.extent_map.specs.Damages.{IfFull, store_part_of};
@@ -58,7 +59,7 @@ pub fn place_row<P: Pages>(
         rooms.note(&key, block);
         return Ok(Rid { block, slot: 0 });
     };
-    rooms.note(&key, line.block);
+    note_found(rooms, &key, from, line.block);
     // the line of a Used block, as it is found wherever the table stands
     let line = BlockRow {
         block: line.block,
@@ -66,6 +67,18 @@ pub fn place_row<P: Pages>(
         rows: line.rows,
     };
     Ok(put_in_block(alloc, def, ext, pages, line, row)?)
+}
+
+/// Notes that no block of the cell below the one that was found has room. The notes stay where they led to that block itself,
+/// as they mostly do.
+fn note_found(rooms: &mut Rooms, key: &[u8], from: u32, block: u32)
+    requires from { from ≡ room_from rooms.old key.now }
+    ensures noted { room_from rooms.new key.now ≤ block }
+    ensures others { (other : Entry) → other ≢ key.now → room_from rooms.new other ≤ room_from rooms.old other }
+{
+    if from != block {
+        rooms.note(key, block);
+    }
 }
 
 /// Takes a block into use with a row: the lowest Free one, else the lowest free extent. Damaged where the block map names a

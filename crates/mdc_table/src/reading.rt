@@ -1,5 +1,6 @@
 // The rows of a table, read.
-ghost use Rattle.std.specs.Prelude.{◌≡◌, ◌<◌, List, Contains, false, map, IfOk, IfSome};
+ghost use Rattle.std.specs.Prelude.{◌≡◌, ◌<◌, ◌++◌, List, Contains, false, map, length, IsTrue, IfOk, IfSome, OnOk};
+ghost use Rattle.mdc_ast.specs.declared.row.Row.{Row};
 ghost use Rattle.store_api.specs.Causes.{fault_of};
 ghost use Rattle.store_api.specs.Fetching.{BringsOnce};
 ghost use Rattle.store_api.specs.Frame.{NoPage};
@@ -7,7 +8,8 @@ ghost use Rattle.store_api.specs.RunsOverPages.{RunsOverPages};
 ghost use Rattle.extent_map.specs.declared.kind.Kind.{Kind};
 ghost use Rattle.table_page.specs.TableLimits.{IsTableDef};
 ghost use Rattle.block_map.specs.MapLines.{used_blocks};
-ghost use Rattle.block_rows.specs.HeldRows.{HasReadValues, HaveReadValues, placed_row};
+ghost use Rattle.block_rows.specs.HeldRows.{HasReadValues, HaveReadValues, placed_row, qualifying};
+ghost use Rattle.row_filter.specs.Filtering.{may_filter};
 ghost use Rattle.row_page.specs.Row.{AreRowColumns};
 ghost use Rattle.mdc_sound.specs.Placing.{block_slot_count, row_at_spot};
 ghost use Rattle.mdc_sound.specs.StandingTable.{BreaksExpected, BreaksTable, IsPageOfBlock, StandsTable, TableForests, pages_of, spots_of};
@@ -18,10 +20,11 @@ ghost use Rattle.mdc_table.specs.TableReading.{HasUsedBlock, IsRowLook};
 
 use crate::faults::unmapped;
 use block_map::{BlockMap, BlockState};
-use block_rows::{Hit, row_in_slot, rows_of_block};
+use block_rows::{Hit, push_rows_of_block, row_in_slot};
 use extent_map::Extents;
 use mdc_ast::{Row, TableDef};
-use mdc_values::{Blocks, List, Rid};
+use mdc_values::{Blocks, Rid};
+use row_filter::RowFilter;
 use row_page::capacity;
 use std::alloc::Global;
 use store_api::{Pages, StoreFault};
@@ -63,20 +66,26 @@ pub(crate) fn block_slots(def: &TableDef, ext: &Extents) -> u32
     ext.extent_pages * u32::from(capacity(&def.columns))
 }
 
-/// Copies of the rows of a Used block, by rising slot. Each of its pages comes to hand once, and no other row page. Damaged where
-/// there is no such extent.
-pub fn rows_of_used_block<P: Pages>(
+/// Puts copies of the rows of a Used block that a filter takes last, by rising slot. Each of its pages comes to hand once, and no
+/// other row page. Damaged where there is no such extent.
+pub fn push_rows_of_used_block<P: Pages>(
     alloc: Global,
     def: &TableDef,
     ext: &Extents,
     pages: &mut P,
     block: u32,
-) -> Result<List<Hit>, StoreFault>
+    filter: &mut RowFilter,
+    hits: &mut Vec<Hit>,
+) -> Result<(), StoreFault>
     requires defined { IsTableDef def.now.number def.now }
+    requires wide { length def.now.columns ≡ length filter.old.values }
+    requires judged { (row : Row) → HasReadValues def.now.columns row → IsTrue (may_filter filter.old.pred.now row.values) }
     requires going { (P.state pages.old).ended ≡ false }
-    ensures rows { IfOk result (λ hits. (owners : List Kind) (forests : TableForests) → StandsTable P.Pages ext.now pages.old def.now owners forests → Contains (used_blocks forests.map) block
-        → map placed_row hits ≡ rows_in_block ext.now (pages_of P.Pages pages.old) def.now block) }
-    ensures keyed { IfOk result (HaveReadValues def.now.columns) }
+    ensures rows { OnOk result ((owners : List Kind) (forests : TableForests) → StandsTable P.Pages ext.now pages.old def.now owners forests → Contains (used_blocks forests.map) block
+        → map placed_row hits.new.items ≡ map placed_row hits.old.items ++ qualifying filter.old.pred.now (rows_in_block ext.now (pages_of P.Pages pages.old) def.now block)) }
+    ensures keyed { OnOk result (HaveReadValues def.now.columns hits.old.items → HaveReadValues def.now.columns hits.new.items) }
+    ensures pred { filter.new.pred.now ≡ filter.old.pred.now }
+    ensures width { length filter.new.values ≡ length filter.old.values }
     ensures same { (P.state pages.new).work ≡ (P.state pages.old).work }
     ensures once { BringsOnce P.Pages (IsPageOfBlock ext.now block) pages.old pages.new }
     ensures runs { RunsOverPages P.Pages NoPage (IsPageOfBlock ext.now block) (BreaksExpected P.Pages ext.now pages.old def.now (HasUsedBlock block)) pages.old pages.new (fault_of result) }
@@ -84,7 +93,7 @@ pub fn rows_of_used_block<P: Pages>(
     if block >= ext.cap {
         return Err(unmapped(def));
     }
-    rows_of_block(alloc, def, ext, pages, block)
+    push_rows_of_block(alloc, def, ext, pages, block, filter, hits)
 }
 
 /// The Used blocks, by rising number. It looks at no row page.

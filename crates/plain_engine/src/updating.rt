@@ -7,7 +7,8 @@ ghost use Rattle.mdc_ast.specs.meaning.Doing.{changed_causes, changed_row};
 ghost use Rattle.answer_text.specs.Lines.{are_rows_wide};
 ghost use Rattle.binder.specs.Saying.{first_of};
 ghost use Rattle.row_judging.specs.Executing.{IsThere, MayUpdate, answer_of, done};
-ghost use Rattle.row_judging.specs.Filtering.{are_changeable, are_filterable, may_change, may_filter};
+ghost use Rattle.row_filter.specs.Filtering.{may_filter};
+ghost use Rattle.row_judging.specs.Filtering.{are_changeable, are_filterable, may_change};
 ghost use Rattle.row_judging.specs.RowChange.{are_within, misfit_cause};
 
 use crate::tables::Tables;

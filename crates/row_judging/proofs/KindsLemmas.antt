@@ -29,7 +29,7 @@ use Rattle.mdc_ast.proofs.FitsLemmas as value
 use Rattle.mdc_ast.proofs.FitsLemmas.{are_alike-same_kind, fits_all-at, length-fits_all, same_kind-refl}
 use Rattle.mdc_ast.proofs.TestsLemmas.{and_true, both, some_is}
 use Rattle.row_judging.proofs.Changeable.{there_is}
-use Rattle.row_judging.specs.Filtering.{may_filter}
+use Rattle.row_filter.specs.Filtering.{may_filter}
 use Rattle.row_judging.specs.Served.{HaveKinds, is_of_kind}
 
 -- ---- rows that fit have the kinds

@@ -18,7 +18,8 @@ use Rattle.mdc_ast.proofs.TestsLemmas.{and_true}
 use Rattle.row_judging.proofs.KindsLemmas.{kinds_of_fitting}
 use Rattle.row_judging.proofs.ServedLemmas.{serves}
 use Rattle.row_judging.specs.Executing.{IsThere, MayBeDone}
-use Rattle.row_judging.specs.Filtering.{are_filterable, may_filter}
+use Rattle.row_filter.specs.Filtering.{may_filter}
+use Rattle.row_judging.specs.Filtering.{are_filterable}
 use Rattle.row_judging.specs.Served.{IsDefined, IsServed, MayJudge}
 
 -- a predicate may be judged on rows that fit

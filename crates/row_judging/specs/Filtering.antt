@@ -1,20 +1,14 @@
 -- On which rows a predicate may be judged, and which may be changed.
-use Rattle.std.specs.Prelude.{List, length, Bool, true, not, ◌&&◌, ◌||◌, Option, Some, None}
+use Rattle.std.specs.Prelude.{List, length, Bool, not, ◌&&◌, ◌||◌, Option}
 use Rattle.std.specs.List.{list_all}
-use Rattle.mdc_values.specs.declared.value.Value.{Value}
 use Rattle.mdc_ast.specs.declared.bound.BoundSet.{BoundSet}
 use Rattle.mdc_ast.specs.declared.predicate.Pred.{Pred}
 use Rattle.mdc_ast.specs.declared.row.Row.{Row}
-use Rattle.mdc_ast.specs.Truth.{may_judge}
 use Rattle.mdc_ast.specs.meaning.Doing.{qualifies}
+use Rattle.row_filter.specs.Filtering.{may_filter}
 use Rattle.row_judging.specs.RowChange.{are_storable, are_within}
 
--- a predicate, where there is one, may be judged on the values of a row
-abbrev pub may_filter : Option Pred → List Value → Bool
-may_filter None values = true
-may_filter (Some pred) values = may_judge values pred
-
--- and on each row
+-- a predicate, where there is one, may be judged on each row
 abbrev pub are_filterable : Option Pred → List Row → Bool
 are_filterable pred rows = list_all (λ row. may_filter pred row.values) rows
 

@@ -18,7 +18,7 @@ use Rattle.mdc_ast.specs.meaning.Definitions.{Definitions, def_at, empty_place, 
 use Rattle.mdc_ast.specs.meaning.Doing.{null_causes, set_causes, set_on}
 use Rattle.answer_text.specs.Lines.{are_outs_within}
 use Rattle.row_judging.specs.Executing.{are_tuples_wide}
-use Rattle.row_judging.specs.Filtering.{may_filter}
+use Rattle.row_filter.specs.Filtering.{may_filter}
 use Rattle.row_judging.specs.RowChange.{are_within}
 
 -- a value is of the kind of a column's type, within the type or not

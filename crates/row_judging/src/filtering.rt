@@ -1,7 +1,7 @@
 // Which rows qualify.
 ghost use Rattle.std.specs.Prelude.{◌≡◌, IsTrue};
 ghost use Rattle.mdc_ast.specs.meaning.Doing as spec;
-ghost use Rattle.row_judging.specs.Filtering.{may_filter};
+ghost use Rattle.row_filter.specs.Filtering.{may_filter};
 
 use mdc_ast::{Pred, Row};
 use mdc_values::Truth;

@@ -22,7 +22,7 @@ use Rattle.block_rows.specs.HeldRows.{HasReadValues, HaveReadValues}
 use Rattle.block_rows.specs.declared.hit.Hit.{Hit}
 use Rattle.answer_text.specs.Lines.{are_outs_within, is_out_within, lines_shown, with_line}
 use Rattle.answer_text.proofs.ShownLines.{with_line-lines_shown}
-use Rattle.row_judging.specs.Filtering.{may_filter}
+use Rattle.row_filter.specs.Filtering.{may_filter}
 use Rattle.row_judging.specs.Served.{HaveKinds, MayJudge, is_of_kind}
 
 -- ---- kinds

@@ -19,7 +19,8 @@ ghost use Rattle.block_rows.specs.HeldRows.{HasReadValues, HaveReadValues, place
 ghost use Rattle.table_page.specs.TableLimits.{IsTableDef};
 ghost use Rattle.mdc_sound.specs.StandingTable.{StandsTable, TableForests, pages_of};
 ghost use Rattle.binder.specs.Saying.{first_of};
-ghost use Rattle.row_judging.specs.Filtering.{may_change, may_filter};
+ghost use Rattle.row_filter.specs.Filtering.{may_filter};
+ghost use Rattle.row_judging.specs.Filtering.{may_change};
 ghost use Rattle.row_judging.specs.RowChange.{are_storable, are_within, misfit_cause};
 ghost use Rattle.row_judging.specs.Served.{IsDefined, MaySet};
 ghost use Rattle.statement_rows.specs.RowsOfStatement.{AnyPage};

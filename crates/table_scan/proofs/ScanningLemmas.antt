@@ -1,10 +1,10 @@
 -- What a scan has found and brought to hand so far.
-use Rattle.std.proofs.Common.{◌≡◌, ◌<◌, ◌≤◌, ◌+◌, ℕ, zero, suc, List, [], ◌∷◌, ◌++◌, Bool, true, false, length, get_or, take, refl, inl, inr, ap, arith, sym, ◌∙◌, subst, append_assoc}
-use Rattle.std.specs.Prelude.{All, Contains, IsPermutation, Option, None, filter, flat_map, map}
+use Rattle.std.proofs.Common.{◌≡◌, ◌<◌, ◌≤◌, ◌+◌, ℕ, zero, suc, List, [], ◌∷◌, ◌++◌, Bool, true, false, length, get_or, take, refl, inl, inr, ap, arith, sym, ◌∙◌, subst}
+use Rattle.std.specs.Prelude.{Contains, IsPermutation, Option, None, filter, flat_map, map}
 use Rattle.std.specs.List.Sorted.{IsNonDecreasingBy}
 use Rattle.std.proofs.lemmas.Bool.{cases_Bool}
-use Rattle.std.proofs.lemmas.List.{flat_map_more, map-append, take_all, take_more}
-use Rattle.std.proofs.lemmas.List.Elements.{All-append, All-cons, All-tail, Contains-get_or, filter-append}
+use Rattle.std.proofs.lemmas.List.{flat_map_more, take_all, take_more}
+use Rattle.std.proofs.lemmas.List.Elements.{Contains-get_or, filter-append}
 use Rattle.std.proofs.lemmas.List.Sorted.{IsPermutation-map}
 use Rattle.mdc_values.specs.Rising.{IsLower, IsRising}
 use Rattle.store_api.specs.Fetching.{BringsOnce, BringsOnly}
@@ -12,7 +12,6 @@ use Rattle.store_api.specs.declared.pages.Pages.{Ghosts}
 use Rattle.store_api.proofs.FetchingLemmas.{once_none, once_then, once_wider}
 use Rattle.extent_map.specs.declared.extents.Extents.{Extents}
 use Rattle.extent_map.specs.declared.kind.Kind.{Kind}
-use Rattle.mdc_ast.specs.declared.definition.ColumnDef.{ColumnDef}
 use Rattle.mdc_ast.specs.declared.definition.TableDef.{TableDef}
 use Rattle.mdc_ast.specs.declared.predicate.Pred.{Pred}
 use Rattle.mdc_ast.specs.meaning.Doing.{qualifies}
@@ -21,10 +20,10 @@ use Rattle.store_api.specs.RunsOverPages.{RunsOverPages}
 use Rattle.store_api.specs.declared.fault.StoreFault.{StoreFault}
 use Rattle.store_api.proofs.RunsOverPagesLemmas.{runs_then, runs_wider}
 use Rattle.block_map.specs.MapLines.{used_blocks}
-use Rattle.block_rows.specs.HeldRows.{HasReadValues, HaveReadValues, placed_row}
+use Rattle.block_rows.specs.HeldRows.{placed_row, qualifying}
 use Rattle.block_rows.specs.declared.hit.Hit.{Hit}
 use Rattle.mdc_sound.specs.StandingTable.{BreaksExpected, BreaksTable, IsPageOfBlock, StandsTable, TableForests, pages_of}
-use Rattle.mdc_sound.specs.TableRows.{PlacedRow, rows_in_block}
+use Rattle.mdc_sound.specs.TableRows.{rows_in_block}
 use Rattle.mdc_sound.proofs.StandingTableLemmas.{stands_same}
 use Rattle.table_trees.specs.TableTrees.{map_place}
 use Rattle.table_trees.specs.TreesBeside.{IsTreePageAt}
@@ -39,30 +38,6 @@ module _ {X : Type 0} (p : X → Bool) where
 
   pub filter_past : (x : X) (xs : List X) → p x ≡ false → filter p (x ∷ xs) ≡ filter p xs
   filter_past x xs is = rw is refl
-
-  -- one that passes came behind those that were kept
-  pub kept_more : (items new rest left whole : List X) (x : X) → rest ≡ x ∷ left → p x ≡ true → new ≡ items ++ x ∷ [] → items ++ filter p rest ≡ whole → new ++ filter p left ≡ whole
-  kept_more items new rest left whole x is passes pushed so_far =
-      ap (λ front. front ++ filter p left) pushed ∙ (append_assoc items (x ∷ []) (filter p left)
-      ∙ (ap (λ back. items ++ back) (sym (ap (filter p) is ∙ filter_first x left passes)) ∙ so_far))
-
-  -- one that doesn't was passed over
-  pub passed_over : (items rest left whole : List X) (x : X) → rest ≡ x ∷ left → p x ≡ false → items ++ filter p rest ≡ whole → items ++ filter p left ≡ whole
-  passed_over items rest left whole x is fails so_far = ap (λ back. items ++ back) (sym (ap (filter p) is ∙ filter_past x left fails)) ∙ so_far
-
--- what holds of each element holds of each of the rest
-pub all_left : {X : Type 0} (P : X → Type 0) (rest left : List X) (x : X) → rest ≡ x ∷ left → All P rest → All P left
-all_left P rest left x is all = All-tail P x left (subst (All P) is all)
-
--- what holds of each element holds of each that passes
-pub all_kept : {X : Type 0} (P : X → Type 0) (p : X → Bool) (xs : List X) → All P xs → All P (filter p xs)
-all_kept P p [] all = all
-all_kept P p (x ∷ xs) all =
-    let rest = all_kept P p xs (All-tail P x xs all) in
-    elim (cases_Bool (p x)) [
-      | inl passes ↦ subst (All P) (sym (filter_first p x xs passes)) (All-cons P x (filter p xs) (all 0 x (omega arith)) rest)
-      | inr fails ↦ subst (All P) (sym (filter_past p x xs fails)) rest
-    ]
 
 -- a map of the elements that pass, where the test is one of what they are mapped to
 pub map_kept : {X Y : Type 0} (f : X → Y) (q : Y → Bool) (xs : List X) → map f (filter (λ x. q (f x)) xs) ≡ filter q (map f xs)
@@ -137,20 +112,6 @@ module _ {S : Type 0} {g : Ghosts S} where
 
 -- ---- the rows that were found so far
 
--- the rows of a block that qualify came behind those that were there
-pub block_pushed : (pred : Option Pred) (old found new : List Hit) (rows : List PlacedRow) → map placed_row found ≡ rows → new ≡ old ++ filter (λ hit. qualifies pred hit.row.values) found
-    → map placed_row new ≡ map placed_row old ++ filter (λ placed. qualifies pred placed.row.values) rows
-block_pushed pred old found new rows are pushed =
-    ap (map placed_row) pushed ∙ (map-append placed_row old (filter (λ hit. qualifies pred hit.row.values) found)
-    ∙ ap (λ back. map placed_row old ++ back) (map_kept placed_row (λ placed. qualifies pred placed.row.values) found ∙ ap (filter (λ placed. qualifies pred placed.row.values)) are))
-
--- each has its values
-pub keyed_pushed : (columns : List ColumnDef) (pred : Option Pred) (old found new : List Hit) → HaveReadValues columns found → new ≡ old ++ filter (λ hit. qualifies pred hit.row.values) found
-    → HaveReadValues columns old → HaveReadValues columns new
-keyed_pushed columns pred old found new keyed pushed so_far =
-    subst (HaveReadValues columns) (sym pushed)
-    (All-append (λ hit. HasReadValues columns hit.row) old (filter (λ hit. qualifies pred hit.row.values) found) so_far (all_kept (λ hit. HasReadValues columns hit.row) (λ hit. qualifies pred hit.row.values) found keyed))
-
 module _ {S : Type 0} {g : Ghosts S} (ext : Extents) (def : TableDef) where
   -- a table that stands is the same one where the work stayed
   module _ (old now : S) (items : List ℕ) (i : ℕ) (told : (g.state now).is_told ≡ (g.state old).is_told) (same : (g.state now).work ≡ (g.state old).work)
@@ -158,17 +119,16 @@ module _ {S : Type 0} {g : Ghosts S} (ext : Extents) (def : TableDef) where
     -- the rows of one block more
     pub rows_more : (pred : Option Pred) (hits new : List Hit)
         → ((owners : List Kind) (forests : TableForests) → StandsTable g ext old def owners forests
-        → map placed_row hits ≡ filter (λ placed. qualifies pred placed.row.values) (flat_map (rows_in_block ext (pages_of g old) def) (take i items)))
+        → map placed_row hits ≡ qualifying pred (flat_map (rows_in_block ext (pages_of g old) def) (take i items)))
         → ((owners : List Kind) (forests : TableForests) → StandsTable g ext now def owners forests → Contains (used_blocks forests.map) (get_or items i 0)
-        → map placed_row new ≡ map placed_row hits ++ filter (λ placed. qualifies pred placed.row.values) (rows_in_block ext (pages_of g now) def (get_or items i 0)))
+        → map placed_row new ≡ map placed_row hits ++ qualifying pred (rows_in_block ext (pages_of g now) def (get_or items i 0)))
         → (owners : List Kind) (forests : TableForests) → StandsTable g ext old def owners forests
-        → map placed_row new ≡ filter (λ placed. qualifies pred placed.row.values) (flat_map (rows_in_block ext (pages_of g old) def) (take (i + 1) items))
+        → map placed_row new ≡ qualifying pred (flat_map (rows_in_block ext (pages_of g old) def) (take (i + 1) items))
     rows_more pred hits new so_far pushed owners forests st =
-        let p : PlacedRow → Bool = λ placed. qualifies pred placed.row.values in
         pushed owners forests (stands_same ext old now def owners forests told same st) (is_listed items (used_blocks forests.map) i (listed owners forests st) low)
-        ∙ (ap (λ pages. map placed_row hits ++ filter p (rows_in_block ext pages def (get_or items i 0))) same
-        ∙ (ap (λ front. front ++ filter p (rows_in_block ext (pages_of g old) def (get_or items i 0))) (so_far owners forests st)
-        ∙ filter_flat_more p (rows_in_block ext (pages_of g old) def) items i low))
+        ∙ (ap (λ pages. map placed_row hits ++ qualifying pred (rows_in_block ext pages def (get_or items i 0))) same
+        ∙ (ap (λ front. front ++ qualifying pred (rows_in_block ext (pages_of g old) def (get_or items i 0))) (so_far owners forests st)
+        ∙ filter_flat_more (λ placed. qualifies pred placed.row.values) (rows_in_block ext (pages_of g old) def) items i low))
 
     -- the run on its pages, one of which may be damaged only where the table doesn't stand
     pub runs_block : {new : S} {fault : Option StoreFault} → RunsOverPages g NoPage (IsScannedPage g ext old def) (BreaksTable g ext old def) old now None
@@ -188,11 +148,11 @@ module _ {S : Type 0} {g : Ghosts S} (ext : Extents) (def : TableDef) where
   -- all blocks were gone over, and what was found was brought in order
   pub found_all : (s : S) (pred : Option Pred) (items : List ℕ) (n : ℕ) (hits sorted : List Hit) (owners : List Kind) (forests : TableForests)
       → items ≡ used_blocks forests.map → length items ≤ n
-      → map placed_row hits ≡ filter (λ placed. qualifies pred placed.row.values) (flat_map (rows_in_block ext (pages_of g s) def) (take n items))
+      → map placed_row hits ≡ qualifying pred (flat_map (rows_in_block ext (pages_of g s) def) (take n items))
       → IsPermutation hits sorted → IsNonDecreasingBy (λ (hit : Hit). hit.row.number) sorted → FindsRows g ext s def pred sorted forests
   found_all s pred items n hits sorted owners forests listed all found moved rising = record {
     found = subst (λ rows. IsPermutation rows (map placed_row sorted))
-        (found ∙ ap (λ blocks. filter (λ placed. qualifies pred placed.row.values) (flat_map (rows_in_block ext (pages_of g s) def) blocks)) (take_all n items all ∙ listed))
+        (found ∙ ap (λ blocks. qualifying pred (flat_map (rows_in_block ext (pages_of g s) def) blocks)) (take_all n items all ∙ listed))
         (IsPermutation-map placed_row hits sorted moved);
     in_order = λ i j d below within. rising i j d (omega (arith, below)) within;
   }

@@ -5,7 +5,7 @@ ghost use Rattle.mdc_ast.specs.meaning.Doing as spec;
 ghost use Rattle.mdc_ast.specs.meaning.Doing.{changed_causes, null_causes, outgrows, set_causes, set_on};
 ghost use Rattle.binder.specs.Saying.{first_of};
 ghost use Rattle.row_judging.specs.Executing.{are_tuples_wide};
-ghost use Rattle.row_judging.specs.Filtering.{may_filter};
+ghost use Rattle.row_filter.specs.Filtering.{may_filter};
 ghost use Rattle.row_judging.specs.RowChange.{are_within, is_null_at, is_within, misfit_cause, value_given};
 
 use crate::filtering::qualifies;

@@ -132,11 +132,11 @@ returns-clause-places g c owners forests ready =
     let found : FindsRoom def spots forests.map row c.first-from.result (Some line) =
     subst (FindsRoom def spots forests.map row c.first-from.result) c.in-Some.is (c.in_ok-line.ensures.finds owners forests row ready.stands c.requires.fits.values (c.deref-2.ensures.value ∙ is)) in
     let noted_from = c.first-from.ensures ∙ ap (room_from rooms) c.deref.ensures.value in
-    placed_in_cell ext s mid c.put_in_block.new.pages def owners forests row (room_from rooms) (room_from c.note-2.new.self) c.requires.defined c.requires.fits told same ready line c.in_ok-put_in_block.field-0 key is
+    placed_in_cell ext s mid c.put_in_block.new.pages def owners forests row (room_from rooms) (room_from c.note_found.new.rooms) c.requires.defined c.requires.fits told same ready line c.in_ok-put_in_block.field-0 key is
     (subst (λ n. FindsRoom def spots forests.map row n (Some line)) noted_from found) c.in_ok-put_in_block.ensures.block
     (c.in_ok-put_in_block.ensures.fills owners forests (stands_same ext s mid def owners forests told same ready.stands) (room_at ext s mid def owners forests row c.first-from.result line same found))
-    (omega (arith, c.note-2.ensures.noted, ap (room_from c.note-2.new.self) c.deref-3.ensures.value))
-    (λ other differ. c.note-2.ensures.others other (λ e. differ (e ∙ c.deref-3.ensures.value)))
+    (omega (arith, c.note_found.ensures.noted, ap (room_from c.note_found.new.rooms) c.deref-3.ensures.value))
+    (λ other differ. c.note_found.ensures.others other (λ e. differ (e ∙ c.deref-3.ensures.value)))
 
 pub returns-clause-runs : goal.returns-clause-runs
 returns-clause-runs g c =

@@ -2,7 +2,8 @@ use Rattle.std.proofs.Common.{◌<◌, ◌≤◌, ◌∙◌, sym, ap, subst, len
 use Rattle.std.specs.Prelude.{Bool, IsTrue}
 use Rattle.mdc_ast.specs.declared.row.Row.{Row}
 use Rattle.mdc_ast.specs.meaning.Doing.{changed_row, qualifies}
-use Rattle.row_judging.specs.Filtering.{may_change, may_filter}
+use Rattle.row_filter.specs.Filtering.{may_filter}
+use Rattle.row_judging.specs.Filtering.{may_change}
 use Rattle.row_judging.proofs.Each.{list_all-at}
 use Rattle.plain_engine.proofs.FoundRows.{count_below, count_more, count_same}
 use Rattle.plain_engine.proofs.Mapped.{get_or-mapped, set-mapped}

@@ -1,13 +1,23 @@
-use Rattle.std.proofs.Common.{◌≡◌, ◌+◌, ◌∙◌, ℕ, List, None, Some, ap, arith, length, map, rules}
+use Rattle.std.proofs.Common.{◌≡◌, ◌+◌, ◌++◌, ◌∙◌, ℕ, IsTrue, List, None, Some, ap, arith, get_or, length, map, rules, subst, sym}
 use Rattle.std.proofs.lemmas.List.Sorted.{IsNonDecreasingBy-from_sort, All-permutation, answers_always}
+use Rattle.store_api.proofs.FetchingLemmas.{only_none}
 use Rattle.store_api.proofs.RunsOverPagesLemmas.{runs_exit}
 use Rattle.extent_map.specs.declared.kind.Kind.{Kind}
 use Rattle.block_map.specs.MapLines.{used_blocks}
-use Rattle.block_rows.specs.HeldRows.{HasReadValues, placed_row}
+use Rattle.row_filter.specs.Filtering.{may_filter}
+use Rattle.block_rows.specs.HeldRows.{HasReadValues, placed_row, qualifying}
 use Rattle.block_rows.specs.declared.hit.Hit.{Hit}
-use Rattle.mdc_sound.specs.StandingTable.{StandsTable, TableForests}
+use Rattle.mdc_sound.specs.StandingTable.{StandsTable, TableForests, pages_of}
+use Rattle.mdc_sound.specs.TableRows.{rows_in_block}
 use Rattle.table_scan.proofs.ScanningLemmas.{found_all, rows_more, runs_block, runs_listing, scans_more, scans_none, scans_used}
 use Rattle.table_scan.proofs.finding.find_rows.Goals as goal
+
+pub push_rows_of_used_block-requires-clause-judged : goal.push_rows_of_used_block-requires-clause-judged
+push_rows_of_used_block-requires-clause-judged g c = λ row read.
+    subst (λ pred. IsTrue (may_filter pred row.values)) (sym c.loop-block.invariant.pred) (c.requires.judged row read)
+
+pub returns-in_default-clause-once : goal.returns-in_default-clause-once
+returns-in_default-clause-once g c = scans_none only_none
 
 pub returns-in_err-blocks-clause-once : goal.returns-in_err-blocks-clause-once
 returns-in_err-blocks-clause-once g c = scans_none c.in_err-blocks.ensures.runs.brings
@@ -16,27 +26,29 @@ pub loop-block-init : goal.loop-block-init
 loop-block-init g c = record {
   rows = λ owners forests st. ap (map placed_row) c.new-hits.ensures.items;
   keyed = λ k d low. absurd (omega (arith, low, ap length c.new-hits.ensures.items));
+  pred = c.in-Ok.ensures.pred;
+  width = c.in-Ok.ensures.width ∙ c.len.ensures;
   same = c.used_blocks.ensures.same;
   going = c.in_ok-blocks.ensures.runs.works.steady.ended ∙ c.requires.going;
   once = scans_none c.in_ok-blocks.ensures.runs.brings;
   runs = runs_listing c.args.ext.now c.args.def.now c.in_ok-blocks.ensures.runs;
 }
 
-pub returns-in_err-push_rows_of_block-clause-once : goal.returns-in_err-push_rows_of_block-clause-once
-returns-in_err-push_rows_of_block-clause-once g c =
+pub returns-in_err-push_rows_of_used_block-clause-once : goal.returns-in_err-push_rows_of_used_block-clause-once
+returns-in_err-push_rows_of_used_block-clause-once g c =
     let items : List ℕ = c.as_slice-block-items.result.now in
     let listed : (owners : List Kind) (forests : TableForests) → StandsTable g.P.Pages c.args.ext.now c.args.pages.now c.args.def.now owners forests → items ≡ used_blocks forests.map =
     λ owners forests st. c.as_slice-block-items.ensures.value ∙ c.in_ok-blocks.ensures.listed owners forests st in
     let low = c.loop-block-test.true in
     scans_used c.args.ext.now c.args.def.now items (c.loop-block.block-index + 1) (omega (arith, low)) listed
-    (scans_more c.args.ext.now items c.loop-block.block-index c.as_slice-block-items.ensures.rising low c.loop-block.invariant.once c.in_err-push_rows_of_block.ensures.once)
+    (scans_more c.args.ext.now items c.loop-block.block-index c.as_slice-block-items.ensures.rising low c.loop-block.invariant.once c.in_err-push_rows_of_used_block.ensures.once)
 
-pub returns-in_err-push_rows_of_block-clause-runs : goal.returns-in_err-push_rows_of_block-clause-runs
-returns-in_err-push_rows_of_block-clause-runs g c =
+pub returns-in_err-push_rows_of_used_block-clause-runs : goal.returns-in_err-push_rows_of_used_block-clause-runs
+returns-in_err-push_rows_of_used_block-clause-runs g c =
     let inv = c.loop-block.invariant in
-    runs_exit c.from_residual-in_err-push_rows_of_block.result c.from_residual-in_err-push_rows_of_block.ensures.1
+    runs_exit c.from_residual-in_err-push_rows_of_used_block.result c.from_residual-in_err-push_rows_of_used_block.ensures.1
     (runs_block c.args.ext.now c.args.def.now c.args.pages.now c.loop-block.pages c.as_slice-block-items.result.now c.loop-block.block-index inv.runs.works.steady.is_told inv.same
-    (λ owners forests st. c.as_slice-block-items.ensures.value ∙ c.in_ok-blocks.ensures.listed owners forests st) c.loop-block-test.true {fault = Some c.in_err-push_rows_of_block.field-0.0} inv.runs c.in_err-push_rows_of_block.ensures.runs)
+    (λ owners forests st. c.as_slice-block-items.ensures.value ∙ c.in_ok-blocks.ensures.listed owners forests st) c.loop-block-test.true {fault = Some c.in_err-push_rows_of_used_block.field-0.0} inv.runs c.in_err-push_rows_of_used_block.ensures.runs)
 
 pub loop-block-preserved : goal.loop-block-preserved
 loop-block-preserved g c =
@@ -47,12 +59,16 @@ loop-block-preserved g c =
     let low = c.loop-block-test.true in
     record {
       rows = rows_more c.args.ext.now c.args.def.now c.args.pages.now c.loop-block.pages items c.loop-block.block-index inv.runs.works.steady.is_told inv.same listed low
-          c.args.pred.now c.loop-block.hits.items c.push_rows_of_block.new.hits.items inv.rows c.in_ok-push_rows_of_block.ensures.rows;
-      keyed = c.in_ok-push_rows_of_block.ensures.keyed inv.keyed;
-      same = c.push_rows_of_block.ensures.same ∙ inv.same;
-      going = c.in_ok-push_rows_of_block.ensures.runs.works.steady.ended ∙ inv.going;
-      once = scans_more c.args.ext.now items c.loop-block.block-index c.as_slice-block-items.ensures.rising low inv.once c.in_ok-push_rows_of_block.ensures.once;
-      runs = runs_block c.args.ext.now c.args.def.now c.args.pages.now c.loop-block.pages items c.loop-block.block-index inv.runs.works.steady.is_told inv.same listed low {fault = None} inv.runs c.in_ok-push_rows_of_block.ensures.runs;
+          c.args.pred.now c.loop-block.hits.items c.push_rows_of_used_block.new.hits.items inv.rows
+          (λ owners forests st used. c.in_ok-push_rows_of_used_block.ensures.rows owners forests st used
+          ∙ ap (λ pred. map placed_row c.loop-block.hits.items ++ qualifying pred (rows_in_block c.args.ext.now (pages_of g.P.Pages c.loop-block.pages) c.args.def.now (get_or items c.loop-block.block-index 0))) inv.pred);
+      keyed = c.in_ok-push_rows_of_used_block.ensures.keyed inv.keyed;
+      pred = c.in_ok-push_rows_of_used_block.ensures.pred ∙ inv.pred;
+      width = c.in_ok-push_rows_of_used_block.ensures.width ∙ inv.width;
+      same = c.push_rows_of_used_block.ensures.same ∙ inv.same;
+      going = c.in_ok-push_rows_of_used_block.ensures.runs.works.steady.ended ∙ inv.going;
+      once = scans_more c.args.ext.now items c.loop-block.block-index c.as_slice-block-items.ensures.rising low inv.once c.in_ok-push_rows_of_used_block.ensures.once;
+      runs = runs_block c.args.ext.now c.args.def.now c.args.pages.now c.loop-block.pages items c.loop-block.block-index inv.runs.works.steady.is_told inv.same listed low {fault = None} inv.runs c.in_ok-push_rows_of_used_block.ensures.runs;
     }
 
 pub returns-clause-finds : goal.returns-clause-finds

@@ -1,10 +1,9 @@
-use Rattle.std.proofs.Common.{◌≡◌, List, None, take, false}
-use Rattle.std.specs.Prelude.{filter, flat_map, map}
-use Rattle.mdc_ast.specs.meaning.Doing.{qualifies}
+use Rattle.std.proofs.Common.{◌≡◌, List, None, length, take, false}
+use Rattle.std.specs.Prelude.{flat_map, map}
 use Rattle.store_api.specs.Frame.{NoPage}
 use Rattle.store_api.specs.RunsOverPages.{RunsOverPages}
 use Rattle.extent_map.specs.declared.kind.Kind.{Kind}
-use Rattle.block_rows.specs.HeldRows.{HaveReadValues, placed_row}
+use Rattle.block_rows.specs.HeldRows.{HaveReadValues, placed_row, qualifying}
 use Rattle.mdc_sound.specs.StandingTable.{BreaksTable, StandsTable, TableForests, pages_of}
 use Rattle.mdc_sound.specs.TableRows.{rows_in_block}
 use Rattle.table_trees.specs.TableTrees.{map_place}
@@ -17,8 +16,10 @@ use Rattle.table_scan.proofs.finding.find_rows.Given as goal
 abbrev pub invariant-loop-block : goal.invariant-loop-block
 invariant-loop-block g l = record {
   rows : (owners : List Kind) (forests : TableForests) → StandsTable g.P.Pages l.ext l.fn.pages l.def owners forests
-      → map placed_row l.hits.items ≡ filter (λ placed. qualifies l.pred placed.row.values) (flat_map (rows_in_block l.ext (pages_of g.P.Pages l.fn.pages) l.def) (take l.block-index l.block-items));
+      → map placed_row l.hits.items ≡ qualifying l.pred (flat_map (rows_in_block l.ext (pages_of g.P.Pages l.fn.pages) l.def) (take l.block-index l.block-items));
   keyed : HaveReadValues l.def.columns l.hits.items;
+  pred : l.filter.pred.now ≡ l.pred;
+  width : length l.filter.values ≡ length l.def.columns;
   same : (g.P.Pages.state l.pages).work ≡ (g.P.Pages.state l.fn.pages).work;
   going : (g.P.Pages.state l.pages).ended ≡ false;
   once : ScansOnce g.P.Pages (IsTreePageAt g.P.Pages l.fn.pages (map_place l.def)) (IsPageBefore l.ext l.block-items l.block-index) l.fn.pages l.pages;

@@ -1,11 +1,12 @@
-use Rattle.std.proofs.Common.{◌+◌, ◌∙◌, ap, arith, map, refl}
+use Rattle.std.proofs.Common.{◌+◌, ◌++◌, ◌∙◌, IsTrue, ap, arith, map, refl, subst, sym}
 use Rattle.store_api.proofs.FetchingLemmas.{once_none, once_wider}
 use Rattle.store_api.proofs.RunsOverPagesLemmas.{runs_exit}
 use Rattle.row_page.specs.RowPage.{slot_count}
-use Rattle.block_rows.specs.HeldRows.{placed_row}
+use Rattle.row_filter.specs.Filtering.{may_filter}
+use Rattle.mdc_sound.specs.TableRows.{rows_from_slot}
+use Rattle.block_rows.specs.HeldRows.{placed_row, qualifying}
 use Rattle.block_rows.proofs.HeldRowsLemmas.{between_pages_of_block, breaks_extent, none_pushed, once_more, rows_of_all, rows_of_page_more, runs_page}
-use Rattle.block_rows.proofs.ReadValuesLemmas.{read-none}
-use Rattle.block_rows.proofs.reading.rows_of_block.Goals as goal
+use Rattle.block_rows.proofs.reading.push_rows_of_block.Goals as goal
 
 pub returns-in_err-first-clause-runs : goal.returns-in_err-first-clause-runs
 returns-in_err-first-clause-runs g c = runs_exit c.from_residual.result c.from_residual.ensures.1 (breaks_extent c.in_err-first.ensures.runs)
@@ -13,24 +14,34 @@ returns-in_err-first-clause-runs g c = runs_exit c.from_residual.result c.from_r
 pub loop-j-init : goal.loop-j-init
 loop-j-init g c = record {
   same = refl;
-  rows = λ slots holds. none_pushed c.args.block (slot_count c.args.def.now.columns) c.new-hits.result.items slots c.new-hits.ensures.items;
-  keyed = read-none c.args.def.now.columns c.new-hits.result.items c.new-hits.ensures.items;
+  rows = λ slots holds. none_pushed c.args.filter.now.pred.now c.args.block (slot_count c.args.def.now.columns) (map placed_row c.args.hits.now.items) slots;
+  keyed = λ were. were;
+  pred = refl;
+  width = refl;
   once = once_none;
   runs = breaks_extent c.in_ok-first.ensures.runs;
 }
 
+pub push_rows_of_page-requires-clause-judged : goal.push_rows_of_page-requires-clause-judged
+push_rows_of_page-requires-clause-judged g c = λ row read.
+    subst (λ pred. IsTrue (may_filter pred row.values)) (sym c.loop-j.invariant.pred) (c.requires.judged row read)
+
 pub loop-j-preserved : goal.loop-j-preserved
 loop-j-preserved g c =
     let so = c.loop-j.invariant in
+    let pushed = c.in_ok-push_rows_of_page.ensures in
     let at = ap (λ n. n + c.loop-j.j) c.in_ok-first.ensures.first in
     record {
-      same = c.in_ok-push_rows_of_page.ensures.same ∙ so.same;
-      rows = rows_of_page_more g.P.Pages c.args.ext.now c.args.def.now c.args.block (c.in_ok-first.first + c.loop-j.j) c.loop-j.j c.first_slot-slot.result
-          (map placed_row c.loop-j.hits.items) (map placed_row c.push_rows_of_page.new.hits.items) at c.loop-j-test.true c.first_slot-slot.ensures.slot
-          so.runs.works.steady.is_told so.same so.rows c.in_ok-push_rows_of_page.ensures.rows;
-      keyed = c.in_ok-push_rows_of_page.ensures.keyed so.keyed;
-      once = once_more g.P.Pages c.args.ext.now c.args.def.now c.args.block (c.in_ok-first.first + c.loop-j.j) c.loop-j.j at so.once c.in_ok-push_rows_of_page.ensures.once (λ q between. between);
-      runs = runs_page g.P.Pages c.args.ext.now c.args.def.now c.args.block (c.in_ok-first.first + c.loop-j.j) c.loop-j.j at c.requires.below c.loop-j-test.true (λ q none. none) so.runs so.same c.in_ok-push_rows_of_page.ensures.runs;
+      same = pushed.same ∙ so.same;
+      rows = rows_of_page_more g.P.Pages c.args.ext.now c.args.def.now c.args.block c.args.filter.now.pred.now (c.in_ok-first.first + c.loop-j.j) c.loop-j.j c.first_slot-slot.result
+          (map placed_row c.args.hits.now.items) (map placed_row c.loop-j.hits.items) (map placed_row c.push_rows_of_page.new.hits.items) at c.loop-j-test.true c.first_slot-slot.ensures.slot
+          so.runs.works.steady.is_told so.same so.rows
+          (λ slots holds. pushed.rows slots holds ∙ ap (λ pred. map placed_row c.loop-j.hits.items ++ qualifying pred (rows_from_slot c.args.block c.first_slot-slot.result slots)) so.pred);
+      keyed = λ were. pushed.keyed (so.keyed were);
+      pred = pushed.pred ∙ so.pred;
+      width = pushed.width ∙ so.width;
+      once = once_more g.P.Pages c.args.ext.now c.args.def.now c.args.block (c.in_ok-first.first + c.loop-j.j) c.loop-j.j at so.once pushed.once (λ q between. between);
+      runs = runs_page g.P.Pages c.args.ext.now c.args.def.now c.args.block (c.in_ok-first.first + c.loop-j.j) c.loop-j.j at c.requires.below c.loop-j-test.true (λ q none. none) so.runs so.same pushed.runs;
     }
 
 pub returns-in_err-push_rows_of_page-clause-once : goal.returns-in_err-push_rows_of_page-clause-once
@@ -49,8 +60,8 @@ returns-in_err-push_rows_of_page-clause-runs g c =
 
 pub returns-clause-rows : goal.returns-clause-rows
 returns-clause-rows g c = λ slots holds.
-    ap (map placed_row) c.from_vec.ensures
-    ∙ (c.loop-j.invariant.rows slots holds ∙ rows_of_all g.P.Pages c.args.ext.now c.args.def.now c.args.block c.loop-j.j slots c.loop-j-test.false holds)
+    c.loop-j.invariant.rows slots holds
+    ∙ ap (λ rows. map placed_row c.args.hits.now.items ++ qualifying c.args.filter.now.pred.now rows) (rows_of_all g.P.Pages c.args.ext.now c.args.def.now c.args.block c.loop-j.j slots c.loop-j-test.false holds)
 
 pub returns-clause-once : goal.returns-clause-once
 returns-clause-once g c =

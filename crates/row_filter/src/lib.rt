@@ -1,0 +1,14 @@
+//! A predicate judged on rows where they lie, in the bytes of their pages.
+//!
+//! It promises that a filter takes exactly the rows that qualify. It reads the columns that its predicate names alone, which no
+//! clause says. It stands on `predicate` for truth and on `row_page` for rows that are lent.
+#![tactic(auto)]
+
+mod filter;
+mod naming;
+mod reading;
+
+pub use filter::RowFilter;
+
+#[cfg(test)]
+mod tests;
