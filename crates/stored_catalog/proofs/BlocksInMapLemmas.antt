@@ -1,6 +1,6 @@
 -- The blocks that a block map names, in the order in which they are given back: each is the table's, none is there twice, and after
 -- them the table has none.
-use Rattle.std.proofs.Common.{◌≡◌, ◌≢◌, ◌<◌, ◌≤◌, ◌+◌, ◌==◌, ℕ, List, [], ◌∷◌, ◌++◌, length, length-take, refl, ap, arith, sym, ◌∙◌, subst, inl, inr, IsTrue, take, get_or}
+use Rattle.std.proofs.Common.{◌≡◌, ◌≢◌, ◌<◌, ◌≤◌, ◌==◌, ℕ, List, [], ◌∷◌, ◌++◌, length, length-take, refl, ap, arith, sym, ◌∙◌, subst, inl, inr, IsTrue, take, get_or}
 use Rattle.std.proofs.lemmas.Bool.Decides.{nat_tests}
 use Rattle.std.specs.Prelude.{AllPairs, Contains, filter, map}
 use Rattle.std.proofs.lemmas.Bool.{cases_eq, eq-eqb}

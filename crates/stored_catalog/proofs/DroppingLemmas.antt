@@ -9,10 +9,10 @@ use Rattle.store_api.specs.Frame.{Touches}
 use Rattle.store_api.specs.StoreState.{page_at, zero_page}
 use Rattle.store_api.specs.declared.pages.Pages.{Ghosts}
 use Rattle.extent_map.specs.Map.{IsMapPage}
-use Rattle.extent_map.specs.Owners.{IsSameShape}
+use Rattle.extent_map.specs.Owners.{IsSameShape, owner_of}
 use Rattle.extent_map.specs.declared.extents.Extents.{Extents}
 use Rattle.extent_map.specs.declared.kind.Kind.{Kind}
-use Rattle.extent_map.specs.declared.kind.Kind.TheVariants.{Block}
+use Rattle.extent_map.specs.declared.kind.Kind.TheVariants.{Free, Block}
 use Rattle.entry_tree.specs.Forest.{Forest}
 use Rattle.entry_tree.specs.Pruning.{without_pages}
 use Rattle.table_page.specs.TablePage.{IsTablePageOf, table_page}
@@ -33,7 +33,9 @@ use Rattle.stored_catalog.specs.TableSteps.{DropsTable}
 use Rattle.stored_catalog.specs.TreeRuns.{FreesTrees, GivesBlocks, IsDroppingPage, blocks_in_map, without_blocks}
 use Rattle.stored_catalog.proofs.AroundDroppingLemmas.{freed_around, given_around, no_blocks_freed, trees_beside}
 use Rattle.stored_catalog.proofs.AroundTableLemmas.{ChangesAround, around_kept, around_place_kept, page_around, page_written, stands_for_but}
-use Rattle.stored_catalog.proofs.BlocksInMapLemmas.{blocks_owned, no_blocks_left}
+use Rattle.stored_catalog.proofs.BlocksInMapLemmas.{block_there, blocks_owned, no_blocks_left}
+use Rattle.stored_catalog.proofs.FreedTreesLemmas.{free_without_pages}
+use Rattle.stored_catalog.proofs.GivenBlocksLemmas.{owner_given}
 use Rattle.stored_catalog.proofs.OpenedTableLemmas.{IsDefinedThere, closed_dropping, defined_there, opened_dropping}
 
 module _ {S : Type 0} (g : Ghosts S) (before mid ext : Extents) (old middle new : S) (t : ℕ) (def : TableDef) (told : IsTrue (g.state old).is_told) (low : t < 16)
@@ -98,6 +100,13 @@ module _ {S : Type 0} (g : Ghosts S) (before mid ext : Extents) (old middle new 
   stands_last : StandsBut ext (pages_of g new) (view_with view owners_last t None) t [] []
   stands_last = around_kept mid ext (pages_of g middle) (pages_of g new) (with_owners view_at_first owners_then) t (tree_places def) trees owners_last [] [] stands_then around_two
 
+  -- what was a block of the table is free
+  all_freed : (e : ℕ) → owner_of view.owners e ≡ Block t → owner_of owners_last e ≡ Free
+  all_freed e is =
+      let own : owner_of view.owners e ≡ Block table.def.number = is ∙ ap Block (sym number) in
+      let named = block_there before view.owners table.def table.map e keeps.first.rule2.count map_sound own in
+      free_without_pages mid owners_then freed.given e (owner_given view.owners (blocks_in_map table.map) e named)
+
   -- with zeros as its table page the place is empty
   pub drops_table : (last : PageList) → last ≡ with_stored (pages_of g new) t None → DropsTable before ext last t view
   drops_table last is = record {
@@ -106,6 +115,7 @@ module _ {S : Type 0} (g : Ghosts S) (before mid ext : Extents) (old middle new 
         (closed_dropping ext (pages_of g new) (view_with view owners_last t None) t stands_last
         (no_blocks_freed g mid ext middle new (with_owners view_at_first owners_then) t (tree_places def) trees (told_one ∙ told) stands_then shape_two count_two told_two touched_two freed no_blocks));
     notes = λ right. freed.notes (gave.notes right);
+    freed = all_freed;
   }
 
   -- and each other place holds what it held

@@ -1,16 +1,19 @@
 -- Trees given back one after the other: which pages that gave back, and what stands beside them still.
-use Rattle.std.proofs.Common.{◌≡◌, ◌≤◌, ◌+◌, ℕ, zero, suc, List, [], ◌∷◌, ◌++◌, Some, drop, sum_by, refl, ap, arith, sym, ◌∙◌, subst, inr, append_assoc}
+use Rattle.std.proofs.Common.{◌≡◌, ◌≤◌, ◌+◌, ℕ, zero, suc, List, [], ◌∷◌, ◌++◌, Some, drop, get_or-set_other, set, sum_by, refl, ap, arith, sym, ◌∙◌, subst, inl, inr, append_assoc}
 use Rattle.std.specs.Prelude.{slice_get}
 use Rattle.std.specs.List.{AllZip}
+use Rattle.std.proofs.lemmas.Bool.{cases_eq}
 use Rattle.std.proofs.lemmas.List.{append-nil}
 use Rattle.std.proofs.lemmas.List.Sums.{sum_by-append, sum_by-cons}
 use Rattle.std.proofs.lemmas.Option.{same_Some}
 use Rattle.store_api.specs.Frame.{Touches}
 use Rattle.store_api.specs.declared.pages.Pages.{Ghosts}
 use Rattle.extent_map.specs.Map.{HoldsMap, IsMapPage}
-use Rattle.extent_map.specs.Owners.{AreRightNotes, IsSameShape, without_page}
+use Rattle.extent_map.specs.Kinds.{without_place}
+use Rattle.extent_map.specs.Owners.{AreRightNotes, IsSameShape, extent_of, owner_of, place_in_extent, without_block, without_page}
 use Rattle.extent_map.specs.declared.extents.Extents.{Extents}
 use Rattle.extent_map.specs.declared.kind.Kind.{Kind}
+use Rattle.extent_map.specs.declared.kind.Kind.TheVariants.{Free}
 use Rattle.extent_map.proofs.UsedPagesLemmas.{no_space_page}
 use Rattle.entry_tree.specs.Forest.{Forest, times}
 use Rattle.entry_tree.specs.Freeing.{FreesTree}
@@ -26,6 +29,7 @@ use Rattle.table_trees.proofs.KeptOwnersLemmas.{keeps_returns}
 use Rattle.table_trees.proofs.SideBySideLemmas.{trees_still}
 use Rattle.table_trees.proofs.TreeListsLemmas.{times-one}
 use Rattle.stored_catalog.specs.TreeRuns.{FreesTrees}
+use Rattle.stored_catalog.proofs.GivenBlocksLemmas.{owner_here}
 
 -- ---- pages
 
@@ -42,6 +46,20 @@ pages_along : (before after : Extents) (owners : List Kind) (given : List ℕ) �
 pages_along before after owners [] shape = refl
 pages_along before after owners (p ∷ given) shape =
     pages_along before after (without_page after owners p) given shape ∙ ap (λ now. without_pages before now given) (without_page-shape before after owners p shape)
+
+-- an extent that is free stays so
+free_without_page : (ext : Extents) (owners : List Kind) (p e : ℕ) → owner_of owners e ≡ Free → owner_of (without_page ext owners p) e ≡ Free
+free_without_page ext owners p e free = elim (cases_eq e (extent_of ext p)) [
+  | inl here ↦
+      let kind : owner_of owners (extent_of ext p) ≡ Free = ap (owner_of owners) (sym here) ∙ free in
+      let same : without_page ext owners p ≡ without_block owners (extent_of ext p) = ap (λ k. set owners (extent_of ext p) (without_place (place_in_extent ext p) k)) kind in
+      ap (λ now. owner_of now e) same ∙ (ap (owner_of (without_block owners (extent_of ext p))) here ∙ owner_here owners (extent_of ext p))
+  | inr other ↦ get_or-set_other owners (extent_of ext p) e (without_place (place_in_extent ext p) (owner_of owners (extent_of ext p))) Free other ∙ free
+]
+
+pub free_without_pages : (ext : Extents) (owners : List Kind) (given : List ℕ) (e : ℕ) → owner_of owners e ≡ Free → owner_of (without_pages ext owners given) e ≡ Free
+free_without_pages ext owners [] e free = free
+free_without_pages ext owners (p ∷ given) e free = free_without_pages ext (without_page ext owners p) given e (free_without_page ext owners p e free)
 
 -- ---- places
 

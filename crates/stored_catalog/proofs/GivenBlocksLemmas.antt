@@ -1,5 +1,5 @@
 -- Blocks given back one after the other: whose each extent is then, and what stands beside them.
-use Rattle.std.proofs.Common.{◌≡◌, ◌≢◌, ◌+◌, ℕ, List, [], ◌∷◌, ◌++◌, length, length-set, set, refl, ap, arith, sym, ◌∙◌, subst, inl, inr, get_or-set_same, get_or-set_other, IsTrue}
+use Rattle.std.proofs.Common.{◌≡◌, ◌≢◌, ℕ, List, [], ◌∷◌, ◌++◌, length, length-set, set, refl, ap, arith, sym, ◌∙◌, subst, inl, inr, get_or-set_same, get_or-set_other, IsTrue}
 use Rattle.std.specs.Prelude.{Contains}
 use Rattle.std.proofs.lemmas.Bool.{cases_eq, cases_lt}
 use Rattle.std.proofs.lemmas.List.{get_or_past}
@@ -21,7 +21,7 @@ use Rattle.stored_catalog.specs.TreeRuns.{AreBlocksGiven, GivesBlocks, without_b
 
 -- ---- owners
 
-owner_here : (owners : List Kind) (e : ℕ) → owner_of (without_block owners e) e ≡ Free
+pub owner_here : (owners : List Kind) (e : ℕ) → owner_of (without_block owners e) e ≡ Free
 owner_here owners e = elim (cases_lt e (length owners)) [
   | inl low ↦ get_or-set_same owners e Free Free low
   | inr past ↦ get_or_past (set owners e Free) e Free (omega (arith, length-set owners e Free, past))

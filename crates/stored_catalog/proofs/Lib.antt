@@ -16,6 +16,7 @@ pub mod MakingAllLemmas
 pub mod MakingRunsLemmas
 pub mod MakingTreesLemmas
 pub mod NewTablesLemmas
+pub mod NumberingLemmas
 pub mod OpenedTableLemmas
 pub mod SavingLemmas
 pub mod TablesAroundLemmas

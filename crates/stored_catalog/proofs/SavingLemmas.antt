@@ -17,7 +17,7 @@ use Rattle.stored_catalog.proofs.AroundTableLemmas.{stored_but}
 
 module _ {S : Type 0} (g : Ghosts S) where
   -- a store that tells its pages has these bytes there, and no other page is another one
-  written_over : (p : ℕ) (bytes : List ℕ) (old new : S) → p < length (g.state old).work → length (g.state new).work ≡ length (g.state old).work → Touches g (OnlyPage p) old new
+  pub written_over : (p : ℕ) (bytes : List ℕ) (old new : S) → p < length (g.state old).work → length (g.state new).work ≡ length (g.state old).work → Touches g (OnlyPage p) old new
       → WritesPage g p bytes old new → IsTrue (g.state old).is_told → (g.state new).work ≡ slice_set (g.state old).work p bytes
   written_over p bytes old new within count touched writes told =
       let was = (g.state old).work in

@@ -1,5 +1,5 @@
 -- Tables that are new: their definitions, which have no roots and no rows yet, and what their trees are at first.
-use Rattle.std.specs.Prelude.{◌≡◌, ℕ, IsTrue, List, [], ◌∷◌, ◌++◌, map, zip}
+use Rattle.std.specs.Prelude.{◌≡◌, ℕ, IsTrue, List, [], ◌∷◌, map, zip}
 use Rattle.mdc_ast.specs.declared.definition.Roots.{Roots}
 use Rattle.mdc_ast.specs.declared.definition.TableDef.{TableDef}
 use Rattle.entry_tree.specs.Forest.{Forest}

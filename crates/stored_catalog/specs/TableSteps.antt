@@ -3,9 +3,10 @@ use Rattle.std.specs.Prelude.{◌≡◌, ◌≢◌, ℕ, List, [], Some, None}
 use Rattle.mdc_ast.specs.declared.definition.TableDef.{TableDef}
 use Rattle.mdc_ast.specs.declared.name.Name.{Name}
 use Rattle.mdc_ast.specs.meaning.Database.{PlainTable}
-use Rattle.extent_map.specs.Owners.{AreRightNotes}
+use Rattle.extent_map.specs.Owners.{AreRightNotes, owner_of}
 use Rattle.extent_map.specs.declared.extents.Extents.{Extents}
 use Rattle.extent_map.specs.declared.kind.Kind.{Kind}
+use Rattle.extent_map.specs.declared.kind.Kind.TheVariants.{Free, Block}
 use Rattle.table_trees.specs.SpaceChanges.{MakesChanges}
 use Rattle.table_trees.specs.ToldPages.{PageList}
 use Rattle.mdc_sound.specs.RunningFull.{creating_changes}
@@ -31,8 +32,9 @@ pub record AddsTable (before ext : Extents) (old new : PageList) (def : TableDef
   pub notes : AreRightNotes before view.owners → AreRightNotes ext owners_now
   pub makes : AreRightNotes before view.owners → MakesChanges before old (creating_changes def) new
 
--- Table t was dropped. The pages are sound without it, and the notes are as right as they were.
+-- Table t was dropped. The pages are sound without it, the notes are as right as they were, and the extents of its blocks are free.
 pub record DropsTable (before ext : Extents) (new : PageList) (t : ℕ) (view : DatabaseView) : Type 0 where
   pub owners_now : List Kind
   pub sound : KeepAllRules ext new (view_with view owners_now t None)
   pub notes : AreRightNotes before view.owners → AreRightNotes ext owners_now
+  pub freed : (e : ℕ) → owner_of view.owners e ≡ Block t → owner_of owners_now e ≡ Free

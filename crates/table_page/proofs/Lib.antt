@@ -2,6 +2,7 @@ pub mod DifferingLemmas
 pub mod EntriesLemmas
 pub mod LimitsLemmas
 pub mod NamesLemmas
+pub mod NumberingLemmas
 pub mod PageAnswersLemmas
 pub mod PartsLemmas
 pub mod PrintingLemmas
