@@ -18,6 +18,7 @@ use Rattle.script_engine.specs.declared.stop.EngineStop.TheVariants as engine
 use Rattle.script_engine.proofs.ShapeLemmas.{keeps_along}
 use Rattle.script_session.specs.Going.{GoesOnPages}
 use Rattle.script_session.specs.Leaving.{AreServedPages}
+use Rattle.script_session.specs.Replying.{RepliesTo}
 use Rattle.script_session.specs.Serving.{RunsScript, TakesScript}
 use Rattle.script_session.specs.Stops.{stop_of_engine}
 use Rattle.script_session.specs.declared.stop.Served.{Served}
@@ -25,7 +26,7 @@ use Rattle.script_session.specs.declared.stop.SessionStop.{SessionStop}
 use Rattle.script_session.specs.declared.stop.SessionStop.TheVariants as session
 use Rattle.script_session.proofs.ToldLemmas.{takes_nothing}
 use Rattle.file_session.specs.Running.{RunsOnStore}
-use Rattle.file_session.proofs.FirstEndsLemmas.{ends_first, takes_first}
+use Rattle.file_session.proofs.FirstEndsLemmas.{ends_first, replies_first, takes_first}
 use Rattle.file_session.proofs.FirstLeftLemmas.{left_only_base}
 
 -- a stop of an engine isn't one of a reader
@@ -52,6 +53,10 @@ not_damaged engine.Memory undamaged damage result was is = cc
 -- a session whose engine wasn't opened took nothing
 pub takes_stopped : (script : Option (List ℕ)) (stop : EngineStop) (end_ : SessionStop) → end_ ≡ stop_of_engine stop → IfSome script (λ bytes. TakesScript bytes script (Err end_))
 takes_stopped script stop end_ is = takes_first script end_ (λ long. not_long stop (sym is ∙ long))
+
+-- and told nothing
+pub replies_stopped : (script old new : Option (List ℕ)) (stop : EngineStop) (end_ : SessionStop) → end_ ≡ stop_of_engine stop → new ≡ old → RepliesTo script script old new (Err end_)
+replies_stopped script old new stop end_ is same = replies_first script old new end_ (λ read. unread stop (sym is ∙ read)) (λ long. not_long stop (sym is ∙ long)) same
 
 module _ {S : Type 0} (g : pages.Ghosts S) where
   -- pages that an engine is ready on may be served

@@ -9,11 +9,12 @@ ghost use Rattle.page_file.specs.Bound.{LeavesOf};
 ghost use Rattle.page_store.specs.Opened.{CouldBeLeft, file_bytes};
 ghost use Rattle.page_store.specs.Opening.{IsServed};
 ghost use Rattle.script_engine.specs.Opening.{IsSoundStore};
+ghost use Rattle.script_session.specs.Replying.{RepliesTo};
 ghost use Rattle.script_session.specs.Serving.{TakesScript};
 ghost use Rattle.script_session.specs.Told.{StaysTold, TellsMore};
 ghost use Rattle.file_session.specs.Ending.{IsCauseIn, IsRefused, IsUnopened, StopsOpening, end_of_session};
 ghost use Rattle.file_session.specs.Running.{RunsOnStore, ServesStore};
-ghost use Rattle.file_session.specs.Serving.{RunsOnFile, TakesBySession};
+ghost use Rattle.file_session.specs.Serving.{RepliesBySession, RunsOnFile, TakesBySession};
 ghost use Rattle.file_session.specs.Well.{AreWell, IsWell, StatesExtents};
 
 use crate::stop::FileStop;
@@ -53,6 +54,8 @@ pub fn serve_file<I: Source, H: Host>(alloc: Global, input: &mut I, host: H) -> 
         → (file_bytes (H.file result.host) ≡ file_bytes (H.file host)) × LeavesOf H.Disk CouldBeLeft host result.host) }
     // Whatever its pages are, of a script on a file that is served so much is taken as its end says.
     ensures takes { IsRefused result.end ⊎ TakesBySession (I.left input.old) (I.left input.new) result.end }
+    // And the texts of outcomes are told, one for each item that was answered, by which the run ends.
+    ensures replies { IsRefused result.end ⊎ RepliesBySession (I.left input.old) (I.left input.new) (H.beside host).tape (H.beside result.host).tape result.end }
     ensures refused { IsRefused result.end → (input.new ≡ input.old) × ((H.beside result.host).tape ≡ (H.beside host).tape) }
     ensures reads { CountsFault (result.end ≡ Err FileStop.Unread) (I.read_faults input.old) (I.read_faults input.new) }
     ensures unsaid { CountsFault (result.end ≡ Err FileStop.Unsaid) (H.say_faults host) (H.say_faults result.host) }
@@ -90,6 +93,7 @@ fn serve_store<I: Source, H: Host>(alloc: Global, input: &mut I, store: FileStor
     ensures damaged { (damage : Damage) → result.end ≡ Err (FileStop.Damaged damage) → (file : File) → H.file store.host ≡ Some file
         → (ext : Extents) → StatesExtents file.bytes ext → IsSoundStore ⟦<FileStore<H> as Pages>⟧ ext store → ⊥ }
     ensures takes { TakesBySession (I.left input.old) (I.left input.new) result.end }
+    ensures replies { RepliesBySession (I.left input.old) (I.left input.new) (H.beside store.host).tape (H.beside result.host).tape result.end }
     ensures reads { CountsFault (result.end ≡ Err FileStop.Unread) (I.read_faults input.old) (I.read_faults input.new) }
     ensures unsaid { CountsFault (result.end ≡ Err FileStop.Unsaid) (H.say_faults store.host) (H.say_faults result.host) }
     ensures device { CountsFault (result.end ≡ Err FileStop.Device) (H.disk_faults store.host) (H.disk_faults result.host) }
@@ -128,6 +132,7 @@ fn serve_pages<I: Source, S: Store>(
     ensures attached { (S.state result.store).attached ≡ (S.state store).attached }
     ensures is_told { (S.state result.store).is_told ≡ (S.state store).is_told }
     ensures takes { IfSome (I.left input.old) (λ script. TakesScript script (I.left input.new) result.end) }
+    ensures replies { RepliesTo (I.left input.old) (I.left input.new) (S.state store).told (S.state result.store).told result.end }
     ensures tells { TellsMore (S.state store).told (S.state result.store).told }
     ensures later { S.clock store ≤ S.clock result.store }
 {

@@ -23,8 +23,11 @@ INSERT INTO W (D, K) VALUES (12, 112);
 INSERT INTO W (D, K) VALUES (13, 113);
 INSERT INTO W (D, K) VALUES (14, 114);
 INSERT INTO W (D, K) VALUES (15, 115);
+LIST BLOCKS W;
 DELETE FROM W WHERE D = 1;
-INSERT INTO W (D, K) VALUES (15, 115);";
+LIST BLOCKS W;
+INSERT INTO W (D, K) VALUES (15, 115);
+LIST BLOCKS W;";
 
 const SAID: &[u8] = b"OK
 1 ROWS INSERTED
@@ -42,8 +45,11 @@ const SAID: &[u8] = b"OK
 1 ROWS INSERTED
 1 ROWS INSERTED
 ERROR 70 file full at 16 extents
+USED 14 FREE 0 PENDING 0
 1 ROWS DELETED
+USED 13 FREE 1 PENDING 0
 1 ROWS INSERTED
+USED 14 FREE 0 PENDING 0
 ";
 
 const ROWS: &[u8] = b"D|K
@@ -63,6 +69,31 @@ const ROWS: &[u8] = b"D|K
 15|115
 14 ROWS
 ";
+
+// Ten rows of one cell fill a block, and the eleventh takes another.
+const ELEVEN: &[u8] =
+    b"CREATE TABLE W (D INTEGER, K INTEGER, X CHAR(254), Y CHAR(254), Z CHAR(254)) ORGANIZE BY (D);
+INSERT INTO W (D, K) VALUES (1, 1), (1, 2), (1, 3), (1, 4), (1, 5), (1, 6), (1, 7), (1, 8), (1, 9), (1, 10);
+LIST BLOCKS W;
+INSERT INTO W (D, K) VALUES (1, 11);
+LIST BLOCKS W;";
+
+const SAID_OF_ELEVEN: &[u8] = b"OK
+10 ROWS INSERTED
+USED 1 FREE 0 PENDING 0
+1 ROWS INSERTED
+USED 2 FREE 0 PENDING 0
+";
+
+#[test]
+fn the_eleventh_row_of_a_cell_takes_another_block(rt: HostRuntime) -> Result<(), Fail> {
+    let alloc = rt.alloc();
+    let file = small_database(alloc)?;
+    let (end, host) = run_script(alloc, ELEVEN, host_of(alloc, &file, &[])?)?;
+    assert_eq!(rt; end, Ok(Served::AllDone));
+    assert_eq!(rt; host.said(), SAID_OF_ELEVEN);
+    Ok(())
+}
 
 #[test]
 fn a_file_has_fourteen_blocks_and_the_next_run_finds_them(rt: HostRuntime) -> Result<(), Fail> {

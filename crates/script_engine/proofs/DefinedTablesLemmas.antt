@@ -1,6 +1,6 @@
 -- A table more, or one less: which definitions are served then, and what it makes of ready pages.
 use Rattle.std.proofs.Common.{◌≡◌, ◌<◌, ◌+◌, ℕ, List, [], ◌∷◌, ◌∙◌, Bool, refl, sym, ap, subst, length, map, arith}
-use Rattle.std.specs.Prelude.{IsTrue, IfSome, Option, Some, None, ◌&&◌, is_none, nat_le, nat_lt}
+use Rattle.std.specs.Prelude.{IsTrue, IsSome, IfSome, Option, Some, None, ◌&&◌, is_none, nat_le, nat_lt}
 use Rattle.std.specs.List.{list_all, position_from}
 use Rattle.mdc_ast.specs.declared.bound.Bound.TheVariants as bound
 use Rattle.mdc_ast.specs.declared.definition.ColumnDef.{ColumnDef}
@@ -14,10 +14,11 @@ use Rattle.mdc_ast.specs.meaning.Doing.{entered}
 use Rattle.mdc_ast.proofs.DefinitionsLemmas.{emptied_too, none_named, put_keeps_defs}
 use Rattle.mdc_ast.proofs.TestsLemmas.{and_true, both}
 use Rattle.store_api.specs.declared.fault.Damage.{Damage}
+use Rattle.store_api.specs.Frame.{Touches}
 use Rattle.store_api.specs.declared.pages.Pages.{Ghosts}
 use Rattle.extent_map.specs.Damages.{IfFull}
 use Rattle.extent_map.specs.Map.{HoldsMap}
-use Rattle.extent_map.specs.Owners.{AreRightNotes}
+use Rattle.extent_map.specs.Owners.{AreRightNotes, IsSameShape}
 use Rattle.extent_map.specs.declared.fault.SpaceFault.{SpaceFault}
 use Rattle.extent_map.specs.declared.fault.SpaceFault.TheVariants.{Full, Store}
 use Rattle.extent_map.specs.declared.kind.Kind.{Kind}
@@ -35,7 +36,7 @@ use Rattle.stored_catalog.specs.AroundTable.{view_with}
 use Rattle.stored_catalog.specs.NewTables.{empty_table, rooted}
 use Rattle.stored_catalog.specs.StoredDefinitions.{AreStored, AreWithinLimits}
 use Rattle.stored_catalog.specs.TableSteps.{AddsTable, DropsTable, plain_empty}
-use Rattle.stored_catalog.specs.TreeRuns.{BreaksDropping, BreaksMaking}
+use Rattle.stored_catalog.specs.TreeRuns.{BreaksDropping, BreaksMaking, IsAddingPage, IsDroppingPage}
 use Rattle.stored_catalog.proofs.EnteringLemmas.{lowest_place}
 use Rattle.stored_catalog.proofs.LeftDefinitionsLemmas.{stored_at}
 use Rattle.stored_catalog.proofs.OpenedTableLemmas.{defined_there}
@@ -43,6 +44,7 @@ use Rattle.script_engine.specs.Defining.{IsPlainNewDef}
 use Rattle.script_engine.specs.Doing.{DoesStatement, RunsFullAlone, StatementRunsFull}
 use Rattle.script_engine.specs.Ready.{AreServed, IsReady}
 use Rattle.script_engine.specs.declared.tables.Tables.{Tables}
+use Rattle.script_engine.proofs.OthersLemmas.{others_created, others_removed, there_below}
 use Rattle.script_engine.proofs.PuttingTuplesLemmas.{of_that}
 use Rattle.script_engine.proofs.ReadyTablesLemmas.{ready_of_sound, served_def}
 use Rattle.script_engine.proofs.ServedDefsLemmas.{def_at_set, served_below}
@@ -157,6 +159,8 @@ module _ {S : Type 0} (g : Ghosts S) (old new : S) (before now : Tables) (place 
         → (db : Database) → PagesStandFor before.ext (g.state old).work db
         → IfSome (def_at now.catalog place) (λ d. PagesStandFor now.ext (g.state new).work (with_place db place (Some (plain_empty d))))
     pub told : (g.state new).is_told ≡ (g.state old).is_told
+    pub shape : IsSameShape before.ext now.ext
+    pub touches : Touches g (IsAddingPage g before.ext old before.catalog) old new
     pub rooms : IsForgotten now.rooms
 
   module _ (is : IsCreated) (ready : IsReady g old before) where
@@ -187,6 +191,7 @@ module _ {S : Type 0} (g : Ghosts S) (old new : S) (before now : Tables) (place 
         answers = refl;
       };
       places = λ reply done place other changes at. absurd cc;
+      others = others_created g old new before now place (rooted def roots) (empty_table def_now) added.owners_now ready added.sound refl refl is.shape is.served is.lowest is.is_entered is.touches;
     }
 
 -- ---- a table less
@@ -212,6 +217,9 @@ served_less before now place served is limits = record { limits = limits; valid 
 module _ {S : Type 0} (g : Ghosts S) (old new : S) (before now : Tables) (place : ℕ) where
   -- all that is known once a table was dropped
   pub record IsRemoved : Type 0 where
+    pub was_served : AreServed before.catalog
+    pub there : IsSome (def_at before.catalog place)
+    pub left : now.catalog ≡ without_def before.catalog place
     pub served : AreServed now.catalog
     pub stored : IsTrue (g.state old).is_told → AreStored (g.state old).work before.catalog → AreStored (g.state new).work now.catalog
     pub drops : IsTrue (g.state old).is_told → AreStored (g.state old).work before.catalog → (view : DatabaseView) → KeepAllRules before.ext (g.state old).work view
@@ -219,6 +227,8 @@ module _ {S : Type 0} (g : Ghosts S) (old new : S) (before now : Tables) (place 
     pub stands_for : IsTrue (g.state old).is_told → AreStored (g.state old).work before.catalog → (view : DatabaseView) → KeepAllRules before.ext (g.state old).work view
         → (db : Database) → PagesStandFor before.ext (g.state old).work db → PagesStandFor now.ext (g.state new).work (with_place db place None)
     pub told : (g.state new).is_told ≡ (g.state old).is_told
+    pub shape : IsSameShape before.ext now.ext
+    pub touches : Touches g (IsDroppingPage before.ext place) old new
     pub rooms : IsForgotten now.rooms
 
   -- then the DROP TABLE is done
@@ -230,4 +240,5 @@ module _ {S : Type 0} (g : Ghosts S) (old new : S) (before now : Tables) (place 
             drops.sound (is.stored ready.told ready.stored) (drops.notes ready.notes) is.rooms;
         stands = λ db stands. record { pages_are = is.stands_for ready.told ready.stored ready.view ready.sound db stands; answers = refl };
         places = λ reply done place other changes at. absurd cc;
+        others = others_removed g old new before now place drops.owners_now ready drops.sound drops.freed is.shape is.was_served (there_below before.catalog place is.was_served is.there) is.left is.touches;
       }

@@ -33,6 +33,7 @@ use Rattle.extent_map.specs.declared.extents.Extents.{Extents}
 use Rattle.extent_map.specs.declared.fault.SpaceFault.{SpaceFault}
 use Rattle.extent_map.specs.declared.fault.SpaceFault.TheVariants.{Full, Store}
 use Rattle.extent_map.specs.declared.kind.Kind.{Kind}
+use Rattle.entry_tree.proofs.ClaimsLemmas.{shape_none}
 use Rattle.block_rows.specs.HeldRows.{placed_row}
 use Rattle.block_rows.specs.declared.hit.Hit.{Hit}
 use Rattle.mdc_sound.specs.Placing.{ChangesRows, Spot, TakesRows, block_slot_count}
@@ -49,10 +50,12 @@ use Rattle.statement_rows.specs.Turning.{turned_row}
 use Rattle.statement_rows.specs.declared.changing.Turned.{Turned}
 use Rattle.table_scan.specs.FoundRows.{FindsRows}
 use Rattle.script_engine.specs.Doing.{DoesStatement, PlacesOnPages, PlacesRows, RunsFullAlone, StatementRunsFull, changed_place, with_changed}
+use Rattle.script_engine.specs.Others.{KeepsOthers}
 use Rattle.script_engine.specs.Ready.{AreServed, BreaksDatabase, IsNoStandingTable, IsReady}
 use Rattle.script_engine.specs.declared.tables.Tables.{Tables}
+use Rattle.script_engine.proofs.OthersLemmas.{keeps_others_itself, others_changed, touched_is}
 use Rattle.script_engine.proofs.PlainChangesLemmas.{causes_of_qualifying, qualifying_changed, qualifying_taken}
-use Rattle.script_engine.proofs.ReadyTablesLemmas.{change_ends_unwritten, page_is_written, places_shown, ready_between}
+use Rattle.script_engine.proofs.ReadyTablesLemmas.{change_ends_unwritten, page_is_written, places_shown, ready_between, served_def}
 use Rattle.script_engine.proofs.ScannedTablesLemmas.{HasHits, found_still, hits_fit, hits_of, hits_qualify, qualifying, ready_still, stands_ready, these_rows}
 use Rattle.script_engine.proofs.StoredDefsLemmas.{first_decides, stored_defs, stored_table}
 use Rattle.script_engine.proofs.TurnedRowsLemmas.{each_passes, turned_changed, turned_hit, turned_news, turned_places}
@@ -83,6 +86,7 @@ query_does g old new tables select def found text served at told same finds is r
             answers = lines_are _ has.table def.columns select (map (λ (hit : Hit). hit.row) found) text has.at (ap (λ (d : TableDef). d.columns) has.def_is) has.are is;
           };
       places = λ done is_done place other changed there. absurd (cc changed);
+      others = keeps_others_itself tables.ext tables.ext (pages_of g old) (pages_of g new) tables.catalog tables.catalog None (shape_none tables.ext) same refl;
     }
 
 -- ---- rows that were changed
@@ -145,6 +149,10 @@ module _ {S : Type 0} (g : Ghosts S) (old mid new : S) (before now : Tables) (de
               let def_is : def ≡ other = same_Some def other (sym at ∙ ap (def_at before.catalog) place_is ∙ there) in
               subst (λ (d : TableDef). PlacesOnPages before.ext now.ext (pages_of g old) (pages_of g new) d statement) def_is
               (subst (λ pages. PlacesOnPages before.ext now.ext pages (pages_of g new) def statement) same shown);
+          others =
+              subst (λ (found : Option ℕ). KeepsOthers before.ext now.ext (pages_of g old) (pages_of g new) before.catalog now.catalog found) (sym (touched_is statement before.noted is_changed))
+              (subst (λ pages. KeepsOthers before.ext now.ext pages (pages_of g new) before.catalog now.catalog (Some before.noted)) same
+              (others_changed g mid new before now def.number (served_def before.catalog before.noted def served at).number served still changed.others catalog));
         }
 
 -- one change of the table in a place, and another that makes the same of it
@@ -184,6 +192,7 @@ delete_does g old mid new before now def pred found items count served at told s
       places = PlacesRows.delete (map placed_row found) (qualifying g before.ext mid def owners forests st pred found hits_here mid_ready.between.sound) changed.places;
       stands_for = changed.stands_for;
       table_pages = changed.table_pages;
+      others = changed.others;
     }) catalog noted (said.Done (reply.Deleted count)) refl
     (λ db stands.
     let here = stored_table db before.catalog before.noted def (stored_defs before.ext (pages_of g mid) before.catalog db (ready_still g old mid told same before ready).stored stands) at in
@@ -229,6 +238,7 @@ refused_does g old mid before def sets pred found cause outcome served at told s
             answers = ap (λ e. e.1) ends ∙ sym (ap answer_of is);
           };
       places = λ said is_said place other of there. absurd (cc (is, is_said));
+      others = keeps_others_itself before.ext before.ext (pages_of g old) (pages_of g mid) before.catalog before.catalog (Some before.noted) (shape_none before.ext) same refl;
     }
 
 module _ {S : Type 0} (g : Ghosts S) (old mid new : S) (before now : Tables) (def : TableDef) (sets : List BoundSet) (pred : Option Pred) (found : List Hit) (items : List Turned) (served : AreServed before.catalog)
@@ -263,6 +273,7 @@ module _ {S : Type 0} (g : Ghosts S) (old mid new : S) (before now : Tables) (de
         places = PlacesRows.update (map placed_row found) (qualifying g before.ext mid def owners forests st pred found hits_here mid_ready.between.sound) placed;
         stands_for = changed.stands_for;
         table_pages = changed.table_pages;
+        others = changed.others;
       }) catalog noted (said.Done (reply.Updated count)) refl
       (λ db stands.
       let stored = (ready_still g old mid told same before ready).stored in

@@ -26,6 +26,7 @@ use Rattle.store_api.proofs.RunsOverPagesLemmas.{runs_memory, runs_none}
 use Rattle.extent_map.specs.Damages.{IfFull, store_part_of}
 use Rattle.extent_map.specs.declared.fault.SpaceFault.{SpaceFault}
 use Rattle.extent_map.specs.declared.fault.SpaceFault.TheVariants.{Full, Store}
+use Rattle.entry_tree.proofs.ClaimsLemmas.{shape_none}
 use Rattle.mdc_sound.specs.StandingTable.{pages_of}
 use Rattle.mdc_sound.specs.StandsForDatabase.{PagesStandFor}
 use Rattle.binder.specs.Refusing.{IsRefusedFor}
@@ -37,9 +38,11 @@ use Rattle.statement_rows.specs.RowsOfStatement.{AnyPage}
 use Rattle.script_engine.specs.Defining.{IsBoundOn, MayBeExecuted}
 use Rattle.script_engine.specs.Doing.{DoesStatement, DoesStep, LeavesAll, RunsFullAlone, StandsAfter, StepRunsFull, changed_place, is_query, is_reading}
 use Rattle.script_engine.specs.Held.{IsWritten}
+use Rattle.script_engine.specs.Others.{touched_place}
 use Rattle.script_engine.specs.Ready.{AreServed, BreaksDatabase, IsReady}
 use Rattle.script_engine.specs.declared.tables.Tables.{Tables}
 use Rattle.row_judging.proofs.ServedLemmas.{served}
+use Rattle.script_engine.proofs.OthersLemmas.{keeps_others_itself}
 use Rattle.script_engine.proofs.StoredDefsLemmas.{none_said_on, step_is_done_on, step_not_built, step_refused_on, stored_defs}
 use Rattle.script_engine.proofs.WrittenTablesLemmas.{written_is_new}
 
@@ -64,6 +67,7 @@ does_step g old new before now stmt outcome built said ready does = record {
       let same : step db stmt ≡ done db (bound_of before.catalog stmt) = step_is_done_on db before.catalog stmt (stored_defs before.ext (pages_of g old) before.catalog db ready.stored stands) built said in
       subst (λ end_. StandsAfter now.ext (pages_of g new) end_ outcome) (sym same) (does.stands db stands);
   places = does.places;
+  others = does.others;
 }
 
 -- what a bound statement did is what its text does
@@ -124,6 +128,7 @@ stays g s tables stmt refusal ready same = record {
   ready = ready;
   stands = λ db stands. subst (λ end_. StandsAfter tables.ext (pages_of g s) end_ (said.Refused refusal)) (sym (same db stands)) (record { pages_are = stands; answers = refl });
   places = λ done is place def changed at. cc;
+  others = keeps_others_itself tables.ext tables.ext (pages_of g s) (pages_of g s) tables.catalog tables.catalog (touched_place (bound_of tables.catalog stmt)) (shape_none tables.ext) refl refl;
 }
 
 pub steps_not_built : {S : Type 0} (g : Ghosts S) (s : S) (tables : Tables) (stmt : Stmt) (refusal : Refusal) → is_built stmt ≡ false → refusal ≡ refusal_of NotBuilt → IsReady g s tables
@@ -160,6 +165,7 @@ does_nothing g s tables statement idle ready = record {
   ready = ready;
   stands = λ db stands. subst (λ end_. StandsAfter tables.ext (pages_of g s) end_ (said.Done reply.Done)) (sym (idle.does db)) (record { pages_are = stands; answers = refl });
   places = λ done is place def changed at. none_changed (changed_place statement) place idle.changes changed;
+  others = keeps_others_itself tables.ext tables.ext (pages_of g s) (pages_of g s) tables.catalog tables.catalog (touched_place statement) (shape_none tables.ext) refl refl;
 }
   where
     none_changed : {X : Type 0} (found : Option ℕ) (place : ℕ) → found ≡ None → found ≡ Some place → X

@@ -1,6 +1,6 @@
 -- An INSERT on ready pages, whose rows were put and whose table page was written.
-use Rattle.std.proofs.Common.{◌≡◌, ◌≤◌, ◌+◌, ◌-◌, ℕ, List, [], ◌∙◌, refl, sym, ap, subst, length, arith}
-use Rattle.std.specs.Prelude.{IsTrue, IfSome, Option, Some, None, slice_set}
+use Rattle.std.proofs.Common.{◌≡◌, ◌≤◌, ◌<◌, ◌+◌, ◌-◌, ℕ, List, [], ◌∙◌, refl, sym, ap, subst, length, arith}
+use Rattle.std.specs.Prelude.{IsTrue, Some, slice_set}
 use Rattle.std.proofs.lemmas.List.{set-set}
 use Rattle.std.proofs.lemmas.Option.{same_Some}
 use Rattle.mdc_values.specs.declared.value.Value.{Value}
@@ -16,27 +16,29 @@ use Rattle.mdc_ast.specs.meaning.Step.{Answer, Refused, Replied, step_by}
 use Rattle.store_api.specs.declared.fault.Damage.{Damage}
 use Rattle.store_api.specs.declared.pages.Pages.{Ghosts}
 use Rattle.extent_map.specs.Damages.{IfFull}
+use Rattle.extent_map.specs.declared.extents.Extents.{Extents}
 use Rattle.extent_map.specs.declared.fault.SpaceFault.{SpaceFault}
 use Rattle.extent_map.specs.declared.fault.SpaceFault.TheVariants.{Full, Store}
 use Rattle.extent_map.specs.declared.kind.Kind.{Kind}
-use Rattle.table_page.specs.TableLimits.{IsTableDef}
-use Rattle.table_page.specs.TablePage.{table_page}
+use Rattle.table_page.specs.TablePage.{IsTablePageOf, table_page}
 use Rattle.mdc_sound.specs.Placing.{PutsRows, Spot, block_slot_count}
 use Rattle.mdc_sound.specs.RunningFull.{InsertRunsFull}
 use Rattle.mdc_sound.specs.SoundDatabase.{with_table_page}
 use Rattle.mdc_sound.specs.StandingTable.{TableForests, pages_of}
 use Rattle.mdc_sound.specs.StandsForDatabase.{PagesStandFor}
+use Rattle.mdc_sound.specs.TablePages.{DefinesTable}
 use Rattle.cell_rooms.specs.RoomNotes.{room_from}
 use Rattle.row_judging.specs.Executing.{done}
 use Rattle.row_judging.specs.Served.{IsDefined}
 use Rattle.stored_catalog.specs.StoredDefinitions.{LacksTablePage, with_stored}
 use Rattle.stored_catalog.proofs.DroppingLemmas.{defined_within}
-use Rattle.stored_catalog.proofs.LeftDefinitionsLemmas.{limits_at, stored_at}
+use Rattle.stored_catalog.proofs.LeftDefinitionsLemmas.{stored_at}
 use Rattle.statement_rows.specs.RowsOfStatement.{ChangesRowsOf, IsReadyBetween}
 use Rattle.script_engine.specs.Doing.{DoesStatement, PlacesOnPages, PlacesRows, RunsFullAlone, StatementRunsFull}
 use Rattle.script_engine.specs.Inserting.{first_refusal, numbered_on, tuple_causes}
 use Rattle.script_engine.specs.Ready.{AreServed, IsReady}
 use Rattle.script_engine.specs.declared.tables.Tables.{Tables}
+use Rattle.script_engine.proofs.OthersLemmas.{keeps_others_itself, others_written}
 use Rattle.script_engine.proofs.PuttingTuplesLemmas.{numbers_left, own_number, put_where_it_stands, refused_for_first, said_by_rows}
 use Rattle.script_engine.proofs.ReadyTablesLemmas.{EndsChange, change_ends, places_shown, ready_between, served_def}
 use Rattle.script_engine.proofs.ServedDefsLemmas.{def_at_set, served_below}
@@ -67,14 +69,6 @@ full_insert g s before def tuples (Full cap) served at unsaid full = (
 full_insert g s before def tuples (Store fault) served at unsaid full = tt
 
 -- ---- the definitions meanwhile
-
--- what is served may be written
-pub each_written : (defs : Definitions) (t : ℕ) → AreServed defs → IfSome (def_at defs t) (IsTableDef t)
-each_written defs t served = go (def_at defs t) refl
-  where
-    go : (found : Option TableDef) → def_at defs t ≡ found → IfSome found (IsTableDef t)
-    go None at = tt
-    go (Some def) at = limits_at defs t def served.limits at
 
 module _ (before now : Definitions) (place noted : ℕ) (def : TableDef) (count : ℕ) (served : AreServed before) (at : def_at before place ≡ Some def)
     (catalog : now ≡ with_def before place (numbered_on def count)) (same : noted ≡ place) where
@@ -112,7 +106,8 @@ module _ {S : Type 0} (g : Ghosts S) (old mid new : S) (before now : Tables) (de
     pub noted : now.noted ≡ before.noted
     pub told_mid : (g.state mid).is_told ≡ (g.state old).is_told
     pub told_new : (g.state new).is_told ≡ (g.state mid).is_told
-    pub saves : IsTrue (g.state mid).is_told → (g.state new).work ≡ with_stored (g.state mid).work now.noted (def_at now.catalog now.noted)
+    pub saves : IsTrue (g.state mid).is_told → (d : TableDef) → def_at now.catalog now.noted ≡ Some d → (n : ℕ) → DefinesTable (g.state mid).work now.noted (record d { next = n })
+        → (g.state new).work ≡ with_stored (g.state mid).work now.noted (Some d)
     pub counts : count ≡ length tuples
 
   module _ (is : IsInserted) (ready : IsReady g old before) where
@@ -125,16 +120,23 @@ module _ {S : Type 0} (g : Ghosts S) (old mid new : S) (before now : Tables) (de
     mid_tells : IsTrue (g.state mid).is_told
     mid_tells = subst IsTrue (sym is.told_mid) ready.told
 
-    written : pages_of g new ≡ with_table_page def_now (pages_of g mid)
-    written =
-        is.saves mid_tells ∙ (ap (with_stored (pages_of g mid) now.noted) (stands_on before.catalog now.catalog before.noted now.noted def (length tuples) is.served is.at is.catalog is.noted)
-        ∙ ap (λ t. slice_set (pages_of g mid) (1 + t) (table_page def_now)) (is.noted ∙ sym number))
-
     between : (forests : TableForests) × IsReadyBetween g before.ext (room_from before.rooms) old def ready.view.owners forests
     between = ready_between g old before def is.served ready is.at
 
     changed : ChangesRowsOf g before.ext now.ext (room_from now.rooms) old mid def def_now ready.view.owners between.0 Puts (appended tuples)
     changed = is.inserts ready.view.owners between.0 between.1
+
+    -- its page is that of the old definition, since table pages stay
+    defines_mid : DefinesTable (pages_of g mid) now.noted def
+    defines_mid =
+        let below : before.noted < 16 = served_below before.catalog before.noted def is.served is.at in
+        subst (λ t. DefinesTable (pages_of g mid) t def) (sym is.noted)
+        (subst (IsTablePageOf before.noted def) (sym (changed.table_pages.each before.noted below)) (stored_at (pages_of g old) before.catalog before.noted def ready.stored is.at))
+
+    written : pages_of g new ≡ with_table_page def_now (pages_of g mid)
+    written =
+        is.saves mid_tells def_now (stands_on before.catalog now.catalog before.noted now.noted def (length tuples) is.served is.at is.catalog is.noted) def.next defines_mid
+        ∙ ap (λ t. slice_set (pages_of g mid) (1 + t) (table_page def_now)) (is.noted ∙ sym number)
 
     ends : EndsChange g old new before now (appended tuples)
     ends =
@@ -165,15 +167,16 @@ module _ {S : Type 0} (g : Ghosts S) (old mid new : S) (before now : Tables) (de
           let same_place : before.noted ≡ place = same_Some before.noted place changes in
           let same_def : def ≡ other = same_Some def other (sym is.at ∙ (ap (def_at before.catalog) same_place ∙ at)) in
           subst (λ d. PlacesOnPages before.ext now.ext (pages_of g old) (pages_of g new) d (bound.Insert before.noted tuples)) same_def here;
+      others = others_written g old mid before now def.number number is.served ready changed.others new def_now number ends.ready written def is.at is.catalog;
     }
 
 -- ---- refused
 
 -- where something is said against the tuples, pages stay ready and the answer is what is said first
-pub refused_insert : {S : Type 0} (g : Ghosts S) (s : S) (before now : Tables) (table : ℕ) (def : TableDef) (tuples : List (List Value)) (refusal : Refusal) → now.ext ≡ before.ext
+pub refused_insert : {S : Type 0} (g : Ghosts S) (s : S) (before now : Tables) (table : ℕ) (def : TableDef) (tuples : List (List Value)) (refusal : Refusal) → now.ext ≡ before.ext → now.catalog ≡ before.catalog
     → def_at before.catalog table ≡ Some def → first_refusal (tuple_causes def tuples) ≡ Some refusal → IsReady g s before → IsReady g s now
     → DoesStatement g s s before now (bound.Insert table tuples) (said.Refused refusal)
-refused_insert g s before now table def tuples refusal same at first ready now_ready = record {
+refused_insert g s before now table def tuples refusal same catalog at first ready now_ready = record {
   ready = now_ready;
   stands = λ db stands.
       let found = stored_table db before.catalog table def (stored_defs before.ext (pages_of g s) before.catalog db ready.stored stands) at in
@@ -184,4 +187,6 @@ refused_insert g s before now table def tuples refusal same at first ready now_r
         answers = ap (λ (e : Database × Answer). e.1) is;
       };
   places = λ reply done place other changes at. absurd cc;
+  others = keeps_others_itself before.ext now.ext (pages_of g s) (pages_of g s) before.catalog now.catalog (Some table)
+      (record { cap = ap (λ (ext : Extents). ext.cap) same; extent_pages = ap (λ (ext : Extents). ext.extent_pages) same }) refl catalog;
 }

@@ -1,5 +1,6 @@
 pub mod BetweenChangesLemmas
 pub mod CatalogLemmas
+pub mod ComingTablesLemmas
 pub mod CommittingLemmas
 pub mod DefinedTablesLemmas
 pub mod DoneRowsLemmas
@@ -7,7 +8,11 @@ pub mod ExecutingLemmas
 pub mod InsertedLemmas
 pub mod KeptWordsLemmas
 pub mod LeavingLemmas
+pub mod LeavingOthersLemmas
+pub mod ListingLemmas
 pub mod OpeningLemmas
+pub mod OtherBlocksLemmas
+pub mod OthersLemmas
 pub mod PlainChangesLemmas
 pub mod PuttingTuplesLemmas
 pub mod ReadRowsLemmas

@@ -245,4 +245,9 @@ places_shown g old mid new before now def def_now owners forests Places change s
   shown_before = shows_spots g before.ext old def owners forests between.ready.stands;
   shown_after = shown_written g now.ext mid (pages_of g new) def def_now changed.owners_now changed.forests_now same (number_is_low now.ext def_now (pages_of g mid) changed.now.sound.sound) changed.now.ready.stands written;
   places = turns (spots_of g before.ext old def owners forests) (spots_of g now.ext mid def_now changed.owners_now changed.forests_now) changed.places;
+  defined = (
+    def_now.next,
+    subst (λ (pages : PageList). DefinesTable pages def.number (record def { next = def_now.next })) (sym written)
+        (subst (λ (d : TableDef). DefinesTable (with_table_page def_now (pages_of g mid)) d.number d) same (written_defines now.ext def_now (pages_of g mid) changed.now.sound.sound)),
+  );
 }

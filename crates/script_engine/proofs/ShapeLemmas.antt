@@ -150,6 +150,10 @@ stands_for_along before now pages db shape stands =
     along (λ ext. PagesStandFor ext pages db) (λ c n f u h v w x is. zip_as (HoldsPlace (extents_with c n f u w) pages) (HoldsPlace (extents_with c n h v x) pages)
     (holds_place_along c n f u h v w x pages) (range_with_len 0 16) db is) before now shape stands
 
+-- they show the same spots
+pub shows_along : (before now : Extents) (pages : PageList) (def : TableDef) (spots : List Spot) → IsSameShape before now → ShowsTableSpots before pages def spots → ShowsTableSpots now pages def spots
+shows_along before now pages def spots shape shows = along (λ ext. ShowsTableSpots ext pages def spots) (λ c n f u h v w x is. spots_along c n f u h v w x pages def spots is) before now shape shows
+
 -- and rows lie where they lay
 pub places_along : (before now : Extents) (old new : PageList) (def : TableDef) (statement : Bound) → IsSameShape before now → PlacesOnPages before now old new def statement
     → PlacesOnPages before before old new def statement
@@ -157,7 +161,7 @@ places_along before now old new def statement shape is = record {
   was = is.was;
   is = is.is;
   shown_before = is.shown_before;
-  shown_after = along (λ ext. ShowsTableSpots ext new def is.is) (λ c n f u h v w x shows. spots_along c n f u h v w x new def is.is shows) now before
-      (record { cap = sym shape.cap; extent_pages = sym shape.extent_pages }) is.shown_after;
+  shown_after = shows_along now before new def is.is (record { cap = sym shape.cap; extent_pages = sym shape.extent_pages }) is.shown_after;
   places = is.places;
+  defined = is.defined;
 }

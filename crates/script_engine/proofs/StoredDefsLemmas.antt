@@ -78,7 +78,7 @@ empty_from-without_roots i (Some def ∷ defs) = empty_from-without_roots (i + 1
 place_of-without_roots : (defs : Definitions) (name : Name) → place_of (without_roots defs) name ≡ place_of defs name
 place_of-without_roots defs name = place_from-without_roots name 0 defs
 
-def_named-without_roots : (defs : Definitions) (name : Name) → def_named (without_roots defs) name ≡ option_map rootless (def_named defs name)
+pub def_named-without_roots : (defs : Definitions) (name : Name) → def_named (without_roots defs) name ≡ option_map rootless (def_named defs name)
 def_named-without_roots defs name = ap (option_and_then (def_at (without_roots defs))) (place_of-without_roots defs name) ∙ at (place_of defs name)
   where
     at : (place : Option ℕ) → option_and_then (def_at (without_roots defs)) place ≡ option_map rootless (option_and_then (def_at defs) place)

@@ -36,6 +36,7 @@ use Rattle.cell_rooms.specs.RoomNotes.{IsForgotten}
 use Rattle.stored_catalog.specs.StoredDefinitions.{AreStored}
 use Rattle.statement_rows.specs.RowsOfStatement.{AnyPage}
 use Rattle.script_engine.specs.Doing.{DoesStep, LeavesAll, PlacesOnPages, StandsAfter, StepRunsFull, changed_place, is_reading}
+use Rattle.script_engine.specs.Others.{KeepsOthers, touched_place}
 use Rattle.script_engine.specs.Ready.{AreServed, BreaksDatabase, IsReady, KeepsServed}
 use Rattle.script_engine.specs.Stops.{stop_of}
 use Rattle.script_engine.specs.Trying.{TriesStep}
@@ -74,6 +75,7 @@ module _ {S : Type 0} (g : Ghosts S) where
     stands = subst (λ (pages : PageList). (db : _) → PagesStandFor before.ext pages db → StandsAfter now.ext (pages_of g new) (step db stmt) outcome) same does.stands;
     places = subst (λ (pages : PageList). (reply : _) → outcome ≡ said.Done reply → (place : ℕ) (def : TableDef) → changed_place (bound_of before.catalog stmt) ≡ Some place → def_at before.catalog place ≡ Some def
         → PlacesOnPages before.ext now.ext pages (pages_of g new) def (bound_of before.catalog stmt)) same does.places;
+    others = subst (λ (pages : PageList). KeepsOthers before.ext now.ext pages (pages_of g new) before.catalog now.catalog (touched_place (bound_of before.catalog stmt))) same does.others;
   }
 
   -- and a store that is kept afterwards is what it was
@@ -84,6 +86,7 @@ module _ {S : Type 0} (g : Ghosts S) where
     stands = subst (λ (pages : PageList). (db : _) → PagesStandFor before.ext (pages_of g old) db → StandsAfter now.ext pages (step db stmt) outcome) (sym same) does.stands;
     places = subst (λ (pages : PageList). (reply : _) → outcome ≡ said.Done reply → (place : ℕ) (def : TableDef) → changed_place (bound_of before.catalog stmt) ≡ Some place → def_at before.catalog place ≡ Some def
         → PlacesOnPages before.ext now.ext (pages_of g old) pages def (bound_of before.catalog stmt)) (sym same) does.places;
+    others = subst (λ (pages : PageList). KeepsOthers before.ext now.ext (pages_of g old) pages before.catalog now.catalog (touched_place (bound_of before.catalog stmt))) (sym same) does.others;
   }
 
   -- ---- a mark, and what comes then

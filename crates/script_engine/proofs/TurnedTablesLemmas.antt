@@ -26,7 +26,7 @@ module _ {S : Type 0} (g : Ghosts S) (before turned : Tables) (table : ℕ) (ser
   done_before old new now statement outcome does =
       let here : DoesStatement g old new (record before { noted = table; rooms = turned.rooms }) now (statement table) outcome =
       subst (λ (t : Tables). DoesStatement g old new t now (statement t.noted) outcome) same does in
-      record { ready = here.ready; stands = here.stands; places = here.places }
+      record { ready = here.ready; stands = here.stands; places = here.places; others = here.others }
 
   pub does_early : (old new : S) (now : Tables) (statement : ℕ → Bound) (outcome : Outcome) → (IsReady g old turned → DoesStatement g old new turned now (statement turned.noted) outcome)
       → IsReady g old before → DoesStatement g old new before now (statement table) outcome

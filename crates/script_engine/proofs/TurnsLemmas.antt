@@ -32,6 +32,7 @@ use Rattle.script_engine.specs.Doing.{DoesStep, LeavesAll, PlacesOnPages, Stands
 use Rattle.script_engine.specs.Held.{HeldPages, KeepsBase, KeepsWork, StandsForSession, StandsForTurn, StepsOnPages, committed, rolled_back, turn_over}
 use Rattle.script_engine.specs.Held.StepsOnPages.{full, turns}
 use Rattle.script_engine.specs.Leaving.{IsAllCommitted, MayBeLeft}
+use Rattle.script_engine.specs.Listing.{asks_blocks, is_listing}
 use Rattle.script_engine.specs.Opening.{are_built}
 use Rattle.script_engine.specs.Ready.{AreServed, IsReady}
 use Rattle.script_engine.specs.Reloading.{Reloads}
@@ -45,6 +46,7 @@ use Rattle.script_engine.specs.declared.tables.Tables.{Tables}
 use Rattle.script_engine.specs.declared.transactions.Control.TheVariants as control
 use Rattle.script_engine.proofs.CatalogLemmas.{built_of, one_catalog, served_of}
 use Rattle.script_engine.proofs.LeavingLemmas.{leaves_steady, leaves_then}
+use Rattle.script_engine.proofs.LeavingOthersLemmas.{leaves_others_done, leaves_others_still}
 use Rattle.script_engine.proofs.ReadyTablesLemmas.{ready_of_sound}
 use Rattle.script_engine.proofs.SameWorkLemmas.{ready_same}
 use Rattle.script_engine.proofs.ShapeLemmas.{keeps_along, places_along, stands_for_along}
@@ -54,7 +56,7 @@ use Rattle.script_engine.proofs.ShapeLemmas.{keeps_along, places_along, stands_f
 abbrev held_with : PageList → PageList → Definitions → Bool → HeldPages
 held_with base work defs is_open = record { base = base; work = work; defs = defs; open_ = is_open }
 
-same_held : (old new : HeldPages) → new.base ≡ old.base → new.work ≡ old.work → new.defs ≡ old.defs → new.open_ ≡ old.open_ → new ≡ old
+pub same_held : (old new : HeldPages) → new.base ≡ old.base → new.work ≡ old.work → new.defs ≡ old.defs → new.open_ ≡ old.open_ → new ≡ old
 same_held old new base work defs is_open =
     ap (λ x. held_with x new.work new.defs new.open_) base
     ∙ (ap (λ x. held_with old.base x new.defs new.open_) work ∙ (ap (λ x. held_with old.base old.work x new.open_) defs ∙ ap (λ x. held_with old.base old.work old.defs x) is_open))
@@ -67,27 +69,49 @@ neither false b is = (refl, is)
 same_outcome : (result : Result Outcome EngineStop) (a b : Outcome) → result ≡ Ok a → result ≡ Ok b → a ≡ b
 same_outcome result a b first second = cc
 
--- any statement but BEGIN, COMMIT and ROLLBACK turns a session as it does without transactions
-turn_other : (session : Session) (stmt : Stmt) → control_of stmt ≡ control.Other → turn_over session stmt ≡ turn session stmt
-turn_other session statement.Begin other = absurd (cc)
-turn_other session statement.Commit other = absurd (cc)
-turn_other session statement.Rollback other = absurd (cc)
-turn_other session (statement.CreateTable name columns dims) other = refl
-turn_other session (statement.CreateIndex name unique table parts) other = refl
-turn_other session (statement.DropTable name) other = refl
-turn_other session (statement.DropIndex name) other = refl
-turn_other session (statement.Insert table columns rows) other = refl
-turn_other session (statement.Update table sets pred) other = refl
-turn_other session (statement.Delete table pred) other = refl
-turn_other session (statement.Query select) other = refl
-turn_other session (statement.Explain select) other = refl
-turn_other session (statement.SetRollout mode) other = refl
-turn_other session (statement.SetPlan mode) other = refl
-turn_other session (statement.SetPace n) other = refl
-turn_other session (statement.Clean n) other = refl
-turn_other session (statement.CleanTable name) other = refl
-turn_other session (statement.ListBlocks name) other = refl
-turn_other session (statement.Reclaim name) other = refl
+-- any statement but BEGIN, COMMIT, ROLLBACK and LIST BLOCKS turns a session as it does without transactions
+turn_other : (session : Session) (stmt : Stmt) → control_of stmt ≡ control.Other → is_listing stmt ≡ false → turn_over session stmt ≡ turn session stmt
+turn_other session statement.Begin other changing = absurd (cc)
+turn_other session statement.Commit other changing = absurd (cc)
+turn_other session statement.Rollback other changing = absurd (cc)
+turn_other session (statement.CreateTable name columns dims) other changing = refl
+turn_other session (statement.CreateIndex name unique table parts) other changing = refl
+turn_other session (statement.DropTable name) other changing = refl
+turn_other session (statement.DropIndex name) other changing = refl
+turn_other session (statement.Insert table columns rows) other changing = refl
+turn_other session (statement.Update table sets pred) other changing = refl
+turn_other session (statement.Delete table pred) other changing = refl
+turn_other session (statement.Query select) other changing = refl
+turn_other session (statement.Explain select) other changing = refl
+turn_other session (statement.SetRollout mode) other changing = refl
+turn_other session (statement.SetPlan mode) other changing = refl
+turn_other session (statement.SetPace n) other changing = refl
+turn_other session (statement.Clean n) other changing = refl
+turn_other session (statement.CleanTable name) other changing = refl
+turn_other session (statement.ListBlocks name) other changing = absurd (cc)
+turn_other session (statement.Reclaim name) other changing = refl
+
+-- none of these asks for the blocks of a table
+asks_none : (defs : Definitions) (stmt : Stmt) → is_listing stmt ≡ false → asks_blocks defs stmt ≡ false
+asks_none defs statement.Begin changing = refl
+asks_none defs statement.Commit changing = refl
+asks_none defs statement.Rollback changing = refl
+asks_none defs (statement.CreateTable name columns dims) changing = refl
+asks_none defs (statement.CreateIndex name unique table parts) changing = refl
+asks_none defs (statement.DropTable name) changing = refl
+asks_none defs (statement.DropIndex name) changing = refl
+asks_none defs (statement.Insert table columns rows) changing = refl
+asks_none defs (statement.Update table sets pred) changing = refl
+asks_none defs (statement.Delete table pred) changing = refl
+asks_none defs (statement.Query select) changing = refl
+asks_none defs (statement.Explain select) changing = refl
+asks_none defs (statement.SetRollout mode) changing = refl
+asks_none defs (statement.SetPlan mode) changing = refl
+asks_none defs (statement.SetPace n) changing = refl
+asks_none defs (statement.Clean n) changing = refl
+asks_none defs (statement.CleanTable name) changing = refl
+asks_none defs (statement.ListBlocks name) changing = absurd (cc)
+asks_none defs (statement.Reclaim name) changing = refl
 
 -- any statement but BEGIN, COMMIT and ROLLBACK leaves the pages, where it is a query
 keeps_work : (old new : HeldPages) (stmt : Stmt) → control_of stmt ≡ control.Other → (is_reading stmt ≡ true → new.work ≡ old.work) → KeepsWork stmt old new
@@ -132,8 +156,8 @@ stands_stepped ext old new session (db, answer) outcome stands keeps is_open aft
 }
 
 -- a COMMIT makes the pages those of the last commit
-commit_steps : (ext : Extents) (old new : HeldPages) → old.open_ ≡ true → new.open_ ≡ false → new.base ≡ old.work → new.work ≡ old.work → StepsOnPages ext old statement.Commit (said.Done reply.Done) new
-commit_steps ext old new is_open shut base work = turns
+commit_steps : (ext : Extents) (old new : HeldPages) → old.open_ ≡ true → new.open_ ≡ false → new.base ≡ old.work → new.work ≡ old.work → new.defs ≡ old.defs → StepsOnPages ext old statement.Commit (said.Done reply.Done) new
+commit_steps ext old new is_open shut base work defs = turns refl
     (λ session stands.
     subst (λ (b : Bool). StandsForTurn ext new (committed session b) (said.Done reply.Done)) (sym (stands.is_open ∙ is_open)) (record {
       session = record {
@@ -144,14 +168,15 @@ commit_steps ext old new is_open shut base work = turns
       answers = refl;
     }))
     (record { closed = λ closed. base ∙ sym work; is_open = λ opened. let wrong : true ≡ false = sym opened ∙ shut in absurd (cc) }) work
+    (leaves_others_still ext statement.Commit old new work defs) (λ refusal is. absurd (cc))
     (λ done says place def changed at. absurd (cc))
 
 module _ {S : Type 0} (g : Ghosts S) where
   -- a step on pages, from what it does to the work and what becomes of the base
-  steps_done : (old : Engine S) (new : HeldPages) (mid : S) (now : Tables) (stmt : Stmt) (outcome : Outcome) → control_of stmt ≡ control.Other → DoesStep g old.store mid old.tables now stmt outcome
-      → new.work ≡ pages_of g mid → KeepsBase (held_by g old) new → (is_reading stmt ≡ true → pages_of g mid ≡ pages_of g old.store) → new.open_ ≡ old.is_open → IsSameShape old.tables.ext now.ext
-      → StepsOnPages old.tables.ext (held_by g old) stmt outcome new
-  steps_done old new mid now stmt outcome other does work keeps reads is_open shape = turns
+  steps_done : (old : Engine S) (new : HeldPages) (mid : S) (now : Tables) (stmt : Stmt) (outcome : Outcome) → control_of stmt ≡ control.Other → is_listing stmt ≡ false → DoesStep g old.store mid old.tables now stmt outcome
+      → new.work ≡ pages_of g mid → new.defs ≡ now.catalog → KeepsBase (held_by g old) new → (is_reading stmt ≡ true → pages_of g mid ≡ pages_of g old.store) → new.open_ ≡ old.is_open → IsSameShape old.tables.ext now.ext
+      → ((refusal : Refusal) → outcome ≡ said.Refused refusal → new ≡ held_by g old) → StepsOnPages old.tables.ext (held_by g old) stmt outcome new
+  steps_done old new mid now stmt outcome other changing does work defs keeps reads is_open shape refused = turns (asks_none old.tables.catalog stmt changing)
       (λ session stands.
       let after = does.stands session.working stands.working in
       let here : StandsAfter old.tables.ext new.work (step session.working stmt) outcome =
@@ -160,9 +185,10 @@ module _ {S : Type 0} (g : Ghosts S) where
             (stands_for_along now.ext old.tables.ext (pages_of g mid) (step session.working stmt).0 (record { cap = sym shape.cap; extent_pages = sym shape.extent_pages }) after.pages_are);
         answers = after.answers;
       } in
-      subst (λ (end_ : Session × Answer). StandsForTurn old.tables.ext new end_ outcome) (sym (turn_other session stmt other))
+      subst (λ (end_ : Session × Answer). StandsForTurn old.tables.ext new end_ outcome) (sym (turn_other session stmt other changing))
       (stands_stepped old.tables.ext (held_by g old) new session (step session.working stmt) outcome stands keeps is_open here))
       keeps (keeps_work (held_by g old) new stmt other (λ is. work ∙ reads is))
+      (leaves_others_done g old new mid now stmt outcome shape work defs does) refused
       (λ reply done place def changed at.
       subst (λ (pages : PageList). PlacesOnPages old.tables.ext old.tables.ext (pages_of g old.store) pages def (bound_of old.tables.catalog stmt)) (sym work)
       (places_along old.tables.ext now.ext (pages_of g old.store) (pages_of g mid) def (bound_of old.tables.catalog stmt) shape (does.places reply done place def changed at)))
@@ -296,8 +322,8 @@ module _ {S : Type 0} (g : Ghosts S) where
   work_left : (old : Engine S) → MayCall g old → old.is_open ≡ true → IsReadyEngine g old → MayBeLeft old.tables.ext (held_by g old) statement.Commit (g.state old.store).work
   work_left old may is_open ready =
       let work = (g.state old.store).work in
-      MayBeLeft.after (said.Done reply.Done) (held_with work work old.tables.catalog false) (commit_steps old.tables.ext (held_by g old) (held_with work work old.tables.catalog false) is_open refl refl refl) refl refl
-      (ready.work.view, ready.work.sound) old.tables.catalog ready.work.stored (may.served ready.served).valid
+      MayBeLeft.after (said.Done reply.Done) (held_with work work old.tables.catalog false) (commit_steps old.tables.ext (held_by g old) (held_with work work old.tables.catalog false) is_open refl refl refl refl) refl refl
+      (ready.work.view, ready.work.sound) ready.work.stored (may.served ready.served).valid
 
   pub commit_stops : (result : Result Outcome EngineStop) (stop : EngineStop) (old : Engine S) (store : S) → MayCall g old → old.is_open ≡ true → IsErrAnd result (λ e. e ≡ stop)
       → CommitsWork {X = Unit {0}} g (Err stop) old.store store → (Rests g old.store → Rests g store) → Executes g statement.Commit result old (record old { store = store })
@@ -311,7 +337,7 @@ module _ {S : Type 0} (g : Ghosts S) where
   commit_done old store may is_open commits rests =
       let new : Engine S = record old { store = store; is_open = false } in
       record {
-        steps = λ ready. (commit_steps old.tables.ext (held_by g old) (held_by g new) is_open refl commits.base commits.work, ready_committed old new old.store old.tables ready.work (may.served ready.served) ready.served refl commits);
+        steps = λ ready. (commit_steps old.tables.ext (held_by g old) (held_by g new) is_open refl commits.base commits.work refl, ready_committed old new old.store old.tables ready.work (may.served ready.served) ready.served refl commits);
         may = record { going = commits.going; unmarked = commits.unmarked; served = may.served };
         keeps = λ all. record { closed = λ shut. commits.base ∙ sym commits.work; is_open = λ opened. absurd (cc) };
         leaves = λ ready. leaves_then g (Ok tt) statement.Commit old new old.store steady_none commits (work_left old may is_open ready);
@@ -336,7 +362,7 @@ module _ {S : Type 0} (g : Ghosts S) where
       → StepsOnPages old.tables.ext (held_by g old) statement.Rollback (said.Done reply.Done) (held_by g (record { store = store; tables = tables; served = served; is_open = false }))
   roll_back_steps old store tables served is_open reloads =
       let new : Engine S = record { store = store; tables = tables; served = served; is_open = false } in
-      turns
+      turns refl
       (λ session stands.
       subst (λ (b : Bool). StandsForTurn old.tables.ext (held_by g new) (rolled_back session b) (said.Done reply.Done)) (sym (stands.is_open ∙ is_open)) (record {
         session = record {
@@ -346,7 +372,7 @@ module _ {S : Type 0} (g : Ghosts S) where
         };
         answers = refl;
       }))
-      (record { closed = λ shut. reloads.steady.base ∙ sym reloads.work; is_open = λ opened. absurd (cc) }) (λ opened. reloads.work)
+      (record { closed = λ shut. reloads.steady.base ∙ sym reloads.work; is_open = λ opened. absurd (cc) }) (λ opened. reloads.work) tt (λ refusal is. absurd (cc))
       (λ done says place def changed at. absurd (cc))
 
   ready_reloaded : (old : Engine S) (store : S) (tables : Tables) (served : Bool) → Reloads g (Ok served) old.store store old.tables tables → IsReadyEngine g old
@@ -403,13 +429,14 @@ module _ {S : Type 0} (g : Ghosts S) where
   base_tried old store tables stmt (said.Refused refusal) all tries kept =
       record { closed = λ shut. tries.steady.base ∙ (all shut ∙ sym (tries.refused refusal refl).pages); is_open = λ opened. tries.steady.base }
 
-  kept_steps : (old : Engine S) (store : S) (tables : Tables) (stmt : Stmt) (outcome : Outcome) → control_of stmt ≡ control.Other → IsReadyEngine g old
+  kept_steps : (old : Engine S) (store : S) (tables : Tables) (stmt : Stmt) (outcome : Outcome) → control_of stmt ≡ control.Other → is_listing stmt ≡ false → IsReadyEngine g old
       → TriesStep g stmt (Ok outcome) old.store store old.tables tables → (old.is_open || is_refusal outcome) ≡ true
       → DoesStep g old.store store old.tables tables stmt outcome ⊎ IsRefusedFull g old.store store old.tables tables stmt outcome
       → StepsOnPages old.tables.ext (held_by g old) stmt outcome (held_by g (record old { store = store; tables = tables }))
-  kept_steps old store tables stmt outcome other ready tries kept (inl does) =
-      steps_done old (held_by g (record old { store = store; tables = tables })) store tables stmt outcome other does refl (base_tried old store tables stmt outcome ready.closed tries kept) tries.reads refl tries.shape
-  kept_steps old store tables stmt outcome other ready tries kept (inr refused) = full refused.says (held_left old store tables tries.steady refused.leaves) refused.full.full (λ session stands. refused.full.faultless session.working stands.working)
+  kept_steps old store tables stmt outcome other changing ready tries kept (inl does) =
+      steps_done old (held_by g (record old { store = store; tables = tables })) store tables stmt outcome other changing does refl refl (base_tried old store tables stmt outcome ready.closed tries kept) tries.reads refl tries.shape
+      (λ refusal is. held_left old store tables tries.steady (tries.refused refusal (ap Ok is)))
+  kept_steps old store tables stmt outcome other changing ready tries kept (inr refused) = full refused.says (held_left old store tables tries.steady refused.leaves) refused.full.full (λ session stands. refused.full.faultless session.working stands.working)
 
   ready_tried : (old : S) (store : S) (before tables : Tables) (stmt : Stmt) (outcome : Outcome) → DoesStep g old store before tables stmt outcome ⊎ IsRefusedFull g old store before tables stmt outcome
       → IsReady g store tables
@@ -432,13 +459,13 @@ module _ {S : Type 0} (g : Ghosts S) where
         closed = (base_tried old store tables stmt outcome ready.closed tries kept).closed;
       }
 
-  pub change_kept : (old : Engine S) (store : S) (tables : Tables) (stmt : Stmt) (outcome : Outcome) → MayCall g old → old.served ≡ true → control_of stmt ≡ control.Other
+  pub change_kept : (old : Engine S) (store : S) (tables : Tables) (stmt : Stmt) (outcome : Outcome) → MayCall g old → old.served ≡ true → control_of stmt ≡ control.Other → is_listing stmt ≡ false
       → TriesStep g stmt (Ok outcome) old.store store old.tables tables → (old.is_open || is_refusal outcome) ≡ true
       → Executes g stmt (Ok outcome) old (record old { store = store; tables = tables })
-  change_kept old store tables stmt outcome may served other tries kept =
+  change_kept old store tables stmt outcome may served other changing tries kept =
       let new : Engine S = record old { store = store; tables = tables } in
       record {
-        steps = λ ready. (kept_steps old store tables stmt outcome other ready tries kept (tries.does ready.work), kept_ready old store tables stmt outcome ready tries kept);
+        steps = λ ready. (kept_steps old store tables stmt outcome other changing ready tries kept (tries.does ready.work), kept_ready old store tables stmt outcome ready tries kept);
         may = record { going = tries.steady.ended ∙ may.going; unmarked = tries.unmarked; served = λ is. tries.served };
         keeps = λ all. base_tried old store tables stmt outcome all tries kept;
         leaves = λ ready. leaves_steady g stmt old new tries.steady;
@@ -449,45 +476,46 @@ module _ {S : Type 0} (g : Ghosts S) where
         outside = outside_steady (Ok outcome) old new tries.steady tries.device tries.output;
       }
 
-  -- a statement that was done, whose pages are committed
-  committed_steps : (old : Engine S) (new : HeldPages) (mid : S) (tables : Tables) (stmt : Stmt) (outcome : Outcome) → control_of stmt ≡ control.Other → is_refusal outcome ≡ false → old.is_open ≡ false → new.open_ ≡ false
-      → new.base ≡ pages_of g mid → new.work ≡ pages_of g mid → TriesStep g stmt (Ok outcome) old.store mid old.tables tables
-      → DoesStep g old.store mid old.tables tables stmt outcome ⊎ IsRefusedFull g old.store mid old.tables tables stmt outcome → StepsOnPages old.tables.ext (held_by g old) stmt outcome new
-  committed_steps old new mid tables stmt outcome other done shut still base work tries (inl does) =
-      steps_done old new mid tables stmt outcome other does work
-      (record { closed = λ closed. base ∙ sym work; is_open = λ opened. let wrong : true ≡ false = sym opened ∙ still in absurd (cc) }) tries.reads (still ∙ sym shut) tries.shape
-  committed_steps old new mid tables stmt outcome other done shut still base work tries (inr refused) =
-      let wrong : true ≡ false = sym (ap is_refusal refused.says) ∙ done in absurd (cc)
-
-  -- the pages that it makes those of the last commit
-  made_left : (old : Engine S) (mid : S) (tables : Tables) (stmt : Stmt) (outcome : Outcome) → control_of stmt ≡ control.Other → is_refusal outcome ≡ false → old.is_open ≡ false
-      → TriesStep g stmt (Ok outcome) old.store mid old.tables tables → IsReadyEngine g old → MayBeLeft old.tables.ext (held_by g old) stmt (g.state mid).work
-  made_left old mid tables stmt outcome other done shut tries ready =
-      let work = (g.state mid).work in
-      let now = ready_tried old.store mid old.tables tables stmt outcome (tries.does ready.work) in
-      MayBeLeft.after outcome (held_with work work tables.catalog false)
-      (committed_steps old (held_with work work tables.catalog false) mid tables stmt outcome other done shut refl refl refl tries (tries.does ready.work)) refl refl
-      (now.view, keeps_along tables.ext old.tables.ext work now.view (record { cap = sym tries.shape.cap; extent_pages = sym tries.shape.extent_pages }) now.sound) tables.catalog now.stored tries.served.valid
-
   not_done : (outcome : Outcome) (refusal : Refusal) → is_refusal outcome ≡ false → outcome ≡ said.Refused refusal → ⊥
   not_done outcome refusal done is = let wrong : true ≡ false = sym (ap is_refusal is) ∙ done in cc
 
-  pub change_committed : (old : Engine S) (mid store : S) (tables : Tables) (stmt : Stmt) (outcome : Outcome) → MayCall g old → old.served ≡ true → control_of stmt ≡ control.Other
+  -- a statement that was done, whose pages are committed
+  committed_steps : (old : Engine S) (new : HeldPages) (mid : S) (tables : Tables) (stmt : Stmt) (outcome : Outcome) → control_of stmt ≡ control.Other → is_listing stmt ≡ false → is_refusal outcome ≡ false → old.is_open ≡ false → new.open_ ≡ false
+      → new.base ≡ pages_of g mid → new.work ≡ pages_of g mid → new.defs ≡ tables.catalog → TriesStep g stmt (Ok outcome) old.store mid old.tables tables
+      → DoesStep g old.store mid old.tables tables stmt outcome ⊎ IsRefusedFull g old.store mid old.tables tables stmt outcome → StepsOnPages old.tables.ext (held_by g old) stmt outcome new
+  committed_steps old new mid tables stmt outcome other changing done shut still base work defs tries (inl does) =
+      steps_done old new mid tables stmt outcome other changing does work defs
+      (record { closed = λ closed. base ∙ sym work; is_open = λ opened. let wrong : true ≡ false = sym opened ∙ still in absurd (cc) }) tries.reads (still ∙ sym shut) tries.shape
+      (λ refusal is. absurd (not_done outcome refusal done is))
+  committed_steps old new mid tables stmt outcome other changing done shut still base work defs tries (inr refused) =
+      let wrong : true ≡ false = sym (ap is_refusal refused.says) ∙ done in absurd (cc)
+
+  -- the pages that it makes those of the last commit
+  made_left : (old : Engine S) (mid : S) (tables : Tables) (stmt : Stmt) (outcome : Outcome) → control_of stmt ≡ control.Other → is_listing stmt ≡ false → is_refusal outcome ≡ false → old.is_open ≡ false
+      → TriesStep g stmt (Ok outcome) old.store mid old.tables tables → IsReadyEngine g old → MayBeLeft old.tables.ext (held_by g old) stmt (g.state mid).work
+  made_left old mid tables stmt outcome other changing done shut tries ready =
+      let work = (g.state mid).work in
+      let now = ready_tried old.store mid old.tables tables stmt outcome (tries.does ready.work) in
+      MayBeLeft.after outcome (held_with work work tables.catalog false)
+      (committed_steps old (held_with work work tables.catalog false) mid tables stmt outcome other changing done shut refl refl refl refl tries (tries.does ready.work)) refl refl
+      (now.view, keeps_along tables.ext old.tables.ext work now.view (record { cap = sym tries.shape.cap; extent_pages = sym tries.shape.extent_pages }) now.sound) now.stored tries.served.valid
+
+  pub change_committed : (old : Engine S) (mid store : S) (tables : Tables) (stmt : Stmt) (outcome : Outcome) → MayCall g old → old.served ≡ true → control_of stmt ≡ control.Other → is_listing stmt ≡ false
       → TriesStep g stmt (Ok outcome) old.store mid old.tables tables → (old.is_open || is_refusal outcome) ≡ false → CommitsWork {X = Unit {0}} g (Ok tt) mid store
       → (Rests g mid → Rests g store) → Executes g stmt (Ok outcome) old (record old { store = store; tables = tables })
-  change_committed old mid store tables stmt outcome may served other tries kept commits rests =
+  change_committed old mid store tables stmt outcome may served other changing tries kept commits rests =
       let new : Engine S = record old { store = store; tables = tables } in
       let shut = (neither old.is_open (is_refusal outcome) kept).0 in
       let done = (neither old.is_open (is_refusal outcome) kept).1 in
       let still : g.disk_faults mid ≡ g.disk_faults old.store = tries.device.still (λ is. absurd (cc)) in
       record {
         steps = λ ready. (
-          committed_steps old (held_by g new) mid tables stmt outcome other done shut shut commits.base commits.work tries (tries.does ready.work),
+          committed_steps old (held_by g new) mid tables stmt outcome other changing done shut shut commits.base commits.work refl tries (tries.does ready.work),
           ready_committed old new mid tables (ready_tried old.store mid old.tables tables stmt outcome (tries.does ready.work)) tries.served served refl commits,
         );
         may = record { going = commits.going; unmarked = commits.unmarked; served = λ is. tries.served };
         keeps = λ all. record { closed = λ still. commits.base ∙ sym commits.work; is_open = λ opened. let wrong : true ≡ false = sym opened ∙ shut in absurd (cc) };
-        leaves = λ ready. leaves_then g (Ok tt) stmt old new mid tries.steady commits (made_left old mid tables stmt outcome other done shut tries ready);
+        leaves = λ ready. leaves_then g (Ok tt) stmt old new mid tries.steady commits (made_left old mid tables stmt outcome other changing done shut tries ready);
         refused = λ refusal is. absurd (not_done outcome refusal done (same_outcome (Ok outcome) outcome (said.Refused refusal) refl is));
         unserved = λ unserved other outcome is. let wrong : true ≡ false = sym served ∙ unserved in absurd (cc);
         damaged = λ damage e ready. absurd (cc);
@@ -495,16 +523,16 @@ module _ {S : Type 0} (g : Ghosts S) where
         outside = outside_value old new (outside_then (Ok tt) old new mid tries.steady still commits rests);
       }
 
-  pub change_stops : (result : Result Outcome EngineStop) (stop : EngineStop) (old : Engine S) (mid store : S) (tables : Tables) (stmt : Stmt) (outcome : Outcome) → IsErrAnd result (λ e. e ≡ stop) → control_of stmt ≡ control.Other
+  pub change_stops : (result : Result Outcome EngineStop) (stop : EngineStop) (old : Engine S) (mid store : S) (tables : Tables) (stmt : Stmt) (outcome : Outcome) → IsErrAnd result (λ e. e ≡ stop) → control_of stmt ≡ control.Other → is_listing stmt ≡ false
       → TriesStep g stmt (Ok outcome) old.store mid old.tables tables → (old.is_open || is_refusal outcome) ≡ false → CommitsWork {X = Unit {0}} g (Err stop) mid store
       → (Rests g mid → Rests g store) → Executes g stmt result old (record old { store = store; tables = tables })
-  change_stops result stop old mid store tables stmt outcome is other tries kept commits rests =
+  change_stops result stop old mid store tables stmt outcome is other changing tries kept commits rests =
       let new : Engine S = record old { store = store; tables = tables } in
       let both = neither old.is_open (is_refusal outcome) kept in
       let still : g.disk_faults mid ≡ g.disk_faults old.store = tries.device.still (λ is. absurd (cc)) in
       executes_stop stmt result stop old new is
       (λ damage e ready. commits.damaged damage (ap Err e) (sound_root mid tables (ready_tried old.store mid old.tables tables stmt outcome (tries.does ready.work))))
-      (λ ready. leaves_then g (Err stop) stmt old new mid tries.steady commits (made_left old mid tables stmt outcome other both.1 both.0 tries ready)) tries.shape
+      (λ ready. leaves_then g (Err stop) stmt old new mid tries.steady commits (made_left old mid tables stmt outcome other changing both.1 both.0 tries ready)) tries.shape
       (outside_then (Err stop) old new mid tries.steady still commits rests)
 
   -- the execution stopped

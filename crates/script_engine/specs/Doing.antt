@@ -22,8 +22,10 @@ use Rattle.mdc_sound.specs.RunningFull.{CreateRunsFull, InsertRunsFull, ShowsTab
 use Rattle.mdc_sound.specs.Placing.{Spot, ChangesRows, PutsRows, TakesRows, block_slot_count, rows_from_spot}
 use Rattle.mdc_sound.specs.StandingTable.{pages_of}
 use Rattle.mdc_sound.specs.StandsForDatabase.{PagesStandFor}
+use Rattle.mdc_sound.specs.TablePages.{DefinesTable}
 use Rattle.mdc_sound.specs.TableRows.{PlacedRow}
 use Rattle.row_judging.specs.Executing.{answer_of, done}
+use Rattle.script_engine.specs.Others.{KeepsOthers, touched_place}
 use Rattle.script_engine.specs.Ready.{IsReady}
 use Rattle.script_engine.specs.declared.tables.Tables.{Tables}
 
@@ -53,13 +55,14 @@ pub data PlacesRows (def : TableDef) (n : ℕ) (was is : List Spot) : Bound → 
   update : {place : ℕ} {sets : List BoundSet} {pred : Option Pred} (rows : List PlacedRow) → AreQualifying was pred rows
       → ChangesRows def n was (with_changed sets pred rows) is → PlacesRows def n was is (bound.Update place sets pred)
 
--- the same on pages: they show the table's spots before and after
+-- the same on pages: they show the table's spots before and after, and its definition stays but for its next row number
 pub record PlacesOnPages (before ext : Extents) (old new : PageList) (def : TableDef) (statement : Bound) : Type 0 where
   pub was : List Spot
   pub is : List Spot
   pub shown_before : ShowsTableSpots before old def was
   pub shown_after : ShowsTableSpots ext new def is
   pub places : PlacesRows def (block_slot_count before def) was is statement
+  pub defined : (n : ℕ) × DefinesTable new def.number (record def { next = n })
 
 -- the place of the table whose rows a statement changes, if it changes any
 abbrev pub changed_place : Bound → Option ℕ
@@ -71,12 +74,13 @@ changed_place statement = Option.None
 -- ---- a statement
 
 -- A bound statement was done on ready pages, or its rows were against it. They are ready again, stand for the plain database that
--- it makes of whatever they stood for, and the outcome says its answer. Rows went where placing says.
+-- it makes of whatever they stood for, and the outcome says its answer. Rows went where placing says, and other tables stay.
 pub record DoesStatement {S : Type 0} (g : Ghosts S) (old new : S) (before now : Tables) (statement : Bound) (outcome : Outcome) : Type 0 where
   pub ready : IsReady g new now
   pub stands : (db : Database) → PagesStandFor before.ext (pages_of g old) db → StandsAfter now.ext (pages_of g new) (done db statement) outcome
   pub places : (reply : _) → outcome ≡ said.Done reply → (place : ℕ) (def : TableDef) → changed_place statement ≡ Some place → def_at before.catalog place ≡ Some def
       → PlacesOnPages before.ext now.ext (pages_of g old) (pages_of g new) def statement
+  pub others : KeepsOthers before.ext now.ext (pages_of g old) (pages_of g new) before.catalog now.catalog (touched_place statement)
 
 -- A statement was executed on ready pages: the same of its text.
 pub record DoesStep {S : Type 0} (g : Ghosts S) (old new : S) (before now : Tables) (stmt : Stmt) (outcome : Outcome) : Type 0 where
@@ -84,6 +88,7 @@ pub record DoesStep {S : Type 0} (g : Ghosts S) (old new : S) (before now : Tabl
   pub stands : (db : Database) → PagesStandFor before.ext (pages_of g old) db → StandsAfter now.ext (pages_of g new) (step db stmt) outcome
   pub places : (reply : _) → outcome ≡ said.Done reply → (place : ℕ) (def : TableDef) → changed_place (bound_of before.catalog stmt) ≡ Some place → def_at before.catalog place ≡ Some def
       → PlacesOnPages before.ext now.ext (pages_of g old) (pages_of g new) def (bound_of before.catalog stmt)
+  pub others : KeepsOthers before.ext now.ext (pages_of g old) (pages_of g new) before.catalog now.catalog (touched_place (bound_of before.catalog stmt))
 
 -- a refused statement left the pages and the definitions
 pub record LeavesAll {S : Type 0} (g : Ghosts S) (old new : S) (before now : Tables) : Type 0 where

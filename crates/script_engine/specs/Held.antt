@@ -1,15 +1,16 @@
 -- What is held between two statements over pages, and what a statement may do to it.
 use Rattle.std.specs.Prelude.{◌≡◌, ℕ, [], Bool, true, false, Some}
 use Rattle.mdc_ast.specs.declared.definition.TableDef.{TableDef}
+use Rattle.mdc_ast.specs.declared.name.Name.{Name}
 use Rattle.mdc_ast.specs.declared.reply.Outcome.{Outcome}
 use Rattle.mdc_ast.specs.declared.reply.Outcome.TheVariants as said
 use Rattle.mdc_ast.specs.declared.reply.Reply.TheVariants as reply
 use Rattle.mdc_ast.specs.declared.statement.Stmt.{Stmt}
-use Rattle.mdc_ast.specs.declared.statement.Stmt.TheVariants.{Begin, Commit, Query, Rollback}
+use Rattle.mdc_ast.specs.declared.statement.Stmt.TheVariants.{Begin, Commit, ListBlocks, Query, Rollback}
 use Rattle.mdc_ast.specs.Reading.{IsItemOf, Statement}
 use Rattle.mdc_ast.specs.meaning.Binding.{bound_of}
-use Rattle.mdc_ast.specs.meaning.Cause.{FileFull, State, refusal_of}
-use Rattle.mdc_ast.specs.meaning.Definitions.{Definitions, def_at}
+use Rattle.mdc_ast.specs.meaning.Cause.{FileFull, NoTable, State, refusal_of}
+use Rattle.mdc_ast.specs.meaning.Definitions.{Definitions, def_at, def_named}
 use Rattle.mdc_ast.specs.meaning.Session.{Session, turn}
 use Rattle.mdc_ast.specs.meaning.Step.{Answer, Refused, Replied, faults}
 use Rattle.extent_map.specs.declared.extents.Extents.{Extents}
@@ -17,6 +18,8 @@ use Rattle.table_trees.specs.ToldPages.{PageList}
 use Rattle.mdc_sound.specs.StandsForDatabase.{PagesStandFor}
 use Rattle.row_judging.specs.Executing.{answer_of}
 use Rattle.script_engine.specs.Doing.{PlacesOnPages, StatementRunsFull, changed_place}
+use Rattle.script_engine.specs.Listing.{TellsBlocks, asks_blocks}
+use Rattle.script_engine.specs.Others.{KeepsOthers, touched_place}
 
 -- ---- transactions, in the words of plain databases
 
@@ -39,11 +42,13 @@ abbrev pub rolled_back : Session → Bool → Session × Answer
 rolled_back session true = (record session { working = session.kept; open_ = false }, Replied reply.Done)
 rolled_back session false = not_now session
 
--- a statement in a session with transactions
+-- A statement in a session with transactions. LIST BLOCKS of a table that is there turns nothing, and its answer isn't the
+-- session's to give; here it is that of a table which isn't there.
 abbrev pub turn_over : Session → Stmt → Session × Answer
 turn_over session Begin = begun session session.open_
 turn_over session Commit = committed session session.open_
 turn_over session Rollback = rolled_back session session.open_
+turn_over session (ListBlocks name) = (session, Refused (refusal_of (NoTable name)))
 turn_over session stmt = turn session stmt
 
 -- ---- two lists of pages
@@ -79,12 +84,21 @@ KeepsWork Commit old new = new.work ≡ old.work
 KeepsWork Rollback old new = old.open_ ≡ true → new.work ≡ old.base
 KeepsWork stmt old new = Unit {0}
 
--- What a statement may do to what is held: it turns whatever session that stands for, and rows go where placing says; or it is
--- refused with 70, where it runs full and nothing else is said against it, and nothing changes.
+-- The tables that a statement doesn't change keep their definitions and blocks. Going back makes the work the base, and so of its own.
+abbrev pub LeavesOthers : Extents → Stmt → HeldPages → HeldPages → Type 0
+LeavesOthers ext Rollback old new = Unit {0}
+LeavesOthers ext stmt old new = KeepsOthers ext ext old.work new.work old.defs new.defs (touched_place (bound_of old.defs stmt))
+
+-- What a statement may do to what is held: it turns whatever session that stands for, rows go where placing says, and other tables
+-- stay, where a refusal changes nothing; or it tells the blocks of a table, and nothing changes; or it is refused with 70, where it
+-- runs full and nothing else is said against it, and nothing changes.
 pub data StepsOnPages (ext : Extents) (old : HeldPages) (stmt : Stmt) (outcome : Outcome) (new : HeldPages) : Type 0 where
-  turns : ((session : Session) → StandsForSession ext old session → StandsForTurn ext new (turn_over session stmt) outcome) → KeepsBase old new → KeepsWork stmt old new
+  turns : asks_blocks old.defs stmt ≡ false → ((session : Session) → StandsForSession ext old session → StandsForTurn ext new (turn_over session stmt) outcome) → KeepsBase old new → KeepsWork stmt old new
+      → LeavesOthers ext stmt old new → ((refusal : _) → outcome ≡ said.Refused refusal → new ≡ old)
       → ((done : _) → outcome ≡ said.Done done → (place : ℕ) (def : TableDef) → changed_place (bound_of old.defs stmt) ≡ Some place → def_at old.defs place ≡ Some def
       → PlacesOnPages ext ext old.work new.work def (bound_of old.defs stmt)) → StepsOnPages ext old stmt outcome new
+  lists : (name : Name) (def : TableDef) → stmt ≡ ListBlocks name → def_named old.defs name ≡ Some def → new ≡ old → TellsBlocks old.work def outcome
+      → StepsOnPages ext old stmt outcome new
   full : outcome ≡ said.Refused (refusal_of (FileFull ext.cap)) → new ≡ old → StatementRunsFull ext old.work old.defs (bound_of old.defs stmt)
       → ((session : Session) → StandsForSession ext old session → faults session.working stmt ≡ []) → StepsOnPages ext old stmt outcome new
 

@@ -4,7 +4,9 @@ pub mod Doing
 pub mod Held
 pub mod Inserting
 pub mod Leaving
+pub mod Listing
 pub mod Opening
+pub mod Others
 pub mod Ready
 pub mod Reloading
 pub mod Serving

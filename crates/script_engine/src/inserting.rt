@@ -27,9 +27,9 @@ use mdc_values::{List, Value};
 use row_judging::{first_null_in, numbers_used_up, unfit};
 use statement_rows::insert_rows;
 use store_api::{Pages, StoreFault};
-use stored_catalog::save_table;
+use stored_catalog::save_next;
 
-/// An INSERT of these tuples into a table. All are judged before a row goes in; the table page is written once.
+/// An INSERT of these tuples into a table. All are judged before a row goes in; the next row number is written once.
 pub fn insert<P: Pages>(
     tables: &mut Tables,
     pages: &mut P,
@@ -75,7 +75,7 @@ fn judge(tables: &Tables, tuples: &[List<Value>]) -> Result<Option<Refusal>, Spa
     Ok(None)
 }
 
-/// Puts tuples against which nothing is said into the table that is turned to, and writes its page.
+/// Puts tuples against which nothing is said into the table that is turned to, and writes its next row number.
 fn put<P: Pages>(
     tables: &mut Tables,
     pages: &mut P,
@@ -94,7 +94,7 @@ fn put<P: Pages>(
 {
     let count = tuples.len() as u64;
     put_rows(tables, pages, tuples)?;
-    match save_table(&tables.catalog, pages, tables.noted) {
+    match save_next(&tables.catalog, pages, tables.noted) {
         Ok(()) => Ok(Outcome::Done(Reply::Inserted(count))),
         Err(fault) => {
             number_back(tables, count);

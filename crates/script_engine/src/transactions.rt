@@ -2,6 +2,7 @@
 ghost use Rattle.std.specs.Prelude.{◌≡◌, false, None, Ok};
 ghost use Rattle.mdc_ast.specs.meaning.Session.{is_refusal};
 ghost use Rattle.script_engine.specs.Held.{IsWritten};
+ghost use Rattle.script_engine.specs.Listing.{is_listing};
 ghost use Rattle.script_engine.specs.Ready.{AreServed};
 ghost use Rattle.script_engine.specs.Reloading.{Reloads};
 ghost use Rattle.script_engine.specs.Serving.{MayCall};
@@ -12,6 +13,7 @@ ghost use Rattle.script_engine.specs.Turns.{Executes};
 use crate::committing::commit_work;
 use crate::engine::Engine;
 use crate::executing::execute;
+use crate::listing::listed;
 use crate::opening::are_served;
 use crate::stop::EngineStop;
 use crate::tables::Tables;
@@ -74,6 +76,9 @@ impl<S: Store> Engine<S> {
         requires written { IsWritten stmt.now }
         ensures executes { Executes S.Pages stmt.now result self.old self.new }
     {
+        if let Some(name) = listed(stmt) {
+            return self.list_blocks(name);
+        }
         match control_of(stmt) {
             Control::Begin => Ok(self.begin()),
             Control::Commit => self.commit(),
@@ -129,6 +134,7 @@ impl<S: Store> Engine<S> {
         requires may { MayCall S.Pages self.old }
         requires written { IsWritten stmt.now }
         requires other { turns.control_of stmt.now ≡ Control.Other }
+        requires changing { is_listing stmt.now ≡ false }
         ensures executes { Executes S.Pages stmt.now result self.old self.new }
     {
         if !self.served {

@@ -162,7 +162,7 @@ CREATE TABLE G (A INTEGER, B INTEGER GENERATED ALWAYS AS (A/10)) ORGANIZE BY (B)
 CREATE UNIQUE INDEX V ON T (B);
 SELECT COUNT(*) FROM T;
 SELECT A FROM T ORDER BY A;
-LIST BLOCKS T;
+REORG TABLE T RECLAIM EXTENTS;
 SET PLAN SCAN;
 INSERT INTO T VALUES (1, 2);
 SELECT * FROM T";
@@ -183,5 +183,41 @@ A|B
 #[test]
 fn forms_that_are_not_built_are_refused(rt: HostRuntime) -> Result<(), Fail> {
     assert_eq!(rt; said(rt.alloc(), NOT_BUILT)?.as_slice(), NOT_BUILT_SAID);
+    Ok(())
+}
+
+// Blocks come with rows, one for each cell, and are left free where their rows go.
+const BLOCKS: &[u8] = b"CREATE TABLE T (A INTEGER, B INTEGER) ORGANIZE BY (A);
+LIST BLOCKS T;
+INSERT INTO T VALUES (NULL, 1), (3, 2);
+LIST BLOCKS T;
+DROP TABLE T;
+LIST BLOCKS T;
+CREATE TABLE T (A INTEGER, B INTEGER) ORGANIZE BY (A);
+INSERT INTO T VALUES (1, 10);
+DELETE FROM T WHERE B = 10;
+LIST BLOCKS T;
+INSERT INTO T VALUES (9, 5);
+LIST BLOCKS T;
+LIST BLOCKS U";
+
+const BLOCKS_SAID: &[u8] = b"OK
+USED 0 FREE 0 PENDING 0
+2 ROWS INSERTED
+USED 2 FREE 0 PENDING 0
+OK
+ERROR 21 no table T
+OK
+1 ROWS INSERTED
+1 ROWS DELETED
+USED 0 FREE 1 PENDING 0
+1 ROWS INSERTED
+USED 1 FREE 0 PENDING 0
+ERROR 21 no table U
+";
+
+#[test]
+fn blocks_are_counted(rt: HostRuntime) -> Result<(), Fail> {
+    assert_eq!(rt; said(rt.alloc(), BLOCKS)?.as_slice(), BLOCKS_SAID);
     Ok(())
 }

@@ -149,3 +149,42 @@ fn a_commit_keeps_what_was_done(rt: HostRuntime) -> Result<(), Fail> {
     assert_eq!(rt; next, Some(3));
     Ok(())
 }
+
+// LIST BLOCKS tells the blocks as they are in the transaction, and as they were once it is rolled back.
+const BLOCKS: &[u8] = b"CREATE TABLE T (A INTEGER, B INTEGER) ORGANIZE BY (A);
+INSERT INTO T VALUES (1, 10);
+BEGIN;
+INSERT INTO T VALUES (2, 20), (NULL, 30);
+DELETE FROM T WHERE A = 1;
+LIST BLOCKS T;
+ROLLBACK;
+LIST BLOCKS T;
+BEGIN;
+DELETE FROM T;
+LIST BLOCKS U;
+COMMIT;
+LIST BLOCKS T";
+
+const BLOCKS_SAID: &[u8] = b"OK
+1 ROWS INSERTED
+OK
+2 ROWS INSERTED
+1 ROWS DELETED
+USED 2 FREE 1 PENDING 0
+OK
+USED 1 FREE 0 PENDING 0
+OK
+1 ROWS DELETED
+ERROR 21 no table U
+OK
+USED 0 FREE 1 PENDING 0
+";
+
+#[test]
+fn blocks_are_those_of_the_transaction(rt: HostRuntime) -> Result<(), Fail> {
+    let alloc = rt.alloc();
+    let (said, next) = said(alloc, fresh_store(alloc)?, BLOCKS)?;
+    assert_eq!(rt; said.as_slice(), BLOCKS_SAID);
+    assert_eq!(rt; next, Some(1));
+    Ok(())
+}

@@ -52,7 +52,9 @@ full_keeps_open ext work defs session stmt full = refl
 -- a step leaves a transaction open where the turn of a session does that the pages stand for
 open_after : (ext : Extents) (old new : HeldPages) (stmt : Stmt) (outcome : Outcome) (session : Session) → StandsForSession ext old session → StepsOnPages ext old stmt outcome new
     → new.open_ ≡ (turn_over session stmt).0.open_
-open_after ext old new stmt outcome session stands (StepsOnPages.turns turns base work places) = sym (turns session stands).session.is_open
+open_after ext old new stmt outcome session stands (StepsOnPages.turns apart turns base work others refused places) = sym (turns session stands).session.is_open
+open_after ext old new stmt outcome session stands (StepsOnPages.lists name def is found same tells) =
+    ap (λ held. held.open_) same ∙ (sym stands.is_open ∙ sym (ap (λ s. (turn_over session s).0.open_) is))
 open_after ext old new stmt outcome session stands (StepsOnPages.full says same full faultless) =
     ap (λ held. held.open_) same ∙ (sym stands.is_open ∙ sym (full_keeps_open ext old.work old.defs session stmt full))
 
@@ -71,7 +73,7 @@ ready_session g engine law ready =
 left_open : (ext : Extents) (old new : HeldPages) (stmt : Stmt) (outcome : Outcome) (session : Session) (pages : PageList) → StandsForSession ext old session → StepsOnPages ext old stmt outcome new
     → new.open_ ≡ true → MayBeLeft ext old stmt pages → pages ≡ old.base
 left_open ext old new stmt outcome session pages stands steps opened (MayBeLeft.before same) = same
-left_open ext old new stmt outcome session pages stands steps opened (MayBeLeft.after other after others shut is sound defs stored valid) =
+left_open ext old new stmt outcome session pages stands steps opened (MayBeLeft.after other after others shut is sound stored valid) =
     let wrong : true ≡ false = sym opened ∙ (open_after ext old new stmt outcome session stands steps ∙ (sym (open_after ext old after stmt other session stands others) ∙ shut)) in
     absurd (cc)
 
@@ -117,6 +119,7 @@ module _ {S : Type 0} (g : Ghosts S) where
     meets = λ ready.
         let steps = executes.steps ready in
         (record { noted = old.tables.ext; shape = record { cap = refl; extent_pages = refl }; steps = steps.0 }, steps.1);
+    own = tt;
     may = executes.may;
     done = λ ready. left_before_or_after g law stmt outcome old new ready (executes.steps ready).0 (executes.keeps ready.closed) (executes.leaves ready).time executes.outside.time;
     stopped = tt;
@@ -127,6 +130,7 @@ module _ {S : Type 0} (g : Ghosts S) where
   }
   answers_executed law stmt (Err stop) old new executes = record {
     meets = tt;
+    own = tt;
     may = tt;
     done = tt;
     stopped = λ ready. record { stmt = stmt; hand = refl; leaves = executes.leaves ready };
@@ -153,6 +157,7 @@ module _ {S : Type 0} (g : Ghosts S) where
   pub answers_refused : (refusal : Refusal) (engine : Engine S) → MayCall g engine → AnswersItem g (read.Refused refusal) (Ok (said.Refused refusal)) engine engine
   answers_refused refusal engine may = record {
     meets = λ ready. ((refl, refl), ready);
+    own = refl;
     may = may;
     done = λ ready. over_time_none;
     stopped = tt;

@@ -1,13 +1,16 @@
 -- Runs of items over pages, one behind another, in extents of one shape.
-use Rattle.std.proofs.Common.{◌≡◌, ◌+◌, ◌≤◌, ℕ, zero, suc, List, [], ◌∷◌, ◌++◌, length, refl, ◌∙◌, ap, arith}
+use Rattle.std.proofs.Common.{◌≡◌, ◌+◌, ◌≤◌, ℕ, zero, suc, List, [], ◌∷◌, ◌++◌, length, refl, sym, ◌∙◌, ap, arith}
 use Rattle.mdc_ast.specs.declared.reply.Outcome.{Outcome}
 use Rattle.mdc_ast.specs.declared.statement.Stmt.{Stmt}
 use Rattle.mdc_ast.specs.Reading.{Item, Statement}
 use Rattle.mdc_ast.specs.Reading as reading
 use Rattle.extent_map.specs.Owners.{IsSameShape}
 use Rattle.extent_map.specs.declared.extents.Extents.{Extents}
+use Rattle.table_trees.specs.ToldPages.{PageList}
+use Rattle.mdc_sound.specs.SoundDatabase.{IsSoundDatabase}
 use Rattle.script_engine.specs.Held.{HeldPages}
-use Rattle.script_session.specs.Going.{GoesOnPages, MeetsOnPages, StepsInShape, held_after, held_last, nothing, one}
+use Rattle.script_engine.proofs.ShapeLemmas.{keeps_along}
+use Rattle.script_session.specs.Going.{GoesOnPages, MeetsItem, MeetsOnPages, StepsInShape, held_after, held_last, nothing, one}
 
 -- ---- shapes
 
@@ -27,11 +30,30 @@ meets_in_shape : {ext mid : Extents} (old : HeldPages) (item : Item) (outcome : 
 meets_in_shape old (Statement stmt) outcome new same meets = steps_in_shape same meets
 meets_in_shape old (reading.Refused refusal) outcome new same meets = meets
 
+-- the same way back
+pub shape-sym : {first second : Extents} → IsSameShape first second → IsSameShape second first
+shape-sym same = record { cap = sym same.cap; extent_pages = sym same.extent_pages }
+
+-- sound pages are sound in extents of this shape
+pub sound_in_shape : {ext mid : Extents} {pages : PageList} → IsSameShape ext mid → IsSoundDatabase mid pages → IsSoundDatabase ext pages
+sound_in_shape {ext} {mid} {pages} same (view, sound) = (view, keeps_along mid ext pages view (shape-sym same) sound)
+
+-- an item was met in extents of this shape
+met_in_shape : {ext mid : Extents} {old new : HeldPages} {item : Item} {outcome : Outcome} → IsSameShape ext mid → MeetsItem mid old item outcome new → MeetsItem ext old item outcome new
+met_in_shape {old = old} {new = new} {item = item} {outcome = outcome} same met = record {
+  meets = meets_in_shape old item outcome new same met.meets;
+  refused = met.refused;
+  was_sound = sound_in_shape same met.was_sound;
+  was_stored = met.was_stored;
+  sound = sound_in_shape same met.sound;
+  stored = met.stored;
+}
+
 -- a run in extents of this shape
 pub goes_in_shape : {ext mid : Extents} {held : HeldPages} {items : List Item} {outcomes : List Outcome} {states : List HeldPages} → IsSameShape ext mid
     → GoesOnPages mid held items outcomes states → GoesOnPages ext held items outcomes states
 goes_in_shape same nothing = nothing
-goes_in_shape same (one met goes) = one (record { meets = meets_in_shape _ _ _ _ same met.meets; refused = met.refused; stored = met.stored }) (goes_in_shape same goes)
+goes_in_shape same (one met goes) = one (met_in_shape same met) (goes_in_shape same goes)
 
 -- ---- one behind another
 

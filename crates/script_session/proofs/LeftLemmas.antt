@@ -7,12 +7,11 @@ use Rattle.mdc_ast.specs.meaning.Texts.{outcome_text, texts}
 use Rattle.extent_map.specs.Owners.{IsSameShape}
 use Rattle.extent_map.specs.declared.extents.Extents.{Extents}
 use Rattle.table_trees.specs.ToldPages.{PageList}
-use Rattle.script_engine.proofs.ShapeLemmas.{keeps_along}
 use Rattle.script_engine.specs.Held.{HeldPages}
 use Rattle.script_session.specs.Ending.{IsPartOfNext, Says}
 use Rattle.script_session.specs.Going.{held_last}
 use Rattle.script_session.specs.Leaving.{AreKept, AreServedPages, HasBegun, LeftByServing, done, stopped}
-use Rattle.script_session.proofs.GoingLemmas.{held_after-behind, held_after-front, held_last-append, steps_in_shape}
+use Rattle.script_session.proofs.GoingLemmas.{held_after-behind, held_after-front, held_last-append, sound_in_shape, steps_in_shape}
 
 -- ---- what is said
 
@@ -58,8 +57,8 @@ begun_then outcomes begun = record { answered = length outcomes + begun.answered
 
 -- pages that may be served in extents of this shape
 pub served_in_shape : {ext mid : Extents} {pages : PageList} → IsSameShape ext mid → AreServedPages mid pages → AreServedPages ext pages
-served_in_shape {ext} {mid} {pages} same served = record {
-  sound = (served.sound.0, keeps_along mid ext pages served.sound.0 (record { cap = sym same.cap; extent_pages = sym same.extent_pages }) served.sound.1);
+served_in_shape same served = record {
+  sound = sound_in_shape same served.sound;
   defs = served.defs;
   stored = served.stored;
   valid = served.valid;
@@ -70,15 +69,15 @@ pub kept_wider : {ext : Extents} {held : HeldPages} {states : List HeldPages} {p
     → AreKept ext held states [] pages items → AreKept ext held (states ++ more) in_hand pages items
 kept_wider {ext} {held} {states} {pages} {items} more in_hand (done few same) =
     done (omega (arith, few, length-append states more)) (same ∙ ap (λ (h : HeldPages). h.base) (sym (held_after-front held states more items few)))
-kept_wider more in_hand (stopped stmt outcome new none count steps closed same) = absurd (cc)
+kept_wider more in_hand (stopped stmt outcome new none count steps closed same stored) = absurd (cc)
 
 -- after items behind these
 pub kept_then : {ext mid : Extents} {held : HeldPages} {others : List HeldPages} {in_hand : List Item} {pages : PageList} {items : ℕ} (states : List HeldPages) → IsSameShape ext mid
     → AreKept mid (held_last held states) others in_hand pages items → AreKept ext held (states ++ others) in_hand pages (length states + items)
 kept_then {held = held} {others = others} {items = items} states shape (done few same) =
     done (omega (arith, few, length-append states others)) (same ∙ ap (λ (h : HeldPages). h.base) (sym (held_after-behind held states others items)))
-kept_then {ext} {mid} {held} {others} states shape (stopped stmt outcome new in_hand count steps closed same) =
-    stopped stmt outcome new in_hand (omega (arith, count, length-append states others)) (rw (held_last-append held states others) (steps_in_shape shape steps)) closed same
+kept_then {ext} {mid} {held} {others} states shape (stopped stmt outcome new in_hand count steps closed same stored) =
+    stopped stmt outcome new in_hand (omega (arith, count, length-append states others)) (rw (held_last-append held states others) (steps_in_shape shape steps)) closed same stored
 
 -- ---- what is left
 

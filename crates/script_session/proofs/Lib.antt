@@ -1,9 +1,11 @@
 pub mod AnsweringLemmas
+pub mod AskedEndsLemmas
 pub mod AskingLemmas
 pub mod EndingLemmas
 pub mod GoingLemmas
 pub mod LeftLemmas
 pub mod ListsLemmas
+pub mod ReplyingLemmas
 pub mod RunsLemmas
 pub mod ScriptItemsLemmas
 pub mod ServingLemmas

@@ -1,15 +1,14 @@
 -- How far an engine is with the items that a reader has given, how it goes on, and how a run ends.
-use Rattle.std.proofs.Common.{◌≡◌, ◌≤◌, ◌||◌, ℕ, List, [], ◌∷◌, ◌++◌, length, length-append, Bool, true, false, Option, Some, None, Ok, Err, refl, sym, ◌∙◌, ap, subst, inl, inr, arith}
+use Rattle.std.proofs.Common.{◌≡◌, ◌||◌, ℕ, List, [], ◌∷◌, ◌++◌, Bool, true, false, Option, Some, None, Ok, Err, refl, sym, ◌∙◌, ap, subst, inl, inr}
 use Rattle.std.proofs.lemmas.List.{append-nil}
 use Rattle.std.proofs.lemmas.Grind.{flat_map-append}
 use Rattle.std.proofs.lemmas.List.Folds.{list_any-append}
 use Rattle.mdc_ast.specs.declared.reply.Outcome.{Outcome}
-use Rattle.mdc_ast.specs.Reading.{Item, Reads}
+use Rattle.mdc_ast.specs.Reading.{Item}
 use Rattle.mdc_ast.specs.meaning.Session.{has_refusal, is_refusal}
 use Rattle.mdc_ast.specs.meaning.Texts.{outcome_text, texts}
 use Rattle.sql_reader.specs.Holding.{Holding}
 use Rattle.sql_reader.specs.Item.{item_of}
-use Rattle.sql_reader.specs.Progress.{Given, IsGivenAt, at_start}
 use Rattle.sql_reader.specs.declared.statements.Read.{Read}
 use Rattle.sql_reader.specs.declared.statements.ReadStop.{ReadStop}
 use Rattle.store_api.specs.declared.pages.Pages.{Ghosts}
@@ -24,12 +23,10 @@ use Rattle.script_session.specs.Stops.{served_by, stop_of_reader}
 use Rattle.script_session.specs.Turning.{EndsTold, EndsUntold, IsTurnStop, RunsItems, StopsTurn}
 use Rattle.script_session.specs.declared.stop.SessionStop.{SessionStop}
 use Rattle.script_session.specs.declared.stop.SessionStop.TheVariants.{Memory}
+use Rattle.script_session.proofs.AskedEndsLemmas.{ends_asked_done, ends_asked_in_hand, ends_asked_reading, ends_asked_untold, ends_unasked}
 use Rattle.script_session.proofs.AskingLemmas.{IsAsked}
-use Rattle.script_session.proofs.EndingLemmas.{ends_done, ends_reading, ends_script, ends_turning, nothing_left, says_all, says_part, stops_within}
 use Rattle.script_session.proofs.GoingLemmas.{held_last-append, length-items}
 use Rattle.script_session.proofs.RunsLemmas.{runs_none, runs_then}
-use Rattle.script_session.proofs.ScriptItemsLemmas.{in_time_first, none_given}
-use Rattle.script_session.proofs.ToldLemmas.{took_nothing}
 
 -- The items have outcomes, all of which are told, and the engine that they leave is sound.
 pub record HasAnswered {S : Type 0} (g : Ghosts S) (items : List Item) (refused : Bool) (old new : Engine S) : Type 0 where
@@ -42,7 +39,7 @@ pub record HasAnswered {S : Type 0} (g : Ghosts S) (items : List Item) (refused 
 
 -- ---- one outcome more
 
-texts_more : (outcomes : List Outcome) (outcome : Outcome) → texts (outcomes ++ outcome ∷ []) ≡ texts outcomes ++ outcome_text outcome
+pub texts_more : (outcomes : List Outcome) (outcome : Outcome) → texts (outcomes ++ outcome ∷ []) ≡ texts outcomes ++ outcome_text outcome
 texts_more outcomes outcome =
     flat_map-append outcome_text outcomes (outcome ∷ []) ∙ ap (λ t. texts outcomes ++ t) (append-nil (outcome_text outcome))
 
@@ -50,7 +47,7 @@ or_false : (b : Bool) → (b || false) ≡ b
 or_false true = refl
 or_false false = refl
 
-refusal_more : (outcomes : List Outcome) (outcome : Outcome) → has_refusal (outcomes ++ outcome ∷ []) ≡ (has_refusal outcomes || is_refusal outcome)
+pub refusal_more : (outcomes : List Outcome) (outcome : Outcome) → has_refusal (outcomes ++ outcome ∷ []) ≡ (has_refusal outcomes || is_refusal outcome)
 refusal_more outcomes outcome =
     list_any-append is_refusal outcomes (outcome ∷ []) ∙ ap (λ b. has_refusal outcomes || b) (or_false (is_refusal outcome))
 
@@ -89,8 +86,7 @@ module _ {S : Type 0} (g : Ghosts S) where
     goes = (runs_none g engine).goes;
     said = [];
     told = (runs_none g engine).told;
-    ends = ends_script script script [] [] [] [] [] (Err Memory) (took_nothing script []) (λ rest is.
-        stops_within laws at_start rest [] [] [] [] 0 none_given (λ e. absurd (cc)) (says_all [] 0 refl) (omega arith) (inl refl) in_time_first (omega arith));
+    ends = ends_unasked laws script;
     last = tt;
     base = (runs_none g engine).base;
     time = (runs_none g engine).time;
@@ -109,10 +105,7 @@ module _ {S : Type 0} (g : Ghosts S) where
         goes = was.runs.goes;
         said = texts was.outcomes;
         told = was.runs.told;
-        ends = ends_script script left asked.progress.taken (texts was.outcomes) items [] was.outcomes (Err (stop_of_reader stop)) asked.read_to.took (λ rest is.
-            ends_reading stop (λ e. asked.source (ap Err e)) (λ e. asked.too_long (ap Err e)) (elim asked.within [ inl fits ↦ inl fits | inr e ↦ inr cc ])
-            (λ e fits. stops_within laws asked.progress rest (texts was.outcomes) items [] was.outcomes (length items) (subst (Given asked.progress) (sym (append-nil items)) asked.kept)
-            (λ f. nothing_left left rest (asked.read_to.at_end f) is) (says_all was.outcomes (length items) count) (omega (arith, count)) (inl refl) asked.read_to.in_time fits));
+        ends = ends_asked_reading laws script left reader items stop was.outcomes count asked;
         last = tt;
         base = was.runs.base;
         time = was.runs.time;
@@ -123,7 +116,6 @@ module _ {S : Type 0} (g : Ghosts S) where
       → IsAsked script left reader items (Ok (Some read)) → HasAnswered g items refused old mid → IsSameShape old.tables.ext mid.tables.ext → IsTurnStop stop
       → EndsUntold g (item_of read) mid new → RunsScript g script left old new (Err stop)
   exit_untold laws script left reader items read stop {old = old} {mid = mid} {new = new} asked was shape is_stop turn =
-      let fits : length asked.progress.taken ≤ 67108864 = elim asked.within [ inl fits ↦ fits | inr e ↦ absurd (cc) ] in
       let count = length-items was.runs.goes in
       let many = items ++ item_of read ∷ [] in
       let outcomes = was.outcomes ++ turn.outcome ∷ [] in
@@ -136,10 +128,7 @@ module _ {S : Type 0} (g : Ghosts S) where
         goes = runs.goes;
         said = texts was.outcomes ++ turn.part;
         told = runs.told;
-        ends = ends_script script left asked.progress.taken (texts was.outcomes ++ turn.part) many [] outcomes (Err stop) asked.read_to.took (λ rest is.
-            ends_turning stop is_stop (stops_within laws asked.progress rest (texts was.outcomes ++ turn.part) many [] outcomes (length items) (subst (Given asked.progress) (sym (append-nil many)) asked.item)
-            (λ f. nothing_left left rest (asked.read_to.at_end f) is) (says_part was.outcomes turn.outcome (length items) turn.part turn.unsaid count turn.text)
-            (omega (arith, count, length-append was.outcomes (turn.outcome ∷ []))) (inl refl) asked.read_to.in_time fits));
+        ends = ends_asked_untold laws script left reader items read stop was.outcomes turn.outcome turn.part turn.unsaid count turn.text asked is_stop;
         last = tt;
         base = runs.base;
         time = runs.time;
@@ -150,7 +139,6 @@ module _ {S : Type 0} (g : Ghosts S) where
       → IsAsked script left reader items (Ok (Some read)) → HasAnswered g items refused old mid → IsSameShape old.tables.ext mid.tables.ext → IsTurnStop stop
       → RunsItems g [] (item_of read ∷ []) [] [] [] mid new → RunsScript g script left old new (Err stop)
   exit_in_hand laws script left reader items read stop {old = old} {mid = mid} {new = new} asked was shape is_stop turn =
-      let fits : length asked.progress.taken ≤ 67108864 = elim asked.within [ inl fits ↦ fits | inr e ↦ absurd (cc) ] in
       let count = length-items was.runs.goes in
       let hand = item_of read ∷ [] in
       let runs : RunsItems g items hand was.outcomes was.states (texts was.outcomes) old new =
@@ -163,9 +151,7 @@ module _ {S : Type 0} (g : Ghosts S) where
         goes = runs.goes;
         said = texts was.outcomes;
         told = runs.told;
-        ends = ends_script script left asked.progress.taken (texts was.outcomes) items hand was.outcomes (Err stop) asked.read_to.took (λ rest is.
-            ends_turning stop is_stop (stops_within laws asked.progress rest (texts was.outcomes) items hand was.outcomes (length items) asked.item
-            (λ f. nothing_left left rest (asked.read_to.at_end f) is) (says_all was.outcomes (length items) count) (omega (arith, count)) (inr count) asked.read_to.in_time fits));
+        ends = ends_asked_in_hand laws script left reader items read stop was.outcomes count asked is_stop;
         last = tt;
         base = runs.base;
         time = runs.time;
@@ -181,21 +167,16 @@ module _ {S : Type 0} (g : Ghosts S) where
   -- the script ends
   pub exit_done : (script left : Option (List ℕ)) (reader : Holding) (items : List Item) (refused : Bool) {old new : Engine S}
       → IsAsked script left reader items (Ok None) → HasAnswered g items refused old new → RunsScript g script left old new (Ok (served_by refused))
-  exit_done script left reader items refused {old = old} {new = new} asked was =
-      let P : Bool → Type 0 = λ finished. IsGivenAt finished asked.progress.taken asked.progress.past items in
-      let reads : Reads asked.progress.taken items = subst P asked.end_.0 asked.end_.1 in
-      let fits : length asked.progress.taken ≤ 67108864 = elim asked.within [ inl fits ↦ fits | inr e ↦ absurd (cc) ] in
-      record {
-        items = items;
-        outcomes = was.outcomes;
-        states = was.states;
-        in_hand = [];
-        goes = was.runs.goes;
-        said = texts was.outcomes;
-        told = was.runs.told;
-        ends = ends_script script left asked.progress.taken (texts was.outcomes) items [] was.outcomes (Ok (served_by refused)) asked.read_to.took (λ rest is.
-            ends_done refused was.outcomes reads (nothing_left left rest (asked.read_to.at_end asked.end_.0) is) fits was.noted);
-        last = (was.held, was.ready);
-        base = was.runs.base;
-        time = was.runs.time;
-      }
+  exit_done script left reader items refused {old = old} {new = new} asked was = record {
+    items = items;
+    outcomes = was.outcomes;
+    states = was.states;
+    in_hand = [];
+    goes = was.runs.goes;
+    said = texts was.outcomes;
+    told = was.runs.told;
+    ends = ends_asked_done script left reader items refused was.outcomes was.noted asked;
+    last = (was.held, was.ready);
+    base = was.runs.base;
+    time = was.runs.time;
+  }

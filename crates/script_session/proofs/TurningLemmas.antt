@@ -19,6 +19,7 @@ use Rattle.store_api.specs.declared.pages.Pages.{Ghosts}
 use Rattle.extent_map.specs.Owners.{IsSameShape}
 use Rattle.extent_map.specs.declared.extents.Extents.{Extents}
 use Rattle.table_trees.specs.ToldPages.{PageList}
+use Rattle.stored_catalog.specs.StoredDefinitions.{AreStored}
 use Rattle.script_engine.specs.Held.{HeldPages}
 use Rattle.script_engine.specs.Leaving.{LeftWithin, MayBeLeft}
 use Rattle.script_engine.specs.Leaving as leaving
@@ -28,7 +29,7 @@ use Rattle.script_session.specs.Answering.{BaseBeforeOrAfter, StopsAt}
 use Rattle.script_session.specs.Going.{MeetsItem, MeetsOnPages, nothing, one}
 use Rattle.script_session.specs.Leaving.{AreKept, AreServedPages, HasBegun, LeftByServing, ReopensAlways, done, some_told, stopped}
 use Rattle.script_session.specs.Turning.{RunsItems}
-use Rattle.script_session.proofs.GoingLemmas.{same_shape}
+use Rattle.script_session.proofs.GoingLemmas.{same_shape, sound_in_shape}
 use Rattle.script_session.proofs.LeftLemmas.{served_in_shape}
 use Rattle.script_session.proofs.ToldLemmas.{takes_nothing}
 
@@ -52,8 +53,12 @@ some_told-one (byte ∷ part) = omega arith
 -- the pages that may be left of the statement in hand are those before it, or those that it commits
 kept_at : {ext : Extents} (item : Item) (stmt : Stmt) (held : HeldPages) (pages : PageList) → item ≡ Statement stmt → MayBeLeft ext held stmt pages → (n : ℕ) × AreKept ext held [] (item ∷ []) pages n × (n ≤ 1)
 kept_at item stmt held pages hand (leaving.before same) = (0, done (omega arith) same, omega arith)
-kept_at {ext} item stmt held pages hand (leaving.after outcome new steps closed same sound defs stored valid) =
-    (1, stopped stmt outcome new (ap (λ (i : Item). i ∷ []) hand) refl (record { noted = ext; shape = same_shape ext; steps = steps }) closed same, omega arith)
+kept_at {ext} item stmt held pages hand (leaving.after outcome new steps closed same sound stored valid) = (
+  1,
+  stopped stmt outcome new (ap (λ (i : Item). i ∷ []) hand) refl (record { noted = ext; shape = same_shape ext; steps = steps }) closed same
+      (subst (λ (base : PageList). AreStored base new.defs) same stored),
+  omega arith,
+)
 
 module _ {S : Type 0} (g : Ghosts S) where
   -- the pages of the last commit of a sound engine
@@ -114,15 +119,29 @@ module _ {S : Type 0} (g : Ghosts S) where
     one_more = omega arith;
   }
 
+  -- an item that did what it may, from a sound engine to a sound one
+  met_one : {item : Item} {outcome : Outcome} {old mid : Engine S} → IsReadyEngine g old → IsReadyEngine g mid → MeetsOnPages old.tables.ext (held_by g old) item outcome (held_by g mid)
+      → ((refusal : Refusal) → outcome ≡ said.Refused refusal → held_by g mid ≡ held_by g old) → IsSameShape old.tables.ext mid.tables.ext
+      → MeetsItem old.tables.ext (held_by g old) item outcome (held_by g mid)
+  met_one {mid = mid} ready ready_mid meets refused shape = record {
+    meets = meets;
+    refused = refused;
+    was_sound = (ready.work.view, ready.work.sound);
+    was_stored = ready.work.stored;
+    sound = sound_in_shape shape (ready_mid.work.view, ready_mid.work.sound);
+    stored = ready_mid.work.stored;
+  }
+
   -- an item that has an outcome, of whose text this is told
   pub runs_one : {item : Item} {outcome : Outcome} {part : List ℕ} {old mid new : Engine S} → IsReadyEngine g old → IsReadyEngine g mid
-      → MeetsOnPages old.tables.ext (held_by g old) item outcome (held_by g mid) → ((refusal : Refusal) → outcome ≡ said.Refused refusal → held_by g mid ≡ held_by g old) → IsSameShape old.tables.ext mid.tables.ext → held_by g new ≡ held_by g mid
+      → MeetsOnPages old.tables.ext (held_by g old) item outcome (held_by g mid) → ((refusal : Refusal) → outcome ≡ said.Refused refusal → held_by g mid ≡ held_by g old)
+      → IsSameShape old.tables.ext mid.tables.ext → held_by g new ≡ held_by g mid
       → (g.state mid.store).told ≡ (g.state old.store).told → Takes (g.state mid.store).told part (g.state new.store).told
       → OverTime g.clock g.left (BaseBeforeOrAfter (g.state old.store) (g.state mid.store)) old.store mid.store
       → OverTime g.clock g.left (BaseWithFront (outcome_text outcome) (g.state mid.store)) mid.store new.store
       → RunsItems g (item ∷ []) [] (outcome ∷ []) (held_by g new ∷ []) part old new
   runs_one {item} {outcome} {part} {old} {mid} {new} ready ready_mid meets refused shape held same takes answering telling = record {
-    goes = one (subst (λ (h : HeldPages). MeetsItem old.tables.ext (held_by g old) item outcome h) (sym held) (record { meets = meets; refused = refused; stored = ready_mid.work.stored })) nothing;
+    goes = one (subst (λ (h : HeldPages). MeetsItem old.tables.ext (held_by g old) item outcome h) (sym held) (met_one ready ready_mid meets refused shape)) nothing;
     told = subst (λ (t : Option (List ℕ)). Takes t part (g.state new.store).told) same takes;
     base = (1, done (omega arith) refl);
     time = λ before is. over_time_then (over_time_wider answering (left_answering outcome old mid new ready ready_mid shape held before is))
@@ -132,7 +151,7 @@ module _ {S : Type 0} (g : Ghosts S) where
   -- the pages that may be left of a statement may be served
   served_at : (stmt : Stmt) (old : Engine S) (pages : PageList) → IsReadyEngine g old → MayBeLeft old.tables.ext (held_by g old) stmt pages → AreServedPages old.tables.ext pages
   served_at stmt old pages ready (leaving.before same) = subst (AreServedPages old.tables.ext) (sym same) (served_base old ready)
-  served_at stmt old pages ready (leaving.after outcome new steps closed same sound defs stored valid) = record { sound = sound; defs = defs; stored = stored; valid = valid }
+  served_at stmt old pages ready (leaving.after outcome new steps closed same sound stored valid) = record { sound = sound; defs = new.defs; stored = stored; valid = valid }
 
   -- a crash before an engine stopped at a statement
   left_at : (item : Item) (stmt : Stmt) (old : Engine S) → IsReadyEngine g old → item ≡ Statement stmt → (before : List ℕ) → (g.state old.store).told ≡ Some before

@@ -19,6 +19,7 @@ use Rattle.script_engine.specs.declared.stop.EngineStop.TheVariants.{Damaged}
 use Rattle.sql_reader.specs.Item.{item_of}
 use Rattle.sql_reader.specs.declared.statements.Read.{Read}
 use Rattle.script_session.specs.Going.{MeetsOnPages}
+use Rattle.script_session.specs.Replying.{IsOutcomeOf}
 
 -- the pages of the last commit before, or those after, with the bytes told before, where they are told
 abbrev pub BaseBeforeOrAfter : StoreState → StoreState → Outcomes
@@ -34,6 +35,7 @@ pub record StopsAt {S : Type 0} (g : Ghosts S) (read : Read) (old new : Engine S
 -- after it, or the engine stops at its statement. No damage is named of sound pages, and nothing is told.
 pub record AnswersItem {S : Type 0} (g : Ghosts S) (read : Read) (result : Result Outcome EngineStop) (old new : Engine S) : Type 0 where
   pub meets : IfOk result (λ outcome. IsReadyEngine g old → MeetsOnPages old.tables.ext (held_by g old) (item_of read) outcome (held_by g new) × IsReadyEngine g new)
+  pub own : IfOk result (IsOutcomeOf (item_of read))
   pub may : OnOk result (MayCall g new)
   pub done : OnOk result (IsReadyEngine g old → OverTime g.clock g.left (BaseBeforeOrAfter (g.state old.store) (g.state new.store)) old.store new.store)
   pub stopped : OnErr result (IsReadyEngine g old → StopsAt g read old new)

@@ -8,6 +8,7 @@ use Rattle.mdc_ast.specs.Reading.{Item, Statement}
 use Rattle.mdc_ast.specs.Reading as reading
 use Rattle.extent_map.specs.Owners.{IsSameShape}
 use Rattle.extent_map.specs.declared.extents.Extents.{Extents}
+use Rattle.mdc_sound.specs.SoundDatabase.{IsSoundDatabase}
 use Rattle.stored_catalog.specs.StoredDefinitions.{AreStored}
 use Rattle.script_engine.specs.Held.{HeldPages, StepsOnPages}
 
@@ -22,10 +23,14 @@ abbrev pub MeetsOnPages : Extents → HeldPages → Item → Outcome → HeldPag
 MeetsOnPages ext old (Statement stmt) outcome new = StepsInShape ext old stmt outcome new
 MeetsOnPages ext old (reading.Refused refusal) outcome new = (outcome ≡ said.Refused refusal) × (new ≡ old)
 
--- An item was met: it did what it may, a refusal changed nothing, and the definitions that are held are those of the pages.
+-- An item was met: it did what it may, and a refusal changed nothing. Before it and after it the pages are sound, and the
+-- definitions that are held are theirs.
 pub record MeetsItem (ext : Extents) (old : HeldPages) (item : Item) (outcome : Outcome) (new : HeldPages) : Type 0 where
   pub meets : MeetsOnPages ext old item outcome new
   pub refused : (refusal : Refusal) → outcome ≡ said.Refused refusal → new ≡ old
+  pub was_sound : IsSoundDatabase ext old.work
+  pub was_stored : AreStored old.work old.defs
+  pub sound : IsSoundDatabase ext new.work
   pub stored : AreStored new.work new.defs
 
 -- The items have these outcomes, and after each item this is held.

@@ -25,7 +25,8 @@ pub record AreServedPages (ext : Extents) (pages : PageList) : Type 0 where
 pub data AreKept (ext : Extents) (held : HeldPages) (states : List HeldPages) (in_hand : List Item) (pages : PageList) (items : ℕ) : Type 0 where
   done : items ≤ length states → pages ≡ (held_after held states items).base → AreKept ext held states in_hand pages items
   stopped : (stmt : Stmt) (outcome : Outcome) (new : HeldPages) → in_hand ≡ Statement stmt ∷ [] → items ≡ length states + 1
-      → StepsInShape ext (held_last held states) stmt outcome new → new.open_ ≡ false → pages ≡ new.base → AreKept ext held states in_hand pages items
+      → StepsInShape ext (held_last held states) stmt outcome new → new.open_ ≡ false → pages ≡ new.base → AreStored new.base new.defs
+      → AreKept ext held states in_hand pages items
 
 -- whether something is told of a text counts as one
 abbrev pub some_told : List ℕ → ℕ

@@ -3,6 +3,7 @@ pub mod Ending
 pub mod Going
 pub mod Leaving
 pub mod Lists
+pub mod Replying
 pub mod ScriptLaws
 pub mod Serving
 pub mod Stops

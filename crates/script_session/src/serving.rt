@@ -7,6 +7,7 @@ ghost use Rattle.extent_map.specs.Owners.{IsSameShape};
 ghost use Rattle.script_session.specs.Told.{TellsMore};
 ghost use Rattle.store_api.specs.declared.fault.Damage.{Damage};
 ghost use Rattle.script_engine.specs.Serving.{IsReadyEngine, MayCall};
+ghost use Rattle.script_session.specs.Replying.{HasReply, RepliesTo, StopsReplying};
 ghost use Rattle.script_session.specs.ScriptLaws.{ScriptLaws};
 ghost use Rattle.script_session.specs.Leaving.{ReopensAlways};
 ghost use Rattle.script_session.specs.Serving.{RunsScript, TakesScript};
@@ -40,6 +41,8 @@ pub fn serve<I: Source, S: Store>(
     ensures is_told { (S.state engine.new.store).is_told ≡ (S.state engine.old.store).is_told }
     ensures takes { IfSome (I.left input.old) (λ script. TakesScript script (I.left input.new) result) }
     ensures tells { TellsMore (S.state engine.old.store).told (S.state engine.new.store).told }
+    // Whatever the pages are, the texts of outcomes are told, by which the run ends.
+    ensures replies { RepliesTo (I.left input.old) (I.left input.new) (S.state engine.old.store).told (S.state engine.new.store).told result }
     // Whatever the pages are, a crash leaves a file that reopens.
     ensures reopens { OverTime S.clock S.left ReopensAlways engine.old.store engine.new.store }
     ensures later { S.clock engine.old.store ≤ S.clock engine.new.store }
@@ -80,6 +83,8 @@ fn answer<S: Store>(
     ensures attached { (S.state engine.new.store).attached ≡ (S.state engine.old.store).attached }
     ensures is_told { (S.state engine.new.store).is_told ≡ (S.state engine.old.store).is_told }
     ensures tells { TellsMore (S.state engine.old.store).told (S.state engine.new.store).told }
+    ensures replies { IfOk result (λ refused. HasReply (item_of read) refused (S.state engine.old.store).told (S.state engine.new.store).told) }
+    ensures part { OnErr result (StopsReplying (item_of read) (S.state engine.old.store).told (S.state engine.new.store).told) }
     ensures reopens { OverTime S.clock S.left ReopensAlways engine.old.store engine.new.store }
     ensures shape { IsSameShape engine.old.tables.ext engine.new.tables.ext }
     ensures later { S.clock engine.old.store ≤ S.clock engine.new.store }

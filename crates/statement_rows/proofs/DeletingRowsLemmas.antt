@@ -23,6 +23,7 @@ use Rattle.cell_change.proofs.ChangeRunsLemmas.{in_space}
 use Rattle.cell_change.proofs.TableStepsLemmas.{takes_no_block}
 use Rattle.statement_rows.specs.RowsOfStatement.{ChangesRowsOf, HasTheseRows, IsReadyBetween, without_rows}
 use Rattle.statement_rows.proofs.OtherRowsLemmas.{lies_after_returns, lies_taken, rows_behind}
+use Rattle.statement_rows.proofs.OtherTablesLemmas.{others_kept}
 use Rattle.statement_rows.proofs.RowsThenLemmas.{RowsLeadOn, leads_all, leads_more, leads_none}
 use Rattle.statement_rows.proofs.TablePagesLemmas.{table_pages_kept}
 
@@ -59,6 +60,8 @@ module _ {S : Type 0} (g : Ghosts S) where
     places = TakesRows.one deletes.takes.takes deletes.takes.returns TakesRows.none;
     stands_for = stands_for;
     table_pages = table_pages_kept g before old new def owners forests ready.ready.stands works (touches_wider touches (in_space g before old def));
+    others = others_kept g before now old new def owners deletes.takes.owners_now forests deletes.takes.forests_now ready.sound.sound ready.ready.stands deletes.takes.changes
+        (touches_wider touches (in_space g before old def)) works.no_shorter;
   }
 
   -- ---- rows so far, and the rest

@@ -29,6 +29,7 @@ use Rattle.cell_change.proofs.ChangedRowLemmas.{slots_same}
 use Rattle.cell_change.proofs.ChangedSpaceLemmas.{shows_spots}
 use Rattle.cell_change.proofs.TableStepsLemmas.{places_no_block}
 use Rattle.statement_rows.specs.RowsOfStatement.{ChangesRowsOf, IsReadyBetween}
+use Rattle.statement_rows.proofs.OtherTablesLemmas.{others_kept}
 use Rattle.statement_rows.proofs.RowsThenLemmas.{RowsLeadOn, leads_all, leads_more, leads_none, rooms_next}
 use Rattle.statement_rows.proofs.ShownSpotsLemmas.{shown_spots}
 use Rattle.statement_rows.proofs.TablePagesLemmas.{table_pages_kept}
@@ -153,6 +154,7 @@ module _ {S : Type 0} (g : Ghosts S) (before now : Extents) (room_from room_now 
     places = PutsRows.one rid inserts.places.puts inserts.places.claims PutsRows.none;
     stands_for = stands_for;
     table_pages = table_pages_kept g before old new def owners forests ready.ready.stands works touches;
+    others = others_kept g before now old new def owners inserts.places.owners_now forests inserts.places.forests_now ready.sound.sound ready.ready.stands inserts.places.changes touches works.no_shorter;
   }
 
   -- blocks have as many slots

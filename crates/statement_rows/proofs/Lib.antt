@@ -3,6 +3,7 @@ pub mod DeletingStepsLemmas
 pub mod InsertingRowsLemmas
 pub mod InsertingStepsLemmas
 pub mod OtherRowsLemmas
+pub mod OtherTablesLemmas
 pub mod RowDamageLemmas
 pub mod RowsThenLemmas
 pub mod ShownSpotsLemmas

@@ -16,6 +16,7 @@ use Rattle.mdc_sound.specs.StandsForDatabase.{PagesStandFor}
 use Rattle.mdc_sound.proofs.NextNumberLemmas.{stands_next, with_next}
 use Rattle.cell_change.proofs.TableStepsLemmas.{changes_table_then, same_table}
 use Rattle.statement_rows.specs.RowsOfStatement.{ChangesRowsOf, IsReadyBetween}
+use Rattle.statement_rows.proofs.OtherTablesLemmas.{others_then, same_others}
 use Rattle.statement_rows.proofs.TablePagesLemmas.{same_table_pages, table_pages_then}
 
 -- ---- plain tables
@@ -80,6 +81,7 @@ module _ {S : Type 0} (g : Ghosts S) where
     places = places (spots_of g ext s def owners forests);
     stands_for = λ db stands. subst (PagesStandFor ext (with_table_page def (pages_of g s))) (sym (changed_none db def.number change same)) stands;
     table_pages = same_table_pages (pages_of g s);
+    others = same_others ext (pages_of g s) def.number;
   }
 
   -- where the first left each block one, both together are one change of rows
@@ -100,6 +102,7 @@ module _ {S : Type 0} (g : Ghosts S) where
     stands_for = λ db stands.
         subst (PagesStandFor ext (with_table_page def_now (pages_of g new))) (changed_twice db def.number change more both same) (second.stands_for (changed_at db def.number change) (first.stands_for db stands));
     table_pages = table_pages_then (pages_of g old) (pages_of g middle) (pages_of g new) first.table_pages second.table_pages;
+    others = others_then before mid ext (pages_of g old) (pages_of g middle) (pages_of g new) def.number first.table_pages first.others second.others;
   }
 
   -- ---- some rows of a statement, and the rest behind them

@@ -29,6 +29,7 @@ use Rattle.statement_rows.specs.RowsOfStatement.{ChangesRowsOf, HasTheseRows, Is
 use Rattle.statement_rows.specs.Turning.{turned_row}
 use Rattle.statement_rows.specs.declared.changing.Turned.{Turned}
 use Rattle.statement_rows.proofs.OtherRowsLemmas.{lies_after_claims, lies_turned, rows_behind}
+use Rattle.statement_rows.proofs.OtherTablesLemmas.{others_kept}
 use Rattle.statement_rows.proofs.RowsThenLemmas.{RowsLeadOn, leads_all, leads_more, leads_none}
 use Rattle.statement_rows.proofs.ShownSpotsLemmas.{shown_spots}
 use Rattle.statement_rows.proofs.TablePagesLemmas.{table_pages_kept}
@@ -93,6 +94,7 @@ module _ {S : Type 0} (g : Ghosts S) (before now : Extents) (room_from room_now 
     places = ChangesRows.one to turns.turns turns.claims ChangesRows.none;
     stands_for = stands_for;
     table_pages = table_pages_kept g before old new def owners forests ready.ready.stands works touches;
+    others = others_kept g before now old new def owners turns.owners_now forests turns.forests_now ready.sound.sound ready.ready.stands turns.changes touches works.no_shorter;
   }
 
   -- blocks have as many slots

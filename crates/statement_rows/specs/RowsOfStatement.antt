@@ -17,6 +17,7 @@ use Rattle.mdc_sound.specs.StandsForDatabase.{PagesStandFor, with_row, without_r
 use Rattle.mdc_sound.specs.TablePages.{table_page_at}
 use Rattle.mdc_sound.specs.TableRows.{PlacedRow}
 use Rattle.cell_change.specs.RowChanges.{HasThisRow}
+use Rattle.statement_rows.specs.OtherTables.{KeepsOtherTables}
 
 -- ---- before the statement
 
@@ -38,7 +39,7 @@ pub record KeepsTablePages (old new : PageList) : Type 0 where
 
 -- Rows of one table were changed one after the other. The table stands with right notes, the pages are sound as they are between
 -- two changes of rows, the table's blocks were changed as `Places` says, and whatever plain database the pages stood for, they
--- stand for the one whose table is changed so. Table pages stay.
+-- stand for the one whose table is changed so. Table pages stay, and so do the blocks of other tables.
 pub record ChangesRowsOf {S : Type 0} (g : Ghosts S) (before ext : Extents) (room_from : Entry → ℕ) (old new : S) (def def_now : TableDef)
     (owners : List Kind) (forests : TableForests) (Places : List Spot → List Spot → Type 0) (change : PlainTable → PlainTable) : Type 0 where
   pub owners_now : List Kind
@@ -49,6 +50,7 @@ pub record ChangesRowsOf {S : Type 0} (g : Ghosts S) (before ext : Extents) (roo
   pub stands_for : (db : Database) → PagesStandFor before (with_table_page def (pages_of g old)) db
       → PagesStandFor ext (with_table_page def_now (pages_of g new)) (changed_at db def.number change)
   pub table_pages : KeepsTablePages (pages_of g old) (pages_of g new)
+  pub others : KeepsOtherTables before ext (pages_of g old) (pages_of g new) def.number
 
 -- ---- the plain table
 

@@ -7,8 +7,9 @@ use Rattle.page_store.specs.FileStore.{attached_of}
 use Rattle.page_store.specs.Standing.{pages_of}
 use Rattle.script_session.specs.Told.{TellsMore}
 use Rattle.script_session.proofs.ToldLemmas.{same-tells_more}
+use Rattle.file_session.specs.Serving.{RepliesBySession}
 use Rattle.file_session.proofs.CausesLemmas.{cause_of_opening, cause_of_session, not_device}
-use Rattle.file_session.proofs.FirstEndsLemmas.{takes_unopened}
+use Rattle.file_session.proofs.FirstEndsLemmas.{replies_unopened, takes_unopened}
 use Rattle.file_session.proofs.FileRunsLemmas.{kept_beside, refused_on_file, run_on_file, stays_file, stays_well}
 use Rattle.file_session.proofs.ToldLemmas.{test_by_told}
 use Rattle.file_session.proofs.WellFilesLemmas.{sound_opened, states_standing, stop_of_well, well_is_served}
@@ -108,3 +109,15 @@ returns-in-Err-clause-left_alone g c = λ file is unserved other.
 
 pub returns-in-Err-clause-takes : goal.returns-in-Err-clause-takes
 returns-in-Err-clause-takes g c = takes_unopened (g.I.Source.left c.args.input.now) c.in-Err.field-0.fault c.stop_of_opening.result c.stop_of_opening.ensures
+
+pub returns-in-Ok-clause-replies : goal.returns-in-Ok-clause-replies
+returns-in-Ok-clause-replies g c =
+    let Replies : Option (List ℕ) → Type 0 =
+    λ tape. RepliesBySession (g.I.Source.left c.args.input.now) (g.I.Source.left c.serve_store.new.input) tape (g.H.Disk.beside c.serve_store.result.host).tape c.serve_store.result.end in
+    inr (subst Replies (ap (λ b. b.tape) c.in-Ok.ensures.opens.beside) c.serve_store.ensures.replies)
+
+pub returns-in-Err-clause-replies : goal.returns-in-Err-clause-replies
+returns-in-Err-clause-replies g c =
+    let new = c.in-Err.field-0.host in
+    replies_unopened (g.I.Source.left c.args.input.now) (g.H.Disk.beside c.args.host).tape (g.H.Disk.beside new).tape c.in-Err.field-0.fault c.stop_of_opening.result c.stop_of_opening.ensures
+    (ap (λ b. b.tape) (kept_beside g.H.Disk c.args.host new (MayComeFirst c.in-Err.field-0.fault) c.in-Err.ensures.opens_or_leaves))

@@ -1,9 +1,10 @@
 -- A session on an engine that was opened, or none where it wasn't.
-use Rattle.std.proofs.Common.{Err, subst, sym}
+use Rattle.std.proofs.Common.{Err, List, Option, subst, sym, ℕ}
+use Rattle.script_session.specs.Replying.{RepliesTo}
 use Rattle.script_session.specs.declared.stop.SessionStop.{SessionStop}
 use Rattle.script_session.proofs.ToldLemmas.{same-tells_more}
 use Rattle.file_session.specs.Running.{RunsOnStore}
-use Rattle.file_session.proofs.StoreRunsLemmas.{served_on_store, stopped_on_store, takes_stopped}
+use Rattle.file_session.proofs.StoreRunsLemmas.{replies_stopped, served_on_store, stopped_on_store, takes_stopped}
 use Rattle.file_session.proofs.serving.serve_pages.Goals as goal
 
 pub returns-in-Ok-clause-runs : goal.returns-in-Ok-clause-runs
@@ -30,3 +31,15 @@ returns-in-Err-clause-takes g c = takes_stopped (g.I.Source.left c.args.input.no
 
 pub returns-in-Err-clause-tells : goal.returns-in-Err-clause-tells
 returns-in-Err-clause-tells g c = same-tells_more _ _ c.in-Err.ensures.pages.told
+
+pub returns-in-Ok-clause-replies : goal.returns-in-Ok-clause-replies
+returns-in-Ok-clause-replies g c =
+    let script = g.I.Source.left c.args.input.now in
+    let left = g.I.Source.left c.serve-end.new.input in
+    let From : Option (List ℕ) → Type 0 = λ tape. RepliesTo script left tape (g.S.Pages.state c.serve-end.new.engine.store).told c.serve-end.result in
+    let Replies : g.row.S.Denot → Type 0 = λ s. RepliesTo script left (g.S.Pages.state c.args.store).told (g.S.Pages.state s).told c.serve-end.result in
+    subst Replies (sym c.close.ensures) (subst From c.in-Ok.ensures.pages.told c.serve-end.ensures.replies)
+
+pub returns-in-Err-clause-replies : goal.returns-in-Err-clause-replies
+returns-in-Err-clause-replies g c =
+    replies_stopped (g.I.Source.left c.args.input.now) (g.S.Pages.state c.args.store).told (g.S.Pages.state c.in-Err.field-0.store).told c.in-Err.field-0.stop c.from.result c.from.ensures c.in-Err.ensures.pages.told

@@ -1,5 +1,6 @@
 -- What is said of the store, said of its host.
 use Rattle.std.proofs.Common.{◌≡◌, ◌++◌, ℕ, List, Option, is_some, subst, sym, ◌∙◌, ap}
+use Rattle.script_session.specs.Replying.{RepliesTo}
 use Rattle.script_session.specs.Told.{TellsMore}
 use Rattle.script_session.proofs.ToldLemmas.{told_behind}
 use Rattle.script_session.specs.declared.stop.SessionStop.TheVariants as session
@@ -69,3 +70,10 @@ returns-clause-attaches g c =
     let last = c.serve_pages-answered.result.store in
     ap (λ host. g.H.Disk.attaches host) c.close.ensures.same
     ∙ attached_of-attaches last.desk.shape c.args.store.desk.shape (g.H.Disk.attaches last.host) (g.H.Disk.attaches c.args.store.host) c.serve_pages-answered.ensures.attached
+
+pub returns-clause-replies : goal.returns-clause-replies
+returns-clause-replies g c =
+    let ended = c.serve_pages-answered.result.end in
+    let Replies : Option (List ℕ) → Type 0 =
+    λ tape. RepliesTo (g.I.Source.left c.args.input.now) (g.I.Source.left c.serve_pages-answered.new.input) (g.H.Disk.beside c.args.store.host).tape tape ended in
+    (ended, c.end_of.ensures, subst Replies (sym (ap (λ host. (g.H.Disk.beside host).tape) c.close.ensures.same)) c.serve_pages-answered.ensures.replies)

@@ -27,6 +27,8 @@ returns-clause-does g c ready =
       adds = c.in_ok-place.ensures.adds;
       stands_for = c.in_ok-place.ensures.stands_for;
       told = c.in_ok-place.ensures.runs.works.steady.is_told;
+      shape = c.in_ok-place.ensures.shape;
+      touches = c.in_ok-place.ensures.runs.touches;
       rooms = c.forget.ensures;
     }) ready
 

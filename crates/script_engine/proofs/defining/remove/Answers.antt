@@ -14,11 +14,16 @@ returns-in_err-drop_table-clause-runs g c =
 pub returns-clause-does : goal.returns-clause-does
 returns-clause-does g c ready =
     removed g.P.Pages c.args.pages.now c.drop_table.new.pages c.args.tables.now _ c.args.table (record {
+      was_served = c.requires.served;
+      there = c.requires.there;
+      left = c.in_ok-drop_table.ensures.left;
       served = served_less c.args.tables.now.catalog c.drop_table.new.catalog c.args.table c.requires.served c.in_ok-drop_table.ensures.left c.in_ok-drop_table.ensures.limits;
       stored = c.in_ok-drop_table.ensures.stored;
       drops = c.in_ok-drop_table.ensures.drops;
       stands_for = c.in_ok-drop_table.ensures.stands_for;
       told = c.in_ok-drop_table.ensures.runs.works.steady.is_told;
+      shape = c.in_ok-drop_table.ensures.shape;
+      touches = c.in_ok-drop_table.ensures.runs.touches;
       rooms = c.forget.ensures;
     }) ready
 

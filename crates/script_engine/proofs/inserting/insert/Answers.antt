@@ -25,7 +25,7 @@ returns-in-Some-clause-does g c ready =
     let there = there_is _ _ c.requires.there in
     let same = c.turn_to.ensures.same in
     let at = ap (λ (t : Tables). def_at t.catalog t.noted) same ∙ there.1 in
-    refused_insert g.P.Pages c.args.pages.now c.args.tables.now c.turn_to.new.self c.args.table there.0 c.args.tuples c.in-Some.refusal (ap (λ (t : Tables). t.ext) same) there.1
+    refused_insert g.P.Pages c.args.pages.now c.args.tables.now c.turn_to.new.self c.args.table there.0 c.args.tuples c.in-Some.refusal (ap (λ (t : Tables). t.ext) same) (ap (λ (t : Tables). t.catalog) same) there.1
     (ap (λ tuples. first_refusal (tuple_causes there.0 tuples)) (sym c.as_slice.ensures) ∙ (of_that _ there.0 _ at c.in_ok-refusal.ensures.judges ∙ c.in-Some.is)) ready
     (ready_turned g.P.Pages c.args.pages.now c.args.tables.now c.turn_to.new.self c.args.table c.requires.served same c.turn_to.ensures.rooms ready)
 

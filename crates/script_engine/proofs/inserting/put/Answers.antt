@@ -1,7 +1,8 @@
-use Rattle.std.proofs.Common.{◌<◌, ap, length, sym, subst, arith}
+use Rattle.std.proofs.Common.{◌<◌, ap, length, refl, sym, subst, arith}
+use Rattle.std.specs.Prelude.{IsSome}
 use Rattle.store_api.proofs.RunsOverPagesLemmas.{runs_then}
 use Rattle.entry_tree.proofs.ClaimsLemmas.{if_err_by}
-use Rattle.script_engine.proofs.InsertedLemmas.{each_written, full_insert, inserted, lacks_never, may_number_back, numbered_back}
+use Rattle.script_engine.proofs.InsertedLemmas.{full_insert, inserted, lacks_never, may_number_back, numbered_back, stands_on}
 use Rattle.script_engine.proofs.PuttingTuplesLemmas.{numbers_left, of_that, there_is}
 use Rattle.script_engine.proofs.ServedDefsLemmas.{served_below, served_on}
 use Rattle.extent_map.specs.Owners.{IsSameShape}
@@ -15,17 +16,16 @@ returns-in_err-put_rows-clause-full g c =
     if_err_by c.from_residual.result c.in_err-put_rows.field-0.0 _ c.from_residual.ensures.1
     (full_insert g.P.Pages c.args.pages.now c.args.tables.now there.0 c.args.tuples c.in_err-put_rows.field-0.0 c.requires.served there.1 (of_that _ there.0 _ there.1 c.requires.unsaid) (c.in_err-put_rows.ensures.full there.0 there.1))
 
-pub save_table-requires-clause-place : goal.save_table-requires-clause-place
-save_table-requires-clause-place g c =
+pub save_next-requires-clause-place : goal.save_next-requires-clause-place
+save_next-requires-clause-place g c =
     let below : c.args.tables.now.noted < 16 = served_below c.args.tables.now.catalog c.args.tables.now.noted (there_is _ _ c.requires.there).0 c.requires.served (there_is _ _ c.requires.there).1 in
     omega (arith, c.in_ok-put_rows.ensures.noted, below)
 
-pub save_table-requires-clause-limits : goal.save_table-requires-clause-limits
-save_table-requires-clause-limits g c =
+pub save_next-requires-clause-defined : goal.save_next-requires-clause-defined
+save_next-requires-clause-defined g c =
     let there = there_is _ _ c.requires.there in
-    each_written c.put_rows.new.tables.catalog c.put_rows.new.tables.noted
-    (subst AreServed (sym (c.in_ok-put_rows.ensures.numbers there.0 there.1))
-    (served_on c.args.tables.now.catalog c.args.tables.now.noted there.0 (length c.args.tuples) c.requires.served there.1 (numbers_left there.0 c.args.tuples (of_that _ there.0 _ there.1 c.requires.unsaid))))
+    subst IsSome (sym (stands_on c.args.tables.now.catalog c.put_rows.new.tables.catalog c.args.tables.now.noted c.put_rows.new.tables.noted there.0 (length c.args.tuples) c.requires.served there.1
+    (c.in_ok-put_rows.ensures.numbers there.0 there.1) c.in_ok-put_rows.ensures.noted)) refl
 
 pub number_back-requires-clause-served : goal.number_back-requires-clause-served
 number_back-requires-clause-served g c =
@@ -42,7 +42,7 @@ number_back-requires-clause-there g c =
 pub returns-in-Ok-clause-does : goal.returns-in-Ok-clause-does
 returns-in-Ok-clause-does g c ready =
     let there = there_is _ _ c.requires.there in
-    inserted g.P.Pages c.args.pages.now c.put_rows.new.pages c.save_table.new.pages c.args.tables.now c.put_rows.new.tables there.0 c.args.tuples c.len-count.result (record {
+    inserted g.P.Pages c.args.pages.now c.put_rows.new.pages c.save_next.new.pages c.args.tables.now c.put_rows.new.tables there.0 c.args.tuples c.len-count.result (record {
       served = c.requires.served;
       at = there.1;
       unsaid = of_that _ there.0 _ there.1 c.requires.unsaid;

@@ -1,7 +1,9 @@
-use Rattle.std.proofs.Common.{◌≡◌, Err, None, Ok, sym, inl, inr, ◌∙◌, ap}
+use Rattle.std.proofs.Common.{◌≡◌, ℕ, List, Option, subst, Err, None, Ok, sym, inl, inr, ◌∙◌, ap}
 use Rattle.std.proofs.lemmas.Result.{err_from_is_err_and}
 use Rattle.script_engine.specs.declared.stop.EngineStop.{EngineStop}
 use Rattle.script_engine.specs.declared.stop.EngineStop.TheVariants as engine
+use Rattle.mdc_ast.specs.meaning.Texts.{outcome_text}
+use Rattle.mdc_outside.specs.Outside.{Takes}
 use Rattle.store_api.specs.declared.fault.Damage.{Damage}
 use Rattle.script_session.specs.Stops.{stop_of_engine}
 use Rattle.script_session.specs.declared.stop.SessionStop.TheVariants.{Damaged}
@@ -80,3 +82,38 @@ returns-in_err-tell_outcome-clause-reopens g c =
 pub returns-clause-reopens : goal.returns-clause-reopens
 returns-clause-reopens g c =
     rw c.in_ok-settle.ensures.stays (reopens_then g.S.Pages c.args.engine.now.store c.outcome_of.new.engine.store c.tell_outcome.new.engine.store c.in_ok-outcome.ensures.answers.outside.time c.in_ok-tell_outcome.ensures.time)
+
+-- ---- what is told, whatever the pages are
+
+pub returns-in_err-outcome-clause-part : goal.returns-in_err-outcome-clause-part
+returns-in_err-outcome-clause-part g c =
+    let p = err_from_is_err_and c.from_residual.result c.from_residual.ensures.1 in
+    rw p.1 (inr c.in_err-outcome.ensures.answers.outside.told)
+
+pub returns-in_err-tell_outcome-clause-part : goal.returns-in_err-tell_outcome-clause-part
+returns-in_err-tell_outcome-clause-part g c =
+    let answers = c.in_ok-outcome.ensures.answers in
+    let tells = c.in_err-tell_outcome.ensures in
+    let new = g.S.Pages.state c.tell_outcome.new.engine.store in
+    let p = err_from_is_err_and c.from_residual-in_err-tell_outcome.result c.from_residual-in_err-tell_outcome.ensures.1 in
+    rw p.1 (inl (record {
+      outcome = c.in_ok-outcome.outcome;
+      own = answers.own;
+      part = tells.err.0;
+      unsaid = tells.err.1.0;
+      text = tells.err.1.1;
+      told = subst (λ (tape : Option (List ℕ)). Takes tape tells.err.0 new.told) answers.outside.told
+          (takes-tells (record (g.S.Pages.state c.outcome_of.new.engine.store) { hand = None }) (record new { hand = None }) tells.err.0 tells.err.2);
+    }))
+
+pub returns-clause-replies : goal.returns-clause-replies
+returns-clause-replies g c =
+    let answers = c.in_ok-outcome.ensures.answers in
+    let new = g.S.Pages.state c.tell_outcome.new.engine.store in
+    let tells = takes-tells (g.S.Pages.state c.outcome_of.new.engine.store) new (outcome_text c.in_ok-outcome.outcome) c.in_ok-tell_outcome.ensures.ok in
+    rw c.in_ok-settle.ensures.stays (record {
+      outcome = c.in_ok-outcome.outcome;
+      own = answers.own;
+      noted = c.is_refused.ensures;
+      told = subst (λ (tape : Option (List ℕ)). Takes tape (outcome_text c.in_ok-outcome.outcome) new.told) answers.outside.told tells;
+    })

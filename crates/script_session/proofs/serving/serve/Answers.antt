@@ -13,6 +13,7 @@ use Rattle.script_session.specs.declared.stop.SessionStop.TheVariants.{Damaged, 
 use Rattle.script_session.proofs.AskingLemmas.{asked_next, given_first, given_next}
 use Rattle.script_session.proofs.EndingLemmas.{nothing_left, taken_by_reader, taken_by_turn, takes_script}
 use Rattle.script_session.proofs.GoingLemmas.{same_shape, shape_then}
+use Rattle.script_session.proofs.ReplyingLemmas.{replied_first, replied_more, replies_done, replies_reading, replies_turning, replies_unasked}
 use Rattle.script_session.proofs.ServingLemmas.{answered_first, answered_more, exit_done, exit_first, exit_reading, exit_turning}
 use Rattle.script_session.proofs.ToldLemmas.{same-tells_more, tells_more_then, took_nothing}
 use Rattle.script_session.proofs.serving.serve.Goals as goal
@@ -30,6 +31,7 @@ loop-reply-init g c =
       items = [];
       given = given_first laws (g.I.Source.left c.args.input.now) c.in_ok-statements.statements c.in_ok-statements.ensures.at;
       answered = λ ready. answered_first g.S.Pages c.args.engine.now ready;
+      replied = replied_first (g.S.Pages.state c.args.engine.now.store).told;
       may = c.requires.may;
       fits = omega (arith, ap (λ (reader : Holding). reader.count) c.in_ok-statements.ensures.held);
       shape = same_shape c.args.engine.now.tables.ext;
@@ -121,6 +123,7 @@ loop-reply-preserved g c =
       items = was.items ++ item_of read ∷ [];
       given = given_next script (g.I.Source.left c.next.new.source) c.next.new.self was.items read asked;
       answered = λ ready. let answered = was.answered ready in answered_more g.S.Pages (item_of read) answered was.shape (turns.ends answered.ready);
+      replied = replied_more (item_of read) _ _ _ was.replied turns.replies;
       may = turns.may;
       fits = elim asks.within [ inl fits ↦ fits | inr e ↦ absurd (cc) ];
       shape = shape_then was.shape turns.shape;
@@ -202,3 +205,41 @@ returns-clause-takes g c =
 
 pub returns-clause-reopens : goal.returns-clause-reopens
 returns-clause-reopens g c = c.loop-reply.invariant.reopens
+
+pub returns-in_err-statements-clause-replies : goal.returns-in_err-statements-clause-replies
+returns-in_err-statements-clause-replies g c =
+    let p = err_from_is_err_and c.from_residual.result c.from_residual.ensures.1 in
+    rw (p.1, p.2) (replies_unasked c.script_laws.ensures (g.I.Source.left c.args.input.now) (g.S.Pages.state c.args.engine.now.store).told)
+
+pub returns-in_err-read-clause-replies : goal.returns-in_err-read-clause-replies
+returns-in_err-read-clause-replies g c =
+    let laws = c.script_laws.ensures in
+    let was = c.loop-reply.invariant in
+    let script = g.I.Source.left c.args.input.now in
+    let asks = c.in_err-read.ensures in
+    let stop = c.in_err-read.field-0.0 in
+    let asked = asked_next laws g.I.Source.left c.loop-reply.input c.next.new.source c.loop-reply.statements c.next.new.self (Err stop) script was.items was.given asks.goes asks.finished asks.within in
+    let p = err_from_is_err_and c.from_residual-in_err-read.result c.from_residual-in_err-read.ensures.1 in
+    rw (p.1, p.2) (replies_reading laws script (g.I.Source.left c.next.new.source) c.next.new.self was.items stop _ _ asked was.replied)
+
+pub returns-in_err-refused-clause-replies : goal.returns-in_err-refused-clause-replies
+returns-in_err-refused-clause-replies g c =
+    let laws = c.script_laws.ensures in
+    let was = c.loop-reply.invariant in
+    let script = g.I.Source.left c.args.input.now in
+    let asks = c.in_ok-read.ensures in
+    let asked = rw c.in-Some.is at (asked_next laws g.I.Source.left c.loop-reply.input c.next.new.source c.loop-reply.statements c.next.new.self (Ok c.in_ok-read.field-0)
+    script was.items was.given asks.goes asks.finished asks.within) in
+    let turns = c.in_err-refused.ensures in
+    let p = err_from_is_err_and c.from_residual-in_err-refused.result c.from_residual-in_err-refused.ensures.1 in
+    rw (p.1, p.2) (replies_turning laws script (g.I.Source.left c.next.new.source) c.next.new.self was.items c.in-Some.read c.in_err-refused.field-0.0 _ _ _ asked was.replied turns.stop turns.part)
+
+pub returns-clause-replies : goal.returns-clause-replies
+returns-clause-replies g c =
+    let laws = c.script_laws.ensures in
+    let was = c.loop-reply.invariant in
+    let script = g.I.Source.left c.args.input.now in
+    let asks = c.in_ok-read.ensures in
+    let asked = rw c.in_default.is at (asked_next laws g.I.Source.left c.loop-reply.input c.next.new.source c.loop-reply.statements c.next.new.self (Ok c.in_ok-read.field-0)
+    script was.items was.given asks.goes asks.finished asks.within) in
+    rw c.by_refusal.ensures (replies_done script (g.I.Source.left c.next.new.source) c.next.new.self was.items c.loop-reply.refused _ _ asked was.replied)

@@ -7,6 +7,7 @@ use Rattle.mdc_words.specs.Time.{OverTime}
 use Rattle.script_session.specs.Leaving.{ReopensAlways}
 use Rattle.script_session.specs.Told.{TellsMore}
 use Rattle.script_session.proofs.AskingLemmas.{HasGiven}
+use Rattle.script_session.proofs.ReplyingLemmas.{HasReplied}
 use Rattle.script_session.proofs.ServingLemmas.{HasAnswered}
 use Rattle.script_session.proofs.serving.serve.Given as goal
 
@@ -19,6 +20,7 @@ invariant-loop-reply g l =
       items : List Item;
       given : HasGiven (left l.fn.input) (left l.input) l.statements items;
       answered : IsReadyEngine g.S.Pages l.fn.engine → HasAnswered g.S.Pages items l.refused l.fn.engine l.engine;
+      replied : HasReplied items l.refused (state l.fn.engine.store).told (state l.engine.store).told;
       may : MayCall g.S.Pages l.engine;
       fits : l.statements.count ≤ 67108864;
       shape : IsSameShape l.fn.engine.tables.ext l.engine.tables.ext;

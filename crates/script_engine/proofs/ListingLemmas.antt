@@ -1,0 +1,138 @@
+-- LIST BLOCKS on an engine: what it says of a table of ready pages, and that nothing changes.
+use Rattle.std.proofs.Common.{◌≡◌, ℕ, List, Option, Some, None, Result, Ok, Err, IsErrAnd, refl, sym, ap, subst, ◌∙◌}
+use Rattle.std.specs.Prelude.{false, true, is_some, length, option_and_then}
+use Rattle.mdc_words.proofs.FaultsLemmas.{counts_fault_as}
+use Rattle.mdc_ast.specs.declared.definition.TableDef.{TableDef}
+use Rattle.mdc_ast.specs.declared.name.Name.{Name}
+use Rattle.mdc_ast.specs.declared.reply.Outcome.{Outcome}
+use Rattle.mdc_ast.specs.declared.reply.Outcome.TheVariants as said
+use Rattle.mdc_ast.specs.declared.statement.Stmt.TheVariants.{ListBlocks}
+use Rattle.mdc_ast.specs.meaning.Cause.{NoTable, refusal_of}
+use Rattle.mdc_ast.specs.meaning.Definitions.{Definitions, def_at, def_named, place_of}
+use Rattle.store_api.specs.Frame.{NoPage}
+use Rattle.store_api.specs.RunsOverPages.{RunsOverPages}
+use Rattle.store_api.specs.declared.fault.StoreFault.{StoreFault}
+use Rattle.store_api.specs.declared.pages.Pages.{Ghosts}
+use Rattle.store_api.proofs.RunsOverPagesLemmas.{runs_wider}
+use Rattle.extent_map.specs.declared.kind.Kind.{Kind}
+use Rattle.entry_tree.proofs.ClaimsLemmas.{shape_none}
+use Rattle.block_map.specs.MapLines.{free_blocks, used_blocks}
+use Rattle.table_trees.specs.TableTrees.{map_place}
+use Rattle.table_trees.specs.TreesBeside.{IsTreePageAt}
+use Rattle.table_trees.proofs.ToldPagesLemmas.{tree_of_told}
+use Rattle.mdc_sound.specs.StandingTable.{BreaksTable, StandsTable, TableForests, pages_of}
+use Rattle.mdc_table.specs.TableReading.{CountsBlocks}
+use Rattle.mdc_table.specs.declared.account.Account.{Account}
+use Rattle.row_judging.specs.Executing.{answer_of}
+use Rattle.statement_rows.specs.RowsOfStatement.{AnyPage}
+use Rattle.script_engine.specs.Held.{HeldPages, KeepsBase, StandsForSession, StepsOnPages}
+use Rattle.script_engine.specs.Held.StepsOnPages.{lists, turns}
+use Rattle.script_engine.specs.Leaving.{IsAllCommitted}
+use Rattle.script_engine.specs.Listing.{TellsBlocks, blocks_told}
+use Rattle.script_engine.specs.Ready.{AreServed, BreaksDatabase, IsReady}
+use Rattle.script_engine.specs.Serving.{IsReadyEngine, MayCall, held_by}
+use Rattle.script_engine.specs.Stops.{stop_of}
+use Rattle.script_engine.specs.Turns.{Executes}
+use Rattle.script_engine.specs.declared.engine.Engine.{Engine}
+use Rattle.script_engine.specs.declared.stop.EngineStop.{EngineStop}
+use Rattle.script_engine.specs.declared.tables.Tables.{Tables}
+use Rattle.script_engine.proofs.LeavingLemmas.{leaves_steady}
+use Rattle.script_engine.proofs.LeavingOthersLemmas.{leaves_others_still}
+use Rattle.script_engine.proofs.ScannedTablesLemmas.{StandsReady, stands_ready}
+use Rattle.script_engine.proofs.TryingLemmas.{stop_counts, stop_names, stop_output}
+use Rattle.script_engine.proofs.TurnsLemmas.{executes_stop, outside_steady, ready_along, same_held}
+
+-- the definition of a name has a place
+named_at : (defs : Definitions) (name : Name) (def : TableDef) → def_named defs name ≡ Some def → (place : ℕ) × (def_at defs place ≡ Some def)
+named_at defs name def named = go (place_of defs name) named
+  where
+    go : (found : Option ℕ) → option_and_then (def_at defs) found ≡ Some def → (place : ℕ) × (def_at defs place ≡ Some def)
+    go None is = absurd (cc)
+    go (Some place) is = (place, is)
+
+-- ---- the blocks of a table
+
+module _ {S : Type 0} (g : Ghosts S) (old : S) (tables : Tables) (name : Name) (def : TableDef) (served : AreServed tables.catalog) (named : def_named tables.catalog name ≡ Some def) where
+  -- a table of ready pages stands
+  stands_named : IsReady g old tables → StandsReady g tables.ext old def
+  stands_named ready = let at = named_at tables.catalog name def named in stands_ready g old tables at.0 def served ready at.1
+
+  -- counting its blocks meets damage where they weren't
+  pub runs_account : (new : S) {fault : Option StoreFault} → RunsOverPages g NoPage (IsTreePageAt g old (map_place def)) (BreaksTable g tables.ext old def) old new fault
+      → RunsOverPages g NoPage AnyPage (BreaksDatabase g old tables) old new fault
+  runs_account new run = runs_wider run (λ p there none. none) (λ p of. tt) (λ damage breaks ready. let st = stands_named ready in breaks.broken st.owners st.forests st.stands)
+
+  -- the counts are those of its block map
+  pub tells_account : (account : Account) (outcome : Outcome) → ((owners : List Kind) (forests : TableForests) → StandsTable g tables.ext old def owners forests → CountsBlocks forests.map account)
+      → outcome ≡ blocks_told account.used account.free account.pending → IsReady g old tables → TellsBlocks (pages_of g old) def outcome
+  tells_account account outcome counts is ready =
+      let st = stands_named ready in
+      let here = counts st.owners st.forests st.stands in
+      let used = length (used_blocks st.forests.map) in
+      let free = length (free_blocks st.forests.map) in
+      record {
+        map_tree = st.forests.map;
+        has_map = tree_of_told g old st.stands.told (map_place def) st.forests.map st.stands.trees.held.0;
+        tells = is ∙ (ap (λ n. blocks_told n account.free account.pending) here.used ∙ (ap (λ n. blocks_told used n account.pending) here.free ∙ ap (λ n. blocks_told used free n) here.pending));
+      }
+
+-- ---- the engine
+
+module _ {S : Type 0} (g : Ghosts S) (old : Engine S) (store : S) (name : Name) (same : (g.state store).work ≡ (g.state old.store).work) where
+  abbrev new : Engine S
+  new = record old { store = store }
+
+  module _ {fault : Option StoreFault} (runs : RunsOverPages g NoPage AnyPage (BreaksDatabase g old.store old.tables) old.store store fault) where
+    still : held_by g new ≡ held_by g old
+    still = same_held (held_by g old) (held_by g new) runs.works.steady.base same refl refl
+
+    base_still : IsAllCommitted (held_by g old) → KeepsBase (held_by g old) (held_by g new)
+    base_still all = record { closed = λ shut. runs.works.steady.base ∙ (all shut ∙ sym same); is_open = λ opened. runs.works.steady.base }
+
+    -- a name that no table has turns no session
+    absent_steps : (outcome : Outcome) → def_named old.tables.catalog name ≡ None → outcome ≡ said.Refused (refusal_of (NoTable name)) → IsReadyEngine g old
+        → StepsOnPages old.tables.ext (held_by g old) (ListBlocks name) outcome (held_by g new)
+    absent_steps outcome absent is ready = turns (ap is_some absent)
+        (λ session stands. record {
+          session = subst (λ (held : HeldPages). StandsForSession old.tables.ext held session) (sym still) stands;
+          answers = ap answer_of (sym is);
+        })
+        (base_still ready.closed) tt
+        (leaves_others_still old.tables.ext (ListBlocks name) (held_by g old) (held_by g new) same refl) (λ refusal says. still)
+        (λ done says place def changed at. absurd (cc))
+
+    list_steps : (outcome : Outcome) → (def_named old.tables.catalog name ≡ None → outcome ≡ said.Refused (refusal_of (NoTable name)))
+        → ((def : TableDef) → def_named old.tables.catalog name ≡ Some def → IsReady g old.store old.tables → TellsBlocks (pages_of g old.store) def outcome) → IsReadyEngine g old
+        → StepsOnPages old.tables.ext (held_by g old) (ListBlocks name) outcome (held_by g new)
+    list_steps outcome absent tells ready = go (def_named old.tables.catalog name) refl
+      where
+        go : (found : Option TableDef) → def_named old.tables.catalog name ≡ found → StepsOnPages old.tables.ext (held_by g old) (ListBlocks name) outcome (held_by g new)
+        go None named = absent_steps outcome named (absent named) ready
+        go (Some def) named = lists name def refl named still (tells def named ready.work)
+
+  -- it was answered
+  pub list_done : (outcome : Outcome) → MayCall g old → old.served ≡ true → RunsOverPages g NoPage AnyPage (BreaksDatabase g old.store old.tables) old.store store None
+      → (def_named old.tables.catalog name ≡ None → outcome ≡ said.Refused (refusal_of (NoTable name)))
+      → ((def : TableDef) → def_named old.tables.catalog name ≡ Some def → IsReady g old.store old.tables → TellsBlocks (pages_of g old.store) def outcome)
+      → Executes g (ListBlocks name) (Ok outcome) old new
+  list_done outcome may served runs absent tells =
+      let steady = runs.works.steady in
+      record {
+        steps = λ ready. (list_steps runs outcome absent tells ready, ready_along g old store steady.is_told steady.base same ready);
+        may = record { going = steady.ended ∙ may.going; unmarked = runs.works.marked ∙ may.unmarked; served = may.served };
+        keeps = λ all. base_still runs all;
+        leaves = λ ready. leaves_steady g (ListBlocks name) old new steady;
+        refused = λ refusal is. still runs;
+        unserved = λ unserved other outcome is. let wrong : true ≡ false = sym served ∙ unserved in absurd (cc);
+        damaged = λ damage e ready. absurd (cc);
+        shape = shape_none old.tables.ext;
+        outside = outside_steady g (Ok outcome) old new steady (counts_fault_as (λ r. absurd (cc)) (λ r. absurd (cc)) runs.cause.device) (λ r. absurd (cc));
+      }
+
+  -- the pages couldn't be read
+  pub list_stops : (result : Result Outcome EngineStop) (fault : StoreFault) → IsErrAnd result (λ e. e ≡ stop_of fault)
+      → RunsOverPages g NoPage AnyPage (BreaksDatabase g old.store old.tables) old.store store (Some fault) → Executes g (ListBlocks name) result old new
+  list_stops result fault is runs =
+      executes_stop g {X = Outcome} (ListBlocks name) result (stop_of fault) old new is (λ damage e ready. runs.cause.damaged damage (ap Some (stop_names fault damage e)) ready.work)
+      (λ ready. leaves_steady g (ListBlocks name) old new runs.works.steady) (shape_none old.tables.ext)
+      (outside_steady g (Err (stop_of fault)) old new runs.works.steady (stop_counts fault runs.cause.device) (λ r. stop_output fault (cc)))

@@ -1,0 +1,272 @@
+-- What a statement leaves of the tables that it doesn't change.
+use Rattle.std.proofs.Common.{◌≡◌, ◌≢◌, ◌⊎◌, ◌<◌, ◌+◌, ◌∙◌, ℕ, List, [], Option, Some, None, inl, inr, refl, sym, ap, subst, arith}
+use Rattle.std.specs.Prelude.{IsSome, IsTrue, option_and_then, slice_get, slice_set}
+use Rattle.std.proofs.lemmas.Bool.{cases_eq}
+use Rattle.std.proofs.lemmas.Option.{same_Some}
+use Rattle.mdc_words.proofs.PlacesLemmas.{slice_get-set_other, slice_get-set_same}
+use Rattle.mdc_ast.specs.declared.bound.Bound.{Bound}
+use Rattle.mdc_ast.specs.declared.bound.Bound.TheVariants as bound
+use Rattle.mdc_ast.specs.declared.definition.TableDef.{TableDef}
+use Rattle.mdc_ast.specs.meaning.Definitions.{Definitions, def_at, empty_place, with_def, without_def}
+use Rattle.store_api.specs.Extents.{first_page_of}
+use Rattle.store_api.specs.Frame.{OnlyPage, Touches}
+use Rattle.store_api.specs.declared.pages.Pages.{Ghosts}
+use Rattle.extent_map.specs.Kinds.{is_unused_place}
+use Rattle.extent_map.specs.Map.{IsSpacePage}
+use Rattle.extent_map.specs.Owners.{IsSameShape, extent_of, owner_of, place_in_extent}
+use Rattle.extent_map.specs.declared.extents.Extents.{Extents}
+use Rattle.extent_map.specs.declared.kind.Kind.{Kind}
+use Rattle.extent_map.specs.declared.kind.Kind.TheVariants.{Free, Block}
+use Rattle.entry_tree.specs.Standing.{IsIdlePage}
+use Rattle.entry_tree.proofs.ClaimsLemmas.{shape_none}
+use Rattle.entry_tree.proofs.UsedPagesLemmas.{shape_back}
+use Rattle.block_map.specs.MapLines.{mapped_blocks}
+use Rattle.table_trees.specs.ToldPages.{PageList, told_pages}
+use Rattle.table_trees.proofs.ToldPagesLemmas.{told_of_map}
+use Rattle.mdc_sound.specs.RunningFull.{ShowsTableSpots}
+use Rattle.mdc_sound.specs.SoundDatabase.{KeepAllRules, with_table_page}
+use Rattle.mdc_sound.specs.SpaceRules.{DatabaseView, IsTablePlaceSound}
+use Rattle.mdc_sound.specs.StandingTable.{IsBlockPageOf, StandsTable, pages_of}
+use Rattle.mdc_sound.specs.TableViews.{TableView}
+use Rattle.mdc_sound.proofs.SoundDatabaseLemmas.{length-with_table_page, page_at-with_table_page, without_table_page}
+use Rattle.mdc_sound.proofs.SpaceRulesLemmas.{range_length}
+use Rattle.mdc_sound.proofs.StandingTableLemmas.{block_kept, forests_of, map_of_rules, stands_of_rules, stands_still}
+use Rattle.statement_rows.specs.OtherTables.{KeepsBlocks, KeepsOtherTables}
+use Rattle.stored_catalog.specs.AroundTable.{view_with}
+use Rattle.stored_catalog.specs.TreeRuns.{IsAddingPage, IsDroppingPage}
+use Rattle.stored_catalog.proofs.EnteringLemmas.{empty_place_below, lowest_place}
+use Rattle.stored_catalog.proofs.LeftDefinitionsLemmas.{def_there, stored_at}
+use Rattle.stored_catalog.proofs.OpenedTableLemmas.{defined_there}
+use Rattle.script_engine.specs.Doing.{changed_place}
+use Rattle.script_engine.specs.Others.{FreesBlocks, HasNoBlock, KeepsOthers, touched_place}
+use Rattle.script_engine.specs.Ready.{AreServed, IsReady}
+use Rattle.script_engine.specs.declared.tables.Tables.{Tables}
+use Rattle.script_engine.proofs.ComingTablesLemmas.{frees_along, no_block_along, no_block_mapped, none_comes, none_goes}
+use Rattle.script_engine.proofs.OtherBlocksLemmas.{stands_keeps}
+use Rattle.script_engine.proofs.ServedDefsLemmas.{def_at_set, served_below}
+use Rattle.script_engine.proofs.ShapeLemmas.{shows_along}
+
+-- the table whose rows a statement changes is the one that it may change
+pub touched_is : (statement : Bound) (place : ℕ) → changed_place statement ≡ Some place → touched_place statement ≡ Some place
+touched_is (bound.Insert table tuples) place is = is
+touched_is (bound.Delete table pred) place is = is
+touched_is (bound.Update table sets pred) place is = is
+touched_is statement place is = absurd (cc)
+
+-- a definition that is there stands in one of the 16 places
+pub there_below : (defs : Definitions) (place : ℕ) → AreServed defs → IsSome (def_at defs place) → place < 16
+there_below defs place served there = go (def_at defs place) refl there
+  where
+    go : (found : Option TableDef) → def_at defs place ≡ found → IsSome found → place < 16
+    go None at some = absurd (cc)
+    go (Some def) at some = served_below defs place def served at
+
+-- ---- nothing is changed
+
+-- the same pages have the same blocks, whatever is noted of the extents
+pub keeps_others_itself : (before ext : Extents) (old new : PageList) (defs now : Definitions) (place : Option ℕ) → IsSameShape before ext → new ≡ old → now ≡ defs → KeepsOthers before ext old new defs now place
+keeps_others_itself before ext old new defs now place shape pages same = record {
+  each = λ t other apart at. (
+    ap (λ all. def_at all t) same ∙ at,
+    λ was shows. (was, subst (λ all. ShowsTableSpots ext all other was) (sym pages) (shows_along before ext old other was shape shows), refl),
+  );
+  made = λ t def none some. absurd (none_comes (def_at defs t) (def_at now t) def (ap (λ all. def_at all t) same) none some);
+  gone = λ t def some none. absurd (none_goes (def_at defs t) (def_at now t) def (ap (λ all. def_at all t) same) some none);
+}
+
+-- and what is kept so is kept in extents of the shape at first
+pub others_along : (before ext : Extents) (old new : PageList) (defs now : Definitions) (place : Option ℕ) → IsSameShape before ext → KeepsOthers before ext old new defs now place → KeepsOthers before before old new defs now place
+others_along before ext old new defs now place shape keeps =
+    let back = shape_back before ext shape in
+    record {
+      each = λ t other apart at.
+          let kept = keeps.each t other apart at in (kept.0, λ was shows. let is = kept.1 was shows in (is.0, shows_along ext before new other is.0 back is.1, is.2));
+      made = λ t def none some. no_block_along ext before new def back (keeps.made t def none some);
+      gone = λ t def some none. frees_along before ext before old new t back (keeps.gone t def some none);
+    }
+
+-- ---- one change after another
+
+-- what two changes one after the other keep
+pub keeps_then : (before mid ext : Extents) (old middle new : PageList) (def : TableDef) → KeepsBlocks before mid old middle def → KeepsBlocks mid ext middle new def → KeepsBlocks before ext old new def
+keeps_then before mid ext old middle new def first second was shows =
+    let is = first was shows in
+    let after = second is.0 is.1 in
+    (after.0, after.1, after.2 ∙ is.2)
+
+-- ---- a table page is written
+
+module _ (ext : Extents) (written : TableDef) (pages : PageList) (view : DatabaseView) (keeps : KeepAllRules ext (with_table_page written pages) view) (low : written.number < 16) (t : ℕ) (table : TableView)
+    (there : slice_get view.places t ≡ Some (Some table)) where
+  stands_now : StandsTable told_pages ext (with_table_page written pages) table.def view.owners (forests_of table)
+  stands_now = stands_of_rules ext (with_table_page written pages) view keeps.first t table there
+
+  -- a table that stands then stood before
+  stood : StandsTable told_pages ext pages table.def view.owners (forests_of table)
+  stood =
+      stands_still (OnlyPage (1 + written.number)) ext (with_table_page written pages) pages table.def view.owners (forests_of table) stands_now (without_table_page written pages) refl
+      (omega (arith, length-with_table_page written pages))
+      (λ p on only. omega (arith, on.0, only, low))
+      (λ p l only. omega (arith, (stands_now.trees.used p l).page.behind, only, low))
+      (λ p of only. omega (arith, of.page.behind, only, low))
+
+  -- and no block lies on a table page
+  pub written_keeps : KeepsBlocks ext ext pages (with_table_page written pages) table.def
+  written_keeps =
+      stands_keeps ext ext pages (with_table_page written pages) table.def view.owners view.owners (forests_of table) (forests_of table) (shape_none ext) stood stands_now refl
+      (λ e within own. record { each = λ j inside. page_at-with_table_page written pages (first_page_of ext.cap ext.extent_pages e + j) (λ is. omega (arith, is, low)) })
+
+-- ---- rows of one table were changed
+
+-- a definition elsewhere
+elsewhere : (defs now : Definitions) (place t : ℕ) (def : Option TableDef) → now ≡ slice_set defs place def → t ≢ place → def_at now t ≡ def_at defs t
+elsewhere defs now place t def is apart = ap (λ all. def_at all t) is ∙ ap (option_and_then (λ d. d)) (slice_get-set_other defs place def t apart)
+
+module _ {S : Type 0} (g : Ghosts S) (old mid : S) (before now : Tables) (number : ℕ) (same : number ≡ before.noted) (served : AreServed before.catalog) (ready : IsReady g old before)
+    (others : KeepsOtherTables before.ext now.ext (pages_of g old) (pages_of g mid) number) where
+  others_kept : (t : ℕ) (other : TableDef) → t ≢ before.noted → def_at before.catalog t ≡ Some other → KeepsBlocks before.ext now.ext (pages_of g old) (pages_of g mid) other
+  others_kept t other apart at =
+      others.each t other (served_below before.catalog t other served at) (λ is. apart (is ∙ same)) (stored_at (pages_of g old) before.catalog t other ready.stored at)
+
+  -- no page was written besides
+  pub others_changed : now.catalog ≡ before.catalog → KeepsOthers before.ext now.ext (pages_of g old) (pages_of g mid) before.catalog now.catalog (Some before.noted)
+  others_changed catalog = record {
+    each = λ t other apart at. (ap (λ defs. def_at defs t) catalog ∙ at, others_kept t other (λ is. apart (ap Some (sym is))) at);
+    made = λ t def none some. absurd (none_comes (def_at before.catalog t) (def_at now.catalog t) def (ap (λ defs. def_at defs t) catalog) none some);
+    gone = λ t def some none. absurd (none_goes (def_at before.catalog t) (def_at now.catalog t) def (ap (λ defs. def_at defs t) catalog) some none);
+  }
+
+  -- and the page of the table was written
+  pub others_written : (new : S) (written : TableDef) → written.number ≡ before.noted → IsReady g new now → pages_of g new ≡ with_table_page written (pages_of g mid) → (def : TableDef) → def_at before.catalog before.noted ≡ Some def
+      → now.catalog ≡ with_def before.catalog before.noted written → KeepsOthers before.ext now.ext (pages_of g old) (pages_of g new) before.catalog now.catalog (Some before.noted)
+  others_written new written its_number ready_now is def there catalog = record {
+    each = λ t other apart at.
+        let elsewhere_t : t ≢ before.noted = λ e. apart (ap Some (sym e)) in
+        let at_now : def_at now.catalog t ≡ Some other = still_elsewhere t elsewhere_t ∙ at in
+        let found =
+        defined_there now.ext (pages_of g new) ready_now.view t other ready_now.sound (served_below before.catalog t other served at) (stored_at (pages_of g new) now.catalog t other ready_now.stored at_now) in
+        let stays : KeepsBlocks now.ext now.ext (pages_of g mid) (with_table_page written (pages_of g mid)) other =
+        subst (λ def. KeepsBlocks now.ext now.ext (pages_of g mid) (with_table_page written (pages_of g mid)) def) found.same
+        (written_keeps now.ext written (pages_of g mid) ready_now.view (subst (λ (pages : PageList). KeepAllRules now.ext pages ready_now.view) is ready_now.sound) (omega (arith, its_number, served_below before.catalog before.noted def served there)) t found.table found.there) in
+        let whole = keeps_then before.ext now.ext now.ext (pages_of g old) (pages_of g mid) (with_table_page written (pages_of g mid)) other (others_kept t other elsewhere_t at) stays in
+        (at_now, subst (λ (pages : PageList). KeepsBlocks before.ext now.ext (pages_of g old) pages other) (sym is) whole);
+    made = λ t other none some. elim (cases_eq t before.noted) [
+      | inl here ↦ let wrong = sym there ∙ (ap (def_at before.catalog) (sym here) ∙ none) in absurd (cc)
+      | inr apart ↦ absurd (none_comes (def_at before.catalog t) (def_at now.catalog t) other (still_elsewhere t apart) none some)
+    ];
+    gone = λ t other some none. elim (cases_eq t before.noted) [
+      | inl here ↦ let wrong = sym put_there ∙ (ap (def_at now.catalog) (sym here) ∙ none) in absurd (cc)
+      | inr apart ↦ absurd (none_goes (def_at before.catalog t) (def_at now.catalog t) other (still_elsewhere t apart) some none)
+    ];
+  }
+    where
+      still_elsewhere : (t : ℕ) → t ≢ before.noted → def_at now.catalog t ≡ def_at before.catalog t
+      still_elsewhere t = elsewhere before.catalog now.catalog before.noted t (Some (record written { number = before.noted })) catalog
+
+      put_there : def_at now.catalog before.noted ≡ Some (record written { number = before.noted })
+      put_there = ap (λ defs. def_at defs before.noted) catalog ∙ def_at_set before.catalog before.noted (Some (record written { number = before.noted })) (omega (arith, served_below before.catalog before.noted def served there, served.valid.places))
+
+-- ---- a table more, or one less
+
+-- an idle page is in no block
+idle_no_block : (ext : Extents) (owners : List Kind) (p t : ℕ) → IsIdlePage ext owners p → owner_of owners (extent_of ext p) ≡ Block t → ⊥
+idle_no_block ext owners p t idle own = elim idle.idle [
+  | inl unused ↦ let wrong = subst (λ (kind : Kind). IsTrue (is_unused_place (place_in_extent ext p) kind)) own unused.unused in absurd (cc)
+  | inr free ↦ let wrong = sym own ∙ free in absurd (cc)
+]
+
+-- a page that holds no block: a table page, page 0, one of the extent map, or an idle one
+off_space : (ext : Extents) (owners : List Kind) (t p : ℕ) → IsBlockPageOf ext owners t p → IsSpacePage ext p ⊎ IsIdlePage ext owners p → ⊥
+off_space ext owners t p of (inl (inl zero)) = omega (arith, of.page.behind, zero)
+off_space ext owners t p of (inl (inr on)) = omega (arith, of.page.behind, on.1)
+off_space ext owners t p of (inr idle) = idle_no_block ext owners p t idle of.block
+
+-- Another place of sound pages was changed, and no page of a block: the tables in all other places keep theirs.
+module _ {S : Type 0} (g : Ghosts S) (old new : S) (before now : Tables) (place : ℕ) (changed : Option TableView) (owners_now : List Kind) (ready : IsReady g old before)
+    (sound : KeepAllRules now.ext (pages_of g new) (view_with ready.view owners_now place changed)) (shape : IsSameShape before.ext now.ext) (served : AreServed before.catalog)
+    (Mine : ℕ → Type 0) (touches : Touches g Mine old new) (off : (t p : ℕ) → IsBlockPageOf before.ext ready.view.owners t p → Mine p → ⊥) where
+  others_stay : (t : ℕ) (other : TableDef) → t ≢ place → def_at before.catalog t ≡ Some other → KeepsBlocks before.ext now.ext (pages_of g old) (pages_of g new) other
+  others_stay t other apart at =
+      let found = defined_there before.ext (pages_of g old) ready.view t other ready.sound (served_below before.catalog t other served at) (stored_at (pages_of g old) before.catalog t other ready.stored at) in
+      let table = found.table in
+      let map = map_of_rules before.ext (pages_of g old) ready.view ready.sound.first in
+      let there_now : slice_get (slice_set ready.view.places place changed) t ≡ Some (Some table) = slice_get-set_other ready.view.places place changed t apart ∙ found.there in
+      subst (λ def. KeepsBlocks before.ext now.ext (pages_of g old) (pages_of g new) def) found.same
+      (stands_keeps before.ext now.ext (pages_of g old) (pages_of g new) table.def ready.view.owners owners_now (forests_of table) (forests_of table) shape
+      (stands_of_rules before.ext (pages_of g old) ready.view ready.sound.first t table found.there)
+      (stands_of_rules now.ext (pages_of g new) (view_with ready.view owners_now place changed) sound.first t table there_now) refl
+      (λ e within own. block_kept Mine before.ext now.ext old new ready.view.owners table.def.number e (told_of_map g old ready.told before.ext ready.view.owners map) shape ready.told touches
+      (λ p of mine. off table.def.number p of mine) within own))
+
+-- a table is made in the lowest empty place
+pub others_created : {S : Type 0} (g : Ghosts S) (old new : S) (before now : Tables) (place : ℕ) (def : TableDef) (table : TableView) (owners_now : List Kind) (ready : IsReady g old before)
+    → KeepAllRules now.ext (pages_of g new) (view_with ready.view owners_now place (Some table)) → mapped_blocks table.map ≡ [] → table.def ≡ record def { number = place } → IsSameShape before.ext now.ext → AreServed before.catalog
+    → empty_place before.catalog ≡ Some place → now.catalog ≡ with_def before.catalog place def → Touches g (IsAddingPage g before.ext old before.catalog) old new
+    → KeepsOthers before.ext now.ext (pages_of g old) (pages_of g new) before.catalog now.catalog None
+others_created g old new before now place def table owners_now ready sound unmapped its_def shape served lowest catalog touches = record {
+  each = λ t other apart at. (
+    still_elsewhere t (not_there t other at) ∙ at,
+    others_stay g old new before now place (Some table) owners_now ready sound shape served (IsAddingPage g before.ext old before.catalog) touches off t other (not_there t other at) at,
+  );
+  made = λ t other none some. elim (cases_eq t place) [
+    | inl here ↦
+        let same : table.def ≡ other = its_def ∙ same_Some (record def { number = place }) other (sym put_there ∙ (ap (def_at now.catalog) (sym here) ∙ some)) in
+        subst (HasNoBlock now.ext (pages_of g new)) same (no_block_mapped now.ext (pages_of g new) (view_with ready.view owners_now place (Some table)) place table sound.first table_there unmapped)
+    | inr apart ↦ absurd (none_comes (def_at before.catalog t) (def_at now.catalog t) other (still_elsewhere t apart) none some)
+  ];
+  gone = λ t other some none. absurd (none_goes (def_at before.catalog t) (def_at now.catalog t) other (still_elsewhere t (not_there t other some)) some none);
+}
+  where
+    still_elsewhere : (t : ℕ) → t ≢ place → def_at now.catalog t ≡ def_at before.catalog t
+    still_elsewhere t = elsewhere before.catalog now.catalog place t (Some (record def { number = place })) catalog
+
+    not_there : (t : ℕ) (other : TableDef) → def_at before.catalog t ≡ Some other → t ≢ place
+    not_there t other at e = let wrong = sym (def_there before.catalog t other at) ∙ (ap (slice_get before.catalog) e ∙ (lowest_place before.catalog place lowest).1) in absurd (cc)
+
+    put_there : def_at now.catalog place ≡ Some (record def { number = place })
+    put_there = ap (λ defs. def_at defs place) catalog ∙ def_at_set before.catalog place (Some (record def { number = place })) (lowest_place before.catalog place lowest).0
+
+    table_there : slice_get (slice_set ready.view.places place (Some table)) place ≡ Some (Some table)
+    table_there = slice_get-set_same ready.view.places place (Some table) (omega (arith, empty_place_below before.catalog place served.limits lowest, range_length (IsTablePlaceSound before.ext (pages_of g old) ready.view.owners) 0 16 ready.view.places ready.sound.first.rule3.each))
+
+    off : (t p : ℕ) → IsBlockPageOf before.ext ready.view.owners t p → IsAddingPage g before.ext old before.catalog p → ⊥
+    off t p of (inl (u, empty, is)) = omega (arith, of.page.behind, is, empty_place_below before.catalog u served.limits empty)
+    off t p of (inr space) = off_space before.ext ready.view.owners t p of (space ready.view.owners (told_of_map g old ready.told before.ext ready.view.owners (map_of_rules before.ext (pages_of g old) ready.view ready.sound.first)))
+
+-- a table is dropped
+pub others_removed : {S : Type 0} (g : Ghosts S) (old new : S) (before now : Tables) (place : ℕ) (owners_now : List Kind) (ready : IsReady g old before)
+    → KeepAllRules now.ext (pages_of g new) (view_with ready.view owners_now place None) → ((e : ℕ) → owner_of ready.view.owners e ≡ Block place → owner_of owners_now e ≡ Free)
+    → IsSameShape before.ext now.ext → AreServed before.catalog → place < 16
+    → now.catalog ≡ without_def before.catalog place → Touches g (IsDroppingPage before.ext place) old new
+    → KeepsOthers before.ext now.ext (pages_of g old) (pages_of g new) before.catalog now.catalog (Some place)
+others_removed g old new before now place owners_now ready sound freed shape served low catalog touches = record {
+  each = λ t other apart at.
+      let elsewhere_t : t ≢ place = λ e. apart (ap Some (sym e)) in (
+        still_elsewhere t elsewhere_t ∙ at,
+        others_stay g old new before now place None owners_now ready sound shape served (IsDroppingPage before.ext place) touches off t other elsewhere_t at,
+      );
+  made = λ t def none some. elim (cases_eq t place) [
+    | inl here ↦ let wrong = sym gone_there ∙ (ap (def_at now.catalog) (sym here) ∙ some) in absurd (cc)
+    | inr apart ↦ absurd (none_comes (def_at before.catalog t) (def_at now.catalog t) def (still_elsewhere t apart) none some)
+  ];
+  gone = λ t def some none. elim (cases_eq t place) [
+    | inl here ↦ subst (FreesBlocks before.ext now.ext (pages_of g old) (pages_of g new)) (sym here) (record {
+      owners = ready.view.owners;
+      owners_now = owners_now;
+      held = map_of_rules before.ext (pages_of g old) ready.view ready.sound.first;
+      held_now = map_of_rules now.ext (pages_of g new) (view_with ready.view owners_now place None) sound.first;
+      freed = freed;
+    })
+    | inr apart ↦ absurd (none_goes (def_at before.catalog t) (def_at now.catalog t) def (still_elsewhere t apart) some none)
+  ];
+}
+  where
+    still_elsewhere : (t : ℕ) → t ≢ place → def_at now.catalog t ≡ def_at before.catalog t
+    still_elsewhere t = elsewhere before.catalog now.catalog place t None catalog
+
+    gone_there : def_at now.catalog place ≡ None
+    gone_there = ap (λ defs. def_at defs place) catalog ∙ def_at_set before.catalog place None (omega (arith, low, served.valid.places))
+
+    off : (t p : ℕ) → IsBlockPageOf before.ext ready.view.owners t p → IsDroppingPage before.ext place p → ⊥
+    off t p of (inl is) = omega (arith, of.page.behind, is, low)
+    off t p of (inr on) = omega (arith, of.page.behind, on.1)

@@ -1,0 +1,97 @@
+// The blocks of a table, which LIST BLOCKS tells.
+ghost use Rattle.std.specs.Prelude.{◌≡◌, false, IfOk, MatchOption, None, Some};
+ghost use Rattle.mdc_ast.specs.declared.definition.TableDef.{TableDef};
+ghost use Rattle.mdc_ast.specs.meaning.Cause.{NoTable, refusal_of};
+ghost use Rattle.mdc_ast.specs.meaning.Definitions.{def_named};
+ghost use Rattle.store_api.specs.Causes.{fault_of};
+ghost use Rattle.store_api.specs.Frame.{NoPage};
+ghost use Rattle.store_api.specs.RunsOverPages.{RunsOverPages};
+ghost use Rattle.mdc_sound.specs.StandingTable.{pages_of};
+ghost use Rattle.statement_rows.specs.RowsOfStatement.{AnyPage};
+ghost use Rattle.script_engine.specs.Listing.{TellsBlocks, blocks_told, is_listing};
+ghost use Rattle.script_engine.specs.Ready.{AreServed, BreaksDatabase, IsReady};
+ghost use Rattle.script_engine.specs.Serving.{MayCall};
+ghost use Rattle.script_engine.specs.Turns.{Executes};
+
+use crate::engine::Engine;
+use crate::stop::EngineStop;
+use crate::tables::Tables;
+use answer_text::blocks_line;
+use mdc_ast::{Name, Outcome, Reply, Stmt};
+use mdc_table::{Account, account_of};
+use mdc_values::Memory;
+use row_judging::{no_table, not_built};
+use std::alloc::Global;
+use store_api::{Pages, Store, StoreFault};
+
+/// The name in a LIST BLOCKS.
+pub(crate) fn listed(stmt: &Stmt) -> Option<&Name>
+    ensures { MatchOption result (is_listing stmt.now ≡ false) (λ name. stmt.now ≡ Stmt.ListBlocks name.now) }
+{
+    match stmt {
+        Stmt::ListBlocks(name) => Some(name),
+        Stmt::CreateTable { .. }
+        | Stmt::CreateIndex { .. }
+        | Stmt::DropTable(_)
+        | Stmt::DropIndex(_)
+        | Stmt::Insert { .. }
+        | Stmt::Update { .. }
+        | Stmt::Delete { .. }
+        | Stmt::Query(_)
+        | Stmt::Explain(_)
+        | Stmt::SetRollout(_)
+        | Stmt::SetPlan(_)
+        | Stmt::SetPace(_)
+        | Stmt::Clean(_)
+        | Stmt::CleanTable(_)
+        | Stmt::Reclaim(_)
+        | Stmt::Begin
+        | Stmt::Commit
+        | Stmt::Rollback => None,
+    }
+}
+
+impl<S: Store> Engine<S> {
+    /// A LIST BLOCKS. It changes no page, in a transaction or outside of one.
+    #[tactic(auto, using(crate::proofs::LeavingLemmas::leaves_still))]
+    pub(crate) fn list_blocks(&mut self, name: &Name) -> Result<Outcome, EngineStop>
+        requires may { MayCall S.Pages self.old }
+        ensures executes { Executes S.Pages (Stmt.ListBlocks name.now) result self.old self.new }
+    {
+        if !self.served {
+            return Ok(Outcome::Refused(not_built(self.tables.alloc)));
+        }
+        let outcome = list(&self.tables, &mut self.store, name)?;
+        Ok(outcome)
+    }
+}
+
+/// Tells how many blocks the table of that name has in each state, if there is one.
+fn list<P: Pages>(tables: &Tables, pages: &mut P, name: &Name) -> Result<Outcome, StoreFault>
+    requires served { AreServed tables.now.catalog }
+    requires going { (P.state pages.old).ended ≡ false }
+    ensures absent { def_named tables.now.catalog name.now ≡ None → IfOk result (λ outcome. outcome ≡ Outcome.Refused (refusal_of (NoTable name.now))) }
+    ensures tells { (def : TableDef) → def_named tables.now.catalog name.now ≡ Some def → IfOk result (λ outcome. IsReady P.Pages pages.old tables.now → TellsBlocks (pages_of P.Pages pages.old) def outcome) }
+    ensures same { (P.state pages.new).work ≡ (P.state pages.old).work }
+    ensures runs { RunsOverPages P.Pages NoPage AnyPage (BreaksDatabase P.Pages pages.old tables.now) pages.old pages.new (fault_of result) }
+{
+    let Some(def) = tables.catalog.table(name) else {
+        return match no_table(tables.alloc, name) {
+            Ok(refusal) => Ok(Outcome::Refused(refusal)),
+            Err(_) => Err(StoreFault::Memory),
+        };
+    };
+    let account = account_of(tables.alloc, def, &tables.ext, pages)?;
+    match told(tables.alloc, account) {
+        Ok(outcome) => Ok(outcome),
+        Err(_) => Err(StoreFault::Memory),
+    }
+}
+
+/// What is said of so many blocks in each state.
+fn told(alloc: Global, account: Account) -> Result<Outcome, Memory>
+    ensures { IfOk result (λ outcome. outcome ≡ blocks_told account.used account.free account.pending) }
+{
+    let line = blocks_line(alloc, account.used, account.free, account.pending)?;
+    Ok(Outcome::Done(Reply::Lines(line)))
+}

@@ -1,0 +1,116 @@
+-- Which outcomes were told so far, whatever the engine's pages are, and how a run ends by them.
+use Rattle.std.proofs.Common.{◌≡◌, ◌||◌, ℕ, List, [], ◌∷◌, ◌++◌, length, Bool, false, Option, Some, None, Ok, Err, refl, sym, ◌∙◌, ap, subst, inl, inr, arith}
+use Rattle.std.specs.List.{AllZip}
+use Rattle.mdc_ast.specs.declared.reply.Outcome.{Outcome}
+use Rattle.mdc_ast.specs.Reading.{Item}
+use Rattle.mdc_ast.specs.meaning.Session.{has_refusal}
+use Rattle.mdc_ast.specs.meaning.Texts.{outcome_text, texts}
+use Rattle.mdc_outside.specs.Outside.{Takes}
+use Rattle.sql_reader.specs.Holding.{Holding}
+use Rattle.sql_reader.specs.Item.{item_of}
+use Rattle.sql_reader.specs.declared.statements.Read.{Read}
+use Rattle.sql_reader.specs.declared.statements.ReadStop.{ReadStop}
+use Rattle.script_session.specs.Replying.{HasReply, IsOutcomeOf, RepliesTo, StopsReplying}
+use Rattle.script_session.specs.ScriptLaws.{ScriptLaws}
+use Rattle.script_session.specs.Stops.{served_by, stop_of_reader}
+use Rattle.script_session.specs.Turning.{IsTurnStop}
+use Rattle.script_session.specs.declared.stop.SessionStop.{SessionStop}
+use Rattle.script_session.specs.declared.stop.SessionStop.TheVariants.{Memory}
+use Rattle.script_session.proofs.AskedEndsLemmas.{ends_asked_done, ends_asked_in_hand, ends_asked_reading, ends_asked_untold, ends_unasked}
+use Rattle.script_session.proofs.AskingLemmas.{IsAsked}
+use Rattle.script_session.proofs.ServingLemmas.{refusal_more, texts_more}
+use Rattle.script_session.proofs.ToldLemmas.{takes_more, takes_nothing}
+
+-- The items have outcomes, all of which are told.
+pub record HasReplied (items : List Item) (refused : Bool) (old new : Option (List ℕ)) : Type 0 where
+  pub outcomes : List Outcome
+  pub own : AllZip IsOutcomeOf items outcomes
+  pub told : Takes old (texts outcomes) new
+  pub noted : refused ≡ has_refusal outcomes
+
+-- ---- items and their outcomes
+
+-- each item has one outcome
+length-outcomes : (items : List Item) (outcomes : List Outcome) → AllZip IsOutcomeOf items outcomes → length items ≡ length outcomes
+length-outcomes [] [] own = refl
+length-outcomes [] (outcome ∷ outcomes) own = absurd own
+length-outcomes (item ∷ items) [] own = absurd own
+length-outcomes (item ∷ items) (outcome ∷ outcomes) own = omega (arith, length-outcomes items outcomes own.1)
+
+-- one item more has one more
+own_more : (items : List Item) (outcomes : List Outcome) (item : Item) (outcome : Outcome) → AllZip IsOutcomeOf items outcomes → IsOutcomeOf item outcome
+    → AllZip IsOutcomeOf (items ++ item ∷ []) (outcomes ++ outcome ∷ [])
+own_more [] [] item outcome own is = (is, tt)
+own_more [] (first ∷ outcomes) item outcome own is = absurd own
+own_more (first ∷ items) [] item outcome own is = absurd own
+own_more (first ∷ items) (its ∷ outcomes) item outcome own is = (own.0, own_more items outcomes item outcome own.1 is)
+
+-- ---- how it goes on
+
+-- at the start
+pub replied_first : (tape : Option (List ℕ)) → HasReplied [] false tape tape
+replied_first tape = record { outcomes = []; own = tt; told = takes_nothing tape; noted = refl }
+
+-- one item more, whose outcome is told
+pub replied_more : {items : List Item} {refused noted : Bool} (item : Item) (old mid new : Option (List ℕ)) → HasReplied items refused old mid → HasReply item noted mid new
+    → HasReplied (items ++ item ∷ []) (refused || noted) old new
+replied_more {items} {refused} {noted} item old mid new was turn = record {
+  outcomes = was.outcomes ++ turn.outcome ∷ [];
+  own = own_more items was.outcomes item turn.outcome was.own turn.own;
+  told = subst (λ (said : List ℕ). Takes old said new) (sym (texts_more was.outcomes turn.outcome)) (takes_more old mid new (texts was.outcomes) (outcome_text turn.outcome) was.told turn.told);
+  noted = ap (λ b. b || noted) was.noted ∙ (ap (λ b. has_refusal was.outcomes || b) turn.noted ∙ sym (refusal_more was.outcomes turn.outcome));
+}
+
+-- ---- how it ends
+
+-- memory is wanted before the first read
+pub replies_unasked : (laws : ScriptLaws) (script tape : Option (List ℕ)) → RepliesTo script script tape tape (Err Memory)
+replies_unasked laws script tape = record { items = []; outcomes = []; own = tt; in_hand = []; said = []; told = takes_nothing tape; ends = ends_unasked laws script }
+
+-- the reader stops
+pub replies_reading : (laws : ScriptLaws) (script left : Option (List ℕ)) (reader : Holding) (items : List Item) (stop : ReadStop) {refused : Bool} (old new : Option (List ℕ))
+    → IsAsked script left reader items (Err stop) → HasReplied items refused old new → RepliesTo script left old new (Err (stop_of_reader stop))
+replies_reading laws script left reader items stop old new asked was = record {
+  items = items;
+  outcomes = was.outcomes;
+  own = was.own;
+  in_hand = [];
+  said = texts was.outcomes;
+  told = was.told;
+  ends = ends_asked_reading laws script left reader items stop was.outcomes (length-outcomes items was.outcomes was.own) asked;
+}
+
+-- the turn of an item stops: behind its outcome, or before it has one
+pub replies_turning : (laws : ScriptLaws) (script left : Option (List ℕ)) (reader : Holding) (items : List Item) (read : Read) (stop : SessionStop) {refused : Bool} (old mid new : Option (List ℕ))
+    → IsAsked script left reader items (Ok (Some read)) → HasReplied items refused old mid → IsTurnStop stop → StopsReplying (item_of read) mid new → RepliesTo script left old new (Err stop)
+replies_turning laws script left reader items read stop old mid new asked was is_stop (inl turn) = record {
+  items = items ++ item_of read ∷ [];
+  outcomes = was.outcomes ++ turn.outcome ∷ [];
+  own = own_more items was.outcomes (item_of read) turn.outcome was.own turn.own;
+  in_hand = [];
+  said = texts was.outcomes ++ turn.part;
+  told = takes_more old mid new (texts was.outcomes) turn.part was.told turn.told;
+  ends = ends_asked_untold laws script left reader items read stop was.outcomes turn.outcome turn.part turn.unsaid (length-outcomes items was.outcomes was.own) turn.text asked is_stop;
+}
+replies_turning laws script left reader items read stop old mid new asked was is_stop (inr same) = record {
+  items = items;
+  outcomes = was.outcomes;
+  own = was.own;
+  in_hand = item_of read ∷ [];
+  said = texts was.outcomes;
+  told = subst (Takes old (texts was.outcomes)) (sym same) was.told;
+  ends = ends_asked_in_hand laws script left reader items read stop was.outcomes (length-outcomes items was.outcomes was.own) asked is_stop;
+}
+
+-- the script ends
+pub replies_done : (script left : Option (List ℕ)) (reader : Holding) (items : List Item) (refused : Bool) (old new : Option (List ℕ))
+    → IsAsked script left reader items (Ok None) → HasReplied items refused old new → RepliesTo script left old new (Ok (served_by refused))
+replies_done script left reader items refused old new asked was = record {
+  items = items;
+  outcomes = was.outcomes;
+  own = was.own;
+  in_hand = [];
+  said = texts was.outcomes;
+  told = was.told;
+  ends = ends_asked_done script left reader items refused was.outcomes was.noted asked;
+}

@@ -1,0 +1,24 @@
+-- What the change of one table leaves of the others: the blocks of each, in their states, with their rows in their slots.
+use Rattle.std.specs.Prelude.{◌≡◌, ◌≢◌, ◌<◌, ℕ, List, map}
+use Rattle.mdc_ast.specs.declared.definition.TableDef.{TableDef}
+use Rattle.extent_map.specs.declared.extents.Extents.{Extents}
+use Rattle.table_trees.specs.ToldPages.{PageList}
+use Rattle.mdc_sound.specs.Placing.{Spot}
+use Rattle.mdc_sound.specs.Placing.Spot.{FreeExtent, IndexExtent, OtherBlock}
+use Rattle.mdc_sound.specs.RunningFull.{ShowsTableSpots}
+use Rattle.mdc_sound.specs.TablePages.{DefinesTable}
+
+-- a spot, as far as it is a block of the table
+abbrev pub own_spot : Spot → Spot
+own_spot FreeExtent = OtherBlock
+own_spot IndexExtent = OtherBlock
+own_spot spot = spot
+
+-- The blocks of a table are those that it had, each in its state, and with its rows in their slots.
+abbrev pub KeepsBlocks : Extents → Extents → PageList → PageList → TableDef → Type 0
+KeepsBlocks before ext old new def =
+    (was : List Spot) → ShowsTableSpots before old def was → (is : List Spot) × ShowsTableSpots ext new def is × (map own_spot is ≡ map own_spot was)
+
+-- so it is of each table but the one of this number
+pub record KeepsOtherTables (before ext : Extents) (old new : PageList) (number : ℕ) : Type 0 where
+  pub each : (t : ℕ) (other : TableDef) → t < 16 → t ≢ number → DefinesTable old t other → KeepsBlocks before ext old new other
