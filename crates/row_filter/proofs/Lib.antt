@@ -1,3 +1,3 @@
-pub mod FilterLemmas
+pub mod JudgingLemmas
 pub mod NamingLemmas
 pub mod ReadingLemmas

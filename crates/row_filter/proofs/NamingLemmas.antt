@@ -3,7 +3,7 @@ use Rattle.std.proofs.Common.{◌≡◌, ◌∙◌, ◌<◌, ℕ, List, [], ◌�
 use Rattle.std.specs.Prelude.{Bool, IsTrue, ◌&&◌, nat_lt, unwrap_or}
 use Rattle.std.specs.List.{All}
 use Rattle.std.proofs.lemmas.Bool.Decides.{nat_tests}
-use Rattle.std.proofs.lemmas.List.Elements.{All-append, All-cons, All-head, All-nil, All-tail}
+use Rattle.std.proofs.lemmas.List.Elements.{All-cons, All-head, All-nil, All-tail}
 use Rattle.mdc_values.specs.declared.truth.Truth.{Truth}
 use Rattle.mdc_values.specs.declared.value.Value.{Value}
 use Rattle.mdc_values.specs.declared.value.Value.TheVariants.{Null}
@@ -13,6 +13,8 @@ use Rattle.mdc_ast.specs.declared.predicate.Pred.{Pred}
 use Rattle.mdc_ast.specs.declared.predicate.Pred.TheFolds.{fold-roll-Pred, ind-Pred, map-Pred}
 use Rattle.mdc_ast.specs.declared.predicate.Pred.TheOpen.{Pred-F}
 use Rattle.mdc_ast.specs.declared.predicate.Pred.TheOpen as layer
+use Rattle.mdc_ast.specs.declared.predicate.Pred.TheVariants as pred
+use Rattle.mdc_ast.specs.declared.predicate.Pred.TheVariants.{rolls-All, rolls-Any, rolls-Atom, rolls-Not}
 use Rattle.mdc_ast.specs.declared.predicate.Pred.TheViews.{roll-Pred}
 use Rattle.mdc_ast.specs.declared.predicate.Right.TheVariants as right
 use Rattle.mdc_ast.specs.declared.predicate.Test.{Test}
@@ -136,32 +138,17 @@ test_there values value (Between low high) may = All-nil (λ place. place < leng
 test_there values value (Within them) may = All-nil (λ place. place < length values)
 test_there values value IsNull may = All-nil (λ place. place < length values)
 
-atom_there : (values : List Value) (atom : Atom) → IsTrue (may_test_atom values atom) → All (λ place. place < length values) (named_in_atom atom)
+-- where a test may be judged, the columns that it names are there
+pub atom_there : (values : List Value) (atom : Atom) → IsTrue (may_test_atom values atom) → All (λ place. place < length values) (named_in_atom atom)
 atom_there values atom may =
     let parts = both (has_column values atom.column) (may_test values (value_at values atom.column) atom.test) may in
     All-cons (λ place. place < length values) atom.column (named_in_test atom.test) (lt_of_true atom.column (length values) parts.0)
     (test_there values (value_at values atom.column) atom.test parts.1)
 
-abbrev AreThere : List Value → Pred → Type 0
-AreThere values pred = IsTrue (may_judge values pred) → All (λ place. place < length values) (named_in pred)
+-- ---- what a predicate names, by its parts
 
-parts_there : (values : List Value) (parts : List ((pred : Pred) × AreThere values pred)) → IsTrue (all_true (map (may_judge values) (map (λ e. e.0) parts)))
-    → All (λ place. place < length values) (named_in_parts (map named_in (map (λ e. e.0) parts)))
-parts_there values [] may = All-nil (λ place. place < length values)
-parts_there values (part ∷ parts) may =
-    let each = both (may_judge values part.0) (all_true (map (may_judge values) (map (λ e. e.0) parts))) may in
-    All-append (λ place. place < length values) (named_in part.0) (named_in_parts (map named_in (map (λ e. e.0) parts))) (part.1 each.0) (parts_there values parts each.1)
+pub named_in-All : (parts : List Pred) → named_in (pred.All parts) ≡ named_in_parts (map named_in parts)
+named_in-All parts = ap named_in (sym (rolls-All parts)) ∙ fold-roll-Pred (List ℕ) layer_named (layer.All parts)
 
-there_by_layer : (values : List Value) (y : Pred-F ((pred : Pred) × AreThere values pred)) → AreThere values (roll-Pred (map-Pred _ Pred (λ e. e.0) y))
-there_by_layer values (layer.Atom atom) may =
-    rw (fold-roll-Pred (List ℕ) layer_named (layer.Atom atom)) (atom_there values atom (subst IsTrue (fold-roll-Pred Bool (layer_may_test values) (layer.Atom atom)) may))
-there_by_layer values (layer.All parts) may =
-    rw (fold-roll-Pred (List ℕ) layer_named (layer.All (map (λ e. e.0) parts))) (parts_there values parts (subst IsTrue (fold-roll-Pred Bool (layer_may_test values) (layer.All (map (λ e. e.0) parts))) may))
-there_by_layer values (layer.Any parts) may =
-    rw (fold-roll-Pred (List ℕ) layer_named (layer.Any (map (λ e. e.0) parts))) (parts_there values parts (subst IsTrue (fold-roll-Pred Bool (layer_may_test values) (layer.Any (map (λ e. e.0) parts))) may))
-there_by_layer values (layer.Not part) may =
-    rw (fold-roll-Pred (List ℕ) layer_named (layer.Not part.0)) (part.1 (subst IsTrue (fold-roll-Pred Bool (layer_may_test values) (layer.Not part.0)) may))
-
--- where a predicate may be judged, the columns that it names are there
-pub are_there : (values : List Value) (pred : Pred) → IsTrue (may_judge values pred) → All (λ place. place < length values) (named_in pred)
-are_there values pred = ind-Pred (AreThere values) (λ x y is. subst (λ x. AreThere values (roll-Pred x)) is (there_by_layer values y)) pred
+pub named_in-Any : (parts : List Pred) → named_in (pred.Any parts) ≡ named_in_parts (map named_in parts)
+named_in-Any parts = ap named_in (sym (rolls-Any parts)) ∙ fold-roll-Pred (List ℕ) layer_named (layer.Any parts)

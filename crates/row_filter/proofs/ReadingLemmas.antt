@@ -1,16 +1,14 @@
 -- Values that are read place by place, into a row of as many.
-use Rattle.std.proofs.Common.{inl, inr, ◌≡◌, ◌∙◌, ◌<◌, ◌+◌, ℕ, suc, List, [], ◌∷◌, length, drop, get_or, take, refl, sym, ap, arith}
-use Rattle.std.specs.Prelude.{◌/◌, slice_get, slice_set, Some}
-use Rattle.std.specs.List.{All}
-use Rattle.std.proofs.lemmas.Bool.{cases_eq}
-use Rattle.std.proofs.lemmas.List.{length-set}
-use Rattle.std.proofs.lemmas.List.Elements.{All-more, All-weaker}
-use Rattle.mdc_words.proofs.PlacesLemmas.{slice_get-set_other, slice_get-set_same}
+use Rattle.std.proofs.Common.{◌≡◌, ◌<◌, ◌≤◌, ◌+◌, ℕ, suc, List, [], ◌∷◌, ◌++◌, length, drop, drop-cons, add-one, get_or, map, refl, ap, subst}
+use Rattle.std.specs.Prelude.{◌/◌}
+use Rattle.std.proofs.lemmas.List.{drop_all}
+use Rattle.std.proofs.lemmas.List.Elements.{All-append, All-nil, All-weaker}
 use Rattle.mdc_values.specs.declared.value.Value.{Value}
 use Rattle.mdc_ast.specs.declared.definition.ColumnDef.{ColumnDef}
+use Rattle.mdc_ast.specs.declared.predicate.Pred.{Pred}
 use Rattle.mdc_ast.specs.meaning.Definitions.{width}
 use Rattle.row_page.specs.Row.{columns_values, nulls_in, row_in}
-use Rattle.row_filter.specs.Naming.{IsSameAt}
+use Rattle.row_filter.specs.Naming.{IsRead, IsSameAt, named_in, named_in_parts}
 
 length-columns_values : (columns : List ColumnDef) (nulls : ℕ) (bytes : List ℕ) → length (columns_values columns nulls bytes) ≡ length columns
 length-columns_values [] nulls bytes = refl
@@ -21,24 +19,32 @@ pub length-row_in : (columns : List ColumnDef) (bytes : List ℕ) → length (ro
 unfolding row_in
 length-row_in columns bytes = length-columns_values columns (nulls_in bytes) (drop 10 bytes)
 
--- a value that is read into its place is the same there, and what was the same elsewhere is so
-IsSameAt-set : (values row : List Value) (place : ℕ) (value : Value) (other : ℕ) → place < length values → slice_get row place ≡ Some value
-    → IsSameAt values row other → IsSameAt (slice_set values place value) row other
-IsSameAt-set values row place value other there read same = elim (cases_eq other place) [
-  | inl e ↦ rw e (slice_get-set_same values place value there ∙ sym read)
-  | inr apart ↦ slice_get-set_other values place value other apart ∙ same
-]
+-- nothing read is all read at no places
+pub IsRead-none : (row values : List Value) → IsRead row [] values values
+IsRead-none row values = record { there = All-nil (IsSameAt values row); kept = λ place same. same }
 
--- one place more
-pub read_more : (places : List ℕ) (i : ℕ) (values row now : List Value) (value : Value) (width : ℕ) → i < length places → All (λ place. place < width) places
-    → slice_get row (get_or places i 0) ≡ Some value → now ≡ slice_set values (get_or places i 0) value
-    → (length values ≡ width) × All (IsSameAt values row) (take i places) → (length now ≡ width) × All (IsSameAt now row) (take (i + 1) places)
-read_more places i values row now value width lt there read is same =
-    let place : ℕ = get_or places i 0 in
-    let within : place < length values = omega (arith, there i 0 lt, same.0) in
-    rw is (
-      length-set values place value ∙ same.0,
-      All-more (IsSameAt (slice_set values place value) row) places i 0 lt
-          (All-weaker (IsSameAt values row) (IsSameAt (slice_set values place value) row) (λ other. IsSameAt-set values row place value other within read) (take i places) same.1)
-          (slice_get-set_same values place value within ∙ sym read),
-    )
+-- what is read first stays so while more is read
+pub IsRead-then : (row : List Value) (places more : List ℕ) (before between after : List Value) → IsRead row places before between → IsRead row more between after → IsRead row (places ++ more) before after
+IsRead-then row places more before between after first next =
+    record {
+      there = All-append (IsSameAt after row) places more (All-weaker (IsSameAt between row) (IsSameAt after row) next.kept places first.there) next.there;
+      kept = λ place same. next.kept place (first.kept place same);
+    }
+
+-- what is read of the parts that are left makes all of them read
+abbrev pub GoesOn : List Value → List Pred → ℕ → List Value → List Value → Type 0
+GoesOn row parts i before now = (after : List Value) → IsRead row (named_in_parts (map named_in (drop i parts))) now after → IsRead row (named_in_parts (map named_in parts)) before after
+
+-- one part more
+pub GoesOn-next : (row : List Value) (parts : List Pred) (i : ℕ) (part x : Pred) (before now next : List Value) → i < length parts → part ≡ get_or parts i x
+    → GoesOn row parts i before now → IsRead row (named_in part) now next → GoesOn row parts (i + 1) before next
+GoesOn-next row parts i part x before now next lt is on read after rest =
+    on after (rw (drop-cons parts i x lt) (
+    IsRead-then row (named_in (get_or parts i x)) (named_in_parts (map named_in (drop (suc i) parts))) now next after
+    (subst (λ part. IsRead row (named_in part) now next) is read)
+    (subst (λ n. IsRead row (named_in_parts (map named_in (drop n parts))) next after) (add-one i) rest)
+    ))
+
+-- and none is left
+pub GoesOn-end : (row : List Value) (parts : List Pred) (i : ℕ) (before now : List Value) → length parts ≤ i → GoesOn row parts i before now → IsRead row (named_in_parts (map named_in parts)) before now
+GoesOn-end row parts i before now le on = on now (rw (drop_all i parts le) (IsRead-none row now))

@@ -1,5 +1,6 @@
 -- The columns that a predicate names.
-use Rattle.std.specs.Prelude.{◌≡◌, ℕ, List, [], ◌∷◌, ◌++◌, Option, Some, None, slice_get}
+use Rattle.std.specs.Prelude.{◌≡◌, ℕ, List, [], ◌∷◌, ◌++◌, slice_get}
+use Rattle.std.specs.List.{All}
 use Rattle.mdc_values.specs.declared.value.Value.{Value}
 use Rattle.mdc_ast.specs.declared.predicate.Atom.{Atom}
 use Rattle.mdc_ast.specs.declared.predicate.Right.TheVariants as right
@@ -35,11 +36,11 @@ layer_named (layer.Not places) = places
 abbrev pub named_in : Pred → List ℕ
 named_in = fold-Pred (List ℕ) layer_named
 
--- none, where there is no predicate
-abbrev pub named_by : Option Pred → List ℕ
-named_by None = []
-named_by (Some pred) = named_in pred
-
 -- two rows have one value at a place, or both none
 abbrev pub IsSameAt : List Value → List Value → ℕ → Type 0
 IsSameAt values others place = slice_get values place ≡ slice_get others place
+
+-- values that are read from a row at these places are the row's there, and still so where they were so before
+pub record IsRead (row : List Value) (places : List ℕ) (before after : List Value) : Type 0 where
+  pub there : All (IsSameAt after row) places
+  pub kept : (place : ℕ) → IsSameAt before row place → IsSameAt after row place

@@ -1,28 +1,22 @@
 // A predicate that is judged on rows which are lent.
 ghost use Rattle.std.specs.Prelude.{◌≡◌, length, IfOk, IsTrue};
-ghost use Rattle.mdc_ast.specs.Truth as spec;
-ghost use Rattle.mdc_ast.specs.Truth.{may_judge};
 ghost use Rattle.mdc_ast.specs.meaning.Doing.{qualifies};
 ghost use Rattle.row_page.specs.Row.{row_in};
 ghost use Rattle.row_filter.specs.Filtering.{may_filter};
-ghost use Rattle.row_filter.specs.Naming.{named_by};
 
-use crate::naming::places_named;
-use crate::reading::{nulls, read_columns};
+use crate::judging::is_met;
+use crate::reading::nulls;
 use mdc_ast::Pred;
-use mdc_values::{List, Memory, Truth, Value};
-use predicate::truth;
+use mdc_values::{List, Memory, Value};
 use row_page::RowView;
 use std::alloc::Global;
 
-/// A predicate, or none, ready to be judged on rows where they lie. It knows which columns the predicate names, and keeps
-/// the values that these had in the row which was judged last.
+/// A predicate, or none, ready to be judged on rows where they lie. It keeps the values that were read last from the
+/// columns that the predicate names.
 #[derive(Drop)]
 pub struct RowFilter<'f> {
     pred: &'f Option<Pred>,
-    named: Vec<u8>,
     values: List<Value>,
-    ghost names: { named.items ≡ named_by pred.now },
 }
 
 impl<'f> RowFilter<'f> {
@@ -35,13 +29,8 @@ impl<'f> RowFilter<'f> {
         ensures pred { IfOk result (λ filter. filter.pred.now ≡ pred.now) }
         ensures width { IfOk result (λ filter. length filter.values ≡ columns) }
     {
-        let named = places_named(alloc, pred)?;
         let values = nulls(alloc, columns)?;
-        Ok(RowFilter {
-            pred,
-            named,
-            values,
-        })
+        Ok(RowFilter { pred, values })
     }
 
     /// Whether the predicate is true of a row, or there is none. Only a text that the predicate names takes memory.
@@ -55,14 +44,6 @@ impl<'f> RowFilter<'f> {
         let Some(pred) = self.pred else {
             return Ok(true);
         };
-        read_columns(alloc, row, self.named.as_slice(), &mut self.values)?;
-        Ok(is_true(pred, &self.values))
+        is_met(alloc, pred, row, &mut self.values)
     }
-}
-
-fn is_true(pred: &Pred, values: &List<Value>) -> bool
-    requires { IsTrue (may_judge values.now pred.now) }
-    ensures { result ≡ spec.is_true (spec.truth values.now pred.now) }
-{
-    matches!(truth(pred, values), Truth::True)
 }
