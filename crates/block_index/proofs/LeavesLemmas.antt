@@ -1,13 +1,18 @@
 -- A walk over the entries of an index, leaf by leaf.
-use Rattle.std.proofs.Common.{◌≡◌, ◌<◌, ◌≤◌, ◌+◌, ◌*◌, ◌^◌, ℕ, suc, List, [], ◌∷◌, ◌++◌, refl, ap, arith, sym, ◌∙◌, subst, append-nil, length, take}
+use Rattle.std.proofs.Common.{◌≡◌, ◌<◌, ◌≤◌, ◌+◌, ◌*◌, ◌^◌, ℕ, suc, List, [], ◌∷◌, ◌++◌, refl, ap, arith, sym, ◌∙◌, subst, append-nil, length, take, nat_cmp}
 use Rattle.std.specs.Prelude.{Bool, true, false, Some, None, nat_lt, if◌then◌else◌}
+use Rattle.std.specs.Cmp.{ranks}
+use Rattle.std.specs.Ordering.{is_lt, MatchOrdering}
+use Rattle.std.specs.declared.cmp.Ordering.{Ordering}
+use Rattle.std.specs.declared.cmp.Ordering.TheVariants.{Less, Equal, Greater}
 use Rattle.std.specs.Slice.Scan.{big_endian}
 use Rattle.std.proofs.Math.Nat.{mul_assoc, mul-le-mul_right, pow-succ'}
 use Rattle.std.proofs.Math.Seq.{take-length}
+use Rattle.std.proofs.lemmas.Bool.{le-ltb, lt-ltb}
 use Rattle.std.proofs.lemmas.Bool.Decides.{nat_tests}
 use Rattle.mdc_words.specs.ByteOrder.{Entry, below}
 use Rattle.node_page.proofs.NodeLemmas.{AreBytes}
-use Rattle.node_page.proofs.WordsLemmas.{below_at_end}
+use Rattle.node_page.proofs.WordsLemmas.{order_at_end}
 use Rattle.entry_tree.specs.EntryBounds.{Bound}
 use Rattle.entry_tree.specs.Reading.{IsLeafFrom, RestBegins, entries_from}
 use Rattle.entry_tree.proofs.EntryBoundsLemmas.{from_below}
@@ -45,12 +50,27 @@ number_fits xs are = omega (arith, small_number 0 xs are)
 pub some_room : (xs : Entry) → AreBytes xs → 0 < room_above (length xs) (Some xs)
 some_room xs are = omega (arith, number_fits xs are)
 
-pub room_falls : (low high : Entry) → AreBytes low → AreBytes high → length high ≡ length low → below low high ≡ true → room_above (length low) (Some high) < room_above (length low) (Some low)
-room_falls low high are too same above =
+-- the test of numbers
+test_less : (x y : ℕ) → nat_lt x y ≡ is_lt (nat_cmp x y)
+test_less x y = by (nat_cmp x y) (ranks x y)
+  where
+    by : (r : Ordering) → MatchOrdering r (x < y) (x ≡ y) (y < x) → nat_lt x y ≡ is_lt r
+    by Less l = lt-ltb x y l
+    by Equal e = let same : x ≡ y = e in le-ltb x y (omega arith)
+    by Greater l = let over : y < x = l in le-ltb x y (omega arith)
+
+-- numbers tell the order of byte strings of one length
+number_below : (low high : Entry) → AreBytes low → AreBytes high → length high ≡ length low → nat_lt (big_endian 0 low) (big_endian 0 high) ≡ below low high
+unfolding below
+number_below low high are too same =
     let w = length low in
     let number_of = λ (xs : Entry) (e : length xs ≡ w). ap (big_endian 0) (sym (ap (λ n. take n xs) (sym e) ∙ take-length xs)) in
-    let tells : nat_lt (big_endian 0 low) (big_endian 0 high) ≡ below low high =
-    below_at_end w low high are too 0 (big_endian 0 low) (big_endian 0 high) (omega arith) (sym same) refl (number_of low refl) (number_of high same) in
+    test_less (big_endian 0 low) (big_endian 0 high)
+    ∙ ap is_lt (order_at_end w low high are too 0 (big_endian 0 low) (big_endian 0 high) (omega arith) (sym same) refl (number_of low refl) (number_of high same))
+
+pub room_falls : (low high : Entry) → AreBytes low → AreBytes high → length high ≡ length low → below low high ≡ true → room_above (length low) (Some high) < room_above (length low) (Some low)
+room_falls low high are too same above =
+    let tells = number_below low high are too same in
     let less : big_endian 0 low < big_endian 0 high = grind (arith, nat_tests, tells, above) in
-    let most : big_endian 0 high < 256 ^ w = subst (λ n. big_endian 0 high < 256 ^ n) same (number_fits high too) in
+    let most : big_endian 0 high < 256 ^ length low = subst (λ n. big_endian 0 high < 256 ^ n) same (number_fits high too) in
     omega (arith, less, most)

@@ -88,6 +88,56 @@ lowered entries x low high middle r n isnt = record {
   ];
 }
 
+-- how an entry compares tells which side of the other it stands on
+below-less : (e x : Entry) → slice_cmp nat_cmp e x ≡ Less → below e x ≡ true
+unfolding below
+below-less e x is = ap is_lt is
+
+same-equal : (e x : Entry) → slice_cmp nat_cmp e x ≡ Equal → e ≡ x
+same-equal e x is = (bytes_eq-Decides e x).0 (sym (is_eq-slice_cmp e x) ∙ ap is_eq is)
+
+below-greater : (e x : Entry) → slice_cmp nat_cmp e x ≡ Greater → below e x ≡ false
+unfolding below
+below-greater e x is = ap is_lt is
+
+other-greater : (e x : Entry) → slice_cmp nat_cmp e x ≡ Greater → e ≡ x → ⊥
+other-greater e x is same =
+    let greater : slice_cmp nat_cmp x x ≡ Greater = subst (λ y. slice_cmp nat_cmp y x ≡ Greater) same is in
+    absurd (cc (greater, tied_itself nat_list_cmp_total x))
+
+-- the place of x lies from low to high, and what stands at high isn't x
+pub record Seeks (entries : List Entry) (x : Entry) (low high : ℕ) : Type 0 where
+  pub narrows : EntriesRise entries → Narrows entries x low high
+  pub another : high < length entries → get_or entries high [] ≡ x → ⊥
+
+pub seeks_start : (entries : List Entry) (x : Entry) (high : ℕ) → length entries ≤ high → Seeks entries x 0 high
+seeks_start entries x high le = record { narrows = λ r. narrows_start entries x high le; another = λ lt. absurd (omega arith) }
+
+pub seeks_on : (entries : List Entry) (x e : Entry) (low high middle : ℕ) → Seeks entries x low high → middle < length entries
+    → e ≡ get_or entries middle [] → slice_cmp nat_cmp e x ≡ Less → Seeks entries x (middle + 1) high
+seeks_on entries x e low high middle s lt at is = record {
+  narrows = λ r. raised entries x low high middle r (s.narrows r) lt (subst (λ y. below y x ≡ true) at (below-less e x is));
+  another = s.another;
+}
+
+pub seeks_back : (entries : List Entry) (x e : Entry) (low high middle : ℕ) → Seeks entries x low high
+    → e ≡ get_or entries middle [] → slice_cmp nat_cmp e x ≡ Greater → Seeks entries x low middle
+seeks_back entries x e low high middle s at is = record {
+  narrows = λ r. lowered entries x low high middle r (s.narrows r) (subst (λ y. below y x ≡ false) at (below-greater e x is));
+  another = λ lt same. other-greater e x is (at ∙ same);
+}
+
+-- x is where the search met it
+pub met : (entries : List Entry) (x e : Entry) (middle : ℕ) → middle < length entries
+    → e ≡ get_or entries middle [] → slice_cmp nat_cmp e x ≡ Equal → StandsAt x middle entries
+met entries x e middle lt at is = (lt, sym at ∙ same-equal e x is)
+
+-- where a search ends that never met x, it doesn't stand
+pub missed : (entries : List Entry) (x : Entry) (low high : ℕ) → Seeks entries x low high → low ≤ high → high ≤ low → StandsAt x low entries → ⊥
+missed entries x low high s a b at =
+    let same : low ≡ high = omega arith in
+    s.another (omega (arith, at.0)) (subst (λ k. get_or entries k [] ≡ x) same at.1)
+
 -- ---- places
 
 place_by : (entries : List Entry) (x : Entry) (low : ℕ) → low ≤ length entries → ((i : ℕ) → i < low → below (get_or entries i []) x ≡ true)
@@ -129,6 +179,15 @@ child_by (y ∷ entries) x zero le before behind = cond-true (below x y) 0 (suc 
 child_by (y ∷ entries) x (suc low) le before behind =
     cond-false (below x y) 0 (suc (child_in x entries)) (before 0 (omega arith))
     ∙ ap suc (child_by entries x low (omega arith) (λ i lt. before (suc i) (omega arith)) (λ i from lt. behind (suc i) (omega arith) (omega arith)))
+
+-- the place of an entry that stands in a rising list
+pub place_of_standing : (entries : List Entry) (x : Entry) (place : ℕ) → EntriesRise entries → StandsAt x place entries → place ≡ place_in x entries
+place_of_standing entries x place r at = sym (place_by entries x place (omega (arith, at.0))
+    (λ i lt. subst (λ y. below (get_or entries i []) y ≡ true) at.1 (rises_at entries i place r lt at.0))
+    (λ i from lt. elim (cases_lt place i) [
+      | inl over ↦ below-asym x (get_or entries i []) (subst (λ y. below y (get_or entries i []) ≡ true) at.1 (rises_at entries place i r over lt))
+      | inr under ↦ (let e : place ≡ i = omega arith in subst (λ k. below (get_or entries k []) x ≡ false) e (subst (λ y. below y x ≡ false) (sym at.1) (below-itself x)))
+    ]))
 
 -- the child behind the separator that is the entry
 pub child_behind : (entries : List Entry) (x : Entry) (place : ℕ) → EntriesRise entries → place ≡ place_in x entries → StandsAt x place entries → place + 1 ≡ child_in x entries

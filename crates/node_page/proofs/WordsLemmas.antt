@@ -1,15 +1,12 @@
 -- Byte strings that are compared some bytes at a time, as numbers.
-use Rattle.std.proofs.Common.{◌≡◌, ◌≢◌, ◌<◌, ◌≤◌, ◌+◌, ◌*◌, ◌-◌, ℕ, zero, suc, List, [], ◌∷◌, refl, subst, arith, ap, sym, ◌∙◌, length, take, drop, nat_cmp, nat_lt}
-use Rattle.std.proofs.lemmas.Bool.{lt-ltb, le-ltb}
+use Rattle.std.proofs.Common.{◌≡◌, ◌≢◌, ◌<◌, ◌≤◌, ◌+◌, ◌*◌, ◌-◌, ℕ, zero, suc, List, [], ◌∷◌, refl, subst, arith, ap, sym, ◌∙◌, length, take, drop, nat_cmp}
 use Rattle.std.specs.Ordering.{ordering_then, MatchOrdering}
 use Rattle.std.specs.Slice.Scan.{big_endian}
 use Rattle.std.specs.declared.cmp.Ordering.{Ordering}
 use Rattle.std.specs.declared.cmp.Ordering.TheVariants.{Less, Equal, Greater}
 use Rattle.std.specs.Cmp.{ranks}
 use Rattle.std.proofs.lemmas.List.{get_or-drop, length-drop, drop_all, drop-drop}
-use Rattle.std.specs.Ordering.{is_lt}
 use Rattle.std.specs.Cmp.Lexicographic.{slice_cmp}
-use Rattle.mdc_words.specs.ByteOrder.{below}
 use Rattle.node_page.proofs.NodeLemmas.{AreBytes}
 
 -- how two byte strings compare
@@ -116,15 +113,6 @@ decided_last Less = refl
 decided_last Equal = refl
 decided_last Greater = refl
 
--- the test of numbers
-test_less : (x y : ℕ) → nat_lt x y ≡ is_lt (nat_cmp x y)
-test_less x y = by (nat_cmp x y) (ranks x y)
-  where
-    by : (r : Ordering) → MatchOrdering r (x < y) (x ≡ y) (y < x) → nat_lt x y ≡ is_lt r
-    by Less l = lt-ltb x y l
-    by Equal e = let same : x ≡ y = e in le-ltb x y (omega arith)
-    by Greater l = let over : y < x = l in le-ltb x y (omega arith)
-
 -- bytes from a place on are bytes
 bytes_behind : (i : ℕ) (xs : List ℕ) → AreBytes xs → AreBytes (drop i xs)
 bytes_behind i xs g k = subst (λ n. n < 256) (sym (get_or-drop i xs k 0)) (g (i + k))
@@ -138,22 +126,18 @@ module _ (n : ℕ) (xs ys : List ℕ) (g : AreBytes xs) (h : AreBytes ys) where
       rw (ex, ey) (settled n 0 (drop i xs) (drop i ys) (omega (arith, length-drop i xs)) (omega (arith, length-drop i ys)) (bytes_behind i xs g) (bytes_behind i ys h))
 
   -- numbers that differ decide
-  pub below_by : (i x y : ℕ) → i + n ≤ length xs → i + n ≤ length ys → order xs ys ≡ order (drop i xs) (drop i ys)
-      → x ≡ big_endian 0 (take n (drop i xs)) → y ≡ big_endian 0 (take n (drop i ys)) → x ≢ y → nat_lt x y ≡ below xs ys
-  unfolding below
-  below_by i x y p q e ex ey ne =
-      let is : order xs ys ≡ nat_cmp x y = e ∙ at_word i x y p q ex ey ∙ decided x y (order (drop n (drop i xs)) (drop n (drop i ys))) ne in
-      test_less x y ∙ ap is_lt (sym is)
+  pub order_by : (i x y : ℕ) → i + n ≤ length xs → i + n ≤ length ys → order xs ys ≡ order (drop i xs) (drop i ys)
+      → x ≡ big_endian 0 (take n (drop i xs)) → y ≡ big_endian 0 (take n (drop i ys)) → x ≢ y → nat_cmp x y ≡ order xs ys
+  order_by i x y p q e ex ey ne =
+      sym (e ∙ at_word i x y p q ex ey ∙ decided x y (order (drop n (drop i xs)) (drop n (drop i ys))) ne)
 
   -- the last numbers decide
-  pub below_at_end : (i x y : ℕ) → i + n ≡ length xs → length xs ≡ length ys → order xs ys ≡ order (drop i xs) (drop i ys)
-      → x ≡ big_endian 0 (take n (drop i xs)) → y ≡ big_endian 0 (take n (drop i ys)) → nat_lt x y ≡ below xs ys
-  unfolding below
-  below_at_end i x y p q e ex ey =
+  pub order_at_end : (i x y : ℕ) → i + n ≡ length xs → length xs ≡ length ys → order xs ys ≡ order (drop i xs) (drop i ys)
+      → x ≡ big_endian 0 (take n (drop i xs)) → y ≡ big_endian 0 (take n (drop i ys)) → nat_cmp x y ≡ order xs ys
+  order_at_end i x y p q e ex ey =
       let none = λ (zs : List ℕ) (l : length zs ≡ i + n). drop_all n (drop i zs) (omega (arith, length-drop i zs)) in
       let rest : order (drop n (drop i xs)) (drop n (drop i ys)) ≡ Equal = rw (none xs (sym p), none ys (omega arith)) refl in
-      let is : order xs ys ≡ nat_cmp x y = e ∙ at_word i x y (omega arith) (omega arith) ex ey ∙ ap (ordering_then (nat_cmp x y)) rest ∙ decided_last (nat_cmp x y) in
-      test_less x y ∙ ap is_lt (sym is)
+      sym (e ∙ at_word i x y (omega arith) (omega arith) ex ey ∙ ap (ordering_then (nat_cmp x y)) rest ∙ decided_last (nat_cmp x y))
 
   -- where numbers are the same, what is from a later place on decides
   pub passed_on : (i j x y : ℕ) → i ≤ j → j ≤ i + n → i + n ≤ length xs → i + n ≤ length ys → order xs ys ≡ order (drop i xs) (drop i ys)

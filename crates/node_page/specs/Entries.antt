@@ -1,6 +1,7 @@
 -- Rising lists of entries, and places in them.
-use Rattle.std.specs.Prelude.{◌==◌, ◌≡◌, ◌<◌, ℕ, suc, ◌+◌, ◌/◌, nat_le, Bool, not, if◌then◌else◌, IsTrue, List, [], ◌∷◌, ◌++◌, length, get_or, take, drop}
+use Rattle.std.specs.Prelude.{◌==◌, ◌≡◌, ◌<◌, ◌≤◌, ℕ, suc, ◌+◌, ◌/◌, nat_le, Bool, not, if◌then◌else◌, IsTrue, List, [], ◌∷◌, ◌++◌, length, get_or, take, drop}
 use Rattle.std.specs.List.{filter, list_any}
+use Rattle.std.specs.Slice.Scan.{big_endian}
 use Rattle.mdc_words.specs.ByteOrder.{Entry, below}
 use Rattle.node_page.specs.Node.{number_within}
 
@@ -23,6 +24,12 @@ child_in entry (x ∷ separators) = if below entry x then 0 else suc (child_in e
 -- the entry stands at a place
 abbrev pub StandsAt : Entry → ℕ → List Entry → Type 0
 StandsAt entry place entries = (place < length entries) × (get_or entries place [] ≡ entry)
+
+-- a byte string of this width has a word, and this is the number of its first eight bytes
+pub record IsFirstWord (width : ℕ) (s : Entry) (first : ℕ) : Type 0 where
+  pub same : width ≡ length s
+  pub long : 8 ≤ width
+  pub read : first ≡ big_endian 0 (take 8 s)
 
 -- the four bytes of an entry from a place on name one of these blocks
 abbrev pub names_block : List ℕ → ℕ → Entry → Bool

@@ -16,7 +16,7 @@ use store_api::Page;
 pub struct NodeView<'p> {
     page: &'p Page,
     // the bytes of an entry, and how far entries stand apart
-    width: usize,
+    pub(crate) width: usize,
     step: usize,
     pub(crate) count: usize,
     leaf: bool,

@@ -1,6 +1,5 @@
 use Rattle.std.proofs.Common.{◌≡◌, length, Some, ap, sym, subst, ◌∙◌, arith}
 use Rattle.std.proofs.lemmas.Bool.{both_ways}
-use Rattle.node_page.specs.Node.Node.{NoNode}
 use Rattle.node_page.specs.Entries.{EntriesRise}
 use Rattle.node_page.specs.Looked.{looked, seen_node, entries_in, is_leaf_node}
 use Rattle.node_page.specs.Views.{IsWritten}

@@ -1,15 +1,14 @@
 use Rattle.std.proofs.Common.{◌-◌, ◌≤◌, length}
-use Rattle.node_page.specs.Entries.{EntriesRise}
 use Rattle.node_page.specs.Looked.{entries_in}
-use Rattle.node_page.proofs.FindLemmas.{Narrows}
-use Rattle.node_page.proofs.view.NodeView.find.Given as goal
+use Rattle.node_page.proofs.FindLemmas.{Seeks}
+use Rattle.node_page.proofs.view.NodeView.search.Given as goal
 
 -- the place lies from low to high
 abbrev pub invariant-loop-low : goal.invariant-loop-low
 invariant-loop-low l = record {
   order : l.low ≤ l.high;
   within : l.high ≤ length (entries_in l.self.node);
-  narrows : EntriesRise (entries_in l.self.node) → Narrows (entries_in l.self.node) l.entry l.low l.high;
+  seeks : Seeks (entries_in l.self.node) l.entry l.low l.high;
 }
 
 abbrev pub decreases-loop-low : goal.decreases-loop-low

@@ -1,6 +1,6 @@
 use Rattle.std.proofs.Common.{◌≡◌, ◌≤◌, ◌-◌, drop}
 use Rattle.node_page.proofs.WordsLemmas.{order}
-use Rattle.node_page.proofs.order.is_below_by_words.Given as goal
+use Rattle.node_page.proofs.order.compare_behind.Given as goal
 
 -- what is from `at` on decides
 abbrev pub invariant-loop-at : goal.invariant-loop-at
