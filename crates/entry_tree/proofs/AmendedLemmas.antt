@@ -1,5 +1,5 @@
 -- The replacement of an entry, in a tree that a store is told to hold.
-use Rattle.std.proofs.Common.{get_or, ◌≡◌, ◌≢◌, ◌<◌, ℕ, zero, suc, append-nil, List, [], ◌∷◌, ◌++◌, refl, ap, arith, sym, ◌∙◌, subst, length, take, drop, set, inl, inr, length-append}
+use Rattle.std.proofs.Common.{◌≡◌, ◌≢◌, ◌<◌, ℕ, zero, suc, append-nil, List, [], ◌∷◌, ◌++◌, refl, ap, arith, sym, ◌∙◌, subst, length, take, drop, set, inl, inr, length-append}
 use Rattle.std.specs.Prelude.{Option, Some, None, true, false, Bool, IsTrue, not}
 use Rattle.std.proofs.lemmas.Bool.{cases_lt}
 use Rattle.mdc_words.specs.ByteOrder.{Entry, below}
@@ -28,6 +28,7 @@ use Rattle.entry_tree.proofs.FencesLemmas.{SetsFence}
 use Rattle.entry_tree.proofs.ForestLemmas.{HoldsForest-agree, once_same}
 use Rattle.entry_tree.proofs.HeldTreesLemmas.{nodes_in-past, nodes_kept, nodes_same}
 use Rattle.entry_tree.proofs.LeafFromLemmas.{from_high}
+use Rattle.entry_tree.proofs.LeafSpotsLemmas.{entry_at_place}
 use Rattle.entry_tree.proofs.ReadLeafLemmas.{high_fence-bound, holds_still}
 use Rattle.entry_tree.proofs.TreePlacesLemmas.{EachNode-from_plug, Fits-plug, times-plug}
 use Rattle.entry_tree.proofs.SightLemmas.{Rises-wide}
@@ -342,12 +343,7 @@ module _ {S : Type 0} {g : Ghosts S} where
       let here : Forest = Leaf page k.items Nil in
       let o = outside None None k.above here page x k.matched refl fit k.least k.under in
       let spot = k.says.0 is in
-      subst (λ (u : Forest). IsEntryOf x (leaf_entries u)) (sym k.whole) ((has_at k.above here x o).1 (rw append-nil (subst (λ (v : Entry). IsEntryOf v k.items) spot.1 (listed k.items at spot.0))))
-    where
-      listed : (xs : List Entry) (i : ℕ) → i < length xs → IsEntryOf (get_or xs i []) xs
-      listed [] i l = absurd (omega arith)
-      listed (v ∷ vs) zero l = inl refl
-      listed (v ∷ vs) (suc i) l = inr (listed vs i (omega arith))
+      subst (λ (u : Forest). IsEntryOf x (leaf_entries u)) (sym k.whole) ((has_at k.above here x o).1 (rw append-nil (subst (λ (v : Entry). IsEntryOf v k.items) spot.1 (entry_at_place k.items at spot.0))))
 
   -- the tree afterwards
   pub amends_there : {Kind : ℕ → Type 0} {Breaks : Damage → Type 0} {s three four : S} {tree : Tree} (t : Forest) (x y : Entry) (page at : ℕ) (there : Bool) (low high : Option Fence)

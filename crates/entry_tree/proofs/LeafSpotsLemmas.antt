@@ -29,6 +29,12 @@ climbs_rise last (y ∷ ys) h = (tt, tt, h.2)
 not_both : (x y : Entry) → below x y ≡ true → below x y ≡ false → ⊥
 not_both x y h k = cc
 
+-- what stands at a place of a list is one of it
+pub entry_at_place : (xs : List Entry) (i : ℕ) → i < length xs → IsEntryOf (get_or xs i []) xs
+entry_at_place [] i l = absurd (omega arith)
+entry_at_place (v ∷ vs) zero l = inl refl
+entry_at_place (v ∷ vs) (suc i) l = inr (entry_at_place vs i (omega arith))
+
 -- an entry of a leaf stands at its place
 pub stands_at_place : (items : List Entry) (x : Entry) (at : ℕ) → Rises None None items → IsLeafPlace items x at → IsEntryOf x items → (at < length items) × (get_or items at [] ≡ x)
 stands_at_place [] x at r p i = absurd i

@@ -12,10 +12,12 @@ pub mod DroppingLemmas
 pub mod EditsLemmas
 pub mod EntryBoundsLemmas
 pub mod FencesLemmas
+pub mod FindingLemmas
 pub mod FirstFromLemmas
 pub mod FirstLeafLemmas
 pub mod FitsLemmas
 pub mod ForestLemmas
+pub mod FoundAmendedLemmas
 pub mod FreedLemmas
 pub mod FreeingLemmas
 pub mod GoingDownLemmas

@@ -1,6 +1,6 @@
 -- What a look at a page shows, as a search sees it.
 use Rattle.std.proofs.Common.{◌≡◌, ◌≢◌, ◌<◌, ◌≤◌, ◌-◌, ℕ, zero, suc, List, [], ◌∷◌, refl, arith, sym, ◌∙◌, subst, length, get_or, inl, inr, Bool, true, false, IsTrue}
-use Rattle.std.specs.Prelude.{Some, None, if◌then◌else◌, ◌↔◌}
+use Rattle.std.specs.Prelude.{Option, Some, None, if◌then◌else◌, ◌↔◌}
 use Rattle.std.proofs.lemmas.Option.{same_Some}
 use Rattle.mdc_words.specs.ByteOrder.{Entry, below}
 use Rattle.node_page.specs.Node.{Node, node_of, is_full}
@@ -15,6 +15,7 @@ use Rattle.entry_tree.specs.EntryBounds.{Climbs, Rises, IsEntryOf, IsLeafPlace}
 use Rattle.entry_tree.specs.TreePlaces.{IsChildPlace}
 use Rattle.entry_tree.specs.HeldTrees.{nodes_in}
 use Rattle.entry_tree.specs.Sight.{Sees}
+use Rattle.entry_tree.specs.Spots.{LendsLeaf}
 use Rattle.entry_tree.specs.declared.sight.Sight.{Sight}
 use Rattle.entry_tree.specs.declared.sight.Sight.TheVariants.{Nothing, AtLeaf, AtInner}
 use Rattle.entry_tree.proofs.EntryBoundsLemmas.{below_itself, below_trans}
@@ -157,3 +158,11 @@ pub hand_is : {S : Type 0} {g : Ghosts S} (old new : S) (p : ℕ) (page : List �
     → IsTrue (g.state old).is_told → page_at (g.state old).work p ≡ page
 hand_is {S} {g} old new p page within hand lent told =
     same_Some (page_at (g.state old).work p) page (sym (hand (page_at (g.state old).work p) (record { is_told = told; within = within; bytes_are = refl })) ∙ lent)
+
+-- and lends the leaf that it is
+pub lends_leaf : (width : ℕ) (state : StoreState) (p : ℕ) (hand : Option (List ℕ)) (items : List Entry) → (IsTrue state.is_told → hand ≡ Some (page_at state.work p)) → nodes_in width state p ≡ LeafNode items → LendsLeaf width hand items
+lends_leaf width state p hand items lent e = go state.is_told refl e
+  where
+    go : (b : Bool) → state.is_told ≡ b → (if b then node_of width (page_at state.work p) else NoNode) ≡ LeafNode items → LendsLeaf width hand items
+    go true told e = record { bytes = page_at state.work p; there = lent told; leaf = e }
+    go false told e = cc

@@ -1,6 +1,7 @@
 pub mod Amending
 pub mod Entries
 pub mod EntryBounds
+pub mod Finding
 pub mod Forest
 pub mod Freeing
 pub mod HeldTrees

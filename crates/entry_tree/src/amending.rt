@@ -1,19 +1,20 @@
 // Replacing an entry by another one.
-ghost use Rattle.std.specs.Prelude.{◌≡◌, ◌<◌, ◌≤◌, ℕ, List, length, take, slice_set, true, false, IfOk, OnOk};
+ghost use Rattle.std.specs.Prelude.{◌≡◌, ◌<◌, ◌≤◌, ◌⊎◌, ℕ, List, length, take, slice_set, true, false, IsTrue, IfOk, OnOk};
 ghost use Rattle.mdc_words.specs.ByteOrder.{Entry, below};
 ghost use Rattle.node_page.specs.Node.{node_of};
 ghost use Rattle.node_page.specs.Node.Node.{LeafNode, InnerNode};
 ghost use Rattle.store_api.specs.Frame.{NoPage, OnlyPage};
 ghost use Rattle.store_api.specs.Causes.{fault_of};
 ghost use Rattle.store_api.specs.RunsOverPages.{RunsOverPages};
-ghost use Rattle.entry_tree.specs.Amending.{HasOwnFront, IsAmended, MakesRoom, HasBehind, lies_below, moved_to, SetsAt, SetsMoved, IsMovedPage, BreaksSlot, BreaksMoved};
+ghost use Rattle.entry_tree.specs.Amending.{AmendsEntry, HasOwnFront, IsAmended, MakesRoom, HasBehind, lies_below, moved_to, SetsAt, SetsMoved, IsMovedPage, BreaksSlot, BreaksMoved};
 ghost use Rattle.entry_tree.specs.Slots.{IsSlot};
+ghost use Rattle.entry_tree.specs.Finding.{IsFoundEntry};
 ghost use Rattle.entry_tree.specs.Forest.{Forest, leaf_entries};
 ghost use Rattle.entry_tree.specs.HeldTrees.{HoldsTree, IsTreePage, BreaksTree};
 ghost use Rattle.entry_tree.specs.Spots.{FenceFits};
 
 use crate::spot::{Fence, find_spot};
-use crate::{Entry, Tree};
+use crate::{Entry, FoundEntry, Tree};
 use node_page::{NodeView, set_entry, set_separator};
 use store_api::{Page, Pages, StoreFault};
 
@@ -38,6 +39,44 @@ impl Tree {
         set_moved(self, pages, &moved)?;
         set_at(self, pages, spot.page, spot.at, new)?;
         Ok(true)
+    }
+
+    /// Replaces an entry that was found by another one with the same first four bytes, in pages that are as they were then. Where
+    /// these bytes begin no other entry, the tree is as before but for that entry, and each leaf keeps its number of entries. It
+    /// claims no page. Damaged names the root.
+    pub fn amend_found<P: Pages>(
+        &self,
+        pages: &mut P,
+        found: &FoundEntry,
+        new: &[u8],
+    ) -> Result<(), StoreFault>
+        requires stands { IsFoundEntry P.Pages pages.old self.now found.now }
+        requires width { length new.now ≡ self.now.width }
+        requires alike { take 4 found.now.entry ≡ take 4 new.now }
+        requires going { (P.state pages.old).ended ≡ false }
+        ensures amended { OnOk result ((t : Forest) → HoldsTree P.Pages pages.old self.now t → HasOwnFront found.now.entry (leaf_entries t)
+            → AmendsEntry P.Pages pages.new self.now found.now.entry new.now t) }
+        ensures count { length (P.state pages.new).work ≡ length (P.state pages.old).work }
+        ensures runs { RunsOverPages P.Pages (IsTreePage P.Pages pages.old self.now) (IsTreePage P.Pages pages.old self.now) (BreaksTree P.Pages pages.old self.now) pages.old pages.new (fault_of result) }
+    {
+        if self.meets_no_separator(found) {
+            set_at(self, pages, found.page, found.at, new)?;
+            return Ok(());
+        }
+        // At an end of its leaf, the new entry may lie beyond a separator.
+        if self.amend(pages, found.bytes(), new)? {
+            Ok(())
+        } else {
+            Err(self.damaged())
+        }
+    }
+
+    // Whether a found entry stays between the nearest separators whatever becomes of it behind its first four bytes: it stands
+    // between others of its leaf, or the tree is this leaf alone.
+    fn meets_no_separator(&self, found: &FoundEntry) -> bool
+        ensures { IsTrue result → IsTrue found.now.inside ⊎ (found.now.page ≡ self.now.root) }
+    {
+        found.inside || found.page == self.root
     }
 
     // The separator that has to be moved so that an entry has room between the two nearest ones, and what it becomes.

@@ -8,7 +8,7 @@ ghost use Rattle.entry_tree.specs.Forest.{Forest, leaf_entries};
 ghost use Rattle.entry_tree.specs.HeldTrees.{HoldsTree, IsTreePage, BreaksTree};
 
 use crate::Tree;
-use crate::sight::{Sight, see};
+use crate::leaf_place::find_leaf;
 use store_api::{Pages, StoreFault};
 
 impl Tree {
@@ -20,18 +20,7 @@ impl Tree {
         ensures same { (P.state pages.new).work ≡ (P.state pages.old).work }
         ensures runs { RunsOverPages P.Pages NoPage (IsTreePage P.Pages pages.old self.now) (BreaksTree P.Pages pages.old self.now) pages.old pages.new (fault_of result) }
     {
-        let count = pages.count();
-        let mut page = self.root;
-        for step in 0..count {
-            if page >= count {
-                return Err(self.damaged());
-            }
-            match see(pages, self, page, entry)? {
-                Sight::Nothing => return Err(self.damaged()),
-                Sight::AtLeaf(_, there, _) => return Ok(there),
-                Sight::AtInner(_, child, _) => page = child,
-            }
-        }
-        Err(self.damaged())
+        let leaf = find_leaf(self, pages, entry)?;
+        Ok(leaf.there)
     }
 }

@@ -81,21 +81,10 @@ impl Tree {
         ensures same { (P.state pages.new).work ≡ (P.state pages.old).work }
         ensures runs { RunsOverPages P.Pages NoPage (IsTreePage P.Pages pages.old self.now) (BreaksTree P.Pages pages.old self.now) pages.old pages.new (fault_of result) }
     {
-        let spot = find_spot(self, pages, bound)?;
-        let first = take_first(self, pages, spot.at);
-        if first.is_some() {
-            return Ok(first);
+        match self.find_from(pages, bound)? {
+            Some(found) => Ok(Some(found.into_entry())),
+            None => Ok(None),
         }
-        // The leaf of the bound has only entries below it. The next leaf has some above it.
-        let Some(next) = spot.high else {
-            return Ok(None);
-        };
-        let behind = find_spot(self, pages, next.bound.bytes())?;
-        let first = take_first(self, pages, behind.at);
-        if first.is_none() {
-            return Err(self.damaged());
-        }
-        Ok(first)
     }
 
     // What the leaf of the bound itself has.
@@ -158,19 +147,6 @@ fn take_entries<P: Pages>(
     }
     let width = usize::from(tree.width);
     entries.fill(width, count - at, part_of(page, width, at, count))
-}
-
-// Copies the entry at a place of the leaf at hand, if there is one.
-fn take_first<P: Pages>(tree: &Tree, pages: &P, at: usize) -> Option<Entry>
-    requires hand { IsSome (P.state pages.now).hand }
-    ensures taken { (items : List Entry) → LendsLeaf tree.now.width (P.state pages.now).hand items → result ≡ first_entry (drop at items) }
-    ensures width { BoundFits tree.now.width result }
-{
-    let view = NodeView::look(pages.page(), tree.width)?;
-    if !view.is_leaf() || at >= view.len() {
-        return None;
-    }
-    Some(Entry::of(view.entry(at)))
 }
 
 // Lends the bytes of the entries of a leaf, which are so many, from a place on.

@@ -1,10 +1,13 @@
 // What a search sees on one page.
-ghost use Rattle.std.specs.Prelude.{◌≡◌, ◌<◌, length, false, IfOk};
+ghost use Rattle.std.specs.Prelude.{◌≡◌, ◌<◌, List, length, false, IsSome, IfOk, OnOk};
+ghost use Rattle.mdc_words.specs.ByteOrder.{Entry};
 ghost use Rattle.store_api.specs.Frame.{OnlyPage, NoPage};
 ghost use Rattle.store_api.specs.Causes.{fault_of, NoDamage};
 ghost use Rattle.store_api.specs.RunsOverPages.{RunsOverPages};
+ghost use Rattle.node_page.specs.Node.Node.{LeafNode};
 ghost use Rattle.entry_tree.specs.HeldTrees.{nodes_in};
 ghost use Rattle.entry_tree.specs.Sight.{Sees};
+ghost use Rattle.entry_tree.specs.Spots.{LendsLeaf};
 
 use crate::Tree;
 use node_page::NodeView;
@@ -21,7 +24,9 @@ pub(crate) enum Sight {
     AtInner(usize, u32, bool),
 }
 
-/// Looks for an entry on one page of a tree.
+/// Looks for an entry on one page of a tree. It is a part of each loop that goes down, so that what it sees needn't be laid
+/// down in memory.
+#[inline(always)]
 pub(crate) fn see<P: Pages>(
     pages: &mut P,
     tree: &Tree,
@@ -32,6 +37,8 @@ pub(crate) fn see<P: Pages>(
     requires going { (P.state pages.old).ended ≡ false }
     requires within { page < length (P.state pages.old).work }
     ensures sees { IfOk result (λ sight. Sees tree.now.width (nodes_in tree.now.width (P.state pages.old) page) entry.now sight) }
+    ensures hand { OnOk result (IsSome (P.state pages.new).hand) }
+    ensures lent { OnOk result ((items : List Entry) → nodes_in tree.now.width (P.state pages.old) page ≡ LeafNode items → LendsLeaf tree.now.width (P.state pages.new).hand items) }
     ensures same { (P.state pages.new).work ≡ (P.state pages.old).work }
     ensures runs { RunsOverPages P.Pages NoPage (OnlyPage page) NoDamage pages.old pages.new (fault_of result) }
 {

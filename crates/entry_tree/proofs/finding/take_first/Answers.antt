@@ -4,7 +4,7 @@ use Rattle.node_page.specs.Node.Node.{LeafNode}
 use Rattle.node_page.specs.Looked.{SeenNode, entries_in, seen_node}
 use Rattle.entry_tree.proofs.FirstFromLemmas.{first_entry-drop}
 use Rattle.entry_tree.proofs.PassedLemmas.{same_some}
-use Rattle.entry_tree.proofs.reading.take_first.Goals as goal
+use Rattle.entry_tree.proofs.finding.take_first.Goals as goal
 
 pub returns-clause-taken : goal.returns-clause-taken
 returns-clause-taken g c items l =
