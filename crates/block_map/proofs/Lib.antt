@@ -1,7 +1,9 @@
+pub mod CountingLemmas
+pub mod FindingLemmas
+pub mod FoundRowsLemmas
 pub mod MapChangesLemmas
 pub mod MapFormLemmas
 pub mod MapLinesLemmas
 pub mod MapOrderLemmas
-pub mod FindingLemmas
 pub mod MapRunsLemmas
 pub mod WalkingLemmas

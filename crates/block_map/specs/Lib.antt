@@ -1,4 +1,6 @@
 pub mod BlockMaps
+pub mod Counting
+pub mod FoundRows
 pub mod MapChanges
 pub mod MapLines
 pub mod MapRows

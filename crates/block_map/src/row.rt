@@ -44,6 +44,7 @@ impl BlockRow {
         requires { length entry.now ≡ 7 }
         ensures row { MatchOption result (2 < number_within 4 1 entry.now) (λ row. entry.now ≡ row_entry row) }
         ensures small { IfSome result (λ row. row.block < 2 ^ 32) }
+        ensures few { IfSome result (λ row. row.rows < 2 ^ 16) }
     {
         let state = BlockState::of(entry[4])?;
         Some(BlockRow {

@@ -59,6 +59,23 @@ fn changed<S: Store>(alloc: Global, ext: &mut Extents, store: &mut S) -> Result<
     Ok(look_round(&map, store, 3, BlockState::Pending)?)
 }
 
+// What counting rows answers: up to three in block 5, which has two; one less there; and in block 9, which is Free.
+fn counted<S: Store>(
+    alloc: Global,
+    ext: &mut Extents,
+    store: &mut S,
+) -> Result<[Option<u16>; 4], Fail>
+    requires going { (S.state store.old).ended ≡ false }
+{
+    let map = fill(alloc, ext, store)?;
+    map.set(store, row(5, BlockState::Used, 2))?;
+    let more = map.count_row(store, 5, 3)?;
+    let full = map.count_row(store, 5, 3)?;
+    let fewer = map.discount_row(store, 5)?;
+    let free = map.count_row(store, 9, 3)?;
+    Ok([more, full, fewer, free])
+}
+
 #[test]
 fn blocks_are_found_and_listed(rt: HostRuntime) -> Result<(), Fail> {
     let Seen {
@@ -86,5 +103,12 @@ fn rows_change_in_place_and_leave(rt: HostRuntime) -> Result<(), Fail> {
     assert_eq!(rt; listed.as_slice(), [5].as_slice());
     assert_eq!(rt; first_free, None);
     assert_eq!(rt; free_behind, None);
+    Ok(())
+}
+
+#[test]
+fn rows_of_used_blocks_are_counted(rt: HostRuntime) -> Result<(), Fail> {
+    let answers = counted(rt.alloc(), &mut extents()?, &mut empty_store(rt.alloc())?)?;
+    assert_eq!(rt; answers, [Some(2), None, Some(3), None]);
     Ok(())
 }

@@ -1,0 +1,101 @@
+// A Used block has a row more, or a row less.
+ghost use Rattle.std.specs.Prelude.{◌≡◌, ◌+◌, ◌-◌, ◌<◌, ◌≤◌, ◌⊎◌, length, false, IfOk, IfNone, IfSome};
+ghost use Rattle.store_api.specs.Causes.{fault_of};
+ghost use Rattle.store_api.specs.Frame.{NoPage};
+ghost use Rattle.store_api.specs.RunsOverPages.{RunsOverPages};
+ghost use Rattle.entry_tree.specs.Forest.{Forest};
+ghost use Rattle.entry_tree.specs.HeldTrees.{HoldsTree, IsTreePage};
+ghost use Rattle.block_map.specs.BlockMaps.{AnyMap, BreaksMapTree, HasRow, IsMapForm};
+ghost use Rattle.block_map.specs.Counting.{FindsUsed, IfUsed, used_row};
+ghost use Rattle.block_map.specs.MapChanges.{ChangesRowTo};
+
+use crate::looking::FoundRow;
+use crate::{BlockMap, BlockRow, BlockState};
+use store_api::{Pages, StoreFault};
+
+impl BlockMap {
+    /// Counts a row more in a Used block with fewer rows than `most`, mostly in one descent, and answers how many it had. None where
+    /// there is no such block, or its number is the highest one, 65,535: then nothing is changed. It claims no page.
+    pub fn count_row<P: Pages>(
+        &self,
+        pages: &mut P,
+        block: u32,
+        most: u32,
+    ) -> Result<Option<u16>, StoreFault>
+        requires going { (P.state pages.old).ended ≡ false }
+        ensures there { IfOk result (λ counted. IfSome counted (λ had. (t : Forest) → HoldsTree P.Pages pages.old self.now.tree t → HasRow (used_row block had) t)) }
+        ensures more { IfOk result (λ counted. IfSome counted (λ had. (t : Forest) → HoldsTree P.Pages pages.old self.now.tree t → IsMapForm t
+            → ChangesRowTo P.Pages pages.new self.now.tree (used_row block had) (used_row block (had + 1)) t)) }
+        ensures room { IfOk result (λ counted. IfSome counted (λ had. had < most)) }
+        ensures few { IfOk result (λ counted. IfSome counted (λ had. had < 65535)) }
+        ensures full { IfOk result (λ counted. IfNone counted ((t : Forest) → HoldsTree P.Pages pages.old self.now.tree t → IsMapForm t
+            → IfUsed block (λ rows. (most ≤ rows) ⊎ (rows ≡ 65535)) t)) }
+        ensures kept { IfOk result (λ counted. IfNone counted ((P.state pages.new).work ≡ (P.state pages.old).work)) }
+        ensures count { length (P.state pages.new).work ≡ length (P.state pages.old).work }
+        ensures runs { RunsOverPages P.Pages (IsTreePage P.Pages pages.old self.now.tree) (IsTreePage P.Pages pages.old self.now.tree)
+            (BreaksMapTree P.Pages pages.old self.now.tree AnyMap) pages.old pages.new (fault_of result) }
+    {
+        let Some(found) = self.find_used(pages, block)? else {
+            return Ok(None);
+        };
+        let had = found.row.rows;
+        if u32::from(had) >= most {
+            return Ok(None);
+        }
+        if had == u16::MAX {
+            return Ok(None);
+        }
+        let state = BlockState::Used;
+        let rows = had + 1;
+        self.replace_found(pages, found, BlockRow { block, state, rows })?;
+        Ok(Some(had))
+    }
+
+    /// Counts a row less in a Used block with two rows or more, mostly in one descent, and answers how many it had. None where there is
+    /// no such block: then nothing is changed. It claims no page.
+    pub fn discount_row<P: Pages>(
+        &self,
+        pages: &mut P,
+        block: u32,
+    ) -> Result<Option<u16>, StoreFault>
+        requires going { (P.state pages.old).ended ≡ false }
+        ensures there { IfOk result (λ counted. IfSome counted (λ had. (t : Forest) → HoldsTree P.Pages pages.old self.now.tree t → HasRow (used_row block had) t)) }
+        ensures fewer { IfOk result (λ counted. IfSome counted (λ had. (t : Forest) → HoldsTree P.Pages pages.old self.now.tree t → IsMapForm t
+            → ChangesRowTo P.Pages pages.new self.now.tree (used_row block had) (used_row block (had - 1)) t)) }
+        ensures some { IfOk result (λ counted. IfSome counted (λ had. 1 < had)) }
+        ensures last { IfOk result (λ counted. IfNone counted ((t : Forest) → HoldsTree P.Pages pages.old self.now.tree t → IsMapForm t
+            → IfUsed block (λ rows. rows ≤ 1) t)) }
+        ensures kept { IfOk result (λ counted. IfNone counted ((P.state pages.new).work ≡ (P.state pages.old).work)) }
+        ensures count { length (P.state pages.new).work ≡ length (P.state pages.old).work }
+        ensures runs { RunsOverPages P.Pages (IsTreePage P.Pages pages.old self.now.tree) (IsTreePage P.Pages pages.old self.now.tree)
+            (BreaksMapTree P.Pages pages.old self.now.tree AnyMap) pages.old pages.new (fault_of result) }
+    {
+        let Some(found) = self.find_used(pages, block)? else {
+            return Ok(None);
+        };
+        let had = found.row.rows;
+        if had <= 1 {
+            return Ok(None);
+        }
+        let state = BlockState::Used;
+        let rows = had - 1;
+        self.replace_found(pages, found, BlockRow { block, state, rows })?;
+        Ok(Some(had))
+    }
+
+    // The row of a Used block, and where it stands. None where the map hasn't the block as a Used one.
+    fn find_used<P: Pages>(&self, pages: &mut P, block: u32) -> Result<Option<FoundRow>, StoreFault>
+        requires going { (P.state pages.old).ended ≡ false }
+        ensures finds { IfOk result (FindsUsed P.Pages pages.old pages.new self.now.tree block) }
+        ensures same { (P.state pages.new).work ≡ (P.state pages.old).work }
+        ensures runs { RunsOverPages P.Pages NoPage (IsTreePage P.Pages pages.old self.now.tree) (BreaksMapTree P.Pages pages.old self.now.tree AnyMap) pages.old pages.new (fault_of result) }
+    {
+        let Some(found) = self.find_row(pages, block)? else {
+            return Ok(None);
+        };
+        if found.row.state != BlockState::Used {
+            return Ok(None);
+        }
+        Ok(Some(found))
+    }
+}
