@@ -51,7 +51,9 @@ fn truth_of_atom(atom: &Atom, values: &List<Value>) -> Truth
     negated_if(atom.negated, truth_of_test(&atom.test, value, values))
 }
 
-fn truth_of_test(test: &Test, value: &Value, values: &List<Value>) -> Truth
+/// The truth of a test of a value. It takes no memory. It looks at the values of the row only where the test compares with
+/// a column, and needs that column to be there, and values of one kind.
+pub fn truth_of_test(test: &Test, value: &Value, values: &List<Value>) -> Truth
     requires { IsTrue (may_test values.now value.now test.now) }
     ensures { result ≡ test_truth values.now value.now test.now }
 {

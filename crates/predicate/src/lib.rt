@@ -1,8 +1,8 @@
 //! The truth of predicates over the values of a row, and predicates without NOT.
 //!
-//! It promises that a predicate has the truth that the definitions of `mdc_ast` give it, with no memory taken, and that
-//! a predicate whose NOTs were pushed to its tests has the same truth on each row. It stands on `mdc_ast` and
-//! `mdc_values`.
+//! It promises that a predicate, and each test in it, has the truth that the definitions of `mdc_ast` give it, with no
+//! memory taken, and that a predicate whose NOTs were pushed to its tests has the same truth on each row. It stands on
+//! `mdc_ast` and `mdc_values`.
 #![tactic(auto)]
 
 mod combining;
@@ -10,7 +10,7 @@ mod comparing;
 mod judging;
 mod pushing;
 
-pub use judging::truth;
+pub use judging::{truth, truth_of_test};
 pub use pushing::push_not;
 
 #[cfg(test)]

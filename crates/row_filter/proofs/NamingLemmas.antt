@@ -1,5 +1,5 @@
 -- The columns that a predicate names are all that its truth looks at.
-use Rattle.std.proofs.Common.{◌≡◌, ◌∙◌, ◌<◌, ℕ, List, [], ◌∷◌, ◌++◌, map, refl, sym, ap, subst, length, arith}
+use Rattle.std.proofs.Common.{◌≡◌, ◌∙◌, ◌<◌, ◌⊎◌, inl, inr, ℕ, List, [], ◌∷◌, ◌++◌, map, refl, sym, ap, subst, length, arith}
 use Rattle.std.specs.Prelude.{Bool, IsTrue, ◌&&◌, nat_lt, unwrap_or}
 use Rattle.std.specs.List.{All}
 use Rattle.std.proofs.lemmas.Bool.Decides.{nat_tests}
@@ -14,12 +14,13 @@ use Rattle.mdc_ast.specs.declared.predicate.Pred.TheFolds.{fold-roll-Pred, ind-P
 use Rattle.mdc_ast.specs.declared.predicate.Pred.TheOpen.{Pred-F}
 use Rattle.mdc_ast.specs.declared.predicate.Pred.TheOpen as layer
 use Rattle.mdc_ast.specs.declared.predicate.Pred.TheVariants as pred
-use Rattle.mdc_ast.specs.declared.predicate.Pred.TheVariants.{rolls-All, rolls-Any, rolls-Atom, rolls-Not}
+use Rattle.mdc_ast.specs.declared.predicate.Pred.TheVariants.{rolls-All, rolls-Any}
 use Rattle.mdc_ast.specs.declared.predicate.Pred.TheViews.{roll-Pred}
 use Rattle.mdc_ast.specs.declared.predicate.Right.TheVariants as right
 use Rattle.mdc_ast.specs.declared.predicate.Test.{Test}
 use Rattle.mdc_ast.specs.declared.predicate.Test.TheVariants.{Compare, Between, Within, IsNull}
 use Rattle.mdc_ast.specs.Truth.{all_of, all_true, any_of, atom_truth, has_column, layer_may_test, layer_truth, may_judge, may_test, may_test_atom, negated_if, not_of, test_truth, truth, value_at}
+use Rattle.mdc_ast.proofs.PredLemmas.{may_judge-All, may_judge-Any}
 use Rattle.mdc_ast.proofs.TestsLemmas.{both}
 use Rattle.row_filter.specs.Naming.{IsSameAt, layer_named, named_in, named_in_atom, named_in_parts, named_in_test}
 
@@ -40,14 +41,16 @@ value_at-same values others place same = ap (λ found. unwrap_or found Null) sam
 has_column-same : (values others : List Value) (place : ℕ) → length values ≡ length others → has_column values place ≡ has_column others place
 has_column-same values others place wide = ap (nat_lt place) wide
 
-test_truth-same : (values others : List Value) (value : Value) (test : Test) → All (IsSameAt values others) (named_in_test test) → test_truth values value test ≡ test_truth others value test
+-- a test has one truth on both
+pub test_truth-same : (values others : List Value) (value : Value) (test : Test) → All (IsSameAt values others) (named_in_test test) → test_truth values value test ≡ test_truth others value test
 test_truth-same values others value (Compare op (right.Value other)) same = refl
 test_truth-same values others value (Compare op (right.Column column)) same = ap (compared op value) (value_at-same values others column (All-head (IsSameAt values others) column [] same))
 test_truth-same values others value (Between low high) same = refl
 test_truth-same values others value (Within them) same = refl
 test_truth-same values others value IsNull same = refl
 
-may_test-same : (values others : List Value) (value : Value) (test : Test) → length values ≡ length others → All (IsSameAt values others) (named_in_test test) → may_test values value test ≡ may_test others value test
+-- and may be judged on both
+pub may_test-same : (values others : List Value) (value : Value) (test : Test) → length values ≡ length others → All (IsSameAt values others) (named_in_test test) → may_test values value test ≡ may_test others value test
 may_test-same values others value (Compare op (right.Value other)) wide same = refl
 may_test-same values others value (Compare op (right.Column column)) wide same =
     ap (λ there. there && are_alike value (value_at values column)) (has_column-same values others column wide)
@@ -145,10 +148,14 @@ atom_there values atom may =
     All-cons (λ place. place < length values) atom.column (named_in_test atom.test) (lt_of_true atom.column (length values) parts.0)
     (test_there values (value_at values atom.column) atom.test parts.1)
 
--- ---- what a predicate names, by its parts
+-- ---- parts that are joined by AND or by OR
 
-pub named_in-All : (parts : List Pred) → named_in (pred.All parts) ≡ named_in_parts (map named_in parts)
-named_in-All parts = ap named_in (sym (rolls-All parts)) ∙ fold-roll-Pred (List ℕ) layer_named (layer.All parts)
+-- a predicate names what they name
+pub named_in-joined : (part : Pred) (parts : List Pred) → (part ≡ pred.All parts) ⊎ (part ≡ pred.Any parts) → named_in part ≡ named_in_parts (map named_in parts)
+named_in-joined part parts (inl is) = ap named_in (is ∙ sym (rolls-All parts)) ∙ fold-roll-Pred (List ℕ) layer_named (layer.All parts)
+named_in-joined part parts (inr is) = ap named_in (is ∙ sym (rolls-Any parts)) ∙ fold-roll-Pred (List ℕ) layer_named (layer.Any parts)
 
-pub named_in-Any : (parts : List Pred) → named_in (pred.Any parts) ≡ named_in_parts (map named_in parts)
-named_in-Any parts = ap named_in (sym (rolls-Any parts)) ∙ fold-roll-Pred (List ℕ) layer_named (layer.Any parts)
+-- it may be judged where each part may
+pub may_judge-joined : (values : List Value) (part : Pred) (parts : List Pred) → (part ≡ pred.All parts) ⊎ (part ≡ pred.Any parts) → may_judge values part ≡ all_true (map (may_judge values) parts)
+may_judge-joined values part parts (inl is) = ap (may_judge values) is ∙ may_judge-All values parts
+may_judge-joined values part parts (inr is) = ap (may_judge values) is ∙ may_judge-Any values parts

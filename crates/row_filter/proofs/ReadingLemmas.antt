@@ -1,14 +1,18 @@
 -- Values that are read place by place, into a row of as many.
 use Rattle.std.proofs.Common.{◌≡◌, ◌<◌, ◌≤◌, ◌+◌, ℕ, suc, List, [], ◌∷◌, ◌++◌, length, drop, drop-cons, add-one, get_or, map, refl, ap, subst}
-use Rattle.std.specs.Prelude.{◌/◌}
+use Rattle.std.specs.Prelude.{IsTrue, ◌/◌}
+use Rattle.std.specs.List.{All}
 use Rattle.std.proofs.lemmas.List.{drop_all}
 use Rattle.std.proofs.lemmas.List.Elements.{All-append, All-nil, All-weaker}
 use Rattle.mdc_values.specs.declared.value.Value.{Value}
 use Rattle.mdc_ast.specs.declared.definition.ColumnDef.{ColumnDef}
+use Rattle.mdc_ast.specs.declared.predicate.Atom.{Atom}
 use Rattle.mdc_ast.specs.declared.predicate.Pred.{Pred}
 use Rattle.mdc_ast.specs.meaning.Definitions.{width}
+use Rattle.mdc_ast.specs.Truth.{may_test_atom}
 use Rattle.row_page.specs.Row.{columns_values, nulls_in, row_in}
-use Rattle.row_filter.specs.Naming.{IsRead, IsSameAt, named_in, named_in_parts}
+use Rattle.row_filter.specs.Naming.{IsRead, IsSameAt, named_in, named_in_atom, named_in_parts}
+use Rattle.row_filter.proofs.NamingLemmas.{atom_there}
 
 length-columns_values : (columns : List ColumnDef) (nulls : ℕ) (bytes : List ℕ) → length (columns_values columns nulls bytes) ≡ length columns
 length-columns_values [] nulls bytes = refl
@@ -18,6 +22,11 @@ length-columns_values (column ∷ columns) nulls bytes = ap suc (length-columns_
 pub length-row_in : (columns : List ColumnDef) (bytes : List ℕ) → length (row_in columns bytes).values ≡ length columns
 unfolding row_in
 length-row_in columns bytes = length-columns_values columns (nulls_in bytes) (drop 10 bytes)
+
+-- where a test may be judged on a row, the columns that it names are there
+pub atom_there-row_in : (columns : List ColumnDef) (bytes : List ℕ) (atom : Atom) → IsTrue (may_test_atom (row_in columns bytes).values atom) → All (λ place. place < length columns) (named_in_atom atom)
+atom_there-row_in columns bytes atom may =
+    subst (λ width. All (λ place. place < width) (named_in_atom atom)) (length-row_in columns bytes) (atom_there (row_in columns bytes).values atom may)
 
 -- nothing read is all read at no places
 pub IsRead-none : (row values : List Value) → IsRead row [] values values

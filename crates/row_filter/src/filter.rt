@@ -11,8 +11,8 @@ use mdc_values::{List, Memory, Value};
 use row_page::RowView;
 use std::alloc::Global;
 
-/// A predicate, or none, ready to be judged on rows where they lie. It keeps the values that were read last from the
-/// columns that the predicate names.
+/// A predicate, or none, ready to be judged on rows where they lie. It keeps a value for each column: the one that was
+/// read of it last, where a part of the predicate looks at several.
 #[derive(Drop)]
 pub struct RowFilter<'f> {
     pred: &'f Option<Pred>,

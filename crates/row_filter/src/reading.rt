@@ -24,13 +24,7 @@ pub fn read_part(
 {
     match part {
         Pred::Atom(atom) => read_atom(alloc, atom, row, values),
-        Pred::All(parts) => {
-            for part in parts.as_slice() {
-                read_part(alloc, part, row, values)?;
-            }
-            Ok(())
-        }
-        Pred::Any(parts) => {
+        Pred::All(parts) | Pred::Any(parts) => {
             for part in parts.as_slice() {
                 read_part(alloc, part, row, values)?;
             }
@@ -55,7 +49,8 @@ fn read_atom(
     read_right(alloc, &atom.test, row, values)
 }
 
-fn read_right(
+/// Reads the column that a test compares with, if it compares with one. Only a text takes memory.
+pub fn read_right(
     alloc: Global,
     test: &Test,
     row: &RowView,

@@ -9,10 +9,10 @@ use Rattle.row_filter.proofs.judging.holds.Goals as goal
 pub is_true-requires : goal.is_true-requires
 is_true-requires c =
     may_judge-read (row_in c.args.row.now.columns.now c.args.row.now.bytes.now).values c.args.values.now c.read_part.new.values c.args.part.now
-    (c.read_part.ensures.wide ∙ sym (length-row_in c.args.row.now.columns.now c.args.row.now.bytes.now ∙ c.requires.wide)) c.in_ok-read_part.ensures.read c.requires.judged
+    (c.read_part.ensures.wide ∙ sym (length-row_in c.args.row.now.columns.now c.args.row.now.bytes.now ∙ c.requires.wide)) c.in_ok-read_part-in_default.ensures.read c.requires.judged
 
-pub returns-clause-met : goal.returns-clause-met
-returns-clause-met c =
+pub returns-in_ok-read_part-in_default-clause-met : goal.returns-in_ok-read_part-in_default-clause-met
+returns-in_ok-read_part-in_default-clause-met c =
     c.is_true.ensures
     ∙ ap is_true (truth-read (row_in c.args.row.now.columns.now c.args.row.now.bytes.now).values c.args.values.now c.read_part.new.values c.args.part.now
-    (c.read_part.ensures.wide ∙ sym (length-row_in c.args.row.now.columns.now c.args.row.now.bytes.now ∙ c.requires.wide)) c.in_ok-read_part.ensures.read)
+    (c.read_part.ensures.wide ∙ sym (length-row_in c.args.row.now.columns.now c.args.row.now.bytes.now ∙ c.requires.wide)) c.in_ok-read_part-in_default.ensures.read)

@@ -9,7 +9,3 @@ decreases-read_part l = goal.size-read_part l
 abbrev pub invariant-loop-part : goal.invariant-loop-part
 invariant-loop-part l =
     (length l.values ≡ length l.fn.values) × GoesOn (row_in l.row.columns.now l.row.bytes.now).values l.part-items l.part-index l.fn.values l.values
-
-abbrev pub invariant-loop-part-2 : goal.invariant-loop-part-2
-invariant-loop-part-2 l =
-    (length l.values ≡ length l.fn.values) × GoesOn (row_in l.row.columns.now l.row.bytes.now).values l.part-items l.part-index l.fn.values l.values
