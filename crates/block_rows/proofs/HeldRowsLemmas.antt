@@ -202,11 +202,12 @@ module _ {S : Type 0} (g : Ghosts S) (ext : Extents) (def : TableDef) (block : �
   })
 
   -- a call on one page, behind a run that changed nothing
-  pub runs_page : {First Mine : ℕ → Type 0} {fault : Option StoreFault} {old mid new : S} (p j : ℕ) → p ≡ first ext block + j → block < ext.cap → j < ext.extent_pages → ((q : ℕ) → First q → Mine q)
+  pub runs_page : {columns : List ColumnDef} {First Mine : ℕ → Type 0} {fault : Option StoreFault} {old mid new : S} (p j : ℕ) → columns ≡ def.columns → p ≡ first ext block + j → block < ext.cap → j < ext.extent_pages → ((q : ℕ) → First q → Mine q)
       → RunsOverPages g Mine (IsPageOfBlock ext block) (BreaksRows g ext old def block) old mid None → (g.state mid).work ≡ (g.state old).work
-      → RunsOverPages g First (OnlyPage p) (RefusesPage g def.columns mid p) mid new fault → RunsOverPages g Mine (IsPageOfBlock ext block) (BreaksRows g ext old def block) old new fault
-  runs_page p j at below less mine so_far same call =
-      runs_then so_far call (λ q there is. mine q is) (λ q is. only_page_of_block ext block q j below less (is ∙ at)) (breaks_of_page p j at below less so_far.works.steady.is_told same)
+      → RunsOverPages g First (OnlyPage p) (RefusesPage g columns mid p) mid new fault → RunsOverPages g Mine (IsPageOfBlock ext block) (BreaksRows g ext old def block) old new fault
+  runs_page {mid = mid} p j of at below less mine so_far same call =
+      runs_then so_far call (λ q there is. mine q is) (λ q is. only_page_of_block ext block q j below less (is ∙ at))
+      (λ damage refuses. breaks_of_page p j at below less so_far.works.steady.is_told same damage (subst (λ k. RefusesPage g k mid p damage) of refuses))
 
   -- each page of it that was brought so far, and the next
   pub once_more : {Kind : ℕ → Type 0} {old mid new : S} (p j : ℕ) → p ≡ first ext block + j → BringsOnce g (PagesBetween (first ext block) (first ext block + j)) old mid → BringsOnce g (OnlyPage p) mid new
@@ -216,33 +217,36 @@ module _ {S : Type 0} (g : Ghosts S) (ext : Extents) (def : TableDef) (block : �
 
   -- ---- the lowest empty slot
 
-  module _ (old mid new : S) (p j : ℕ) (row : Row) (at : p ≡ first ext block + j) (less : j < ext.extent_pages) (told : (g.state mid).is_told ≡ (g.state old).is_told) (same : (g.state mid).work ≡ (g.state old).work)
+  module _ {columns : List ColumnDef} (old mid new : S) (p j : ℕ) (row : Row) (of : columns ≡ def.columns) (at : p ≡ first ext block + j) (less : j < ext.extent_pages) (told : (g.state mid).is_told ≡ (g.state old).is_told) (same : (g.state mid).work ≡ (g.state old).work)
       (full : (slots : List (Option Row)) → HoldsRows g ext old def block slots → HoldsNowhere IsEmptySlot (take (j * c) slots)) where
-    page_now : (slots : List (Option Row)) → HoldsRows g ext old def block slots → HoldsRowPage g def.columns mid p (part c j slots)
-    page_now slots holds = subst (λ q. HoldsRowPage g def.columns mid q (part c j slots)) (sym at) (rows_along told same (page_of_rows j less holds))
+    page_now : (slots : List (Option Row)) → HoldsRows g ext old def block slots → HoldsRowPage g columns mid p (part c j slots)
+    page_now slots holds =
+        subst (λ k. HoldsRowPage g k mid p (part c j slots)) (sym of)
+        (subst (λ q. HoldsRowPage g def.columns mid q (part c j slots)) (sym at) (rows_along told same (page_of_rows j less holds)))
 
     -- it isn't on this page either
-    pub full_more : (found : Option ℕ) → found ≡ None → ((slots : List (Option Row)) → HoldsRowPage g def.columns mid p slots → PutsInPage g def.columns mid new p row slots found)
+    pub full_more : (found : Option ℕ) → found ≡ None → ((slots : List (Option Row)) → HoldsRowPage g columns mid p slots → PutsInPage g columns mid new p row slots found)
         → (slots : List (Option Row)) → HoldsRows g ext old def block slots → HoldsNowhere IsEmptySlot (take ((j + 1) * c) slots)
     full_more None is puts slots holds = nowhere_more IsEmptySlot c j slots (full slots holds) (puts (part c j slots) (page_now slots holds)).0
     full_more (Some slot) is puts slots holds = absurd cc
 
     -- it is on this page
-    pub puts_in_block : {Kind : ℕ → Type 0} {Breaks : Damage → Type 0} {fault : Option StoreFault} (found : Option ℕ) (slot number : ℕ) → found ≡ Some slot → number ≡ j * c + slot → slot < c
+    pub puts_in_block : {Kind : ℕ → Type 0} {Breaks : Damage → Type 0} {fault : Option StoreFault} (found : Option ℕ) (slot number : ℕ) → found ≡ Some slot → number ≡ j * slot_count columns + slot → slot < slot_count columns
         → RunsOverPages g (OnlyPage p) Kind Breaks mid new fault → length (g.state new).work ≡ length (g.state mid).work
-        → ((slots : List (Option Row)) → HoldsRowPage g def.columns mid p slots → PutsInPage g def.columns mid new p row slots found)
+        → ((slots : List (Option Row)) → HoldsRowPage g columns mid p slots → PutsInPage g columns mid new p row slots found)
         → (slots : List (Option Row)) → HoldsRows g ext old def block slots → PutsFirst g ext old new def block row slots (Some number)
     puts_in_block {Kind} {Breaks} {fault} found slot number is at_number below runs count puts slots holds =
-        let put : PutsInPage g def.columns mid new p row (part c j slots) (Some slot) =
-        subst (PutsInPage g def.columns mid new p row (part c j slots)) is (puts (part c j slots) (page_now slots holds)) in
+        let put : PutsInPage g columns mid new p row (part c j slots) (Some slot) = subst (PutsInPage g columns mid new p row (part c j slots)) is (puts (part c j slots) (page_now slots holds)) in
+        let page : HoldsRowPage g def.columns new p (set (part c j slots) slot (Some row)) = subst (λ k. HoldsRowPage g k new p (set (part c j slots) slot (Some row))) of put.1 in
+        let this : number ≡ j * c + slot = at_number ∙ ap (λ k. j * slot_count k + slot) of in
         let long = length_of_rows holds in
         let now : HoldsRows g ext new def block (set slots (j * c + slot) (Some row)) =
-        rows_changed j slot (Some row) less below (subst (λ q. RunsOverPages g (OnlyPage q) Kind Breaks mid new fault) at runs) count (rows_stay told same holds)
-        (subst (λ q. HoldsRowPage g def.columns new q (set (part c j slots) slot (Some row))) at put.1) in
+        rows_changed j slot (Some row) less (omega (arith, below, ap slot_count of)) (subst (λ q. RunsOverPages g (OnlyPage q) Kind Breaks mid new fault) at runs) count (rows_stay told same holds)
+        (subst (λ q. HoldsRowPage g def.columns new q (set (part c j slots) slot (Some row))) at page) in
         let lowest : IsLowestAt IsEmptySlot slots (j * c + slot) None =
         lowest_in_block IsEmptySlot c j slots slot None (parts_within ext.extent_pages c j (length slots) long (omega (arith, less))) (full slots holds) put.0 in (
-          subst (λ n. IsLowestAt IsEmptySlot slots n None) (sym at_number) lowest,
-          subst (λ n. HoldsRows g ext new def block (set slots n (Some row))) (sym at_number) now,
+          subst (λ n. IsLowestAt IsEmptySlot slots n None) (sym this) lowest,
+          subst (λ n. HoldsRows g ext new def block (set slots n (Some row))) (sym this) now,
         )
 
   -- none is empty
@@ -254,18 +258,20 @@ module _ {S : Type 0} (g : Ghosts S) (ext : Extents) (def : TableDef) (block : �
   -- ---- all rows
 
   -- the rows of one page more
-  pub rows_of_page_more : {old mid : S} (pred : Option Pred) (p j first_slot : ℕ) (initial hits now : List PlacedRow) → p ≡ first ext block + j → j < ext.extent_pages → first_slot ≡ j * c
+  pub rows_of_page_more : {columns : List ColumnDef} {old mid : S} (pred : Option Pred) (p j first_slot : ℕ) (initial hits now : List PlacedRow)
+      → columns ≡ def.columns → p ≡ first ext block + j → j < ext.extent_pages → first_slot ≡ j * slot_count columns
       → (g.state mid).is_told ≡ (g.state old).is_told → (g.state mid).work ≡ (g.state old).work
       → ((slots : List (Option Row)) → HoldsRows g ext old def block slots → hits ≡ initial ++ qualifying pred (rows_from_slot block 0 (take (j * c) slots)))
-      → ((slots : List (Option Row)) → HoldsRowPage g def.columns mid p slots → now ≡ hits ++ qualifying pred (rows_from_slot block first_slot slots))
+      → ((slots : List (Option Row)) → HoldsRowPage g columns mid p slots → now ≡ hits ++ qualifying pred (rows_from_slot block first_slot slots))
       → (slots : List (Option Row)) → HoldsRows g ext old def block slots → now ≡ initial ++ qualifying pred (rows_from_slot block 0 (take ((j + 1) * c) slots))
-  rows_of_page_more {old} {mid} pred p j first_slot initial hits now at less begins told same so_far rows slots holds =
-      let page : HoldsRowPage g def.columns mid p (part c j slots) =
-      subst (λ q. HoldsRowPage g def.columns mid q (part c j slots)) (sym at) (rows_along told same (page_of_rows j less holds)) in
+  rows_of_page_more {columns} {old} {mid} pred p j first_slot initial hits now of at less begins told same so_far rows slots holds =
+      let page : HoldsRowPage g columns mid p (part c j slots) =
+      subst (λ k. HoldsRowPage g k mid p (part c j slots)) (sym of)
+      (subst (λ q. HoldsRowPage g def.columns mid q (part c j slots)) (sym at) (rows_along told same (page_of_rows j less holds))) in
       let before = rows_from_slot block 0 (take (j * c) slots) in
       let here = rows_from_slot block (j * c) (part c j slots) in
       rows (part c j slots) page
-      ∙ (ap (λ k. hits ++ qualifying pred (rows_from_slot block k (part c j slots))) begins
+      ∙ (ap (λ k. hits ++ qualifying pred (rows_from_slot block k (part c j slots))) (begins ∙ ap (λ k. j * slot_count k) of)
       ∙ (ap (λ l. l ++ qualifying pred here) (so_far slots holds)
       ∙ (append_assoc initial (qualifying pred before) (qualifying pred here)
       ∙ ap (λ l. initial ++ l)
@@ -280,37 +286,48 @@ module _ {S : Type 0} (g : Ghosts S) (ext : Extents) (def : TableDef) (block : �
 
   -- ---- one slot
 
-  module _ (s : S) (slot page place : ℕ) (at : page ≡ first ext block + slot / c) (is : place ≡ slot % c) (below : place < c) (within : slot < ext.extent_pages * c) where
+  module _ {columns : List ColumnDef} (s : S) (slot page place : ℕ) (of : columns ≡ def.columns) (at : page ≡ first ext block + slot / slot_count columns) (is : place ≡ slot % slot_count columns)
+      (below : place < slot_count columns) (within : slot < ext.extent_pages * c) where
+    place_below : place < c
+    place_below = omega (arith, below, ap slot_count of)
+
+    its_number : page ≡ first ext block + slot / c
+    its_number = at ∙ ap (λ k. first ext block + slot / slot_count k) of
+
     in_its_page : slot / c * c + place ≡ slot
-    in_its_page = ap (λ k. slot / c * c + k) is ∙ div-add-mod' slot c
+    in_its_page = ap (λ k. slot / c * c + k) (is ∙ ap (λ k. slot % slot_count k) of) ∙ div-add-mod' slot c
 
     its_page : slot / c < ext.extent_pages
-    its_page = let some : 0 < c = omega arith in (div-lt_iff_lt-mul some).1 within
+    its_page = let some : 0 < c = omega (arith, place_below) in (div-lt_iff_lt-mul some).1 within
 
-    page_of_slot : (slots : List (Option Row)) → HoldsRows g ext s def block slots → HoldsRowPage g def.columns s page (part c (slot / c) slots)
-    page_of_slot slots holds = subst (λ p. HoldsRowPage g def.columns s p (part c (slot / c) slots)) (sym at) (page_of_rows (slot / c) its_page holds)
+    page_of_slot : (slots : List (Option Row)) → HoldsRows g ext s def block slots → HoldsRowPage g columns s page (part c (slot / c) slots)
+    page_of_slot slots holds =
+        subst (λ k. HoldsRowPage g k s page (part c (slot / c) slots)) (sym of)
+        (subst (λ p. HoldsRowPage g def.columns s p (part c (slot / c) slots)) (sym its_number) (page_of_rows (slot / c) its_page holds))
 
-    pub found_in_block : (result : Result (Option Row) StoreFault) → IfOk result (λ row. (slots : List (Option Row)) → HoldsRowPage g def.columns s page slots → row ≡ get_or slots place None)
+    pub found_in_block : (result : Result (Option Row) StoreFault) → IfOk result (λ row. (slots : List (Option Row)) → HoldsRowPage g columns s page slots → row ≡ get_or slots place None)
         → IfOk result (λ row. (slots : List (Option Row)) → HoldsRows g ext s def block slots → row ≡ get_or slots slot None)
     found_in_block (Ok row) found = λ slots holds.
-        found (part c (slot / c) slots) (page_of_slot slots holds) ∙ (get_or-part c (slot / c) place slots None below ∙ ap (λ k. get_or slots k None) in_its_page)
+        found (part c (slot / c) slots) (page_of_slot slots holds) ∙ (get_or-part c (slot / c) place slots None place_below ∙ ap (λ k. get_or slots k None) in_its_page)
     found_in_block (Err fault) found = tt
 
     pub changed_in_block : {Kind : ℕ → Type 0} {Breaks : Damage → Type 0} {fault : Option StoreFault} (new : S) (x : Option Row) (result : Result (Unit {0}) StoreFault)
         → RunsOverPages g (OnlyPage page) Kind Breaks s new fault → length (g.state new).work ≡ length (g.state s).work
-        → OnOk result ((slots : List (Option Row)) → HoldsRowPage g def.columns s page slots → HoldsRowPage g def.columns new page (set slots place x))
+        → OnOk result ((slots : List (Option Row)) → HoldsRowPage g columns s page slots → HoldsRowPage g columns new page (set slots place x))
         → OnOk result ((slots : List (Option Row)) → HoldsRows g ext s def block slots → HoldsRows g ext new def block (set slots slot x))
     changed_in_block {Kind} {Breaks} {fault} new x (Ok done) runs count changes = λ slots holds.
+        let changed : HoldsRowPage g def.columns new page (set (part c (slot / c) slots) place x) =
+        subst (λ k. HoldsRowPage g k new page (set (part c (slot / c) slots) place x)) of (changes (part c (slot / c) slots) (page_of_slot slots holds)) in
         subst (λ k. HoldsRows g ext new def block (set slots k x)) in_its_page
-        (rows_changed (slot / c) place x its_page below (subst (λ p. RunsOverPages g (OnlyPage p) Kind Breaks s new fault) at runs) count holds
-        (subst (λ p. HoldsRowPage g def.columns new p (set (part c (slot / c) slots) place x)) at (changes (part c (slot / c) slots) (page_of_slot slots holds))))
+        (rows_changed (slot / c) place x its_page place_below (subst (λ p. RunsOverPages g (OnlyPage p) Kind Breaks s new fault) its_number runs) count holds
+        (subst (λ p. HoldsRowPage g def.columns new p (set (part c (slot / c) slots) place x)) its_number changed))
     changed_in_block new x (Err fault) runs count changes = tt
 
     pub page_of_slot_in_block : (p : ℕ) → block < ext.cap → p ≡ page → IsPageOfBlock ext block p
-    page_of_slot_in_block p there same = only_page_of_block ext block p (slot / c) there its_page (same ∙ at)
+    page_of_slot_in_block p there same = only_page_of_block ext block p (slot / c) there its_page (same ∙ its_number)
 
-    pub breaks_at_slot : block < ext.cap → (damage : Damage) → RefusesPage g def.columns s page damage → BreaksRows g ext s def block damage
-    breaks_at_slot there = breaks_of_page page (slot / c) at there its_page refl refl
+    pub breaks_at_slot : block < ext.cap → (damage : Damage) → RefusesPage g columns s page damage → BreaksRows g ext s def block damage
+    breaks_at_slot there damage refuses = breaks_of_page page (slot / c) its_number there its_page refl refl damage (subst (λ k. RefusesPage g k s page damage) of refuses)
 
 -- the extent lies past the pages
 pub breaks_extent : {S : Type 0} {g : Ghosts S} {ext : Extents} {def : TableDef} {block : ℕ} {Mine Kind : ℕ → Type 0} {s : S} {fault : Option StoreFault}

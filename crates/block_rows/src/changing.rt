@@ -15,6 +15,7 @@ use crate::places::{first_page, first_slot, place_of_slot};
 use extent_map::Extents;
 use mdc_ast::{Row, TableDef};
 use mdc_values::Rid;
+use row_page::RowShape;
 use store_api::{Pages, StoreFault, blank_page, write_page};
 
 /// Puts a row into the lowest empty slot of a block, and answers that slot. None where no slot is empty.
@@ -35,9 +36,10 @@ pub fn put_first<P: Pages>(
     ensures runs { RunsOverPages P.Pages (IsPageOfBlock ext.now block) (IsPageOfBlock ext.now block) (BreaksRows P.Pages ext.now pages.old def.now block) pages.old pages.new (fault_of result) }
 {
     let first = first_page(ext, pages, block)?;
+    let shape = RowShape::of(&def.columns);
     for j in 0..ext.extent_pages {
-        if let Some(slot) = put_first_in_page(&def.columns, pages, first + j, row)? {
-            return Ok(Some(first_slot(ext, &def.columns, j) + slot));
+        if let Some(slot) = put_first_in_page(&shape, pages, first + j, row)? {
+            return Ok(Some(first_slot(&shape, ext, j) + slot));
         }
     }
     Ok(None)
@@ -61,8 +63,9 @@ pub fn put_slot<P: Pages>(
     ensures count { length (P.state pages.new).work ≡ length (P.state pages.old).work }
     ensures runs { RunsOverPages P.Pages (IsPageOfBlock ext.now rid.block) (IsPageOfBlock ext.now rid.block) (BreaksRows P.Pages ext.now pages.old def.now rid.block) pages.old pages.new (fault_of result) }
 {
-    let place = place_of_slot(def, ext, pages, rid)?;
-    put_in_page(&def.columns, pages, place.page, place.slot, row)
+    let shape = RowShape::of(&def.columns);
+    let place = place_of_slot(&shape, ext, pages, rid)?;
+    put_in_page(&shape, pages, place.page, place.slot, row)
 }
 
 /// Empties a slot.
@@ -81,8 +84,9 @@ pub fn clear_slot<P: Pages>(
     ensures count { length (P.state pages.new).work ≡ length (P.state pages.old).work }
     ensures runs { RunsOverPages P.Pages (IsPageOfBlock ext.now rid.block) (IsPageOfBlock ext.now rid.block) (BreaksRows P.Pages ext.now pages.old def.now rid.block) pages.old pages.new (fault_of result) }
 {
-    let place = place_of_slot(def, ext, pages, rid)?;
-    clear_in_page(&def.columns, pages, place.page, place.slot)
+    let shape = RowShape::of(&def.columns);
+    let place = place_of_slot(&shape, ext, pages, rid)?;
+    clear_in_page(&shape, pages, place.page, place.slot)
 }
 
 /// Makes each page of an extent an empty row page. Its pages may hold anything before. It looks at none of them.
@@ -101,7 +105,7 @@ pub fn wipe_block<P: Pages>(
 {
     let first = first_page(ext, pages, block)?;
     let mut empty = *blank_page();
-    row_page::wipe(&mut empty, &def.columns);
+    RowShape::of(&def.columns).wipe(&mut empty);
     for j in 0..ext.extent_pages {
         write_page(pages, first + j, &empty)?;
     }

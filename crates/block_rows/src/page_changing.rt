@@ -5,114 +5,102 @@ ghost use Rattle.mdc_ast.specs.meaning.Database.{fits_all};
 ghost use Rattle.store_api.specs.Causes.{fault_of};
 ghost use Rattle.store_api.specs.Frame.{OnlyPage};
 ghost use Rattle.store_api.specs.RunsOverPages.{RunsOverPages};
-ghost use Rattle.row_page.specs.Row.{AreRowColumns};
 ghost use Rattle.row_page.specs.RowPage.{slot_count, IsRowPage};
 ghost use Rattle.block_rows.specs.PageRows.{HoldsRowPage, IsFaultOfBytes, PutsInPage, RefusesPage};
 
 use crate::page_reading::{first_empty_in_page, no_row_page};
-use mdc_ast::{ColumnDef, Row};
-use mdc_values::List;
-use row_page::RowPageView;
+use mdc_ast::Row;
+use row_page::RowShape;
 use store_api::{Page, Pages, StoreFault};
 
 /// Puts a row into the lowest empty slot of page p, and answers that slot. None where no slot is empty.
 pub(crate) fn put_first_in_page<P: Pages>(
-    columns: &List<ColumnDef>,
+    shape: &RowShape<'_>,
     pages: &mut P,
     p: u32,
     row: &Row,
 ) -> Result<Option<u16>, StoreFault>
-    requires columns { AreRowColumns columns.now }
-    requires fits { IsTrue (fits_all columns.now row.now.values) }
+    requires fits { IsTrue (fits_all shape.now.columns.now row.now.values) }
     requires going { (P.state pages.old).ended ≡ false }
     requires within { p < length (P.state pages.old).work }
-    ensures puts { IfOk result (λ slot. (slots : List (Option Row)) → HoldsRowPage P.Pages columns.now pages.old p slots → PutsInPage P.Pages columns.now pages.old pages.new p row.now slots slot) }
-    ensures below { IfOk result (λ slot. IfSome slot (λ slot. slot < slot_count columns.now)) }
+    ensures puts { IfOk result (λ slot. (slots : List (Option Row)) → HoldsRowPage P.Pages shape.now.columns.now pages.old p slots → PutsInPage P.Pages shape.now.columns.now pages.old pages.new p row.now slots slot) }
+    ensures below { IfOk result (λ slot. IfSome slot (λ slot. slot < slot_count shape.now.columns.now)) }
     ensures none { IfOk result (λ slot. slot ≡ None → (P.state pages.new).work ≡ (P.state pages.old).work) }
     ensures count { length (P.state pages.new).work ≡ length (P.state pages.old).work }
-    ensures runs { RunsOverPages P.Pages (OnlyPage p) (OnlyPage p) (RefusesPage P.Pages columns.now pages.old p) pages.old pages.new (fault_of result) }
+    ensures runs { RunsOverPages P.Pages (OnlyPage p) (OnlyPage p) (RefusesPage P.Pages shape.now.columns.now pages.old p) pages.old pages.new (fault_of result) }
 {
-    let Some(slot) = first_empty_in_page(columns, pages, p)? else {
+    let Some(slot) = first_empty_in_page(shape, pages, p)? else {
         return Ok(None);
     };
-    put_in_page(columns, pages, p, slot, row)?;
+    put_in_page(shape, pages, p, slot, row)?;
     Ok(Some(slot))
 }
 
 /// Puts a row into a slot of page p, in the place of any that is there.
 pub(crate) fn put_in_page<P: Pages>(
-    columns: &List<ColumnDef>,
+    shape: &RowShape<'_>,
     pages: &mut P,
     p: u32,
     slot: u16,
     row: &Row,
 ) -> Result<(), StoreFault>
-    requires columns { AreRowColumns columns.now }
-    requires slot { slot < slot_count columns.now }
-    requires fits { IsTrue (fits_all columns.now row.now.values) }
+    requires slot { slot < slot_count shape.now.columns.now }
+    requires fits { IsTrue (fits_all shape.now.columns.now row.now.values) }
     requires going { (P.state pages.old).ended ≡ false }
     requires within { p < length (P.state pages.old).work }
-    ensures puts { OnOk result ((slots : List (Option Row)) → HoldsRowPage P.Pages columns.now pages.old p slots → HoldsRowPage P.Pages columns.now pages.new p (slice_set slots slot (Some row.now))) }
+    ensures puts { OnOk result ((slots : List (Option Row)) → HoldsRowPage P.Pages shape.now.columns.now pages.old p slots → HoldsRowPage P.Pages shape.now.columns.now pages.new p (slice_set slots slot (Some row.now))) }
     ensures count { length (P.state pages.new).work ≡ length (P.state pages.old).work }
-    ensures runs { RunsOverPages P.Pages (OnlyPage p) (OnlyPage p) (RefusesPage P.Pages columns.now pages.old p) pages.old pages.new (fault_of result) }
+    ensures runs { RunsOverPages P.Pages (OnlyPage p) (OnlyPage p) (RefusesPage P.Pages shape.now.columns.now pages.old p) pages.old pages.new (fault_of result) }
 {
-    put_row(columns, pages.edit(p)?, p, slot, row)
+    put_row(shape, pages.edit(p)?, p, slot, row)
 }
 
 /// Puts a row into a slot, in the bytes of page p.
 fn put_row(
-    columns: &List<ColumnDef>,
+    shape: &RowShape<'_>,
     page: &mut Page,
     p: u32,
     slot: u16,
     row: &Row,
 ) -> Result<(), StoreFault>
-    requires columns { AreRowColumns columns.now }
-    requires slot { slot < slot_count columns.now }
-    requires fits { IsTrue (fits_all columns.now row.now.values) }
-    ensures puts { OnOk result ((slots : List (Option Row)) → IsRowPage columns.now page.old slots → IsRowPage columns.now page.new (slice_set slots slot (Some row.now))) }
-    ensures refuses { IfErr result (IsFaultOfBytes columns.now page.old p) }
+    requires slot { slot < slot_count shape.now.columns.now }
+    requires fits { IsTrue (fits_all shape.now.columns.now row.now.values) }
+    ensures puts { OnOk result ((slots : List (Option Row)) → IsRowPage shape.now.columns.now page.old slots → IsRowPage shape.now.columns.now page.new (slice_set slots slot (Some row.now))) }
+    ensures refuses { IfErr result (IsFaultOfBytes shape.now.columns.now page.old p) }
 {
-    if RowPageView::look(page, columns).is_none() {
+    if shape.look(page).is_none() {
         return Err(no_row_page(p));
     }
-    row_page::put(page, columns, slot, row);
+    shape.put(page, slot, row);
     Ok(())
 }
 
 /// Empties a slot of page p.
 pub(crate) fn clear_in_page<P: Pages>(
-    columns: &List<ColumnDef>,
+    shape: &RowShape<'_>,
     pages: &mut P,
     p: u32,
     slot: u16,
 ) -> Result<(), StoreFault>
-    requires columns { AreRowColumns columns.now }
-    requires slot { slot < slot_count columns.now }
+    requires slot { slot < slot_count shape.now.columns.now }
     requires going { (P.state pages.old).ended ≡ false }
     requires within { p < length (P.state pages.old).work }
-    ensures clears { OnOk result ((slots : List (Option Row)) → HoldsRowPage P.Pages columns.now pages.old p slots → HoldsRowPage P.Pages columns.now pages.new p (slice_set slots slot None)) }
+    ensures clears { OnOk result ((slots : List (Option Row)) → HoldsRowPage P.Pages shape.now.columns.now pages.old p slots → HoldsRowPage P.Pages shape.now.columns.now pages.new p (slice_set slots slot None)) }
     ensures count { length (P.state pages.new).work ≡ length (P.state pages.old).work }
-    ensures runs { RunsOverPages P.Pages (OnlyPage p) (OnlyPage p) (RefusesPage P.Pages columns.now pages.old p) pages.old pages.new (fault_of result) }
+    ensures runs { RunsOverPages P.Pages (OnlyPage p) (OnlyPage p) (RefusesPage P.Pages shape.now.columns.now pages.old p) pages.old pages.new (fault_of result) }
 {
-    clear_row(columns, pages.edit(p)?, p, slot)
+    clear_row(shape, pages.edit(p)?, p, slot)
 }
 
 /// Empties a slot, in the bytes of page p.
-fn clear_row(
-    columns: &List<ColumnDef>,
-    page: &mut Page,
-    p: u32,
-    slot: u16,
-) -> Result<(), StoreFault>
-    requires columns { AreRowColumns columns.now }
-    requires slot { slot < slot_count columns.now }
-    ensures clears { OnOk result ((slots : List (Option Row)) → IsRowPage columns.now page.old slots → IsRowPage columns.now page.new (slice_set slots slot None)) }
-    ensures refuses { IfErr result (IsFaultOfBytes columns.now page.old p) }
+fn clear_row(shape: &RowShape<'_>, page: &mut Page, p: u32, slot: u16) -> Result<(), StoreFault>
+    requires slot { slot < slot_count shape.now.columns.now }
+    ensures clears { OnOk result ((slots : List (Option Row)) → IsRowPage shape.now.columns.now page.old slots → IsRowPage shape.now.columns.now page.new (slice_set slots slot None)) }
+    ensures refuses { IfErr result (IsFaultOfBytes shape.now.columns.now page.old p) }
 {
-    if RowPageView::look(page, columns).is_none() {
+    if shape.look(page).is_none() {
         return Err(no_row_page(p));
     }
-    row_page::clear(page, columns, slot);
+    shape.clear(page, slot);
     Ok(())
 }

@@ -5,7 +5,7 @@ ghost use Rattle.store_api.specs.Causes.{fault_of};
 ghost use Rattle.store_api.specs.Fetching.{BringsOnce};
 ghost use Rattle.store_api.specs.Frame.{NoPage, OnlyPage};
 ghost use Rattle.store_api.specs.RunsOverPages.{RunsOverPages};
-ghost use Rattle.row_page.specs.Row.{AreRowColumns, row_in};
+ghost use Rattle.row_page.specs.Row.{row_in};
 ghost use Rattle.row_page.specs.RowPage.{slot_count, IsRowPage};
 ghost use Rattle.mdc_sound.specs.TableRows.{rows_from_slot};
 ghost use Rattle.row_filter.specs.Filtering.{may_filter};
@@ -13,10 +13,10 @@ ghost use Rattle.block_rows.specs.HeldRows.{placed_row, qualifying, HasReadValue
 ghost use Rattle.block_rows.specs.PageRows.{HoldsRowPage, IsFaultOfBytes, IsLowestEmpty, RefusesPage};
 
 use crate::Hit;
-use mdc_ast::{ColumnDef, Row};
-use mdc_values::{List, Rid};
+use mdc_ast::Row;
+use mdc_values::Rid;
 use row_filter::RowFilter;
-use row_page::{RowPageView, RowView, capacity};
+use row_page::{RowShape, RowView};
 use std::alloc::Global;
 use store_api::{Damage, Page, Pages, StoreFault, bring};
 
@@ -35,36 +35,34 @@ pub(crate) fn no_row_page(p: u32) -> StoreFault
 
 /// The lowest empty slot of page p.
 pub(crate) fn first_empty_in_page<P: Pages>(
-    columns: &List<ColumnDef>,
+    shape: &RowShape<'_>,
     pages: &mut P,
     p: u32,
 ) -> Result<Option<u16>, StoreFault>
-    requires columns { AreRowColumns columns.now }
     requires going { (P.state pages.old).ended ≡ false }
     requires within { p < length (P.state pages.old).work }
-    ensures lowest { IfOk result (λ slot. (slots : List (Option Row)) → HoldsRowPage P.Pages columns.now pages.old p slots → IsLowestEmpty slots slot) }
-    ensures below { IfOk result (λ slot. IfSome slot (λ slot. slot < slot_count columns.now)) }
+    ensures lowest { IfOk result (λ slot. (slots : List (Option Row)) → HoldsRowPage P.Pages shape.now.columns.now pages.old p slots → IsLowestEmpty slots slot) }
+    ensures below { IfOk result (λ slot. IfSome slot (λ slot. slot < slot_count shape.now.columns.now)) }
     ensures same { (P.state pages.new).work ≡ (P.state pages.old).work }
-    ensures runs { RunsOverPages P.Pages NoPage (OnlyPage p) (RefusesPage P.Pages columns.now pages.old p) pages.old pages.new (fault_of result) }
+    ensures runs { RunsOverPages P.Pages NoPage (OnlyPage p) (RefusesPage P.Pages shape.now.columns.now pages.old p) pages.old pages.new (fault_of result) }
 {
     bring(pages, p)?;
-    match first_empty(columns, pages.page(), p) {
+    match first_empty(shape, pages.page(), p) {
         Ok(slot) => Ok(slot),
         Err(fault) => Err(fault),
     }
 }
 
 /// The lowest empty slot in the bytes of page p. The bits of a page that states as many rows as it has slots aren't looked at.
-fn first_empty(columns: &List<ColumnDef>, page: &Page, p: u32) -> Result<Option<u16>, StoreFault>
-    requires { AreRowColumns columns.now }
-    ensures lowest { IfOk result (λ slot. (slots : List (Option Row)) → IsRowPage columns.now page.now slots → IsLowestEmpty slots slot) }
-    ensures below { IfOk result (λ slot. IfSome slot (λ slot. slot < slot_count columns.now)) }
-    ensures refuses { IfErr result (IsFaultOfBytes columns.now page.now p) }
+fn first_empty(shape: &RowShape<'_>, page: &Page, p: u32) -> Result<Option<u16>, StoreFault>
+    ensures lowest { IfOk result (λ slot. (slots : List (Option Row)) → IsRowPage shape.now.columns.now page.now slots → IsLowestEmpty slots slot) }
+    ensures below { IfOk result (λ slot. IfSome slot (λ slot. slot < slot_count shape.now.columns.now)) }
+    ensures refuses { IfErr result (IsFaultOfBytes shape.now.columns.now page.now p) }
 {
-    let Some(view) = RowPageView::look(page, columns) else {
+    let Some(view) = shape.look(page) else {
         return Err(no_row_page(p));
     };
-    if view.rows() == capacity(columns) {
+    if view.rows() == shape.slots() {
         return Ok(None);
     }
     Ok(view.first_empty())
@@ -73,23 +71,22 @@ fn first_empty(columns: &List<ColumnDef>, page: &Page, p: u32) -> Result<Option<
 /// A copy of the row in a slot of page p.
 pub(crate) fn row_in_page<P: Pages>(
     alloc: Global,
-    columns: &List<ColumnDef>,
+    shape: &RowShape<'_>,
     pages: &mut P,
     p: u32,
     slot: u16,
 ) -> Result<Option<Row>, StoreFault>
-    requires columns { AreRowColumns columns.now }
-    requires slot { slot < slot_count columns.now }
+    requires slot { slot < slot_count shape.now.columns.now }
     requires going { (P.state pages.old).ended ≡ false }
     requires within { p < length (P.state pages.old).work }
-    ensures found { IfOk result (λ row. (slots : List (Option Row)) → HoldsRowPage P.Pages columns.now pages.old p slots → row ≡ slice_index_or slots slot None) }
-    ensures keyed { IfOk result (λ row. IfSome row (HasReadValues columns.now)) }
+    ensures found { IfOk result (λ row. (slots : List (Option Row)) → HoldsRowPage P.Pages shape.now.columns.now pages.old p slots → row ≡ slice_index_or slots slot None) }
+    ensures keyed { IfOk result (λ row. IfSome row (HasReadValues shape.now.columns.now)) }
     ensures same { (P.state pages.new).work ≡ (P.state pages.old).work }
     ensures once { BringsOnce P.Pages (OnlyPage p) pages.old pages.new }
-    ensures runs { RunsOverPages P.Pages NoPage (OnlyPage p) (RefusesPage P.Pages columns.now pages.old p) pages.old pages.new (fault_of result) }
+    ensures runs { RunsOverPages P.Pages NoPage (OnlyPage p) (RefusesPage P.Pages shape.now.columns.now pages.old p) pages.old pages.new (fault_of result) }
 {
     bring(pages, p)?;
-    match copy_row(alloc, columns, pages.page(), p, slot) {
+    match copy_row(alloc, shape, pages.page(), p, slot) {
         Ok(row) => Ok(row),
         Err(fault) => Err(fault),
     }
@@ -98,18 +95,17 @@ pub(crate) fn row_in_page<P: Pages>(
 /// A copy of the row in a slot, in the bytes of page p.
 fn copy_row(
     alloc: Global,
-    columns: &List<ColumnDef>,
+    shape: &RowShape<'_>,
     page: &Page,
     p: u32,
     slot: u16,
 ) -> Result<Option<Row>, StoreFault>
-    requires columns { AreRowColumns columns.now }
-    requires slot { slot < slot_count columns.now }
-    ensures found { IfOk result (λ row. (slots : List (Option Row)) → IsRowPage columns.now page.now slots → row ≡ slice_index_or slots slot None) }
-    ensures keyed { IfOk result (λ row. IfSome row (HasReadValues columns.now)) }
-    ensures refuses { IfErr result (IsFaultOfBytes columns.now page.now p) }
+    requires slot { slot < slot_count shape.now.columns.now }
+    ensures found { IfOk result (λ row. (slots : List (Option Row)) → IsRowPage shape.now.columns.now page.now slots → row ≡ slice_index_or slots slot None) }
+    ensures keyed { IfOk result (λ row. IfSome row (HasReadValues shape.now.columns.now)) }
+    ensures refuses { IfErr result (IsFaultOfBytes shape.now.columns.now page.now p) }
 {
-    let Some(view) = RowPageView::look(page, columns) else {
+    let Some(view) = shape.look(page) else {
         return Err(no_row_page(p));
     };
     let Some(row) = view.row(slot) else {
@@ -132,30 +128,29 @@ fn copy_of(alloc: Global, row: &RowView) -> Result<Row, StoreFault>
 /// Puts copies of the rows of page p that a filter takes last, by rising slot. Its first slot is that of the block which is given.
 pub(crate) fn push_rows_of_page<P: Pages>(
     alloc: Global,
-    columns: &List<ColumnDef>,
+    shape: &RowShape<'_>,
     pages: &mut P,
     p: u32,
     first: Rid,
     filter: &mut RowFilter,
     hits: &mut Vec<Hit>,
 ) -> Result<(), StoreFault>
-    requires columns { AreRowColumns columns.now }
-    requires room { first.slot + slot_count columns.now < 65536 }
-    requires wide { length columns.now ≡ length filter.old.values }
-    requires judged { (row : Row) → HasReadValues columns.now row → IsTrue (may_filter filter.old.pred.now row.values) }
+    requires room { first.slot + slot_count shape.now.columns.now < 65536 }
+    requires wide { length shape.now.columns.now ≡ length filter.old.values }
+    requires judged { (row : Row) → HasReadValues shape.now.columns.now row → IsTrue (may_filter filter.old.pred.now row.values) }
     requires going { (P.state pages.old).ended ≡ false }
     requires within { p < length (P.state pages.old).work }
-    ensures rows { OnOk result ((slots : List (Option Row)) → HoldsRowPage P.Pages columns.now pages.old p slots
+    ensures rows { OnOk result ((slots : List (Option Row)) → HoldsRowPage P.Pages shape.now.columns.now pages.old p slots
         → map placed_row hits.new.items ≡ map placed_row hits.old.items ++ qualifying filter.old.pred.now (rows_from_slot first.block first.slot slots)) }
-    ensures keyed { OnOk result (HaveReadValues columns.now hits.old.items → HaveReadValues columns.now hits.new.items) }
+    ensures keyed { OnOk result (HaveReadValues shape.now.columns.now hits.old.items → HaveReadValues shape.now.columns.now hits.new.items) }
     ensures pred { filter.new.pred.now ≡ filter.old.pred.now }
     ensures width { length filter.new.values ≡ length filter.old.values }
     ensures same { (P.state pages.new).work ≡ (P.state pages.old).work }
     ensures once { BringsOnce P.Pages (OnlyPage p) pages.old pages.new }
-    ensures runs { RunsOverPages P.Pages NoPage (OnlyPage p) (RefusesPage P.Pages columns.now pages.old p) pages.old pages.new (fault_of result) }
+    ensures runs { RunsOverPages P.Pages NoPage (OnlyPage p) (RefusesPage P.Pages shape.now.columns.now pages.old p) pages.old pages.new (fault_of result) }
 {
     bring(pages, p)?;
-    match push_rows(alloc, columns, pages.page(), p, first, filter, hits) {
+    match push_rows(alloc, shape, pages.page(), p, first, filter, hits) {
         Ok(()) => Ok(()),
         Err(fault) => Err(fault),
     }
@@ -164,32 +159,29 @@ pub(crate) fn push_rows_of_page<P: Pages>(
 /// Puts copies of the rows in the bytes of page p that a filter takes last.
 fn push_rows(
     alloc: Global,
-    columns: &List<ColumnDef>,
+    shape: &RowShape<'_>,
     page: &Page,
     p: u32,
     first: Rid,
     filter: &mut RowFilter,
     hits: &mut Vec<Hit>,
 ) -> Result<(), StoreFault>
-    requires columns { AreRowColumns columns.now }
-    requires room { first.slot + slot_count columns.now < 65536 }
-    requires wide { length columns.now ≡ length filter.old.values }
-    requires judged { (row : Row) → HasReadValues columns.now row → IsTrue (may_filter filter.old.pred.now row.values) }
-    ensures rows { OnOk result ((slots : List (Option Row)) → IsRowPage columns.now page.now slots
+    requires room { first.slot + slot_count shape.now.columns.now < 65536 }
+    requires wide { length shape.now.columns.now ≡ length filter.old.values }
+    requires judged { (row : Row) → HasReadValues shape.now.columns.now row → IsTrue (may_filter filter.old.pred.now row.values) }
+    ensures rows { OnOk result ((slots : List (Option Row)) → IsRowPage shape.now.columns.now page.now slots
         → map placed_row hits.new.items ≡ map placed_row hits.old.items ++ qualifying filter.old.pred.now (rows_from_slot first.block first.slot slots)) }
-    ensures keyed { OnOk result (HaveReadValues columns.now hits.old.items → HaveReadValues columns.now hits.new.items) }
+    ensures keyed { OnOk result (HaveReadValues shape.now.columns.now hits.old.items → HaveReadValues shape.now.columns.now hits.new.items) }
     ensures pred { filter.new.pred.now ≡ filter.old.pred.now }
     ensures width { length filter.new.values ≡ length filter.old.values }
-    ensures refuses { IfErr result (IsFaultOfBytes columns.now page.now p) }
+    ensures refuses { IfErr result (IsFaultOfBytes shape.now.columns.now page.now p) }
 {
-    let Some(view) = RowPageView::look(page, columns) else {
+    let Some(view) = shape.look(page) else {
         return Err(no_row_page(p));
     };
     let mut from = 0;
     'slots: while let Some(slot) = view.next_filled(from) {
-        let Some(row) = view.row(slot) else {
-            unreachable!();
-        };
+        let row = view.filled_row(slot);
         let rid = Rid {
             block: first.block,
             slot: first.slot + slot,

@@ -5,15 +5,12 @@ ghost use Rattle.store_api.specs.Extents.{first_page_of};
 ghost use Rattle.store_api.specs.Frame.{NoPage};
 ghost use Rattle.store_api.specs.RunsOverPages.{RunsOverPages};
 ghost use Rattle.extent_map.specs.Map.{map_page_of};
-ghost use Rattle.row_page.specs.Row.{AreRowColumns};
 ghost use Rattle.row_page.specs.RowPage.{slot_count};
-ghost use Rattle.mdc_sound.specs.Placing.{block_slot_count};
 ghost use Rattle.block_rows.specs.HeldRows.{BreaksExtent};
 
 use extent_map::Extents;
-use mdc_ast::{ColumnDef, TableDef};
-use mdc_values::{List, Rid};
-use row_page::capacity;
+use mdc_values::Rid;
+use row_page::RowShape;
 use store_api::{Damage, Pages, StoreFault};
 
 /// The rule that damage of the extent map names: an extent in use lies within the pages that there are.
@@ -61,35 +58,33 @@ fn past_the_pages(block: u32) -> Damage
 
 /// Where a slot of a block lies.
 pub(crate) fn place_of_slot<P: Pages>(
-    def: &TableDef,
+    shape: &RowShape<'_>,
     ext: &Extents,
     pages: &P,
     rid: Rid,
 ) -> Result<SlotPlace, StoreFault>
-    requires columns { AreRowColumns def.now.columns }
     requires below { rid.block < ext.now.cap }
-    requires slot { rid.slot < block_slot_count ext.now def.now }
-    ensures page { IfOk result (λ place. place.page ≡ first_page_of ext.now.cap ext.now.extent_pages rid.block + rid.slot / slot_count def.now.columns) }
-    ensures slot { IfOk result (λ place. place.slot ≡ rid.slot % slot_count def.now.columns) }
-    ensures below { IfOk result (λ place. place.slot < slot_count def.now.columns) }
+    requires slot { rid.slot < ext.now.extent_pages * slot_count shape.now.columns.now }
+    ensures page { IfOk result (λ place. place.page ≡ first_page_of ext.now.cap ext.now.extent_pages rid.block + rid.slot / slot_count shape.now.columns.now) }
+    ensures slot { IfOk result (λ place. place.slot ≡ rid.slot % slot_count shape.now.columns.now) }
+    ensures below { IfOk result (λ place. place.slot < slot_count shape.now.columns.now) }
     ensures there { OnOk result (first_page_of ext.now.cap ext.now.extent_pages (rid.block + 1) ≤ length (P.state pages.now).work) }
     ensures within { IfOk result (λ place. place.page < length (P.state pages.now).work) }
     ensures runs { RunsOverPages P.Pages NoPage NoPage (BreaksExtent P.Pages ext.now pages.now rid.block) pages.now pages.now (fault_of result) }
 {
     let first = first_page(ext, pages, rid.block)?;
-    let capacity = capacity(&def.columns);
+    let slots = shape.slots();
     Ok(SlotPlace {
-        page: first + u32::from(rid.slot / capacity),
-        slot: rid.slot % capacity,
+        page: first + u32::from(rid.slot / slots),
+        slot: rid.slot % slots,
     })
 }
 
 /// The first slot of a block that lies on page j of it.
-pub(crate) fn first_slot(ext: &Extents, columns: &List<ColumnDef>, j: u32) -> u16
-    requires columns { AreRowColumns columns.now }
+pub(crate) fn first_slot(shape: &RowShape<'_>, ext: &Extents, j: u32) -> u16
     requires within { j < ext.now.extent_pages }
-    ensures slot { result ≡ j * slot_count columns.now }
-    ensures room { result + slot_count columns.now < 65536 }
+    ensures slot { result ≡ j * slot_count shape.now.columns.now }
+    ensures room { result + slot_count shape.now.columns.now < 65536 }
 {
-    j as u16 * capacity(columns)
+    j as u16 * shape.slots()
 }

@@ -19,6 +19,7 @@ use extent_map::Extents;
 use mdc_ast::{Row, TableDef};
 use mdc_values::Rid;
 use row_filter::RowFilter;
+use row_page::RowShape;
 use std::alloc::Global;
 use store_api::{Pages, StoreFault};
 
@@ -48,10 +49,11 @@ pub fn push_rows_of_block<P: Pages>(
     ensures runs { RunsOverPages P.Pages NoPage (IsPageOfBlock ext.now block) (BreaksRows P.Pages ext.now pages.old def.now block) pages.old pages.new (fault_of result) }
 {
     let first = first_page(ext, pages, block)?;
+    let shape = RowShape::of(&def.columns);
     for j in 0..ext.extent_pages {
-        let slot = first_slot(ext, &def.columns, j);
+        let slot = first_slot(&shape, ext, j);
         let rid = Rid { block, slot };
-        push_rows_of_page(alloc, &def.columns, pages, first + j, rid, filter, hits)?;
+        push_rows_of_page(alloc, &shape, pages, first + j, rid, filter, hits)?;
     }
     Ok(())
 }
@@ -73,6 +75,7 @@ pub fn row_in_slot<P: Pages>(
     ensures same { (P.state pages.new).work ≡ (P.state pages.old).work }
     ensures runs { RunsOverPages P.Pages NoPage (IsPageOfBlock ext.now rid.block) (BreaksRows P.Pages ext.now pages.old def.now rid.block) pages.old pages.new (fault_of result) }
 {
-    let place = place_of_slot(def, ext, pages, rid)?;
-    row_in_page(alloc, &def.columns, pages, place.page, place.slot)
+    let shape = RowShape::of(&def.columns);
+    let place = place_of_slot(&shape, ext, pages, rid)?;
+    row_in_page(alloc, &shape, pages, place.page, place.slot)
 }

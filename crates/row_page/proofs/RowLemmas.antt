@@ -1,9 +1,9 @@
 -- Rows as bytes, written and read.
 use Rattle.std.proofs.Common.{◌≡◌, ◌≤◌, ◌<◌, ◌+◌, ◌-◌, ◌*◌, ◌/◌, ◌%◌, ◌^◌, ℕ, zero, suc, Bool, true, false, cond, IsTrue, List, [], ◌∷◌, ◌++◌, length, take, drop, replicate, get_or, Some, refl, ap, sym, subst, ◌∙◌, arith, length-append, append-nil, append_assoc}
 use Rattle.std.specs.Prelude.{◌&&◌, ◌==◌, slice_get, ◌↔◌}
-use Rattle.std.proofs.Math.Nat.{div-div-eq-div-mul, div-one, pow-le-pow_right, pow-succ'}
+use Rattle.std.proofs.Math.Nat.{div-div-eq-div-mul, div-one, mul-add, mul_assoc, pow-le-pow_right, pow-suc, pow-succ'}
 use Rattle.std.proofs.lemmas.Bool.Decides.{nat_tests}
-use Rattle.std.proofs.lemmas.List.{at_drop_all, at_drop_more, drop_all, drop_more, drop-drop, get_or-drop, length-drop, length-replicate, length-take, take-append-drop, take_all, take_at, drop_at}
+use Rattle.std.proofs.lemmas.List.{at_drop_all, at_drop_more, drop_all, drop_more, drop-drop, get_or-drop, length-drop, length-replicate, length-take, take-append-drop, take-take, take_all, take_at, drop_at}
 use Rattle.std.proofs.lemmas.Nat.{be_bytes_2, be_bytes_8}
 use Rattle.byteorder.specs.Endian.{big_bytes, big_number}
 use Rattle.byteorder.specs.Numbers.{big_from-take, big_number-reads_back}
@@ -161,7 +161,7 @@ AreBytes-take (suc n) [] are i = are i
 AreBytes-take (suc n) (b ∷ bytes) are zero = are 0
 AreBytes-take (suc n) (b ∷ bytes) are (suc i) = AreBytes-take n bytes (λ k. are (suc k)) i
 
-AreBytes-drop : (n : ℕ) (bytes : List ℕ) → AreBytes bytes → AreBytes (drop n bytes)
+pub AreBytes-drop : (n : ℕ) (bytes : List ℕ) → AreBytes bytes → AreBytes (drop n bytes)
 AreBytes-drop n bytes are i = subst (λ b. b < 256) (sym (get_or-drop n bytes i 0)) (are (n + i))
 
 odd_bit : (n : ℕ) (b : Bool) → (n % 2 == 1) ≡ b → cond b 1 0 ≡ n % 2
@@ -391,27 +391,41 @@ columns_bytes-all columns values i at out all le room before =
     let end : at ≡ length out = omega (arith, ap row_width_of none) in
     sym (before ∙ (ap (λ cs. take at out ++ columns_bytes cs (drop i values)) none ∙ (append-nil (take at out) ∙ take_all at out (omega arith))))
 
--- one value more before those whose bits are there
-pub null_bits-step : (values : List Value) (i bits : ℕ) (value : Value) (b : Bool) → 0 < i → i ≤ length values → value ≡ get_or values (i - 1) value → is_null value ≡ b
-    → bits ≡ null_bits (drop i values) → bits < 2 ^ (length values - i)
-    → (bits * 2 + cond b 1 0 ≡ null_bits (drop (i - 1) values)) × (bits * 2 + cond b 1 0 < 2 ^ (length values - (i - 1)))
-null_bits-step values zero bits value b lt le is null are few = absurd (omega arith)
-null_bits-step values (suc i) bits value b lt le is null are few =
-    let back : suc i - 1 ≡ i = omega arith in
-    let is_here : value ≡ get_or values i value = is ∙ ap (λ k. get_or values k value) back in
-    let next : i + 1 ≡ suc i = omega arith in
-    let step : null_bits (drop i values) ≡ cond b 1 0 + 2 * bits =
-    at_drop_more null_bits values i value (omega arith)
-    ∙ (ap (λ v. cond (is_null v) 1 0 + 2 * null_bits (drop (i + 1) values)) (sym is_here)
-    ∙ (ap (λ n. cond n 1 0 + 2 * null_bits (drop (i + 1) values)) null
-    ∙ (ap (λ k. cond b 1 0 + 2 * null_bits (drop k values)) next ∙ ap (λ m. cond b 1 0 + 2 * m) (sym are)))) in
-    let places : length values - i ≡ suc (length values - suc i) = omega arith in
-    let more : 2 ^ (length values - i) ≡ 2 * 2 ^ (length values - suc i) = ap (λ n. 2 ^ n) places ∙ pow-succ' 2 (length values - suc i) in
-    let bit : cond b 1 0 ≤ 1 = one_at_most b in
-    rw back (omega arith, omega arith)
+-- one value more, whose bit stands above those that are there
+pub null_bits-more : (values : List Value) (i bits bit : ℕ) (value : Value) → i < length values → length values ≤ 16 → value ≡ get_or values i value
+    → bit ≡ cond (is_null value) 1 0 → bits + 2 ^ i * null_bits (drop i values) ≡ null_bits values
+    → (bits + bit * 2 ^ i % 65536 < 65536) × (bits + bit * 2 ^ i % 65536 + 2 ^ (i + 1) * null_bits (drop (i + 1) values) ≡ null_bits values)
+null_bits-more values i bits bit value lt few is is_bit are =
+    let rest : ℕ = null_bits (drop (i + 1) values) in
+    let step : null_bits (drop i values) ≡ bit + 2 * rest =
+    at_drop_more null_bits values i value lt ∙ (ap (λ v. cond (is_null v) 1 0 + 2 * rest) (sym is) ∙ ap (λ n. n + 2 * rest) (sym is_bit)) in
+    let place : 2 ^ i ≤ 2 ^ 15 = pow-le-pow_right {n = 2} (omega arith) {i = i} {j = 15} (omega arith) in
+    let twice : 2 ^ (i + 1) * rest ≡ 2 ^ i * (2 * rest) = ap (λ n. n * rest) (doubled i) ∙ mul_assoc (2 ^ i) 2 rest in
+    let parts : 2 ^ i * null_bits (drop i values) ≡ 2 ^ i * bit + 2 ^ i * (2 * rest) = ap (λ n. 2 ^ i * n) step ∙ mul-add (2 ^ i) bit (2 * rest) in
+    let one : 2 ^ i * bit ≡ bit * 2 ^ i % 65536 =
+    ap (λ n. 2 ^ i * n) is_bit ∙ (one_bit (is_null value) (2 ^ i) (omega (arith, place)) ∙ ap (λ n. n * 2 ^ i % 65536) (sym is_bit)) in
+    (omega (arith, are, parts, one, few_bits values few), omega (arith, are, parts, one, twice))
+  where
+    doubled : (i : ℕ) → 2 ^ (i + 1) ≡ 2 ^ i * 2
+    doubled i = let next : i + 1 ≡ suc i = omega arith in ap (λ n. 2 ^ n) next ∙ pow-suc 2 i
+
+    one_bit : (b : Bool) (n : ℕ) → n < 65536 → n * cond b 1 0 ≡ cond b 1 0 * n % 65536
+    one_bit true n small = omega arith
+    one_bit false n small = omega arith
+
+-- all values have their bits
+pub null_bits-all : (values : List Value) (i bits : ℕ) → length values ≤ i → bits + 2 ^ i * null_bits (drop i values) ≡ null_bits values → bits ≡ null_bits values
+null_bits-all values i bits le are =
+    let none : null_bits (drop i values) ≡ 0 = ap null_bits (drop_all i values le) in
+    let nothing : 2 ^ i * null_bits (drop i values) ≡ 2 ^ i * 0 = ap (λ n. 2 ^ i * n) none in
+    omega (arith, are, nothing)
 
 -- the parts of a row, one behind the other
-pub row_parts : (head tail : List ℕ) (number bits : ℕ) (old : List ℕ) → head ≡ big_bytes 8 number ++ drop 8 old → tail ≡ take 8 head ++ big_bytes 2 bits ++ drop 10 head
-    → take 10 tail ≡ big_bytes 8 number ++ big_bytes 2 bits
-row_parts head tail number bits old is also =
-    ap (take 10) (also ∙ ap (λ h. take 8 h ++ big_bytes 2 bits ++ drop 10 h) is)
+pub row_parts : (number bits : ℕ) (old head values filled new : List ℕ) → 10 ≤ length old → head ≡ big_bytes 8 number ++ drop 8 old → filled ≡ take 10 head ++ values
+    → new ≡ take 8 filled ++ big_bytes 2 bits ++ drop 10 filled → new ≡ big_bytes 8 number ++ big_bytes 2 bits ++ values
+row_parts number bits old head values filled new long is also last =
+    let size : length (take 10 head) ≡ 10 = omega (arith, length-take 10 head, ap length is, length-drop 8 old) in
+    let front : take 8 filled ≡ big_bytes 8 number =
+    ap (take 8) also ∙ (sym (take-take 8 10 (take 10 head ++ values) (omega arith)) ∙ (ap (take 8) (take_at (take 10 head) values 10 size) ∙ (take-take 8 10 head (omega arith) ∙ ap (take 8) is))) in
+    let behind : drop 10 filled ≡ values = ap (drop 10) also ∙ drop_at (take 10 head) values 10 size in
+    last ∙ same_parts (take 8 filled) (big_bytes 2 bits) (drop 10 filled) (big_bytes 8 number) (big_bytes 2 bits) values front refl behind

@@ -1,13 +1,13 @@
 // A page of rows, seen slot by slot.
-ghost use Rattle.std.specs.Prelude.{◌≡◌, ◌<◌, ℕ, List, Option, false, is_some, not, true, IsSome, IfSome, IsTrue, ◌↔◌, MatchOption, Some};
+ghost use Rattle.std.specs.Prelude.{◌≡◌, ◌≤◌, ◌<◌, ℕ, List, Option, false, is_some, not, true, IsSome, IfSome, IsTrue, ◌↔◌, MatchOption, Some};
 ghost use Rattle.mdc_ast.specs.declared.row.Row.{Row};
 ghost use Rattle.row_page.specs.Layout.{IsLayoutOf};
 ghost use Rattle.row_page.specs.Row.{AreRowColumns};
 ghost use Rattle.row_page.specs.RowPage.{count_rows, is_slot_filled, slot_bytes, slot_count, stated_rows, IsFirstSlot, IsRowPage, StartsAsRowPage};
 
-use crate::RowView;
 use crate::layout::{Layout, part};
-use crate::slots::{bits_from, is_filled, rows_stated, starts_with};
+use crate::slots::{bits_from, filled_from, is_filled, rows_stated};
+use crate::{RowShape, RowView};
 use mdc_ast::ColumnDef;
 use mdc_values::List;
 use store_api::Page;
@@ -22,24 +22,14 @@ pub struct RowPageView<'p> {
 }
 
 impl<'p> RowPageView<'p> {
-    /// A view of a page that begins as a row page of these columns. It costs the head alone. The bytes behind the head
-    /// may be any: then the rows are those that they happen to be.
+    /// A view of a page that begins as a row page of these columns, as `RowShape::look` has it.
     pub fn look(page: &'p Page, columns: &'p List<ColumnDef>) -> Option<RowPageView<'p>>
         requires { AreRowColumns columns.now }
         ensures starts { IsSome result ↔ StartsAsRowPage columns.now page.now }
         ensures there { (slots : List (Option Row)) → IsRowPage columns.now page.now slots → IsTrue (is_some result) }
         ensures seen { IfSome result (λ view. (view.page.now ≡ page.now) × (view.columns.now ≡ columns.now)) }
     {
-        let columns = columns.as_slice();
-        let layout = Layout::of(columns);
-        if !starts_with(page, layout.slots) {
-            return None;
-        }
-        Some(RowPageView {
-            page,
-            columns,
-            layout,
-        })
+        RowShape::of(columns).look(page)
     }
 
     /// How many rows the page states. In a row page that is how many slots have a row.
@@ -58,10 +48,20 @@ impl<'p> RowPageView<'p> {
         if !is_filled(self.page, slot) {
             return None;
         }
+        Some(self.filled_row(slot))
+    }
+
+    /// The row in a slot that has one. It isn't tested again whether it has.
+    pub fn filled_row(&self, slot: u16) -> RowView<'p>
+        requires slot { slot < slot_count self.now.columns.now }
+        requires filled { is_slot_filled self.now.page.now slot ≡ true }
+        ensures columns { result.columns.now ≡ self.now.columns.now }
+        ensures bytes { result.bytes.now ≡ slot_bytes self.now.columns.now self.now.page.now slot }
+    {
         let start = self.layout.start + slot as usize * self.layout.width;
         let page = self.page;
         let bytes = &page[..];
-        Some(RowView::of(&bytes[start..start + self.layout.width], self.columns))
+        RowView::of(&bytes[start..start + self.layout.width], self.columns)
     }
 
     /// The lowest slot with a row, of those from a place on.
@@ -87,14 +87,23 @@ impl<'p> RowPageView<'p> {
     {
         let mut slot = 0;
         while slot < self.layout.slots {
-            if slot % 8 == 0 && bits_from(self.page, slot) == 0xff {
-                slot += 8;
-            } else if is_filled(self.page, slot) {
-                slot += 1;
-            } else {
-                return Some(slot);
+            let filled = filled_from(self.page, slot);
+            if filled < 64 {
+                return self.if_there(slot + filled);
             }
+            slot += 64;
         }
         None
+    }
+
+    /// A slot, unless it lies past those of the page.
+    fn if_there(&self, slot: u16) -> Option<u16>
+        ensures { MatchOption result (slot_count self.now.columns.now ≤ slot) (λ found. (found ≡ slot) × (found < slot_count self.now.columns.now)) }
+    {
+        if slot < self.layout.slots {
+            Some(slot)
+        } else {
+            None
+        }
     }
 }

@@ -1,5 +1,5 @@
 // The bits of a page's slots, and the count of its rows.
-ghost use Rattle.std.specs.Prelude.{◌≡◌, ◌+◌, ◌-◌, ◌/◌, ◌%◌, ◌^◌, ◌<◌, ℕ, false, true, drop, take, IsTrue, ◌↔◌, slice_index, slice_set};
+ghost use Rattle.std.specs.Prelude.{◌≡◌, ◌+◌, ◌-◌, ◌/◌, ◌%◌, ◌^◌, ◌≤◌, ◌<◌, ℕ, false, true, drop, take, IsTrue, ◌↔◌, slice_index, slice_set};
 ghost use Rattle.byteorder.specs.Endian.{big_bytes};
 ghost use Rattle.store_api.specs.StoreState.{patched};
 ghost use Rattle.row_page.specs.Slots.{TurnsSlot};
@@ -80,7 +80,7 @@ pub fn rows_stated(page: &Page) -> u16
 pub fn state_rows(page: &mut Page, rows: u16)
     ensures { page.new ≡ patched 4 (big_bytes 2 rows) page.old }
 {
-    store_api::put(page, ROWS, &rows.to_be_bytes());
+    page[ROWS..ROWS + 2].copy_from_slice(&rows.to_be_bytes());
 }
 
 /// The bits of eight slots, from a slot that begins a byte.
@@ -89,6 +89,18 @@ pub fn bits_from(page: &Page, slot: u16) -> u8
     ensures { result ≡ slice_index page.now (16 + slot / 8) }
 {
     page[PAGE_HEAD + slot as usize / 8]
+}
+
+/// How many slots have rows before the first that has none, of the 64 from a slot that begins a byte.
+pub fn filled_from(page: &Page, slot: u16) -> u16
+    requires within { slot < 32584 }
+    requires first { slot % 8 ≡ 0 }
+    ensures few { result ≤ 64 }
+    ensures filled { (k : ℕ) → k < result → is_slot_filled page.now (slot + k) ≡ true }
+    ensures ends { result < 64 → is_slot_filled page.now (slot + result) ≡ false }
+{
+    let at = PAGE_HEAD + slot as usize / 8;
+    BigEndian::read_u64(&page[at..]).leading_ones() as u16
 }
 
 /// Counts a row in a slot, where none was.

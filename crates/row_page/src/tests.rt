@@ -4,7 +4,7 @@ ghost use Rattle.mdc_ast.specs.meaning.Database.{fits, fits_all};
 ghost use Rattle.row_page.specs.Row.{AreRowColumns};
 
 use crate::layout::row_width;
-use crate::{RowPageView, RowView, capacity, clear, put, wipe};
+use crate::{RowPageView, RowShape, RowView, capacity};
 use mdc_ast::{ColumnDef, Name, Row};
 use mdc_values::{Chars, ColType, List, Memory, Value, print, trim};
 use std::alloc::Global;
@@ -104,14 +104,15 @@ fn a_row_is_written_as_its_bytes(rt: HostRuntime) -> Result<(), Fail> {
     assert!(rt; are_within(&columns));
     let row = row_of(alloc, 0, Value::Int(2), Value::Int(10))?;
     assert!(rt; fit(columns.as_slice(), row.values.as_slice()));
-    assert!(rt; capacity(&columns) > 8);
+    let shape = RowShape::of(&columns);
+    assert!(rt; shape.slots() > 8);
     let mut page = [0xff; 4096];
-    wipe(&mut page, &columns);
-    put(&mut page, &columns, 0, &row);
+    shape.wipe(&mut page);
+    shape.put(&mut page, 0, &row);
     assert!(rt; page == page_of_a_pair());
-    put(&mut page, &columns, 8, &row);
+    shape.put(&mut page, 8, &row);
     assert!(rt; page[..18] == b"RP\x00\xe1\x00\x02\0\0\0\0\0\0\0\0\0\0\x80\x80"[..]);
-    clear(&mut page, &columns, 8);
+    shape.clear(&mut page, 8);
     assert!(rt; page[..18] == b"RP\x00\xe1\x00\x01\0\0\0\0\0\0\0\0\0\0\x80\x00"[..]);
     Ok(())
 }
@@ -121,18 +122,19 @@ fn texts_days_and_nulls_are_written_so(rt: HostRuntime) -> Result<(), Fail> {
     let alloc = rt.alloc();
     let columns = columns_of(alloc, &[ColType::Char(3), ColType::Date])?;
     assert!(rt; are_within(&columns));
-    assert!(rt; capacity(&columns) == 238);
+    let shape = RowShape::of(&columns);
+    assert_eq!(rt; shape.slots(), 238);
     let text = Value::Text(Chars::of(alloc, b"A")?);
     let row = row_of(alloc, 258, text, Value::Day(20_030_115))?;
     assert!(rt; fit(columns.as_slice(), row.values.as_slice()));
     let mut page = [0xff; 4096];
-    wipe(&mut page, &columns);
-    put(&mut page, &columns, 1, &row);
+    shape.wipe(&mut page);
+    shape.put(&mut page, 1, &row);
     assert!(rt; page[16] == 0x40);
     assert!(rt; page[63..80] == b"\0\0\0\0\0\0\x01\x02\0\0A  \x01\x31\xa2\xa3"[..]);
     let nulls = row_of(alloc, 258, Value::Null, Value::Null)?;
     assert!(rt; fit(columns.as_slice(), nulls.values.as_slice()));
-    put(&mut page, &columns, 1, &nulls);
+    shape.put(&mut page, 1, &nulls);
     assert!(rt; page[63..80] == b"\0\0\0\0\0\0\x01\x02\0\x03\0\0\0\0\0\0\0"[..]);
     Ok(())
 }

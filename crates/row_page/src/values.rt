@@ -44,20 +44,43 @@ pub fn read_or_null(
     read_value(alloc, ty, bytes)
 }
 
-/// Writes a value as the bytes of a column.
+/// Writes a value as the bytes of a column, at the front of these. Answers how many bytes that are.
 #[tactic(auto, unfolding(crate::specs::Row::column_bytes))]
-pub fn write_value(out: &mut [u8], ty: ColType, value: &Value)
-    requires room { length out.old ≡ width ty }
+pub fn write_value(out: &mut [u8], ty: ColType, value: &Value) -> usize
+    requires room { width ty ≤ length out.old }
     requires typed { IsTrue (is_of_type ty value.now) }
-    ensures { out.new ≡ column_bytes ty value.now }
+    ensures bytes { out.new ≡ column_bytes ty value.now ++ drop (width ty) out.old }
+    ensures size { result ≡ width ty }
 {
     match (ty, value) {
-        (ColType::Integer, Value::Int(number)) => BigEndian::write_i32(out, *number as i32),
-        (ColType::Bigint, Value::Int(number)) => BigEndian::write_i64(out, *number),
-        (ColType::Char(_), Value::Text(text)) => write_text(out, text.bytes()),
-        (ColType::Date, Value::Day(day)) => BigEndian::write_u32(out, *day),
-        _ => out.fill(0),
+        (ColType::Integer, Value::Int(number)) => {
+            BigEndian::write_i32(out, *number as i32);
+            4
+        }
+        (ColType::Bigint, Value::Int(number)) => {
+            BigEndian::write_i64(out, *number);
+            8
+        }
+        (ColType::Char(length), Value::Text(text)) => {
+            write_text(&mut out[..length as usize], text.bytes());
+            length as usize
+        }
+        (ColType::Date, Value::Day(day)) => {
+            BigEndian::write_u32(out, *day);
+            4
+        }
+        _ => write_zeros(out, column_width(ty)),
     }
+}
+
+/// Writes so many zeros at the front of bytes, and answers how many.
+fn write_zeros(out: &mut [u8], size: usize) -> usize
+    requires { size ≤ length out.old }
+    ensures bytes { out.new ≡ replicate size 0 ++ drop size out.old }
+    ensures size { result ≡ size }
+{
+    out[..size].fill(0);
+    size
 }
 
 /// Writes a text with blanks behind it.
@@ -77,10 +100,9 @@ pub fn write_row(out: &mut [u8], columns: &[ColumnDef], row: &Row)
     ensures bytes { out.new ≡ row_bytes columns.now row.now }
     ensures number { row.now.number < 2 ^ 64 }
 {
-    let values = row.values.as_slice();
     BigEndian::write_u64(out, row.number);
-    write_nulls(out, bits_of_nulls(values));
-    write_values(out, columns, values);
+    let nulls = write_values(out, columns, row.values.as_slice());
+    write_nulls(out, nulls);
 }
 
 /// Writes null bits into their place in a row.
@@ -91,19 +113,23 @@ fn write_nulls(out: &mut [u8], nulls: u16)
     out[NULLS..ROW_HEAD].copy_from_slice(&nulls.to_be_bytes());
 }
 
-/// The null bits of values.
-fn bits_of_nulls(values: &[Value]) -> u16
-    requires { length values.now ≤ 16 }
-    ensures { result ≡ null_bits values.now }
+/// Writes values behind the head of a row, column by column, and answers their null bits.
+fn write_values(out: &mut [u8], columns: &[ColumnDef], values: &[Value]) -> u16
+    requires room { length out.old ≡ row_width_of columns.now }
+    requires few { length columns.now ≤ 16 }
+    requires same { length values.now ≡ length columns.now }
+    requires fits { IsTrue (fits_all columns.now values.now) }
+    ensures bytes { out.new ≡ take 10 out.old ++ columns_bytes columns.now values.now }
+    ensures nulls { result ≡ null_bits values.now }
 {
-    let mut bits = 0;
-    for i in (0..values.len()).rev() {
-        bits *= 2;
-        if is_null(&values[i]) {
-            bits += 1;
-        }
+    let mut nulls = 0;
+    let mut at = ROW_HEAD;
+    for (i, column) in columns.iter().enumerate() {
+        let value = &values[i];
+        nulls += u16::from(is_null(value)) << i;
+        at = write_value_at(out, at, column.ty, value);
     }
-    bits
+    nulls
 }
 
 fn is_null(value: &Value) -> bool
@@ -112,27 +138,12 @@ fn is_null(value: &Value) -> bool
     matches!(value, Value::Null)
 }
 
-/// Writes values behind the head of a row, column by column.
-fn write_values(out: &mut [u8], columns: &[ColumnDef], values: &[Value])
-    requires room { length out.old ≡ row_width_of columns.now }
-    requires same { length values.now ≡ length columns.now }
-    requires fits { IsTrue (fits_all columns.now values.now) }
-    ensures { out.new ≡ take 10 out.old ++ columns_bytes columns.now values.now }
-{
-    let mut at = ROW_HEAD;
-    for (i, column) in columns.iter().enumerate() {
-        let size = column_width(column.ty);
-        write_value_at(out, at, size, column.ty, &values[i]);
-        at += size;
-    }
-}
-
-/// Writes a value as the bytes of a column, from a place on.
-fn write_value_at(out: &mut [u8], at: usize, size: usize, ty: ColType, value: &Value)
-    requires size { size ≡ width ty }
-    requires room { at + size ≤ length out.old }
+/// Writes a value as the bytes of a column, from a place on. Answers where they end.
+fn write_value_at(out: &mut [u8], at: usize, ty: ColType, value: &Value) -> usize
+    requires room { at + width ty ≤ length out.old }
     requires typed { IsTrue (is_of_type ty value.now) }
-    ensures { out.new ≡ take at out.old ++ column_bytes ty value.now ++ drop (at + size) out.old }
+    ensures bytes { out.new ≡ take at out.old ++ column_bytes ty value.now ++ drop (at + width ty) out.old }
+    ensures end { result ≡ at + width ty }
 {
-    write_value(&mut out[at..at + size], ty, value);
+    at + write_value(&mut out[at..], ty, value)
 }

@@ -10,13 +10,13 @@ pub returns-clause-clears : goal.returns-clause-clears
 returns-clause-clears g c =
     let place = c.in_ok-place.ensures in
     changed_in_block g.P.Pages c.args.ext.now c.args.def.now c.args.rid.block c.args.pages.now c.args.rid.slot c.in_ok-place.place.page c.in_ok-place.place.slot
-    place.page place.slot place.below c.requires.slot c.clear_in_page.new.pages None c.clear_in_page.result c.clear_in_page.ensures.runs c.clear_in_page.ensures.count c.clear_in_page.ensures.clears
+    c.of-shape.ensures place.page place.slot place.below c.requires.slot c.clear_in_page.new.pages None c.clear_in_page.result c.clear_in_page.ensures.runs c.clear_in_page.ensures.count c.clear_in_page.ensures.clears
 
 pub returns-clause-runs : goal.returns-clause-runs
 returns-clause-runs g c =
     let place = c.in_ok-place.ensures in
     let in_block = page_of_slot_in_block g.P.Pages c.args.ext.now c.args.def.now c.args.rid.block c.args.pages.now c.args.rid.slot c.in_ok-place.place.page c.in_ok-place.place.slot
-    place.page place.slot place.below c.requires.slot in
+    c.of-shape.ensures place.page place.slot place.below c.requires.slot in
     runs_then (breaks_extent place.runs) c.clear_in_page.ensures.runs (λ p there is. in_block p c.requires.below is) (λ p is. in_block p c.requires.below is)
     (breaks_at_slot g.P.Pages c.args.ext.now c.args.def.now c.args.rid.block c.args.pages.now c.args.rid.slot c.in_ok-place.place.page c.in_ok-place.place.slot
-    place.page place.slot place.below c.requires.slot c.requires.below)
+    c.of-shape.ensures place.page place.slot place.below c.requires.slot c.requires.below)

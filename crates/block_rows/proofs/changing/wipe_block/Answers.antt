@@ -1,4 +1,5 @@
-use Rattle.std.proofs.Common.{◌+◌, ◌∙◌, ap, arith, refl}
+use Rattle.std.proofs.Common.{◌+◌, ◌∙◌, None, ap, arith, refl, replicate, subst}
+use Rattle.row_page.specs.RowPage.{IsRowPage, slot_count}
 use Rattle.store_api.proofs.RunsOverPagesLemmas.{runs_exit, runs_more, runs_wider}
 use Rattle.block_rows.proofs.HeldRowsLemmas.{only_page_of_block, wiped_all, wiped_more}
 use Rattle.block_rows.proofs.changing.wipe_block.Goals as goal
@@ -23,7 +24,7 @@ loop-j-preserved g c =
       wiped = λ told.
           wiped_more g.P.Pages c.args.ext.now c.args.def.now c.args.block c.loop-j.pages c.write_page.new.pages c.wipe.new.page (c.in_ok-first.first + c.loop-j.j) c.loop-j.j at
           (so.runs.works.steady.is_told ∙ told) (omega (arith, at, so.count, c.in_ok-first.ensures.there, c.loop-j-test.true)) c.in_ok-write_page.ensures.runs c.in_ok-write_page.ensures.puts
-          c.wipe.ensures.empty (so.wiped told);
+          (subst (λ columns. IsRowPage columns c.wipe.new.page (replicate (slot_count columns) None)) c.of.ensures c.wipe.ensures.empty) (so.wiped told);
       runs = runs_more so.runs c.in_ok-write_page.ensures.runs (λ q there is. only_page_of_block c.args.ext.now c.args.block q c.loop-j.j c.requires.below c.loop-j-test.true (is ∙ at)) (λ q none. absurd none);
     }
 

@@ -9,13 +9,13 @@ pub returns-clause-found : goal.returns-clause-found
 returns-clause-found g c =
     let place = c.in_ok-place.ensures in
     found_in_block g.P.Pages c.args.ext.now c.args.def.now c.args.rid.block c.args.pages.now c.args.rid.slot c.in_ok-place.place.page c.in_ok-place.place.slot
-    place.page place.slot place.below c.requires.slot c.row_in_page.result c.row_in_page.ensures.found
+    c.of-shape.ensures place.page place.slot place.below c.requires.slot c.row_in_page.result c.row_in_page.ensures.found
 
 pub returns-clause-runs : goal.returns-clause-runs
 returns-clause-runs g c =
     let place = c.in_ok-place.ensures in
     runs_then (breaks_extent place.runs) c.row_in_page.ensures.runs (λ p there none. absurd none)
     (λ p is. page_of_slot_in_block g.P.Pages c.args.ext.now c.args.def.now c.args.rid.block c.args.pages.now c.args.rid.slot c.in_ok-place.place.page c.in_ok-place.place.slot
-    place.page place.slot place.below c.requires.slot p c.requires.below is)
+    c.of-shape.ensures place.page place.slot place.below c.requires.slot p c.requires.below is)
     (breaks_at_slot g.P.Pages c.args.ext.now c.args.def.now c.args.rid.block c.args.pages.now c.args.rid.slot c.in_ok-place.place.page c.in_ok-place.place.slot
-    place.page place.slot place.below c.requires.slot c.requires.below)
+    c.of-shape.ensures place.page place.slot place.below c.requires.slot c.requires.below)

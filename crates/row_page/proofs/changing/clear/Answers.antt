@@ -1,6 +1,0 @@
--- One slot has no row.
-use Rattle.row_page.proofs.ChangingLemmas.{IsRowPage-without}
-use Rattle.row_page.proofs.changing.clear.Goals as goal
-
-pub returns : goal.returns
-returns c = λ slots is. IsRowPage-without c.args.columns.now c.args.page.now c.empty.new.page slots c.args.slot c.requires.slot c.empty.ensures is
