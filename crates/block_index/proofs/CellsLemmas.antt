@@ -1,11 +1,11 @@
 -- Keys of cells, and how wide their entries are.
-use Rattle.std.proofs.Common.{◌≡◌, ℕ, zero, suc, ◌+◌, ◌<◌, ◌≤◌, List, [], ◌∷◌, ◌++◌, length, get_or, refl, sym, ap, subst, ◌∙◌, arith, add-one, append_assoc, take, drop, drop-cons, length-append, inl, inr, true, false}
+use Rattle.std.proofs.Common.{◌≡◌, ℕ, zero, suc, ◌+◌, ◌-◌, ◌<◌, ◌≤◌, List, [], ◌∷◌, ◌++◌, length, get_or, refl, sym, ap, subst, ◌∙◌, arith, add-one, append-nil, append_assoc, take, drop, drop-cons, length-append, inl, inr, true, false}
 use Rattle.std.specs.Prelude.{Bool, ◌&&◌, nat_lt, IsTrue, Some, map, slice_get, unwrap_or, zip}
 use Rattle.std.specs.List.{AllByRecursion}
 use Rattle.std.proofs.lemmas.Bool.{cases_lt}
 use Rattle.std.proofs.lemmas.Bool.Decides.{nat_tests}
 use Rattle.std.proofs.Math.Seq.{drop-append_seam, take-append_seam}
-use Rattle.std.proofs.lemmas.List.{drop_all, length-map, map-append}
+use Rattle.std.proofs.lemmas.List.{drop_all, length-map, length-take, map-append, take_at}
 use Rattle.std.proofs.lemmas.Option.{get_or_from_slice_get, same_Some, slice_get_read, slice_get_within}
 use Rattle.byteorder.specs.Endian.{big_bytes}
 use Rattle.mdc_words.specs.ByteOrder.{Entry}
@@ -16,12 +16,13 @@ use Rattle.mdc_ast.specs.declared.definition.ColumnDef.{ColumnDef}
 use Rattle.mdc_ast.specs.declared.definition.TableDef.{TableDef}
 use Rattle.mdc_ast.specs.declared.row.Cell.{Cell}
 use Rattle.mdc_ast.specs.meaning.Database.{fits, fits_all}
-use Rattle.key_codec.specs.Keys.{ArePartsOf, has_key, key_bytes, part_bytes, type_of_column, type_or_none, width_of_parts}
+use Rattle.key_codec.specs.Keys.{ArePartsOf, has_key, key_bytes, part_bytes, part_width, type_of_column, type_or_none, width_of_parts}
 use Rattle.key_codec.proofs.KeyLemmas.{first_there, type_at_part, width_of_parts-cons}
 use Rattle.key_codec.proofs.PartLemmas.{has_key-is_of_type, length-part_bytes}
 use Rattle.table_trees.specs.TableTrees.{AreIndexParts, HasBlockIndexes, TreePlace, block_entry, block_index_places, cell_parts, composite_place, dimension_place, rising_parts}
 use Rattle.table_trees.proofs.TableTreesLemmas.{AreColumns, narrow_enough, places_in}
 use Rattle.table_trees.specs.RowCells.{IsCellOf, cell_places, cell_values}
+use borrow.Rule.Slice.PartMut.{put_mid}
 use Rattle.block_index.specs.Cells.{FitPlaces, FitsCell, HaveKeys, cell_entries, dimension_entries, entry_under, key_of_values}
 
 -- an entry has the bytes of the key and four more
@@ -272,6 +273,28 @@ module _ (columns : List ColumnDef) (values : List Value) (whole : List ℕ) (it
           ap (λ k. k ++ rest) (now ∙ ap (λ b. key ++ b) part_is) ∙ (append_assoc key part rest ∙ (ap (λ b. key ++ b) (sym step) ∙ is.bytes));
     }
 
+    -- it ends within the whole key
+    pub row_part_within : length key + part_width column.ty ≤ length whole
+    row_part_within =
+        let part = part_bytes column.ty false value in
+        let next = row_keyed_next (key ++ part) refl in
+        omega (arith, length-append key part, length-append (key ++ part) (key_bytes columns (rising_parts (drop (i + 1) items)) values), ap length next.bytes, length-part_bytes column.ty false value row_value_fits)
+
+-- with no place left the key is whole
+pub row_key_whole : (columns : List ColumnDef) (values : List Value) (whole : List ℕ) (items : List ℕ) (i : ℕ) (key : List ℕ) → IsRowKeyedSo columns values whole (drop i items) key → length items ≤ i → key ≡ whole
+row_key_whole columns values whole items i key is past =
+    sym (append-nil key) ∙ ap (λ places. key ++ key_bytes columns (rising_parts places) values) (sym (drop_all i items past)) ∙ is.bytes
+
+-- a part that is put behind the bytes up to a place
+pub put_behind : (out new part : List ℕ) (at w : ℕ) → at ≤ length out → length part ≡ w → new ≡ part ++ drop w (take (length out - at) (drop at out)) → take (at + w) (put_mid at (length out - at) out new) ≡ take at out ++ part
+put_behind out new part at w within wide is =
+    let more = drop w (take (length out - at) (drop at out)) in
+    let tail = drop (length out - at) (drop at out) in
+    let front : length (take at out ++ part) ≡ at + w = omega (arith, length-append (take at out) part, length-take at out, within, wide) in
+    ap (λ n. take (at + w) (take at out ++ (n ++ tail))) is
+    ∙ ap (take (at + w)) (ap (λ b. take at out ++ b) (append_assoc part more tail) ∙ sym (append_assoc (take at out) part (more ++ tail)))
+    ∙ take_at (take at out ++ part) (more ++ tail) (at + w) front
+
 module _ (columns : List ColumnDef) (values : List Value) (whole : List ℕ) (items : List (List ℕ)) (i : ℕ) (dim : List ℕ) (here : dim ≡ get_or items i dim) (within : i < length items) (key : List ℕ)
     (is : IsRowKeyedSo columns values whole (places_in (drop i items)) key) where
   row_dims_left : places_in (drop i items) ≡ dim ++ places_in (drop (i + 1) items)
@@ -296,6 +319,13 @@ module _ (columns : List ColumnDef) (values : List Value) (whole : List ℕ) (it
         ap (λ k. k ++ rest) now ∙ (append_assoc key part rest ∙ (ap (λ b. key ++ b) (sym step) ∙ is.bytes));
   }
 
+  -- the key of the dimension ends within the whole key
+  pub dim_row_within : length key + length (key_bytes columns (rising_parts dim) values) ≤ length whole
+  dim_row_within =
+      let part = key_bytes columns (rising_parts dim) values in
+      let next = dim_row_keyed (key ++ part) refl in
+      omega (arith, length-append key part, length-append (key ++ part) (key_bytes columns (rising_parts (places_in (drop (i + 1) items))) values), ap length next.bytes)
+
 -- ---- cells of rows
 
 -- the key of the values that a row has in some places is that of the row
@@ -313,6 +343,10 @@ key_of_values-front columns (place ∷ places) (value ∷ values) more same = ap
 pub fit_row : (columns : List ColumnDef) (places : List ℕ) (values : List Value) → HaveKeys columns places values → FitPlaces columns places (map (value_at values) places)
 fit_row columns [] values keys = tt
 fit_row columns (place ∷ places) values keys = (keys.0.1, fit_row columns places values keys.1)
+
+pub row_key_short : (columns : List ColumnDef) (places : List ℕ) (values : List Value) → ArePartsOf columns (rising_parts places) → HaveKeys columns places values → length (key_bytes columns (rising_parts places) values) ≤ 128
+row_key_short columns places values are keys =
+    subst (λ key. length key ≤ 128) (key_of_values-row columns places values) (key_short columns places (map (value_at values) places) are (fit_row columns places values keys))
 
 -- so has a row that fits its columns, in places that are there
 pub keys_of_fitting : (columns : List ColumnDef) (places : List ℕ) (values : List Value) → AreColumns columns (rising_parts places) → IsTrue (fits_all columns values) → HaveKeys columns places values

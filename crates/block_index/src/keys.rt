@@ -1,5 +1,5 @@
 // The values of a cell as bytes of a key.
-ghost use Rattle.std.specs.Prelude.{◌≡◌, ◌+◌, ◌≤◌, ◌++◌, drop, false, length, IsTrue, IfErr, IfOk, OnOk};
+ghost use Rattle.std.specs.Prelude.{◌≡◌, ◌+◌, ◌≤◌, ◌++◌, drop, false, length, take, IsTrue, IfErr, IfOk, OnOk};
 ghost use Rattle.key_codec.specs.Keys.{ArePartsOf, has_key, key_bytes, part_bytes, width_of_parts};
 ghost use Rattle.table_trees.specs.RowCells.{cell_places};
 ghost use Rattle.table_trees.specs.TableTrees.{cell_parts, rising_parts};
@@ -10,7 +10,9 @@ use mdc_ast::{Cell, ColumnDef, TableDef};
 use mdc_values::{ColType, List, Value};
 use std::alloc::Global;
 use store_api::StoreFault;
-use table_trees::cell_width;
+
+/// How many bytes a key has at most.
+const KEY_BYTES: usize = 128;
 
 /// The key of the cell of a row: that of its values in all dimension columns. It makes no list of these values.
 pub fn cell_key(alloc: Global, def: &TableDef, values: &List<Value>) -> Result<Vec<u8>, StoreFault>
@@ -19,30 +21,36 @@ pub fn cell_key(alloc: Global, def: &TableDef, values: &List<Value>) -> Result<V
     ensures key { IfOk result (λ key. key.items ≡ key_bytes def.now.columns (cell_parts def.now) values.now) }
     ensures memory { IfErr result (λ fault. fault ≡ StoreFault.Memory) }
 {
-    let mut key = Vec::with_capacity(alloc, usize::from(cell_width(def)))?;
+    let mut key = [0; KEY_BYTES];
+    let mut end = 0;
     for dim in def.dims.as_slice() {
-        push_row_key(&mut key, &def.columns, dim, values)?;
+        end = put_row_key(&mut key, end, &def.columns, dim, values);
     }
-    Ok(key)
+    Ok(Vec::from_slice(alloc, &key[..end])?)
 }
 
-/// Puts the key of a row in the columns in some places last.
-fn push_row_key(
-    key: &mut Vec<u8>,
+/// Writes the key of a row in the columns in some places from a place in `out` on. Answers where it ends.
+fn put_row_key(
+    out: &mut [u8],
+    start: usize,
     columns: &List<ColumnDef>,
     places: &List<u8>,
     values: &List<Value>,
-) -> Result<(), StoreFault>
+) -> usize
     requires parts { ArePartsOf columns.now (rising_parts places.now) }
     requires values { HaveKeys columns.now places.now values.now }
-    ensures key { OnOk result (key.new.items ≡ key.old.items ++ key_bytes columns.now (rising_parts places.now) values.now) }
-    ensures memory { IfErr result (λ fault. fault ≡ StoreFault.Memory) }
+    requires room { start + length (key_bytes columns.now (rising_parts places.now) values.now) ≤ length out.old }
+    ensures key { take result out.new ≡ take start out.old ++ key_bytes columns.now (rising_parts places.now) values.now }
+    ensures end { result ≡ start + length (key_bytes columns.now (rising_parts places.now) values.now) }
 {
+    let mut end = start;
     for place in places.as_slice() {
         let place = usize::from(*place);
-        push_part(key, columns.at(place).ty, values.at(place))?;
+        let ty = columns.at(place).ty;
+        put_part(&mut out[end..], ty, false, values.at(place));
+        end += usize::from(part_width(ty));
     }
-    Ok(())
+    end
 }
 
 /// The key of a cell: that of all dimension columns.
