@@ -17,7 +17,7 @@ use Rattle.table_page.specs.TableLimits.{IsTableDef}
 use Rattle.table_trees.specs.RowCells.{AreOfOneCell}
 use Rattle.mdc_sound.specs.Placing.{ChangesRow, PutsRow, Spot, SpotsAfterClaims, SpotsAfterReturns, block_slot_count}
 use Rattle.mdc_sound.specs.SoundDatabase.{IsSoundBetweenChanges}
-use Rattle.mdc_sound.specs.StandingTable.{IsReadyTable, IsTableSpace, OverwritesRow, PlacesRow, StandsTable, TableForests, TakesRowOut, pages_of, spots_of}
+use Rattle.mdc_sound.specs.StandingTable.{IsReadyTable, IsTableSpace, OverwritesRow, PlacesRow, RoomNote, StandsTable, TableForests, TakesRowOut, pages_of, spots_of}
 use Rattle.mdc_sound.proofs.ChangedRowsLemmas.{rows_after_overwriting, rows_after_placing, rows_after_taking}
 use Rattle.mdc_sound.proofs.RowNumbersLemmas.{numbers_over}
 use Rattle.table_blocks.proofs.SpotChangesLemmas.{claims_change, returns_change}
@@ -46,24 +46,24 @@ slots_same before ext def shape = ap (λ n. n * slot_count def.columns) shape.ex
 module _ {S : Type 0} (g : Ghosts S) where
   -- ---- in its place
 
-  pub stays_turns : (ext : Extents) (room_from : Entry → ℕ) (old new : S) (def : TableDef) (row other : Row) (rid : Rid) (owners : List Kind) (forests : TableForests) → AreOfOneCell def row.values other.values
-      → OverwritesRow g ext ext room_from old new def owners forests row other rid
+  pub stays_turns : (ext : Extents) (room_of : Entry → RoomNote) (old new : S) (def : TableDef) (row other : Row) (rid : Rid) (owners : List Kind) (forests : TableForests) → AreOfOneCell def row.values other.values
+      → OverwritesRow g ext ext room_of old new def owners forests row other rid
       → ChangesRow def (block_slot_count ext def) (spots_of g ext old def owners forests) rid row other (spots_of g ext new def owners forests) rid
-  stays_turns ext room_from old new def row other rid owners forests cell over =
+  stays_turns ext room_of old new def row other rid owners forests cell over =
       let now = spots_of g ext new def owners forests in
       ChangesRow.stays over.slots cell over.lay (subst (λ (spots : List Spot). SpotsAfterReturns spots now) over.spots (same_returns now))
 
-  pub stays : (ext : Extents) (room_from : Entry → ℕ) (old new : S) (def : TableDef) (row other : Row) (rid : Rid) (owners : List Kind) (forests : TableForests) → StandsTable g ext old def owners forests
-      → AreOfOneCell def row.values other.values → OverwritesRow g ext ext room_from old new def owners forests row other rid
-      → MakesOneChange g ext old new def row other rid owners forests (spots_of g ext new def owners forests) → ChangesOneRow g ext ext room_from old new def row other rid rid owners forests
-  stays ext room_from old new def row other rid owners forests st cell over space =
-      let rows = rows_after_overwriting g ext ext room_from old new def owners forests st row other rid over in record {
+  pub stays : (ext : Extents) (room_of : Entry → RoomNote) (old new : S) (def : TableDef) (row other : Row) (rid : Rid) (owners : List Kind) (forests : TableForests) → StandsTable g ext old def owners forests
+      → AreOfOneCell def row.values other.values → OverwritesRow g ext ext room_of old new def owners forests row other rid
+      → MakesOneChange g ext old new def row other rid owners forests (spots_of g ext new def owners forests) → ChangesOneRow g ext ext room_of old new def row other rid rid owners forests
+  stays ext room_of old new def row other rid owners forests st cell over space =
+      let rows = rows_after_overwriting g ext ext room_of old new def owners forests st row other rid over in record {
         owners_now = owners;
         forests_now = forests;
         changes = over.changes;
         rooms = over.rooms;
         mid = spots_of g ext new def owners forests;
-        turns = stays_turns ext room_from old new def row other rid owners forests cell over;
+        turns = stays_turns ext room_of old new def row other rid owners forests cell over;
         claims = same_claims (spots_of g ext new def owners forests);
         stay = rows.0;
         were = rows.1;
@@ -73,13 +73,13 @@ module _ {S : Type 0} (g : Ghosts S) where
 
   -- ---- taken out, and then put
 
-  module _ (before mid : Extents) (room_from room_mid : Entry → ℕ) (old middle : S) (def : TableDef) (row : Row) (rid : Rid) (owners : List Kind) (forests : TableForests)
-      (ready : IsReadyTable g before room_from old def owners forests) (takes : TakesRowOut g before mid room_mid old middle def owners forests row rid) where
+  module _ (before mid : Extents) (room_of room_mid : Entry → RoomNote) (old middle : S) (def : TableDef) (row : Row) (rid : Rid) (owners : List Kind) (forests : TableForests)
+      (ready : IsReadyTable g before room_of old def owners forests) (takes : TakesRowOut g before mid room_mid old middle def owners forests row rid) where
     -- the table is ready once the row is out
     pub ready_then : IsReadyTable g mid room_mid middle def takes.owners_now takes.forests_now
     ready_then = record { stands = takes.changes.stands; notes = takes.changes.notes ready.notes; rooms = takes.rooms }
 
-    module _ (ext : Extents) (room_now : Entry → ℕ) (new : S) (other : Row) (to : Rid) (places : PlacesRow g mid ext room_now middle new def takes.owners_now takes.forests_now other to) (defined : IsTableDef def.number def) where
+    module _ (ext : Extents) (room_now : Entry → RoomNote) (new : S) (other : Row) (to : Rid) (places : PlacesRow g mid ext room_now middle new def takes.owners_now takes.forests_now other to) (defined : IsTableDef def.number def) where
       pub moves : (AreOfOneCell def row.values other.values → ⊥) → length (pages_of g middle) ≡ length (pages_of g old) → length (pages_of g middle) ≤ length (pages_of g new)
           → MakesOneChange g before old new def row other rid owners forests (spots_of g ext new def places.owners_now places.forests_now) → ChangesOneRow g before ext room_now old new def row other rid to owners forests
       moves apart same longer space = record {

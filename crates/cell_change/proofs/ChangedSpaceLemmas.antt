@@ -22,7 +22,7 @@ use Rattle.table_trees.proofs.ToldPagesLemmas.{map_of_told, tree_of_told}
 use Rattle.mdc_sound.specs.Placing.{IsRowAt, PutsRow, Spot, block_slot_count}
 use Rattle.mdc_sound.specs.Placing.Spot.{OtherBlock}
 use Rattle.mdc_sound.specs.RunningFull.{InsertingChanges, InsertRunsFull, RowRunsFull, ShowsTableSpots, UpdateRunsFull, UpdatingChanges, block_changes, left_changes, listings_in, putting_changes, row_listings, taking_changes}
-use Rattle.mdc_sound.specs.StandingTable.{OverwritesRow, PlacesRow, StandsTable, TableForests, TakesRowOut, pages_of, spots_of}
+use Rattle.mdc_sound.specs.StandingTable.{OverwritesRow, PlacesRow, RoomNote, StandsTable, TableForests, TakesRowOut, pages_of, spots_of}
 use Rattle.cell_change.specs.RowChanges.{MakesOneChange, row_in_place}
 use Rattle.cell_change.proofs.ChangedRowLemmas.{same_claims, slots_same, stays_turns}
 use Rattle.table_trees.proofs.SpaceChainsLemmas.{changes_shaped, changes_then, full_before, full_shaped, full_then, no_changes}
@@ -76,13 +76,13 @@ module _ {S : Type 0} (g : Ghosts S) (ext : Extents) (s : S) (def : TableDef) (o
 
 -- ---- a row that becomes another in its place
 
-pub stays_makes : {S : Type 0} (g : Ghosts S) (ext : Extents) (room_from : Entry → ℕ) (old new : S) (def : TableDef) (row other : Row) (rid : Rid) (owners : List Kind) (forests : TableForests) → def.indexes ≡ []
-    → AreOfOneCell def row.values other.values → OverwritesRow g ext ext room_from old new def owners forests row other rid → IsSameSpace ext (pages_of g old) (pages_of g new)
+pub stays_makes : {S : Type 0} (g : Ghosts S) (ext : Extents) (room_of : Entry → RoomNote) (old new : S) (def : TableDef) (row other : Row) (rid : Rid) (owners : List Kind) (forests : TableForests) → def.indexes ≡ []
+    → AreOfOneCell def row.values other.values → OverwritesRow g ext ext room_of old new def owners forests row other rid → IsSameSpace ext (pages_of g old) (pages_of g new)
     → MakesOneChange g ext old new def row other rid owners forests (spots_of g ext new def owners forests)
-stays_makes g ext room_from old new def row other rid owners forests none cell over same = record {
+stays_makes g ext room_of old new def row other rid owners forests none cell over same = record {
   front = removed_entries (listings_in def (filter differs def.indexes) row rid) ++ added_entries (listings_in def (filter differs def.indexes) other rid);
   makes = subst (λ (list : List SpaceChange). MakesChanges ext (pages_of g old) list (pages_of g new)) (sym (none_differ def.indexes none)) (no_changes ext (pages_of g old) (pages_of g new) same);
-  goes_on = λ rows changes more. UpdatingChanges.stays cell (stays_turns g ext room_from old new def row other rid owners forests cell over) (same_claims (spots_of g ext new def owners forests)) more;
+  goes_on = λ rows changes more. UpdatingChanges.stays cell (stays_turns g ext room_of old new def row other rid owners forests cell over) (same_claims (spots_of g ext new def owners forests)) more;
 }
   where
     differs : IndexDef → Bool
@@ -94,7 +94,7 @@ stays_makes g ext room_from old new def row other rid owners forests none cell o
 
 -- ---- a row that is taken out, and then put
 
-module _ {S : Type 0} (g : Ghosts S) (before mid : Extents) (room_mid : Entry → ℕ) (old middle : S) (def : TableDef) (row other : Row) (rid : Rid) (owners : List Kind) (forests : TableForests)
+module _ {S : Type 0} (g : Ghosts S) (before mid : Extents) (room_mid : Entry → RoomNote) (old middle : S) (def : TableDef) (row other : Row) (rid : Rid) (owners : List Kind) (forests : TableForests)
     (st : StandsTable g before old def owners forests) (none : def.indexes ≡ []) (apart : AreOfOneCell def row.values other.values → ⊥)
     (slots : List (Option Row)) (lies : IsRowAt (spots_of g before old def owners forests) rid row slots) (takes : TakesRowOut g before mid room_mid old middle def owners forests row rid)
     (left : MakesChanges before (pages_of g old) (left_changes def row rid.block (count_rows slots)) (pages_of g middle)) where
@@ -108,7 +108,7 @@ module _ {S : Type 0} (g : Ghosts S) (before mid : Extents) (room_mid : Entry �
   puts_before : (spots : List Spot) (to : Rid) → PutsRow def (block_slot_count mid def) free other spots to → PutsRow def (block_slot_count before def) free other spots to
   puts_before spots to puts = subst (λ (n : ℕ). PutsRow def n free other spots to) (slots_same before mid def takes.changes.shape) puts
 
-  pub moves_makes : (ext : Extents) (room_now : Entry → ℕ) (new : S) (to : Rid) (places : PlacesRow g mid ext room_now middle new def takes.owners_now takes.forests_now other to)
+  pub moves_makes : (ext : Extents) (room_now : Entry → RoomNote) (new : S) (to : Rid) (places : PlacesRow g mid ext room_now middle new def takes.owners_now takes.forests_now other to)
       → MakesChanges mid (pages_of g middle) (block_changes def other to.block (slice_index_or free to.block OtherBlock)) (pages_of g new)
       → MakesOneChange g before old new def row other rid owners forests (spots_of g ext new def places.owners_now places.forests_now)
   moves_makes ext room_now new to places makes =

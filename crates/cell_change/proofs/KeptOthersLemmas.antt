@@ -12,11 +12,11 @@ use Rattle.extent_map.specs.declared.kind.Kind.{Kind}
 use Rattle.extent_map.specs.declared.kind.Kind.TheVariants.{Free, Block, Index}
 use Rattle.entry_tree.proofs.UsedPagesLemmas.{shape_back}
 use Rattle.table_trees.specs.TreesBeside.{table_of_block}
-use Rattle.mdc_sound.specs.StandingTable.{IsBlockPageOf, KeepsBlocksBut, StandsTable, TableForests, TakesRowOut}
+use Rattle.mdc_sound.specs.StandingTable.{IsBlockPageOf, KeepsBlocksBut, RoomNote, StandsTable, TableForests, TakesRowOut}
 use Rattle.cell_change.proofs.ChangeRunsLemmas.{extent_at}
 use Rattle.cell_change.proofs.TableStepsLemmas.{block_page_at, takes_no_block}
 
-module _ {S : Type 0} (g : Ghosts S) (before mid : Extents) (room_mid : Entry → ℕ) (old middle : S) (def : TableDef) (row : Row) (rid : Rid) (owners : List Kind) (forests : TableForests)
+module _ {S : Type 0} (g : Ghosts S) (before mid : Extents) (room_mid : Entry → RoomNote) (old middle : S) (def : TableDef) (row : Row) (rid : Rid) (owners : List Kind) (forests : TableForests)
     (st : StandsTable g before old def owners forests) (takes : TakesRowOut g before mid room_mid old middle def owners forests row rid) where
   -- a block of the table is one once a row was taken out
   block_then : (e : ℕ) → owner_of owners e ≡ Block def.number → owner_of takes.owners_now e ≡ Block def.number

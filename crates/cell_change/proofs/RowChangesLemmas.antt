@@ -15,7 +15,7 @@ use Rattle.entry_tree.specs.Forest.{Forest}
 use Rattle.table_page.specs.TableLimits.{IsTableDef}
 use Rattle.mdc_sound.specs.BlockRules.{AreRowNumbersSound}
 use Rattle.mdc_sound.specs.SoundDatabase.{IsSoundBetweenChanges, with_table_page}
-use Rattle.mdc_sound.specs.StandingTable.{ChangesTable, HasRowAt, IsTableSpace, OverwritesRow, PlacesRow, StandsTable, TableForests, TakesRowOut, forests_in_order, pages_of, spots_of}
+use Rattle.mdc_sound.specs.StandingTable.{ChangesTable, HasRowAt, IsTableSpace, OverwritesRow, PlacesRow, RoomNote, StandsTable, TableForests, TakesRowOut, forests_in_order, pages_of, spots_of}
 use Rattle.mdc_sound.specs.TableRows.{rows_in_table}
 use Rattle.mdc_sound.specs.TableViews.{TableView, trees_of_table}
 use Rattle.mdc_sound.proofs.ChangedRowsLemmas.{rows_after_overwriting, rows_after_placing, rows_after_taking}
@@ -64,16 +64,16 @@ module _ {S : Type 0} (g : Ghosts S) where
 
     -- ---- a row more
 
-    pub inserts : (room_from : Entry → ℕ) (row : Row) (rid : Rid) → IsTableDef def.number def → PlacesRow g before ext room_from old new def owners forests row rid
-        → InsertsRow g before ext room_from old new def row rid owners forests
-    inserts room_from row rid defined places = record { places = places; rows = rows_after_placing g before ext room_from old new def owners forests st def.number row rid defined places }
+    pub inserts : (room_of : Entry → RoomNote) (row : Row) (rid : Rid) → IsTableDef def.number def → PlacesRow g before ext room_of old new def owners forests row rid
+        → InsertsRow g before ext room_of old new def row rid owners forests
+    inserts room_of row rid defined places = record { places = places; rows = rows_after_placing g before ext room_of old new def owners forests st def.number row rid defined places }
 
-    pub sound_inserted : (room_from : Entry → ℕ) (row : Row) (rid : Rid) → IsTableDef def.number def → PlacesRow g before ext room_from old new def owners forests row rid → def.indexes ≡ []
+    pub sound_inserted : (room_of : Entry → RoomNote) (row : Row) (rid : Rid) → IsTableDef def.number def → PlacesRow g before ext room_of old new def owners forests row rid → def.indexes ≡ []
         → row.number ≡ def.next → def.next + 1 < 18446744073709551616 → Touches g (IsTableSpace g before old def) old new → length (pages_of g old) ≤ length (pages_of g new)
         → IsSoundBetweenChanges before def (pages_of g old) → IsSoundBetweenChanges ext (with_next def (def.next + 1)) (pages_of g new)
-    sound_inserted room_from row rid defined places none number small touched longer between =
+    sound_inserted room_of row rid defined places none number small touched longer between =
         let now = rows_now g ext new def places.forests_now in
-        let rows = rows_after_placing g before ext room_from old new def owners forests st def.number row rid defined places in
+        let rows = rows_after_placing g before ext room_of old new def owners forests st def.number row rid defined places in
         let more = numbers_with def (def.next + 1) (row_in_place rid row) (rows_now g before old def forests) (numbers_here before old def owners forests between st) (omega (arith, number)) (omega (arith, number)) in
         between_with_next g before ext old new def owners places.owners_now forests places.forests_now between.sound st places.changes touched longer between.rule11 between.numbers between.other_keys none (def.next + 1) small
         (numbers_in_order (with_next def (def.next + 1)) (row_in_place rid row ∷ rows_now g before old def forests) now rows more)
@@ -81,37 +81,37 @@ module _ {S : Type 0} (g : Ghosts S) where
     -- ---- a row less
 
     -- the row that was taken out is the one that lay there
-    pub took_this : (room_from : Entry → ℕ) (row other : Row) (rid : Rid) → HasThisRow g before old def rid row owners forests → TakesRowOut g before ext room_from old new def owners forests other rid
-        → TakesRowOut g before ext room_from old new def owners forests row rid
-    took_this room_from row other rid has takes =
-        subst (λ (r : Row). TakesRowOut g before ext room_from old new def owners forests r rid) (same_row (spots_of g before old def owners forests) rid other row takes.takes.slots has.slots takes.takes.lies has.lies) takes
+    pub took_this : (room_of : Entry → RoomNote) (row other : Row) (rid : Rid) → HasThisRow g before old def rid row owners forests → TakesRowOut g before ext room_of old new def owners forests other rid
+        → TakesRowOut g before ext room_of old new def owners forests row rid
+    took_this room_of row other rid has takes =
+        subst (λ (r : Row). TakesRowOut g before ext room_of old new def owners forests r rid) (same_row (spots_of g before old def owners forests) rid other row takes.takes.slots has.slots takes.takes.lies has.lies) takes
 
-    pub deletes : (room_from : Entry → ℕ) (row : Row) (rid : Rid) → TakesRowOut g before ext room_from old new def owners forests row rid
-        → DeletesRow g before ext room_from old new def row rid owners forests
-    deletes room_from row rid takes = record { takes = takes; rows = rows_after_taking g before ext room_from old new def owners forests st row rid takes }
+    pub deletes : (room_of : Entry → RoomNote) (row : Row) (rid : Rid) → TakesRowOut g before ext room_of old new def owners forests row rid
+        → DeletesRow g before ext room_of old new def row rid owners forests
+    deletes room_of row rid takes = record { takes = takes; rows = rows_after_taking g before ext room_of old new def owners forests st row rid takes }
 
     -- the numbers of the row and of those that stay
-    pub numbers_kept : (room_from : Entry → ℕ) (row : Row) (rid : Rid) (takes : TakesRowOut g before ext room_from old new def owners forests row rid) → IsSoundBetweenChanges before def (pages_of g old)
+    pub numbers_kept : (room_of : Entry → RoomNote) (row : Row) (rid : Rid) (takes : TakesRowOut g before ext room_of old new def owners forests row rid) → IsSoundBetweenChanges before def (pages_of g old)
         → AreRowNumbersSound def (row_in_place rid row ∷ rows_now g ext new def takes.forests_now)
-    numbers_kept room_from row rid takes between =
+    numbers_kept room_of row rid takes between =
         let now = row_in_place rid row ∷ rows_now g ext new def takes.forests_now in
         let were = rows_now g before old def forests in
-        numbers_in_order def were now (IsPermutation-sym now were (rows_after_taking g before ext room_from old new def owners forests st row rid takes)) (numbers_here before old def owners forests between st)
+        numbers_in_order def were now (IsPermutation-sym now were (rows_after_taking g before ext room_of old new def owners forests st row rid takes)) (numbers_here before old def owners forests between st)
 
-    pub sound_deleted : (room_from : Entry → ℕ) (row : Row) (rid : Rid) → TakesRowOut g before ext room_from old new def owners forests row rid → def.indexes ≡ []
+    pub sound_deleted : (room_of : Entry → RoomNote) (row : Row) (rid : Rid) → TakesRowOut g before ext room_of old new def owners forests row rid → def.indexes ≡ []
         → Touches g (IsTableSpace g before old def) old new → length (pages_of g old) ≤ length (pages_of g new)
         → IsSoundBetweenChanges before def (pages_of g old) → IsSoundBetweenChanges ext def (pages_of g new)
-    sound_deleted room_from row rid takes none touched longer between =
+    sound_deleted room_of row rid takes none touched longer between =
         sound_after takes.owners_now takes.forests_now takes.changes none touched longer between
-        (numbers_without def (row_in_place rid row) (rows_now g ext new def takes.forests_now) (numbers_kept room_from row rid takes between))
+        (numbers_without def (row_in_place rid row) (rows_now g ext new def takes.forests_now) (numbers_kept room_of row rid takes between))
 
     -- ---- a row that became another in its place
 
-    pub sound_overwritten : (room_from : Entry → ℕ) (row other : Row) (rid : Rid) → OverwritesRow g before ext room_from old new def owners forests row other rid → def.indexes ≡ [] → other.number ≡ row.number
+    pub sound_overwritten : (room_of : Entry → RoomNote) (row other : Row) (rid : Rid) → OverwritesRow g before ext room_of old new def owners forests row other rid → def.indexes ≡ [] → other.number ≡ row.number
         → Touches g (IsTableSpace g before old def) old new → length (pages_of g old) ≤ length (pages_of g new)
         → IsSoundBetweenChanges before def (pages_of g old) → IsSoundBetweenChanges ext def (pages_of g new)
-    sound_overwritten room_from row other rid over none number touched longer between =
-        let rows = rows_after_overwriting g before ext room_from old new def owners forests st row other rid over in
+    sound_overwritten room_of row other rid over none number touched longer between =
+        let rows = rows_after_overwriting g before ext room_of old new def owners forests st row other rid over in
         let were = rows_now g before old def forests in
         let first = row_in_place rid row ∷ rows.0 in
         let numbers = numbers_in_order def were first (IsPermutation-sym first were rows.1) (numbers_here before old def owners forests between st) in
@@ -120,10 +120,10 @@ module _ {S : Type 0} (g : Ghosts S) where
 
     -- ---- a row of a number that none of the others has
 
-    pub sound_placed : (room_from : Entry → ℕ) (row : Row) (rid : Rid) → IsTableDef def.number def → PlacesRow g before ext room_from old new def owners forests row rid → def.indexes ≡ []
+    pub sound_placed : (room_of : Entry → RoomNote) (row : Row) (rid : Rid) → IsTableDef def.number def → PlacesRow g before ext room_of old new def owners forests row rid → def.indexes ≡ []
         → AreRowNumbersSound def (row_in_place rid row ∷ rows_now g before old def forests) → Touches g (IsTableSpace g before old def) old new → length (pages_of g old) ≤ length (pages_of g new)
         → IsSoundBetweenChanges before def (pages_of g old) → IsSoundBetweenChanges ext def (pages_of g new)
-    sound_placed room_from row rid defined places none numbers touched longer between =
-        let rows = rows_after_placing g before ext room_from old new def owners forests st def.number row rid defined places in
+    sound_placed room_of row rid defined places none numbers touched longer between =
+        let rows = rows_after_placing g before ext room_of old new def owners forests st def.number row rid defined places in
         sound_after places.owners_now places.forests_now places.changes none touched longer between
         (numbers_in_order def (row_in_place rid row ∷ rows_now g before old def forests) (rows_now g ext new def places.forests_now) rows numbers)

@@ -29,7 +29,7 @@ use Rattle.table_trees.proofs.PageCountLemmas.{grows_pages_none, grows_pages_the
 use Rattle.table_trees.specs.ToldPages.{PageList}
 use Rattle.mdc_sound.specs.Placing.{AfterClaims, AfterReturns, ChangesRow, PutsRow, Spot, TakesRow, block_slot_count, left_with, spot_of_kind, spot_of_state}
 use Rattle.mdc_sound.specs.Placing.Spot.{FreeExtent, IndexExtent, OtherBlock, FreeBlock, PendingBlock, UsedBlock}
-use Rattle.mdc_sound.specs.StandingTable.{ChangesTable, IsBlockPageOf, PlacesRow, StandsTable, TableForests, TakesRowOut, forests_in_order, pages_of, spots_of}
+use Rattle.mdc_sound.specs.StandingTable.{ChangesTable, IsBlockPageOf, PlacesRow, RoomNote, StandsTable, TableForests, TakesRowOut, forests_in_order, pages_of, spots_of}
 use Rattle.mdc_sound.specs.TableRows.{block_slots}
 use Rattle.cell_change.specs.RowChanges.{ChangesOneRow}
 use Rattle.mdc_sound.proofs.TableSpotsLemmas.{spot_at}
@@ -185,24 +185,24 @@ module _ {S : Type 0} (g : Ghosts S) (before mid : Extents) (old middle : S) (de
   ]
 
   -- taking a row out leaves each block one
-  pub takes_no_block : (room_from : Entry → ℕ) (row : Row) (rid : Rid) → StandsTable g before old def owners forests → (takes : TakesRowOut g before mid room_from old middle def owners forests row rid)
+  pub takes_no_block : (room_of : Entry → RoomNote) (row : Row) (rid : Rid) → StandsTable g before old def owners forests → (takes : TakesRowOut g before mid room_of old middle def owners forests row rid)
       → (e : ℕ) → table_of_block (owner_of takes.owners_now e) ≡ None → table_of_block (owner_of owners e) ≡ None
-  takes_no_block room_from row rid st takes =
+  takes_no_block room_of row rid st takes =
       gives_up_none takes.owners_now takes.forests_now st takes.changes.shape
       (λ e none. before_taking (spots_of g before old def owners forests) takes.mid rid row e takes.takes (before_returns takes.mid (spots_of g mid middle def takes.owners_now takes.forests_now) e takes.returns none))
 
   -- so does putting one
-  pub places_no_block : (room_from : Entry → ℕ) (row : Row) (rid : Rid) → StandsTable g before old def owners forests → (places : PlacesRow g before mid room_from old middle def owners forests row rid)
+  pub places_no_block : (room_of : Entry → RoomNote) (row : Row) (rid : Rid) → StandsTable g before old def owners forests → (places : PlacesRow g before mid room_of old middle def owners forests row rid)
       → (e : ℕ) → table_of_block (owner_of places.owners_now e) ≡ None → table_of_block (owner_of owners e) ≡ None
-  places_no_block room_from row rid st places =
+  places_no_block room_of row rid st places =
       gives_up_none places.owners_now places.forests_now st places.changes.shape
       (λ e none. before_putting def (block_slot_count before def) (spots_of g before old def owners forests) places.mid row rid e places.puts
       (before_claims places.mid (spots_of g mid middle def places.owners_now places.forests_now) e places.claims none))
 
   -- and making one another
-  pub turns_no_block : (room_from : Entry → ℕ) (row other : Row) (rid to : Rid) → StandsTable g before old def owners forests → (one : ChangesOneRow g before mid room_from old middle def row other rid to owners forests)
+  pub turns_no_block : (room_of : Entry → RoomNote) (row other : Row) (rid to : Rid) → StandsTable g before old def owners forests → (one : ChangesOneRow g before mid room_of old middle def row other rid to owners forests)
       → (e : ℕ) → table_of_block (owner_of one.owners_now e) ≡ None → table_of_block (owner_of owners e) ≡ None
-  turns_no_block room_from row other rid to st one =
+  turns_no_block room_of row other rid to st one =
       gives_up_none one.owners_now one.forests_now st one.changes.shape
       (λ e none. before_turning def (block_slot_count before def) (spots_of g before old def owners forests) one.mid row other rid to e one.turns
       (before_claims one.mid (spots_of g mid middle def one.owners_now one.forests_now) e one.claims none))

@@ -10,7 +10,7 @@ use Rattle.extent_map.specs.declared.kind.Kind.{Kind}
 use Rattle.table_trees.specs.SpaceChanges.{MakesChanges, SpaceChange}
 use Rattle.mdc_sound.specs.Placing.{ChangesRow, IsRowAt, Spot, SpotsAfterClaims, block_slot_count}
 use Rattle.mdc_sound.specs.RunningFull.{UpdatingChanges}
-use Rattle.mdc_sound.specs.StandingTable.{AreRightRooms, ChangesTable, PlacesRow, TableForests, TakesRowOut, pages_of, spots_of}
+use Rattle.mdc_sound.specs.StandingTable.{AreRightRooms, ChangesTable, PlacesRow, RoomNote, TableForests, TakesRowOut, pages_of, spots_of}
 use Rattle.mdc_sound.specs.TableRows.{PlacedRow, rows_in_table}
 
 -- the rows of a table as a store has them now
@@ -27,13 +27,13 @@ pub record HasThisRow {S : Type 0} (g : Ghosts S) (ext : Extents) (s : S) (def :
   pub lies : IsRowAt (spots_of g ext s def owners forests) rid row slots
 
 -- The row was placed, and the rows are those that there were with this one.
-pub record InsertsRow {S : Type 0} (g : Ghosts S) (before ext : Extents) (room_from : Entry → ℕ) (old new : S) (def : TableDef) (row : Row) (rid : Rid) (owners : List Kind) (forests : TableForests) : Type 0 where
-  pub places : PlacesRow g before ext room_from old new def owners forests row rid
+pub record InsertsRow {S : Type 0} (g : Ghosts S) (before ext : Extents) (room_of : Entry → RoomNote) (old new : S) (def : TableDef) (row : Row) (rid : Rid) (owners : List Kind) (forests : TableForests) : Type 0 where
+  pub places : PlacesRow g before ext room_of old new def owners forests row rid
   pub rows : IsPermutation (row_in_place rid row ∷ rows_now g before old def forests) (rows_now g ext new def places.forests_now)
 
 -- The row was taken out, and the rows are those that there were without it.
-pub record DeletesRow {S : Type 0} (g : Ghosts S) (before ext : Extents) (room_from : Entry → ℕ) (old new : S) (def : TableDef) (row : Row) (rid : Rid) (owners : List Kind) (forests : TableForests) : Type 0 where
-  pub takes : TakesRowOut g before ext room_from old new def owners forests row rid
+pub record DeletesRow {S : Type 0} (g : Ghosts S) (before ext : Extents) (room_of : Entry → RoomNote) (old new : S) (def : TableDef) (row : Row) (rid : Rid) (owners : List Kind) (forests : TableForests) : Type 0 where
+  pub takes : TakesRowOut g before ext room_of old new def owners forests row rid
   pub rows : IsPermutation (row_in_place rid row ∷ rows_now g ext new def takes.forests_now) (rows_now g before old def forests)
 
 -- An UPDATE that turns this row first makes these changes of space, and whatever goes on from the spots now goes on from those
@@ -46,11 +46,11 @@ pub record MakesOneChange {S : Type 0} (g : Ghosts S) (ext : Extents) (old new :
 
 -- The row became another, in its place where it keeps its cell; the other rows stay. After that trees may have taken free extents.
 -- What it makes of space is what an UPDATE makes that turns this row first.
-pub record ChangesOneRow {S : Type 0} (g : Ghosts S) (before ext : Extents) (room_from : Entry → ℕ) (old new : S) (def : TableDef) (row other : Row) (rid to : Rid) (owners : List Kind) (forests : TableForests) : Type 0 where
+pub record ChangesOneRow {S : Type 0} (g : Ghosts S) (before ext : Extents) (room_of : Entry → RoomNote) (old new : S) (def : TableDef) (row other : Row) (rid to : Rid) (owners : List Kind) (forests : TableForests) : Type 0 where
   pub owners_now : List Kind
   pub forests_now : TableForests
   pub changes : ChangesTable g before ext old new def owners forests owners_now forests_now
-  pub rooms : AreRightRooms def room_from (spots_of g ext new def owners_now forests_now)
+  pub rooms : AreRightRooms def room_of (spots_of g ext new def owners_now forests_now)
   pub mid : List Spot
   pub turns : ChangesRow def (block_slot_count before def) (spots_of g before old def owners forests) rid row other mid to
   pub claims : SpotsAfterClaims mid (spots_of g ext new def owners_now forests_now)

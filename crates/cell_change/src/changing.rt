@@ -13,7 +13,7 @@ ghost use Rattle.mdc_sound.specs.RunningFull.{UpdateRunsFull};
 ghost use Rattle.mdc_sound.specs.SoundDatabase.{IsSoundBetweenChanges, with_table_page};
 ghost use Rattle.mdc_sound.specs.StandingTable.{BreaksExpected, IsReadyTable, IsTableSpace, KeepsBlocksBut, TableForests, pages_of};
 ghost use Rattle.mdc_sound.specs.StandsForDatabase.{PagesStandFor, with_row};
-ghost use Rattle.cell_rooms.specs.RoomNotes.{room_from};
+ghost use Rattle.cell_rooms.specs.RoomNotes.{room_of};
 ghost use Rattle.cell_change.specs.RowChanges.{ChangesOneRow, HasThisRow, row_in_place};
 
 use crate::cells::are_of_one_cell;
@@ -45,19 +45,19 @@ pub fn change_row<P: Pages>(
     requires fits { RowFits def.now is.now }
     requires number { is.now.number ≡ was.now.number }
     requires going { (P.state pages.old).ended ≡ false }
-    ensures changes { IfOk result (λ to. (owners : List Kind) (forests : TableForests) → IsReadyTable P.Pages ext.old (room_from rooms.old) pages.old def.now owners forests
+    ensures changes { IfOk result (λ to. (owners : List Kind) (forests : TableForests) → IsReadyTable P.Pages ext.old (room_of rooms.old) pages.old def.now owners forests
         → HasThisRow P.Pages ext.old pages.old def.now rid was.now owners forests
-        → ChangesOneRow P.Pages ext.old ext.new (room_from rooms.new) pages.old pages.new def.now was.now is.now rid to owners forests) }
-    ensures stay { IfOk result (λ to. (owners : List Kind) (forests : TableForests) → IsReadyTable P.Pages ext.old (room_from rooms.old) pages.old def.now owners forests
+        → ChangesOneRow P.Pages ext.old ext.new (room_of rooms.new) pages.old pages.new def.now was.now is.now rid to owners forests) }
+    ensures stay { IfOk result (λ to. (owners : List Kind) (forests : TableForests) → IsReadyTable P.Pages ext.old (room_of rooms.old) pages.old def.now owners forests
         → KeepsBlocksBut P.Pages ext.old pages.old pages.new def.now owners (λ block. (block ≡ rid.block) ⊎ (block ≡ to.block))) }
-    ensures sound { OnOk result ((owners : List Kind) (forests : TableForests) → IsReadyTable P.Pages ext.old (room_from rooms.old) pages.old def.now owners forests
+    ensures sound { OnOk result ((owners : List Kind) (forests : TableForests) → IsReadyTable P.Pages ext.old (room_of rooms.old) pages.old def.now owners forests
         → HasThisRow P.Pages ext.old pages.old def.now rid was.now owners forests
         → IsSoundBetweenChanges ext.old def.now (pages_of P.Pages pages.old) → IsSoundBetweenChanges ext.new def.now (pages_of P.Pages pages.new)) }
-    ensures stands_for { OnOk result ((owners : List Kind) (forests : TableForests) → IsReadyTable P.Pages ext.old (room_from rooms.old) pages.old def.now owners forests
+    ensures stands_for { OnOk result ((owners : List Kind) (forests : TableForests) → IsReadyTable P.Pages ext.old (room_of rooms.old) pages.old def.now owners forests
         → HasThisRow P.Pages ext.old pages.old def.now rid was.now owners forests → IsSoundBetweenChanges ext.old def.now (pages_of P.Pages pages.old)
         → (db : Database) → PagesStandFor ext.old (with_table_page def.now (pages_of P.Pages pages.old)) db
         → PagesStandFor ext.new (with_table_page def.now (pages_of P.Pages pages.new)) (changed_at db def.now.number (with_row is.now))) }
-    ensures full { IfErr result (λ fault. IfFull fault (λ cap. (cap ≡ ext.old.cap) × ((owners : List Kind) (forests : TableForests) → IsReadyTable P.Pages ext.old (room_from rooms.old) pages.old def.now owners forests
+    ensures full { IfErr result (λ fault. IfFull fault (λ cap. (cap ≡ ext.old.cap) × ((owners : List Kind) (forests : TableForests) → IsReadyTable P.Pages ext.old (room_of rooms.old) pages.old def.now owners forests
         → HasThisRow P.Pages ext.old pages.old def.now rid was.now owners forests → UpdateRunsFull ext.old (pages_of P.Pages pages.old) def.now ((row_in_place rid was.now, is.now) ∷ [])))) }
     ensures shape { IsSameShape ext.old ext.new }
     ensures runs { RunsOverPages P.Pages (IsTableSpace P.Pages ext.old pages.old def.now) (IsTableSpace P.Pages ext.old pages.old def.now)

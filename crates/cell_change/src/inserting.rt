@@ -15,7 +15,7 @@ ghost use Rattle.mdc_sound.specs.RunningFull.{InsertRunsFull, putting_changes};
 ghost use Rattle.mdc_sound.specs.SoundDatabase.{IsSoundBetweenChanges, with_table_page};
 ghost use Rattle.mdc_sound.specs.StandingTable.{BreaksTable, IsReadyTable, IsTableSpace, KeepsBlocksBut, TableForests, pages_of, spots_of};
 ghost use Rattle.mdc_sound.specs.StandsForDatabase.{PagesStandFor};
-ghost use Rattle.cell_rooms.specs.RoomNotes.{room_from};
+ghost use Rattle.cell_rooms.specs.RoomNotes.{room_of};
 ghost use Rattle.cell_change.specs.RowChanges.{InsertsRow};
 
 use extent_map::{Extents, SpaceFault};
@@ -43,19 +43,19 @@ pub fn insert_row<P: Pages>(
     requires number { row.now.number ≡ def.old.next }
     requires more { def.old.next + 1 < 2 ^ 64 }
     requires going { (P.state pages.old).ended ≡ false }
-    ensures inserts { IfOk result (λ rid. (owners : List Kind) (forests : TableForests) → IsReadyTable P.Pages ext.old (room_from rooms.old) pages.old def.old owners forests
-        → InsertsRow P.Pages ext.old ext.new (room_from rooms.new) pages.old pages.new def.old row.now rid owners forests) }
-    ensures makes { IfOk result (λ rid. (owners : List Kind) (forests : TableForests) → IsReadyTable P.Pages ext.old (room_from rooms.old) pages.old def.old owners forests
+    ensures inserts { IfOk result (λ rid. (owners : List Kind) (forests : TableForests) → IsReadyTable P.Pages ext.old (room_of rooms.old) pages.old def.old owners forests
+        → InsertsRow P.Pages ext.old ext.new (room_of rooms.new) pages.old pages.new def.old row.now rid owners forests) }
+    ensures makes { IfOk result (λ rid. (owners : List Kind) (forests : TableForests) → IsReadyTable P.Pages ext.old (room_of rooms.old) pages.old def.old owners forests
         → MakesChanges ext.old (pages_of P.Pages pages.old) (putting_changes def.old row.now rid (slice_index_or (spots_of P.Pages ext.old pages.old def.old owners forests) rid.block OtherBlock)) (pages_of P.Pages pages.new)) }
-    ensures stay { IfOk result (λ rid. (owners : List Kind) (forests : TableForests) → IsReadyTable P.Pages ext.old (room_from rooms.old) pages.old def.old owners forests → KeepsBlocksBut P.Pages ext.old pages.old pages.new def.old owners (λ block. block ≡ rid.block)) }
-    ensures sound { OnOk result ((owners : List Kind) (forests : TableForests) → IsReadyTable P.Pages ext.old (room_from rooms.old) pages.old def.old owners forests
+    ensures stay { IfOk result (λ rid. (owners : List Kind) (forests : TableForests) → IsReadyTable P.Pages ext.old (room_of rooms.old) pages.old def.old owners forests → KeepsBlocksBut P.Pages ext.old pages.old pages.new def.old owners (λ block. block ≡ rid.block)) }
+    ensures sound { OnOk result ((owners : List Kind) (forests : TableForests) → IsReadyTable P.Pages ext.old (room_of rooms.old) pages.old def.old owners forests
         → IsSoundBetweenChanges ext.old def.old (pages_of P.Pages pages.old) → IsSoundBetweenChanges ext.new def.new (pages_of P.Pages pages.new)) }
-    ensures stands_for { OnOk result ((owners : List Kind) (forests : TableForests) → IsReadyTable P.Pages ext.old (room_from rooms.old) pages.old def.old owners forests
+    ensures stands_for { OnOk result ((owners : List Kind) (forests : TableForests) → IsReadyTable P.Pages ext.old (room_of rooms.old) pages.old def.old owners forests
         → IsSoundBetweenChanges ext.old def.old (pages_of P.Pages pages.old) → (db : Database) → PagesStandFor ext.old (with_table_page def.old (pages_of P.Pages pages.old)) db
         → PagesStandFor ext.new (with_table_page def.new (pages_of P.Pages pages.new)) (changed_at db def.old.number (appended (row.now.values ∷ [])))) }
     ensures next { OnOk result (def.new ≡ record def.old { next = def.old.next + 1 }) }
     ensures kept { OnErr result (def.new ≡ def.old) }
-    ensures full { IfErr result (λ fault. IfFull fault (λ cap. (cap ≡ ext.old.cap) × ((owners : List Kind) (forests : TableForests) → IsReadyTable P.Pages ext.old (room_from rooms.old) pages.old def.old owners forests
+    ensures full { IfErr result (λ fault. IfFull fault (λ cap. (cap ≡ ext.old.cap) × ((owners : List Kind) (forests : TableForests) → IsReadyTable P.Pages ext.old (room_of rooms.old) pages.old def.old owners forests
         → InsertRunsFull ext.old (pages_of P.Pages pages.old) def.old (row.now ∷ [])))) }
     ensures shape { IsSameShape ext.old ext.new }
     ensures runs { RunsOverPages P.Pages (IsTableSpace P.Pages ext.old pages.old def.old) (IsTableSpace P.Pages ext.old pages.old def.old)

@@ -15,7 +15,7 @@ use Rattle.row_page.specs.RowPage.{slot_count}
 use Rattle.row_page.proofs.RowPageLemmas.{slot_count-ge}
 use Rattle.table_page.specs.TableLimits.{IsTableDef}
 use Rattle.mdc_sound.specs.Placing.{block_slot_count, rows_from_spot}
-use Rattle.mdc_sound.specs.StandingTable.{OverwritesRow, PlacesRow, StandsTable, TableForests, TakesRowOut, pages_of, spots_of}
+use Rattle.mdc_sound.specs.StandingTable.{OverwritesRow, PlacesRow, RoomNote, StandsTable, TableForests, TakesRowOut, pages_of, spots_of}
 use Rattle.mdc_sound.specs.TableRows.{PlacedRow, rows_in_table}
 use Rattle.mdc_sound.proofs.PlacingLemmas.{placed_at, rows_claimed, rows_overwritten, rows_put, rows_returned, rows_taken}
 use Rattle.mdc_sound.proofs.TableSpotRowsLemmas.{rows_of_spots}
@@ -35,9 +35,9 @@ module _ {S : Type 0} (g : Ghosts S) where
       → IsPermutation (rows_in_table ext (pages_of g s) def forests.map) (rows_from_spot 0 (spots_of g ext s def owners forests))
   rows_of_standing ext s def owners forests st = rows_of_spots ext (pages_of g s) def owners forests.map st.map
 
-  module _ (before ext : Extents) (room_from : Entry → ℕ) (old new : S) (def : TableDef) (owners : List Kind) (forests : TableForests) (st : StandsTable g before old def owners forests) where
+  module _ (before ext : Extents) (room_of : Entry → RoomNote) (old new : S) (def : TableDef) (owners : List Kind) (forests : TableForests) (st : StandsTable g before old def owners forests) where
     -- the rows now are the placed one and those before
-    pub rows_after_placing : (t : ℕ) (row : Row) (rid : Rid) → IsTableDef t def → (places : PlacesRow g before ext room_from old new def owners forests row rid)
+    pub rows_after_placing : (t : ℕ) (row : Row) (rid : Rid) → IsTableDef t def → (places : PlacesRow g before ext room_of old new def owners forests row rid)
         → IsPermutation (placed_at rid row ∷ rows_in_table before (pages_of g old) def forests.map) (rows_in_table ext (pages_of g new) def places.forests_now.map)
     rows_after_placing t row rid is places =
         let were = rows_in_table before (pages_of g old) def forests.map in
@@ -51,7 +51,7 @@ module _ {S : Type 0} (g : Ghosts S) where
         IsPermutation-trans (placed_at rid row ∷ were) (placed_at rid row ∷ rows_from_spot 0 old_spots) now first (IsPermutation-trans (placed_at rid row ∷ rows_from_spot 0 old_spots) (rows_from_spot 0 new_spots) now put last)
 
     -- the rows before were the one taken out and those now
-    pub rows_after_taking : (row : Row) (rid : Rid) → (takes : TakesRowOut g before ext room_from old new def owners forests row rid)
+    pub rows_after_taking : (row : Row) (rid : Rid) → (takes : TakesRowOut g before ext room_of old new def owners forests row rid)
         → IsPermutation (placed_at rid row ∷ rows_in_table ext (pages_of g new) def takes.forests_now.map) (rows_in_table before (pages_of g old) def forests.map)
     rows_after_taking row rid takes =
         let were = rows_in_table before (pages_of g old) def forests.map in
@@ -65,7 +65,7 @@ module _ {S : Type 0} (g : Ghosts S) where
         IsPermutation-trans (placed_at rid row ∷ now) (placed_at rid row ∷ rows_from_spot 0 new_spots) were first (IsPermutation-trans (placed_at rid row ∷ rows_from_spot 0 new_spots) (rows_from_spot 0 old_spots) were taken last)
 
     -- some rows stay, beside the one that became another
-    pub rows_after_overwriting : (row other : Row) (rid : Rid) → (over : OverwritesRow g before ext room_from old new def owners forests row other rid)
+    pub rows_after_overwriting : (row other : Row) (rid : Rid) → (over : OverwritesRow g before ext room_of old new def owners forests row other rid)
         → (stay : List PlacedRow) × IsPermutation (placed_at rid row ∷ stay) (rows_in_table before (pages_of g old) def forests.map)
         × IsPermutation (placed_at rid other ∷ stay) (rows_in_table ext (pages_of g new) def forests.map)
     rows_after_overwriting row other rid over =

@@ -191,26 +191,7 @@ slots_of_spot spot = []
 abbrev pub row_at_spot : List Spot → Rid → Option Row
 row_at_spot spots rid = slice_index_or (slots_of_spot (slice_index_or spots rid.block OtherBlock)) rid.slot None
 
--- ---- the rows of statements
-
--- rows are put one after the other, and after each trees may have taken free extents
-pub data PutsRows (def : TableDef) (n : ℕ) : List Spot → List Row → List Spot → Type 0 where
-  none : {spots : List Spot} → PutsRows def n spots [] spots
-  one : {old mid next new : List Spot} {row : Row} {rows : List Row} (rid : Rid)
-      → PutsRow def n old row mid rid → SpotsAfterClaims mid next → PutsRows def n next rows new → PutsRows def n old (row ∷ rows) new
-
--- rows are taken out one after the other, and after each trees may have given extents back
-pub data TakesRows : List Spot → List PlacedRow → List Spot → Type 0 where
-  none : {spots : List Spot} → TakesRows spots [] spots
-  one : {old mid next new : List Spot} {placed : PlacedRow} {rows : List PlacedRow}
-      → TakesRow old placed.rid placed.row mid → SpotsAfterReturns mid next → TakesRows next rows new → TakesRows old (placed ∷ rows) new
-
--- rows become others one after the other, and after each trees may have taken free extents
-pub data ChangesRows (def : TableDef) (n : ℕ) : List Spot → List (PlacedRow × Row) → List Spot → Type 0 where
-  none : {spots : List Spot} → ChangesRows def n spots [] spots
-  one : {old mid next new : List Spot} {placed : PlacedRow} {other : Row} {rows : List (PlacedRow × Row)} (to : Rid)
-      → ChangesRow def n old placed.rid placed.row other mid to → SpotsAfterClaims mid next → ChangesRows def n next rows new
-      → ChangesRows def n old ((placed, other) ∷ rows) new
+-- ---- blocks that are rolled out
 
 -- blocks are rolled out: Pending where the mode is DEFERRED and the table has record indexes, and else Free
 abbrev pub rolled_spot : RolloutMode → TableDef → Spot

@@ -1,7 +1,7 @@
 -- A table that stands among the extents of a store which tells its pages, whatever else is in them; what calls on its rows make
 -- of it, and which pages they touch. These are the rules on its trees, its block map, its blocks and its block indexes, with the
 -- definition in hand in the place of its table page.
-use Rattle.std.specs.Prelude.{◌≡◌, ◌≢◌, ◌⊎◌, ◌<◌, ℕ, IsTrue, List, ◌∷◌, ◌++◌, map, sum_by, Contains, Option, Some, None, slice_index_or, slice_set}
+use Rattle.std.specs.Prelude.{◌≡◌, ◌≢◌, ◌⊎◌, ◌<◌, ℕ, Bool, IsTrue, List, ◌∷◌, ◌++◌, map, sum_by, Contains, Option, Some, None, slice_index_or, slice_set}
 use Rattle.std.specs.List.{AllByRecursion}
 use Rattle.mdc_words.specs.ByteOrder.{Entry}
 use Rattle.mdc_values.specs.declared.rid.Rid.{Rid}
@@ -179,45 +179,57 @@ pub record MeetsNoFree {S : Type 0} (g : Ghosts S) (ext : Extents) (s : S) : Typ
 
 -- ---- rows put and taken out
 
--- The notes of which block of a cell may be the first with room: a number for each key of a cell. They are right where each Used
--- block of the cell below its number has no empty slot.
-pub record AreRightRooms (def : TableDef) (room_from : Entry → ℕ) (spots : List Spot) : Type 0 where
+-- what is noted of a cell: the block from which on one may have room, and whether that is known to be one of its blocks
+pub record RoomNote : Type 0 where
+  pub from : ℕ
+  pub is_of_cell : Bool
+
+-- a Used block with a row whose cell has this key
+abbrev pub HoldsKey : TableDef → Entry → Spot → Type 0
+HoldsKey def key (UsedBlock slots) = (row : Row) × Contains slots (Some row) × (key_bytes def.columns (cell_parts def) row.values ≡ key)
+HoldsKey def key spot = ⊥
+
+-- The notes of which block of a cell may be the first with room: one for each key of a cell. They are right where each Used
+-- block of the cell below the noted one has no empty slot, and where the noted one is a Used block of the cell if it is known
+-- to be.
+pub record AreRightRooms (def : TableDef) (room_of : Entry → RoomNote) (spots : List Spot) : Type 0 where
   pub full : (block : ℕ) (row : Row) (slots : List (Option Row)) → slice_index_or spots block OtherBlock ≡ UsedBlock slots
-      → Contains slots (Some row) → block < room_from (key_bytes def.columns (cell_parts def) row.values) → Contains slots None → ⊥
+      → Contains slots (Some row) → block < (room_of (key_bytes def.columns (cell_parts def) row.values)).from → Contains slots None → ⊥
+  pub of_cell : (key : Entry) → IsTrue (room_of key).is_of_cell → HoldsKey def key (slice_index_or spots (room_of key).from OtherBlock)
 
 -- the table is told to stand, and the notes in memory are right
-pub record IsReadyTable {S : Type 0} (g : Ghosts S) (ext : Extents) (room_from : Entry → ℕ) (s : S) (def : TableDef) (owners : List Kind) (forests : TableForests) : Type 0 where
+pub record IsReadyTable {S : Type 0} (g : Ghosts S) (ext : Extents) (room_of : Entry → RoomNote) (s : S) (def : TableDef) (owners : List Kind) (forests : TableForests) : Type 0 where
   pub stands : StandsTable g ext s def owners forests
   pub notes : AreRightNotes ext owners
-  pub rooms : AreRightRooms def room_from (spots_of g ext s def owners forests)
+  pub rooms : AreRightRooms def room_of (spots_of g ext s def owners forests)
 
 -- A row was put where placing says, after which trees may have taken free extents. The table stands, and the notes are right.
-pub record PlacesRow {S : Type 0} (g : Ghosts S) (before ext : Extents) (room_from : Entry → ℕ) (old new : S) (def : TableDef)
+pub record PlacesRow {S : Type 0} (g : Ghosts S) (before ext : Extents) (room_of : Entry → RoomNote) (old new : S) (def : TableDef)
     (owners : List Kind) (forests : TableForests) (row : Row) (rid : Rid) : Type 0 where
   pub owners_now : List Kind
   pub forests_now : TableForests
   pub changes : ChangesTable g before ext old new def owners forests owners_now forests_now
-  pub rooms : AreRightRooms def room_from (spots_of g ext new def owners_now forests_now)
+  pub rooms : AreRightRooms def room_of (spots_of g ext new def owners_now forests_now)
   pub mid : List Spot
   pub puts : PutsRow def (block_slot_count before def) (spots_of g before old def owners forests) row mid rid
   pub claims : SpotsAfterClaims mid (spots_of g ext new def owners_now forests_now)
 
 -- The row in a place was taken out, after which trees may have given extents back. The table stands, and the notes are right.
-pub record TakesRowOut {S : Type 0} (g : Ghosts S) (before ext : Extents) (room_from : Entry → ℕ) (old new : S) (def : TableDef)
+pub record TakesRowOut {S : Type 0} (g : Ghosts S) (before ext : Extents) (room_of : Entry → RoomNote) (old new : S) (def : TableDef)
     (owners : List Kind) (forests : TableForests) (row : Row) (rid : Rid) : Type 0 where
   pub owners_now : List Kind
   pub forests_now : TableForests
   pub changes : ChangesTable g before ext old new def owners forests owners_now forests_now
-  pub rooms : AreRightRooms def room_from (spots_of g ext new def owners_now forests_now)
+  pub rooms : AreRightRooms def room_of (spots_of g ext new def owners_now forests_now)
   pub mid : List Spot
   pub takes : TakesRow (spots_of g before old def owners forests) rid row mid
   pub returns : SpotsAfterReturns mid (spots_of g ext new def owners_now forests_now)
 
 -- The row in a place became another of the same cell, in its place.
-pub record OverwritesRow {S : Type 0} (g : Ghosts S) (before ext : Extents) (room_from : Entry → ℕ) (old new : S) (def : TableDef)
+pub record OverwritesRow {S : Type 0} (g : Ghosts S) (before ext : Extents) (room_of : Entry → RoomNote) (old new : S) (def : TableDef)
     (owners : List Kind) (forests : TableForests) (row other : Row) (rid : Rid) : Type 0 where
   pub changes : ChangesTable g before ext old new def owners forests owners forests
-  pub rooms : AreRightRooms def room_from (spots_of g ext new def owners forests)
+  pub rooms : AreRightRooms def room_of (spots_of g ext new def owners forests)
   pub slots : List (Option Row)
   pub lay : IsRowAt (spots_of g before old def owners forests) rid row slots
   pub spots : spots_of g ext new def owners forests ≡ slice_set (spots_of g before old def owners forests) rid.block (UsedBlock (slice_set slots rid.slot (Some other)))

@@ -1,6 +1,6 @@
 -- The pages of a table's other blocks stay where a call on one block, or on none, may have touched pages.
-use Rattle.std.proofs.Common.{◌≡◌, ◌≢◌, ◌<◌, ◌+◌, ℕ, List, length, refl, ap, arith, sym, ◌∙◌, ◌⊎◌, inl, inr}
-use Rattle.std.specs.Prelude.{IfOk, Option, None, Some, Result, Ok, Err, sum_by}
+use Rattle.std.proofs.Common.{◌≡◌, ◌≢◌, ◌<◌, ◌+◌, ℕ, List, length, refl, ap, arith, sym, ◌∙◌, subst, ◌⊎◌, inl, inr}
+use Rattle.std.specs.Prelude.{IfOk, IfSome, Option, None, Some, Result, Ok, Err, sum_by}
 use Rattle.store_api.specs.Extents.{first_page_of}
 use Rattle.store_api.specs.Frame.{HoldsPage, Touches}
 use Rattle.store_api.specs.RunsOverPages.{RunsOverPages}
@@ -30,6 +30,10 @@ use Rattle.mdc_sound.proofs.StandingTableLemmas.{stands_same}
 pub if_ok_all : {X E : Type 0} {P : X → Type 0} (result : Result X E) → ((x : X) → P x) → IfOk result P
 if_ok_all (Ok x) each = each x
 if_ok_all (Err e) each = tt
+
+-- what is so of a value, if there is one
+pub if_some_at : {X : Type 0} (P : X → Type 0) (o : Option X) (x : X) → o ≡ Some x → IfSome o P → P x
+if_some_at {X} P o x is so = subst (λ (o : Option X). IfSome o P) is so
 
 -- a page of an own block is one of the table's blocks
 own_block_page : (ext : Extents) (owners : List Kind) (t block p : ℕ) → IsPageOfOwnBlock ext owners t block p → IsBlockPageOf ext owners t p

@@ -3,6 +3,7 @@ use Rattle.std.proofs.Common.{◌≡◌, ◌≤◌, ℕ, List, refl, arith, inl,
 use Rattle.std.specs.Prelude.{Contains, IfErr, IfOk, Option, None, Result, Ok, Err}
 use Rattle.store_api.specs.Frame.{NoPage}
 use Rattle.store_api.specs.RunsOverPages.{RunsOverPages}
+use Rattle.store_api.specs.declared.fault.Damage.{Damage}
 use Rattle.store_api.specs.declared.fault.StoreFault.{StoreFault}
 use Rattle.store_api.specs.declared.pages.Pages.{Ghosts}
 use Rattle.store_api.proofs.RunsOverPagesLemmas.{runs_then, runs_wider}
@@ -19,7 +20,7 @@ use Rattle.block_map.specs.BlockMaps.{FindsFree, IsLowestFreeBlock}
 use Rattle.block_map.specs.MapLines.{free_blocks}
 use Rattle.mdc_sound.specs.Placing.{AfterClaims, begun_with, block_slot_count, HasRoomFor, HoldsNowhere}
 use Rattle.mdc_sound.specs.RunningFull.{RowRunsFull}
-use Rattle.mdc_sound.specs.StandingTable.{BreaksExpected, BreaksTable, IsBlockOrMapPage, IsReadyTable, IsTableOrMapPage, IsTableSpace, IsTableTreePage, MeetsNoFree, NamesTablePart, StandsTable, TableForests, pages_of, spots_of}
+use Rattle.mdc_sound.specs.StandingTable.{BreaksExpected, BreaksTable, IsBlockOrMapPage, IsReadyTable, IsTableOrMapPage, IsTableSpace, IsTableTreePage, MeetsNoFree, NamesTablePart, RoomNote, StandsTable, TableForests, pages_of, spots_of}
 use Rattle.mdc_sound.proofs.StandingTableLemmas.{stands_same}
 use Rattle.table_blocks.specs.BlockSteps.{BeginsBlock}
 use Rattle.mdc_table.specs.NextBlock.{BeginsNext, FindsNoPlace, IsNextBlock}
@@ -81,14 +82,14 @@ module _ {S : Type 0} (g : Ghosts S) (before ext : Extents) (old mid new : S) (d
   full_result_along (Err fault) full = full_along fault full
 
 -- and the same of a table whose notes are right
-pub full_ready : {S : Type 0} (g : Ghosts S) (before ext : Extents) (old new : S) (def : TableDef) (from : Entry → ℕ) (fault : SpaceFault)
+pub full_ready : {S : Type 0} (g : Ghosts S) (before ext : Extents) (old new : S) (def : TableDef) (from : Entry → RoomNote) (fault : SpaceFault)
     → IfFull fault (λ cap. (cap ≡ before.cap) × ((owners : List Kind) (forests : TableForests) → StandsTable g before old def owners forests → AreRightNotes before owners → MeetsNoFree g ext new))
     → IfFull fault (λ cap. (cap ≡ before.cap) × ((owners : List Kind) (forests : TableForests) → IsReadyTable g before from old def owners forests → MeetsNoFree g ext new))
 full_ready g before ext old new def from (Full cap) full = (full.0, λ owners forests ready. full.1 owners forests ready.stands ready.notes)
 full_ready g before ext old new def from (Store fault) full = tt
 
 -- and of one whose cells have no room
-pub full_no_place : {S : Type 0} (g : Ghosts S) (before ext : Extents) (old new : S) (def : TableDef) (row : Row) (from : Entry → ℕ) (fault : SpaceFault)
+pub full_no_place : {S : Type 0} (g : Ghosts S) (before ext : Extents) (old new : S) (def : TableDef) (row : Row) (from : Entry → RoomNote) (fault : SpaceFault)
     → ((owners : List Kind) (forests : TableForests) → IsReadyTable g before from old def owners forests → HoldsNowhere (HasRoomFor def row) (spots_of g before old def owners forests))
     → IfFull fault (λ cap. (cap ≡ before.cap) × ((owners : List Kind) (forests : TableForests) → IsReadyTable g before from old def owners forests → MeetsNoFree g ext new))
     → IfFull fault (λ cap. (owners : List Kind) (forests : TableForests) → IsReadyTable g before from old def owners forests → RowRunsFull before (pages_of g old) def (spots_of g before old def owners forests) row)
@@ -105,16 +106,23 @@ module _ {S : Type 0} {g : Ghosts S} (ext : Extents) (def : TableDef) where
       → RunsOverPages g (IsTableSpace g ext old def) (IsTableSpace g ext old def) (BreaksTable g ext old def) old new fault
   runs_in_space run = runs_wider run (λ p there none. absurd none) (λ p is owners forests st. inl (is owners forests st)) (λ damage b. b)
 
-  -- and one behind it that may claim
+  -- two calls that may claim, where the first left the work as it was
+  pub runs_space_behind : {old mid new : S} {fault : Option StoreFault} → (g.state mid).work ≡ (g.state old).work
+      → RunsOverPages g (IsTableSpace g ext old def) (IsTableSpace g ext old def) (BreaksTable g ext old def) old mid None
+      → RunsOverPages g (IsTableSpace g ext mid def) (IsTableSpace g ext mid def) (BreaksTable g ext mid def) mid new fault
+      → RunsOverPages g (IsTableSpace g ext old def) (IsTableSpace g ext old def) (BreaksTable g ext old def) old new fault
+  runs_space_behind {old} {mid} {new} same first second =
+      let told = first.works.steady.is_told in
+      runs_then first second (λ p there is owners forests st. is owners forests (stands_same ext old mid def owners forests told same st))
+      (λ p is owners forests st. is owners forests (stands_same ext old mid def owners forests told same st))
+      (λ damage b. record { names = b.names; broken = λ owners forests st. b.broken owners forests (stands_same ext old mid def owners forests told same st) })
+
+  -- a call that reads trees, and one behind it that may claim
   pub runs_space_then : {old mid new : S} {fault : Option StoreFault} → (g.state mid).work ≡ (g.state old).work
       → RunsOverPages g NoPage (IsTableTreePage g ext old def) (BreaksTable g ext old def) old mid None
       → RunsOverPages g (IsTableSpace g ext mid def) (IsTableSpace g ext mid def) (BreaksTable g ext mid def) mid new fault
       → RunsOverPages g (IsTableSpace g ext old def) (IsTableSpace g ext old def) (BreaksTable g ext old def) old new fault
-  runs_space_then {old} {mid} {new} same first second =
-      let told = first.works.steady.is_told in
-      runs_then (runs_in_space {fault = None} first) second (λ p there is owners forests st. is owners forests (stands_same ext old mid def owners forests told same st))
-      (λ p is owners forests st. is owners forests (stands_same ext old mid def owners forests told same st))
-      (λ damage b. record { names = b.names; broken = λ owners forests st. b.broken owners forests (stands_same ext old mid def owners forests told same st) })
+  runs_space_then same first second = runs_space_behind same (runs_in_space {fault = None} first) second
 
   -- the same, where it expects more of the table than that it stands
   pub runs_space_expecting : {old mid new : S} {fault : Option StoreFault} (Expected : List Kind → TableForests → Type 0) → (g.state mid).work ≡ (g.state old).work
@@ -128,11 +136,11 @@ module _ {S : Type 0} {g : Ghosts S} (ext : Extents) (def : TableDef) where
       (λ p is owners forests st. is owners forests (stands_same ext old mid def owners forests told same st))
       (λ damage b. record { names = b.names; broken = λ owners forests st. b.broken owners forests (stands_same ext old mid def owners forests told same st) (expected owners forests st) })
 
-  -- the pages of a call that claims nothing
-  pub runs_of_place : {old new : S} {fault : Option StoreFault} (block : ℕ) (Expected : List Kind → TableForests → Type 0)
-      → RunsOverPages g (IsBlockOrMapPage g ext old def block) (IsBlockOrMapPage g ext old def block) (BreaksExpected g ext old def Expected) old new fault
-      → RunsOverPages g (IsTableSpace g ext old def) (IsTableSpace g ext old def) (BreaksExpected g ext old def Expected) old new fault
-  runs_of_place {old} {new} {fault} block Expected run = runs_wider (runs_of_block ext def {fault = fault} block run) (λ p there is. in_space p is) in_space (λ damage b. b)
+  -- a call on one block that claims nothing
+  pub runs_of_place : {old new : S} {fault : Option StoreFault} {Breaks : Damage → Type 0} (block : ℕ)
+      → RunsOverPages g (IsBlockOrMapPage g ext old def block) (IsBlockOrMapPage g ext old def block) Breaks old new fault
+      → RunsOverPages g (IsTableSpace g ext old def) (IsTableSpace g ext old def) Breaks old new fault
+  runs_of_place {old} {new} {fault} block run = runs_wider (runs_of_block ext def {fault = fault} block run) (λ p there is. in_space p is) in_space (λ damage b. b)
     where
       in_space : (p : ℕ) → IsTableOrMapPage g ext old def p → IsTableSpace g ext old def p
       in_space p is owners forests st = elim (is owners forests st) [

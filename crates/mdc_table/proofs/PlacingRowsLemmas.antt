@@ -1,8 +1,7 @@
 -- A row that was put into a block of its cell, or into one that came into use, as a call on a table says it.
 use Rattle.std.proofs.Common.{◌≡◌, ◌≢◌, ◌<◌, ◌≤◌, ℕ, List, [], ◌∷◌, length, replicate, refl, ap, arith, sym, ◌∙◌, subst, inl, inr}
-use Rattle.std.specs.Prelude.{Contains, Option, Some, None, slice_index_or, slice_set}
+use Rattle.std.specs.Prelude.{Bool, true, false, Contains, IsTrue, Option, Some, None, slice_index_or, slice_set}
 use Rattle.std.specs.List.{AllZip}
-use Rattle.std.proofs.Math.Nat.{mul-pos}
 use Rattle.std.proofs.lemmas.Bool.{cases_lt}
 use Rattle.std.proofs.lemmas.List.{get_or_default, length-replicate}
 use Rattle.mdc_words.specs.ByteOrder.{Entry}
@@ -13,10 +12,8 @@ use Rattle.store_api.specs.declared.pages.Pages.{Ghosts}
 use Rattle.extent_map.specs.Owners.{HasNoFree}
 use Rattle.extent_map.specs.declared.extents.Extents.{Extents}
 use Rattle.extent_map.specs.declared.kind.Kind.{Kind}
-use Rattle.extent_map.proofs.ExtentsLemmas.{extent_limits}
 use Rattle.extent_map.proofs.GrowthLemmas.{growth_along}
 use Rattle.table_page.specs.TableLimits.{IsTableDef}
-use Rattle.row_page.proofs.RowPageLemmas.{slot_count-ge}
 use Rattle.block_map.specs.BlockMaps.{HasRow}
 use Rattle.block_map.specs.MapLines.{free_blocks}
 use Rattle.block_map.specs.declared.row.BlockRow.{BlockRow}
@@ -29,15 +26,18 @@ use Rattle.mdc_sound.specs.FittingRows.{RowFits}
 use Rattle.mdc_sound.specs.Placing.{AfterClaims, HasRoomFor, HoldsNowhere, IsFreeBlock, IsFreeExtent, IsLowestAt, PutsRow, Spot, begun_with, block_slot_count, table_spots}
 use Rattle.mdc_sound.specs.Placing.Spot.{FreeBlock, FreeExtent, IndexExtent, OtherBlock, PendingBlock, UsedBlock}
 use Rattle.mdc_sound.specs.RunningFull.{HasNoSpot}
-use Rattle.mdc_sound.specs.StandingTable.{AreRightRooms, ChangesTable, IsReadyTable, pages_of, PlacesRow, spots_of, StandsTable, TableForests}
+use Rattle.mdc_sound.specs.StandingTable.{AreRightRooms, ChangesTable, HoldsKey, IsReadyTable, PlacesRow, RoomNote, StandsTable, TableForests, pages_of, spots_of}
 use Rattle.mdc_sound.proofs.ChangedRowsLemmas.{some_slots}
+use Rattle.mdc_sound.proofs.DefinitionTreesLemmas.{has_block_indexes}
 use Rattle.mdc_sound.proofs.TableSpotsLemmas.{free_block_of_spot, free_block_spot, free_of_spot, free_spot, length-spots}
 use Rattle.table_blocks.specs.BlockChanges.{SameSpot, TurnsSpot}
-use Rattle.table_blocks.specs.BlockSteps.{FillsSlot, HasRoomAt}
+use Rattle.table_blocks.specs.BlockSteps.{FillsSlot, HasRoomAt, IsBlockOfCell}
 use Rattle.table_blocks.proofs.SpotChangesLemmas.{claims_change}
 use Rattle.cell_rooms.specs.FoundRoom.{FindsRoom, IsFirstRoom, cell_key_of}
+use Rattle.cell_rooms.specs.RoomNotes.{SaysNoMore, found_at}
+use Rattle.cell_rooms.proofs.CellKeysLemmas.{one_cell}
 use Rattle.mdc_table.specs.NextBlock.{BeginsNext, IsNextBlock}
-use Rattle.mdc_table.proofs.KeptRoomsLemmas.{in_set, none_below, rooms_noted, used_below}
+use Rattle.mdc_table.proofs.KeptRoomsLemmas.{holds_used, in_set, none_below, rooms_noted, row_fits, stays_in_set, used_below}
 use Rattle.mdc_table.proofs.StandingBlocksLemmas.{free_within}
 
 -- ---- spots
@@ -82,6 +82,19 @@ lowest_at P spots block spot low is holds none = record {
 length-empty : (n : ℕ) (slot : Option Row) → length (replicate n slot) ≡ n
 length-empty n slot = length-replicate n slot
 
+-- a block that holds a row of a cell holds it once a row more is put into an empty slot
+holds_filled : (def : TableDef) (key : Entry) (slots : List (Option Row)) (slot : ℕ) (row : Row) → slice_index_or slots slot None ≡ None → HoldsKey def key (UsedBlock slots)
+    → HoldsKey def key (UsedBlock (slice_set slots slot (Some row)))
+holds_filled def key slots slot row empty (other, there, is) = (other, stays_in_set slots slot (Some row) (Some other) None empty (λ e. absurd (cc (e))) there, is)
+
+-- a note that is known to be of the cell, by its block
+known_is : (note : RoomNote) → IsTrue note.is_of_cell → note ≡ found_at note.from
+known_is note known = go note.from note.is_of_cell known
+  where
+    go : (block : ℕ) (test : Bool) → IsTrue test → record { from = block; is_of_cell = test } ≡ found_at block
+    go block true so = refl
+    go block false so = let wrong : false ≡ true = so in absurd (cc)
+
 -- ---- one call more, behind calls that left the work as it was
 
 module _ {S : Type 0} {g : Ghosts S} (before ext : Extents) (old mid new : S) (def : TableDef) (owners : List Kind) (forests : TableForests) (told : (g.state mid).is_told ≡ (g.state old).is_told)
@@ -92,7 +105,7 @@ module _ {S : Type 0} {g : Ghosts S} (before ext : Extents) (old mid new : S) (d
     whole = λ is. grows.whole (record { extents = is.extents; within = is.within; count = ap length same ∙ is.count });
   }
 
-  changes_along : (owners_now : List Kind) (forests_now : TableForests) → ChangesTable g before ext mid new def owners forests owners_now forests_now → ChangesTable g before ext old new def owners forests owners_now forests_now
+  pub changes_along : (owners_now : List Kind) (forests_now : TableForests) → ChangesTable g before ext mid new def owners forests owners_now forests_now → ChangesTable g before ext old new def owners forests owners_now forests_now
   changes_along owners_now forests_now changes = record {
     stands = changes.stands;
     shape = changes.shape;
@@ -131,47 +144,101 @@ room_at ext old mid def owners forests row from found same first = record {
   room = subst (λ (pages : PageList). HasRoomFor def row (slice_index_or (table_spots ext pages def owners forests.map) found.block OtherBlock)) (sym same) first.room;
 }
 
-module _ {S : Type 0} {g : Ghosts S} (ext : Extents) (old mid new : S) (def : TableDef) (owners : List Kind) (forests : TableForests) (row : Row) (from now : Entry → ℕ)
+module _ {S : Type 0} {g : Ghosts S} (ext : Extents) (old mid new : S) (def : TableDef) (owners : List Kind) (forests : TableForests) (row : Row) (from now : Entry → RoomNote)
     (defined : IsTableDef def.number def) (fits : RowFits def row) (told : (g.state mid).is_told ≡ (g.state old).is_told) (same : (g.state mid).work ≡ (g.state old).work)
     (ready : IsReadyTable g ext from old def owners forests) where
-  -- the row went into the block that was found
-  pub placed_in_cell : (found : BlockRow) (rid : Rid) (key : Entry) → key ≡ cell_key_of def row.values → IsFirstRoom def (spots_of g ext old def owners forests) forests.map row (from key) found
-      → rid.block ≡ found.block → FillsSlot g ext mid new def rid row owners forests → now key ≤ found.block → ((other : Entry) → other ≢ key → now other ≤ from other)
+  -- the row went into a Used block of its cell that has room, and below which none has
+  placed_in_block : (block : ℕ) (rid : Rid) → rid.block ≡ block → HasRoomFor def row (slice_index_or (spots_of g ext old def owners forests) block OtherBlock)
+      → ((b : ℕ) → b < block → HasRoomFor def row (slice_index_or (spots_of g ext old def owners forests) b OtherBlock) → ⊥) → FillsSlot g ext mid new def rid row owners forests
+      → SaysNoMore (now (cell_key_of def row.values)) (found_at block) → ((other : Entry) → other ≢ cell_key_of def row.values → SaysNoMore (now other) (from other))
       → PlacesRow g ext ext now old new def owners forests row rid
-  placed_in_cell found rid key is first at fills noted others =
+  placed_in_block block rid at room lowest fills says others =
       let spots = spots_of g ext old def owners forests in
       let was : slice_index_or spots rid.block OtherBlock ≡ UsedBlock fills.slots =
       subst (λ (pages : PageList). slice_index_or (table_spots ext pages def owners forests.map) rid.block OtherBlock ≡ UsedBlock fills.slots) same fills.was in
       let slots = slice_set fills.slots rid.slot (Some row) in
       let turns = turns_along ext ext old mid new def owners forests told same SameSpot rid.block (UsedBlock slots) owners fills.forests_now fills.turns in
       let claims = claims_none (slice_set spots rid.block (UsedBlock slots)) (spots_of g ext new def owners fills.forests_now) turns.spots in
-      let none : (b : ℕ) → b < rid.block → HasRoomFor def row (slice_index_or spots b OtherBlock) → ⊥ =
-      λ b low. none_before def (from key) spots row found.block (λ n less. none_below def from spots row n ready.rooms (subst (λ (k : Entry). n < from k) is less)) first.lowest b (omega (arith, low, at)) in
-      let here : HasRoomFor def row (slice_index_or spots rid.block OtherBlock) = subst (λ (n : ℕ). HasRoomFor def row (slice_index_or spots n OtherBlock)) (sym at) first.room in
+      let none : (b : ℕ) → b < rid.block → HasRoomFor def row (slice_index_or spots b OtherBlock) → ⊥ = λ b low. lowest b (omega (arith, low, at)) in
+      let here : HasRoomFor def row (slice_index_or spots rid.block OtherBlock) = subst (λ (n : ℕ). HasRoomFor def row (slice_index_or spots n OtherBlock)) (sym at) room in
+      let within = used_below spots rid.block fills.slots was in
       record {
         owners_now = owners;
         forests_now = fills.forests_now;
         changes = turns.changes;
         rooms =
             rooms_noted ext ext old new def owners owners forests fills.forests_now ready.stands turns.changes.stands from ready.rooms now row rid.block slots defined fits claims
-            (in_set fills.slots rid.slot (Some row) fills.lowest.within) none (omega (arith, noted, at, ap now is)) (λ other differ. others other (λ e. differ (e ∙ is)));
+            (in_set fills.slots rid.slot (Some row) fills.lowest.within) none (λ key holds. holds_filled def key fills.slots rid.slot row (fills.lowest.is_it None) (subst (HoldsKey def key) was holds)) within
+            (subst (λ (n : ℕ). SaysNoMore (now (cell_key_of def row.values)) (found_at n)) (sym at) says) others;
         mid = slice_set spots rid.block (UsedBlock slots);
-        puts = PutsRow.in_cell rid.block rid.slot fills.slots
-            (lowest_at (HasRoomFor def row) spots rid.block (UsedBlock fills.slots) (used_below spots rid.block fills.slots was) was (subst (HasRoomFor def row) was here) none) fills.lowest refl;
+        puts = PutsRow.in_cell rid.block rid.slot fills.slots (lowest_at (HasRoomFor def row) spots rid.block (UsedBlock fills.slots) within was (subst (HasRoomFor def row) was here) none) fills.lowest refl;
         claims = claims;
       }
 
+  -- it is the block that was found
+  pub placed_in_cell : (found : BlockRow) (rid : Rid) (key : Entry) → key ≡ cell_key_of def row.values → IsFirstRoom def (spots_of g ext old def owners forests) forests.map row (from key).from found
+      → rid.block ≡ found.block → FillsSlot g ext mid new def rid row owners forests → SaysNoMore (now key) (found_at found.block) → ((other : Entry) → other ≢ key → SaysNoMore (now other) (from other))
+      → PlacesRow g ext ext now old new def owners forests row rid
+  placed_in_cell found rid key is first at fills says others =
+      let spots = spots_of g ext old def owners forests in
+      let none : (b : ℕ) → b < found.block → HasRoomFor def row (slice_index_or spots b OtherBlock) → ⊥ =
+      none_before def (from key).from spots row found.block (λ n less. none_below def from spots row n ready.rooms (subst (λ (k : Entry). n < (from k).from) is less)) first.lowest in
+      placed_in_block found.block rid at first.room none fills (subst (λ (k : Entry). SaysNoMore (now k) (found_at found.block)) is says) (λ other differ. others other (λ e. differ (e ∙ is)))
+
+-- the noted block, where it is known to be of the row's cell
+module _ {S : Type 0} {g : Ghosts S} (ext : Extents) (old : S) (def : TableDef) (owners : List Kind) (forests : TableForests) (row : Row) (from : Entry → RoomNote)
+    (defined : IsTableDef def.number def) (fits : RowFits def row) (ready : IsReadyTable g ext from old def owners forests) (key : Entry) (is : key ≡ cell_key_of def row.values)
+    (note : RoomNote) (noted : note ≡ from key) (known : IsTrue note.is_of_cell) where
+  -- it is one of that cell
+  pub noted_of_cell : IsBlockOfCell g ext old def note.from row owners forests
+  noted_of_cell =
+      let spots = spots_of g ext old def owners forests in
+      let holds : HoldsKey def key (slice_index_or spots note.from OtherBlock) =
+      subst (λ (n : RoomNote). HoldsKey def key (slice_index_or spots n.from OtherBlock)) (sym noted) (ready.rooms.of_cell key (subst (λ (n : RoomNote). IsTrue n.is_of_cell) noted known)) in
+      let used = holds_used def key (slice_index_or spots note.from OtherBlock) holds in
+      let other = used.2.0 in
+      let fit = row_fits ext old def owners forests ready.stands note.from used.0 other used.1 used.2.1 in
+      record {
+        slots = used.0;
+        spot = used.1;
+        other = other;
+        there = used.2.1;
+        one_cell = one_cell def other.values row.values (has_block_indexes def.number def defined).composite.key fit.values fits.values (used.2.2 ∙ is);
+      }
+
+  -- and the row went into it
+  pub placed_where_noted : (new : S) (rid : Rid) → rid.block ≡ note.from → HasRoomFor def row (slice_index_or (spots_of g ext old def owners forests) note.from OtherBlock) → FillsSlot g ext old new def rid row owners forests
+      → PlacesRow g ext ext from old new def owners forests row rid
+  placed_where_noted new rid at room fills =
+      let here : note ≡ found_at note.from = known_is note known in
+      placed_in_block ext old old new def owners forests row from from defined fits refl refl ready note.from rid at room
+      (λ b low. none_below def from (spots_of g ext old def owners forests) row b ready.rooms (subst (λ (k : Entry). b < (from k).from) is (omega (arith, low, ap (λ (n : RoomNote). n.from) noted))))
+      fills (inl (subst (λ (k : Entry). from k ≡ found_at note.from) is (sym noted ∙ here))) (λ other differ. inl refl)
+
 -- nothing found from the note on, and nothing below it
-module _ {spots : List Spot} (map_tree : Forest) {def : TableDef} (row : Row) (from : Entry → ℕ) (key : Entry) (is : key ≡ cell_key_of def row.values) (rooms : AreRightRooms def from spots)
-    (found : FindsRoom def spots map_tree row (from key) None) where
+module _ {spots : List Spot} (map_tree : Forest) {def : TableDef} (row : Row) (from : Entry → RoomNote) (key : Entry) (is : key ≡ cell_key_of def row.values) (rooms : AreRightRooms def from spots)
+    (found : FindsRoom def spots map_tree row (from key).from None) where
   pub no_room_at : (b : ℕ) → HasRoomFor def row (slice_index_or spots b OtherBlock) → ⊥
-  no_room_at b room = elim (cases_lt b (from key)) [
-    | inl less ↦ none_below def from spots row b rooms (subst (λ (k : Entry). b < from k) is less) room
+  no_room_at b room = elim (cases_lt b (from key).from) [
+    | inl less ↦ none_below def from spots row b rooms (subst (λ (k : Entry). b < (from k).from) is less) room
     | inr high ↦ found b high room
   ]
 
   pub no_room_found : HoldsNowhere (HasRoomFor def row) spots
   no_room_found = nowhere (HasRoomFor def row) spots no_room_at
+
+-- the block that comes into use next
+module _ {S : Type 0} {g : Ghosts S} (ext : Extents) (s : S) (def : TableDef) (owners : List Kind) (forests : TableForests) (st : StandsTable g ext s def owners forests) where
+  -- it is one of the extents
+  next_within : (block : ℕ) → IsNextBlock owners forests.map block → block < length (spots_of g ext s def owners forests)
+  next_within block (IsNextBlock.free_block lowest) = omega (arith, free_within ext s def owners forests st block lowest.free, length-spots ext (pages_of g s) def owners forests.map)
+  next_within block (IsNextBlock.free_extent none lowest) = omega (arith, lowest.within, st.trees.map.count, length-spots ext (pages_of g s) def owners forests.map)
+
+  -- and has no row
+  next_unheld : (block : ℕ) → IsNextBlock owners forests.map block → (key : Entry) → HoldsKey def key (slice_index_or (spots_of g ext s def owners forests) block OtherBlock) → ⊥
+  next_unheld block (IsNextBlock.free_block lowest) key holds = subst (HoldsKey def key) (free_block_spot ext (pages_of g s) def owners forests.map block OtherBlock st.map lowest.free) holds
+  next_unheld block (IsNextBlock.free_extent none lowest) key holds =
+      subst (HoldsKey def key) (free_spot ext (pages_of g s) def owners forests.map block OtherBlock (omega (arith, lowest.within, st.trees.map.count)) lowest.free) holds
 
 -- where no block has room for a row
 module _ {S : Type 0} {g : Ghosts S} (ext : Extents) (s : S) (def : TableDef) (owners : List Kind) (forests : TableForests) (st : StandsTable g ext s def owners forests) (row : Row)
@@ -213,14 +280,14 @@ module _ {S : Type 0} {g : Ghosts S} (ext : Extents) (s : S) (def : TableDef) (o
         none_free k (omega (arith, free.0, st.trees.map.count)) free.1),
   )
 
-module _ {S : Type 0} {g : Ghosts S} (before ext : Extents) (old mid new : S) (def : TableDef) (owners : List Kind) (forests : TableForests) (row : Row) (from now : Entry → ℕ)
+module _ {S : Type 0} {g : Ghosts S} (before ext : Extents) (old mid new : S) (def : TableDef) (owners : List Kind) (forests : TableForests) (row : Row) (from now : Entry → RoomNote)
     (defined : IsTableDef def.number def) (fits : RowFits def row) (told : (g.state mid).is_told ≡ (g.state old).is_told) (same : (g.state mid).work ≡ (g.state old).work)
     (ready : IsReadyTable g before from old def owners forests) where
   -- the row went into a block that came into use
-  pub placed_in_next : (block : ℕ) (key : Entry) → key ≡ cell_key_of def row.values → FindsRoom def (spots_of g before old def owners forests) forests.map row (from key) None
-      → BeginsNext g before ext mid new def block row owners forests → now key ≤ block → ((other : Entry) → other ≢ key → now other ≤ from other)
+  pub placed_in_next : (block : ℕ) (key : Entry) → key ≡ cell_key_of def row.values → FindsRoom def (spots_of g before old def owners forests) forests.map row (from key).from None
+      → BeginsNext g before ext mid new def block row owners forests → SaysNoMore (now key) (found_at block) → ((other : Entry) → other ≢ key → SaysNoMore (now other) (from other))
       → PlacesRow g before ext now old new def owners forests row (record { block = block; slot = 0 })
-  placed_in_next block key is found next noted others =
+  placed_in_next block key is found next says others =
       let begins = next.begins in
       let spots = spots_of g before old def owners forests in
       let no_room : (b : ℕ) → HasRoomFor def row (slice_index_or spots b OtherBlock) → ⊥ = no_room_at forests.map row from key is ready.rooms found in
@@ -233,7 +300,8 @@ module _ {S : Type 0} {g : Ghosts S} (before ext : Extents) (old mid new : S) (d
             rooms_noted before ext old new def owners begins.owners_now forests begins.forests_now ready.stands turns.changes.stands from ready.rooms now row block
             (slice_set (replicate (block_slot_count before def) None) 0 (Some row)) defined fits turns.spots
             (in_set (replicate (block_slot_count before def) None) 0 (Some row) (omega (arith, some_slots before def.number def defined, length-empty (block_slot_count before def) None)))
-            (λ b low. no_room b) (omega (arith, noted, ap now is)) (λ other differ. others other (λ e. differ (e ∙ is)));
+            (λ b low. no_room b) (λ other holds. absurd (next_unheld before old def owners forests ready.stands block (next.next ready.notes) other holds))
+            (next_within before old def owners forests ready.stands block (next.next ready.notes)) (subst (λ (k : Entry). SaysNoMore (now k) (found_at block)) is says) (λ other differ. others other (λ e. differ (e ∙ is)));
         mid = slice_set spots block (begun_with (block_slot_count before def) row);
         puts = puts_next before old def owners forests ready.stands row (nowhere (HasRoomFor def row) (spots_of g before old def owners forests) no_room) block (next.next ready.notes);
         claims = turns.spots;

@@ -20,7 +20,7 @@ use Rattle.table_trees.specs.ToldPages.{PageList}
 use Rattle.mdc_sound.specs.Placing.{HasRoomFor, HoldsNowhere, IsRowAt, Spot, table_spots}
 use Rattle.mdc_sound.specs.Placing.Spot.{FreeBlock, FreeExtent, OtherBlock, UsedBlock}
 use Rattle.mdc_sound.specs.RunningFull.{RowRunsFull, block_changes, left_changes}
-use Rattle.mdc_sound.specs.StandingTable.{IsReadyTable, StandsTable, TableForests, pages_of, spots_of}
+use Rattle.mdc_sound.specs.StandingTable.{IsReadyTable, RoomNote, StandsTable, TableForests, pages_of, spots_of}
 use Rattle.mdc_sound.proofs.StandingTableLemmas.{stands_same}
 use Rattle.mdc_sound.proofs.TableSpotsLemmas.{free_block_spot, free_spot}
 use Rattle.table_blocks.specs.BlockSteps.{NewBlockRunsFull}
@@ -104,7 +104,7 @@ module _ {S : Type 0} (g : Ghosts S) (before : Extents) (old mid new : S) (def :
   new_block_full (Ok x) none full = tt
 
   -- so a row runs full where no block has room for it
-  pub row_full : (from : Entry → ℕ) (fault : SpaceFault)
+  pub row_full : (from : Entry → RoomNote) (fault : SpaceFault)
       → ((owners : List Kind) (forests : TableForests) → IsReadyTable g before from old def owners forests → HoldsNowhere (HasRoomFor def row) (spots_of g before old def owners forests))
       → IfFull fault (λ cap. (owners : List Kind) (forests : TableForests) → StandsTable g before mid def owners forests → AreRightNotes before owners
       → NextBlockRunsFull before (pages_of g mid) def row owners forests.map)

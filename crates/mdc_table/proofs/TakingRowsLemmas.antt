@@ -1,5 +1,5 @@
 -- A row that was taken out or written over, as calls on a table say it.
-use Rattle.std.proofs.Common.{◌≡◌, ◌<◌, ◌≤◌, ℕ, false, List, [], ◌∷◌, length, refl, ap, arith, sym, ◌⊎◌, inl, inr}
+use Rattle.std.proofs.Common.{◌≡◌, ◌≢◌, ◌<◌, ◌≤◌, ℕ, false, List, [], ◌∷◌, length, refl, arith, sym, ◌∙◌, subst, ◌⊎◌, inl, inr}
 use Rattle.std.specs.Prelude.{IsTrue, OnOk, Option, Some, None, Result, Ok, Err, slice_set}
 use Rattle.std.specs.List.{AllZip}
 use Rattle.std.proofs.lemmas.Bool.Decides.{nat_tests}
@@ -21,10 +21,11 @@ use Rattle.block_rows.specs.HeldRows.{HasReadValues}
 use Rattle.table_trees.specs.RowCells.{AreOfOneCell}
 use Rattle.mdc_sound.specs.Placing.{IsRowAt, Spot, block_slot_count, left_with}
 use Rattle.mdc_sound.specs.Placing.Spot.{UsedBlock}
-use Rattle.mdc_sound.specs.StandingTable.{AreRightRooms, BreaksExpected, HasRowAt, IsReadyTable, NamesTablePart, OverwritesRow, StandsTable, TableForests, TakesRowOut, spots_of}
+use Rattle.mdc_sound.specs.StandingTable.{AreRightRooms, BreaksExpected, HasRowAt, IsReadyTable, NamesTablePart, OverwritesRow, RoomNote, StandsTable, TableForests, TakesRowOut, spots_of}
 use Rattle.table_blocks.specs.BlockChanges.{SameSpot, TurnsSpot}
 use Rattle.table_blocks.specs.BlockSteps.{EmptiesSlot}
 use Rattle.cell_rooms.specs.FoundRoom.{cell_key_of}
+use Rattle.cell_rooms.specs.RoomNotes.{SaysNoMore, lowered_to, no_note}
 use Rattle.mdc_table.specs.TableReading.{HasRowOfCell}
 use Rattle.mdc_table.proofs.KeptRoomsLemmas.{rooms_forgotten, rooms_lowered, rooms_overwritten}
 use Rattle.mdc_table.proofs.StandingBlocksLemmas.{lies_within}
@@ -54,7 +55,7 @@ module _ {S : Type 0} {g : Ghosts S} where
         elim past [ inl high ↦ omega (arith, high, within.0) | inr high ↦ omega (arith, high, within.1) ];
   }
 
-  module _ (before ext : Extents) (old new : S) (def : TableDef) (rid : Rid) (row : Row) (owners : List Kind) (forests : TableForests) (from now : Entry → ℕ) (ready : IsReadyTable g before from old def owners forests)
+  module _ (before ext : Extents) (old new : S) (def : TableDef) (rid : Rid) (row : Row) (owners : List Kind) (forests : TableForests) (from now : Entry → RoomNote) (ready : IsReadyTable g before from old def owners forests)
       (empties : EmptiesSlot g before ext old new def rid row owners forests) where
     row_out : AreRightRooms def now (spots_of g ext new def empties.owners_now empties.forests_now) → TakesRowOut g before ext now old new def owners forests row rid
     row_out rooms = record {
@@ -68,17 +69,18 @@ module _ {S : Type 0} {g : Ghosts S} where
     }
 
     -- a row was taken out, and the note of its cell lowered
-    pub row_taken : (key : Entry) → key ≡ cell_key_of def row.values → now key ≤ rid.block → ((other : Entry) → now other ≤ from other) → TakesRowOut g before ext now old new def owners forests row rid
-    row_taken key is lowered kept =
+    pub row_taken : (key : Entry) → key ≡ cell_key_of def row.values → SaysNoMore (now key) (lowered_to rid.block (from key))
+        → ((other : Entry) → other ≢ key → SaysNoMore (now other) (from other)) → TakesRowOut g before ext now old new def owners forests row rid
+    row_taken key is says others =
         row_out (rooms_lowered before ext old new def owners empties.owners_now forests empties.forests_now ready.stands empties.turns.changes.stands from ready.rooms now rid row empties.slots empties.lies
-        empties.turns.spots (omega (arith, lowered, ap now is)) kept)
+        empties.turns.spots (subst (λ (k : Entry). SaysNoMore (now k) (lowered_to rid.block (from k))) is says) (λ other differ. others other (λ e. differ (e ∙ is))))
 
     -- or the notes were lost
-    pub row_taken_forgetting : ((key : Entry) → now key ≡ 0) → TakesRowOut g before ext now old new def owners forests row rid
+    pub row_taken_forgetting : ((key : Entry) → now key ≡ no_note) → TakesRowOut g before ext now old new def owners forests row rid
     row_taken_forgetting none = row_out (rooms_forgotten def now (spots_of g ext new def empties.owners_now empties.forests_now) none)
 
 -- a row was written over
-pub row_overwritten : {S : Type 0} (g : Ghosts S) (ext : Extents) (old new : S) (def : TableDef) (rid : Rid) (row : Row) (from : Entry → ℕ) (result : Result (Unit {0}) StoreFault)
+pub row_overwritten : {S : Type 0} (g : Ghosts S) (ext : Extents) (old new : S) (def : TableDef) (rid : Rid) (row : Row) (from : Entry → RoomNote) (result : Result (Unit {0}) StoreFault)
     → OnOk result ((owners : List Kind) (forests : TableForests) (was : Row) (slots : List (Option Row)) → StandsTable g ext old def owners forests
     → IsRowAt (spots_of g ext old def owners forests) rid was slots → AreOfOneCell def was.values row.values
     → TurnsSpot g SameSpot ext ext old new def rid.block (UsedBlock (slice_set slots rid.slot (Some row))) owners forests owners forests)

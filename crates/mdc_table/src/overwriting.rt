@@ -8,7 +8,7 @@ ghost use Rattle.table_page.specs.TableLimits.{IsTableDef};
 ghost use Rattle.table_trees.specs.SpaceChanges.{IsSameSpace};
 ghost use Rattle.mdc_sound.specs.FittingRows.{RowFits};
 ghost use Rattle.mdc_sound.specs.StandingTable.{BreaksExpected, HasRowAt, IsReadyTable, IsTableOrMapPage, KeepsBlocksBut, OverwritesRow, TableForests, pages_of};
-ghost use Rattle.cell_rooms.specs.RoomNotes.{room_from};
+ghost use Rattle.cell_rooms.specs.RoomNotes.{room_of};
 ghost use Rattle.mdc_table.specs.TableReading.{HasRowOfCell};
 
 use crate::faults::unmapped;
@@ -34,12 +34,12 @@ pub fn overwrite_row<P: Pages>(
     requires defined { IsTableDef def.now.number def.now }
     requires fits { RowFits def.now row.now }
     requires going { (P.state pages.old).ended ≡ false }
-    ensures overwrites { OnOk result ((owners : List Kind) (forests : TableForests) (was : Row) → IsReadyTable P.Pages ext.now (room_from rooms.now) pages.old def.now owners forests
+    ensures overwrites { OnOk result ((owners : List Kind) (forests : TableForests) (was : Row) → IsReadyTable P.Pages ext.now (room_of rooms.now) pages.old def.now owners forests
         → HasRowOfCell P.Pages ext.now pages.old def.now rid was row.now owners forests
-        → OverwritesRow P.Pages ext.now ext.now (room_from rooms.now) pages.old pages.new def.now owners forests was row.now rid) }
-    ensures makes { OnOk result ((owners : List Kind) (forests : TableForests) → IsReadyTable P.Pages ext.now (room_from rooms.now) pages.old def.now owners forests
+        → OverwritesRow P.Pages ext.now ext.now (room_of rooms.now) pages.old pages.new def.now owners forests was row.now rid) }
+    ensures makes { OnOk result ((owners : List Kind) (forests : TableForests) → IsReadyTable P.Pages ext.now (room_of rooms.now) pages.old def.now owners forests
         → HasRowAt P.Pages ext.now pages.old def.now rid owners forests → IsSameSpace ext.now (pages_of P.Pages pages.old) (pages_of P.Pages pages.new)) }
-    ensures stay { (owners : List Kind) (forests : TableForests) → IsReadyTable P.Pages ext.now (room_from rooms.now) pages.old def.now owners forests → KeepsBlocksBut P.Pages ext.now pages.old pages.new def.now owners (λ block. block ≡ rid.block) }
+    ensures stay { (owners : List Kind) (forests : TableForests) → IsReadyTable P.Pages ext.now (room_of rooms.now) pages.old def.now owners forests → KeepsBlocksBut P.Pages ext.now pages.old pages.new def.now owners (λ block. block ≡ rid.block) }
     ensures count { length (P.state pages.new).work ≡ length (P.state pages.old).work }
     ensures runs { RunsOverPages P.Pages (IsTableOrMapPage P.Pages ext.now pages.old def.now) (IsTableOrMapPage P.Pages ext.now pages.old def.now)
         (BreaksExpected P.Pages ext.now pages.old def.now (HasRowAt P.Pages ext.now pages.old def.now rid)) pages.old pages.new (fault_of result) }

@@ -1,7 +1,6 @@
 // A row is put where placing says.
-ghost use Rattle.std.specs.Prelude.{◌≡◌, ◌≢◌, ◌≤◌, List, false, slice_index_or, IfErr, IfOk};
-ghost use Rattle.mdc_words.specs.ByteOrder.{Entry};
-ghost use Rattle.store_api.specs.Causes.{store_fault_in};
+ghost use Rattle.std.specs.Prelude.{◌≡◌, List, Option, None, false, slice_index_or, IfErr, IfOk, IfSome, IsTrue};
+ghost use Rattle.store_api.specs.Causes.{fault_of, store_fault_in};
 ghost use Rattle.store_api.specs.RunsOverPages.{RunsOverPages};
 ghost use Rattle.extent_map.specs.Damages.{IfFull, store_part_of};
 ghost use Rattle.extent_map.specs.Owners.{AreRightNotes, IsSameShape};
@@ -9,22 +8,25 @@ ghost use Rattle.extent_map.specs.declared.kind.Kind.{Kind};
 ghost use Rattle.table_page.specs.TableLimits.{IsTableDef};
 ghost use Rattle.table_trees.specs.SpaceChanges.{MakesChanges};
 ghost use Rattle.mdc_sound.specs.FittingRows.{RowFits};
+ghost use Rattle.mdc_sound.specs.Placing.{HasRoomFor};
 ghost use Rattle.mdc_sound.specs.Placing.Spot.{OtherBlock};
 ghost use Rattle.mdc_sound.specs.RunningFull.{block_changes};
-ghost use Rattle.mdc_sound.specs.StandingTable.{BreaksTable, IsReadyTable, IsTableSpace, KeepsBlocksBut, MeetsNoFree, PlacesRow, StandsTable, TableForests, pages_of, spots_of};
-ghost use Rattle.cell_rooms.specs.RoomNotes.{room_from};
+ghost use Rattle.mdc_sound.specs.StandingTable.{BreaksTable, IsBlockOrMapPage, IsReadyTable, IsTableSpace, KeepsBlocksBut, MeetsNoFree, PlacesRow, StandsTable, TableForests, pages_of, spots_of};
+ghost use Rattle.table_blocks.specs.BlockSteps.{FillsSlot, IsBlockOfCell};
+ghost use Rattle.cell_rooms.specs.FoundRoom.{cell_key_of};
+ghost use Rattle.cell_rooms.specs.RoomNotes.{room_of};
 ghost use Rattle.mdc_table.specs.NextBlock.{BeginsNext, FindsNoPlace, NextBlockRunsFull};
 
 use crate::faults::unmapped;
 use block_index::cell_key;
 use block_map::{BlockMap, BlockRow, BlockState};
-use cell_rooms::{Rooms, find_room};
+use cell_rooms::{Room, Rooms, find_room};
 use extent_map::{Extents, SpaceFault};
 use mdc_ast::{Row, TableDef};
 use mdc_values::Rid;
 use std::alloc::Global;
-use store_api::Pages;
-use table_blocks::{begin_free_block, begin_new_block, put_in_block};
+use store_api::{Pages, StoreFault};
+use table_blocks::{begin_free_block, begin_new_block, put_if_room, put_in_block};
 
 /// Puts a row that fits the definition where placing says, and answers where it lies. The table's other blocks stay, whatever
 /// their state, and it claims no more pages than the row asks for. `Full` says that no Used block of its cell has room, and that
@@ -40,26 +42,93 @@ pub fn place_row<P: Pages>(
     requires defined { IsTableDef def.now.number def.now }
     requires fits { RowFits def.now row.now }
     requires going { (P.state pages.old).ended ≡ false }
-    ensures places { IfOk result (λ rid. (owners : List Kind) (forests : TableForests) → IsReadyTable P.Pages ext.old (room_from rooms.old) pages.old def.now owners forests
-        → PlacesRow P.Pages ext.old ext.new (room_from rooms.new) pages.old pages.new def.now owners forests row.now rid) }
-    ensures full { IfErr result (λ fault. IfFull fault (λ cap. (cap ≡ ext.old.cap) × ((owners : List Kind) (forests : TableForests) → IsReadyTable P.Pages ext.old (room_from rooms.old) pages.old def.now owners forests
+    ensures places { IfOk result (λ rid. (owners : List Kind) (forests : TableForests) → IsReadyTable P.Pages ext.old (room_of rooms.old) pages.old def.now owners forests
+        → PlacesRow P.Pages ext.old ext.new (room_of rooms.new) pages.old pages.new def.now owners forests row.now rid) }
+    ensures full { IfErr result (λ fault. IfFull fault (λ cap. (cap ≡ ext.old.cap) × ((owners : List Kind) (forests : TableForests) → IsReadyTable P.Pages ext.old (room_of rooms.old) pages.old def.now owners forests
         → FindsNoPlace P.Pages ext.old ext.new pages.old pages.new def.now row.now owners forests))) }
-    ensures makes { IfOk result (λ rid. (owners : List Kind) (forests : TableForests) → IsReadyTable P.Pages ext.old (room_from rooms.old) pages.old def.now owners forests
+    ensures makes { IfOk result (λ rid. (owners : List Kind) (forests : TableForests) → IsReadyTable P.Pages ext.old (room_of rooms.old) pages.old def.now owners forests
         → MakesChanges ext.old (pages_of P.Pages pages.old) (block_changes def.now row.now rid.block (slice_index_or (spots_of P.Pages ext.old pages.old def.now owners forests) rid.block OtherBlock)) (pages_of P.Pages pages.new)) }
-    ensures stay { IfOk result (λ rid. (owners : List Kind) (forests : TableForests) → IsReadyTable P.Pages ext.old (room_from rooms.old) pages.old def.now owners forests
+    ensures stay { IfOk result (λ rid. (owners : List Kind) (forests : TableForests) → IsReadyTable P.Pages ext.old (room_of rooms.old) pages.old def.now owners forests
         → KeepsBlocksBut P.Pages ext.old pages.old pages.new def.now owners (λ block. block ≡ rid.block)) }
     ensures shape { IsSameShape ext.old ext.new }
     ensures runs { RunsOverPages P.Pages (IsTableSpace P.Pages ext.old pages.old def.now) (IsTableSpace P.Pages ext.old pages.old def.now)
         (BreaksTable P.Pages ext.old pages.old def.now) pages.old pages.new (store_fault_in store_part_of result) }
 {
     let key = cell_key(alloc, def, &row.values)?;
-    let from = rooms.first(&key);
-    let Some(line) = find_room(alloc, def, ext, pages, &key, from)? else {
+    let room = rooms.of(&key);
+    if let Some(rid) = put_where_noted(alloc, def, ext, pages, room, row)? {
+        return Ok(rid);
+    }
+    place_by_search(alloc, def, ext, rooms, pages, &key, row)
+}
+
+/// Puts a row into the block that is noted of its cell, where that is known to be one of it and has room. None where it isn't,
+/// or hasn't: then nothing is changed. No block index is searched.
+fn put_where_noted<P: Pages>(
+    alloc: Global,
+    def: &TableDef,
+    ext: &Extents,
+    pages: &mut P,
+    room: Room,
+    row: &Row,
+) -> Result<Option<Rid>, StoreFault>
+    requires defined { IsTableDef def.now.number def.now }
+    requires fits { RowFits def.now row.now }
+    requires going { (P.state pages.old).ended ≡ false }
+    ensures known { IfOk result (λ put. IfSome put (λ rid. IsTrue room.is_of_cell)) }
+    ensures block { IfOk result (λ put. IfSome put (λ rid. rid.block ≡ room.first)) }
+    ensures fills { IfOk result (λ put. IfSome put (λ rid. (owners : List Kind) (forests : TableForests) → StandsTable P.Pages ext.now pages.old def.now owners forests
+        → IsBlockOfCell P.Pages ext.now pages.old def.now room.first row.now owners forests
+        → HasRoomFor def.now row.now (slice_index_or (spots_of P.Pages ext.now pages.old def.now owners forests) room.first OtherBlock) × FillsSlot P.Pages ext.now pages.old pages.new def.now rid row.now owners forests)) }
+    ensures makes { IfOk result (λ put. IfSome put (λ rid. (owners : List Kind) (forests : TableForests) → StandsTable P.Pages ext.now pages.old def.now owners forests
+        → IsBlockOfCell P.Pages ext.now pages.old def.now room.first row.now owners forests
+        → MakesChanges ext.now (pages_of P.Pages pages.old) (block_changes def.now row.now room.first (slice_index_or (spots_of P.Pages ext.now pages.old def.now owners forests) room.first OtherBlock)) (pages_of P.Pages pages.new))) }
+    ensures kept { IfOk result (λ put. put ≡ None → (P.state pages.new).work ≡ (P.state pages.old).work) }
+    ensures runs { RunsOverPages P.Pages (IsBlockOrMapPage P.Pages ext.now pages.old def.now room.first) (IsBlockOrMapPage P.Pages ext.now pages.old def.now room.first)
+        (BreaksTable P.Pages ext.now pages.old def.now) pages.old pages.new (fault_of result) }
+{
+    if !room.is_of_cell {
+        return Ok(None);
+    }
+    if room.first >= ext.cap {
+        return Ok(None);
+    }
+    put_if_room(alloc, def, ext, pages, room.first, row)
+}
+
+/// The same as `place_row` for a row whose cell has this key, by a search for a block with room from the noted one on.
+fn place_by_search<P: Pages>(
+    alloc: Global,
+    def: &TableDef,
+    ext: &mut Extents,
+    rooms: &mut Rooms,
+    pages: &mut P,
+    key: &[u8],
+    row: &Row,
+) -> Result<Rid, SpaceFault>
+    requires defined { IsTableDef def.now.number def.now }
+    requires fits { RowFits def.now row.now }
+    requires going { (P.state pages.old).ended ≡ false }
+    requires key { key.now ≡ cell_key_of def.now row.now.values }
+    ensures places { IfOk result (λ rid. (owners : List Kind) (forests : TableForests) → IsReadyTable P.Pages ext.old (room_of rooms.old) pages.old def.now owners forests
+        → PlacesRow P.Pages ext.old ext.new (room_of rooms.new) pages.old pages.new def.now owners forests row.now rid) }
+    ensures full { IfErr result (λ fault. IfFull fault (λ cap. (cap ≡ ext.old.cap) × ((owners : List Kind) (forests : TableForests) → IsReadyTable P.Pages ext.old (room_of rooms.old) pages.old def.now owners forests
+        → FindsNoPlace P.Pages ext.old ext.new pages.old pages.new def.now row.now owners forests))) }
+    ensures makes { IfOk result (λ rid. (owners : List Kind) (forests : TableForests) → IsReadyTable P.Pages ext.old (room_of rooms.old) pages.old def.now owners forests
+        → MakesChanges ext.old (pages_of P.Pages pages.old) (block_changes def.now row.now rid.block (slice_index_or (spots_of P.Pages ext.old pages.old def.now owners forests) rid.block OtherBlock)) (pages_of P.Pages pages.new)) }
+    ensures stay { IfOk result (λ rid. (owners : List Kind) (forests : TableForests) → IsReadyTable P.Pages ext.old (room_of rooms.old) pages.old def.now owners forests
+        → KeepsBlocksBut P.Pages ext.old pages.old pages.new def.now owners (λ block. block ≡ rid.block)) }
+    ensures shape { IsSameShape ext.old ext.new }
+    ensures runs { RunsOverPages P.Pages (IsTableSpace P.Pages ext.old pages.old def.now) (IsTableSpace P.Pages ext.old pages.old def.now)
+        (BreaksTable P.Pages ext.old pages.old def.now) pages.old pages.new (store_fault_in store_part_of result) }
+{
+    let from = rooms.of(key).first;
+    let Some(line) = find_room(alloc, def, ext, pages, key, from)? else {
         let block = begin_block(alloc, def, ext, pages, row)?;
-        rooms.note(&key, block);
+        rooms.note(key, block);
         return Ok(Rid { block, slot: 0 });
     };
-    note_found(rooms, &key, from, line.block);
+    rooms.note(key, line.block);
     // the line of a Used block, as it is found wherever the table stands
     let line = BlockRow {
         block: line.block,
@@ -67,18 +136,6 @@ pub fn place_row<P: Pages>(
         rows: line.rows,
     };
     Ok(put_in_block(alloc, def, ext, pages, line, row)?)
-}
-
-/// Notes that no block of the cell below the one that was found has room. The notes stay where they led to that block itself,
-/// as they mostly do.
-fn note_found(rooms: &mut Rooms, key: &[u8], from: u32, block: u32)
-    requires from { from ≡ room_from rooms.old key.now }
-    ensures noted { room_from rooms.new key.now ≤ block }
-    ensures others { (other : Entry) → other ≢ key.now → room_from rooms.new other ≤ room_from rooms.old other }
-{
-    if from != block {
-        rooms.note(key, block);
-    }
 }
 
 /// Takes a block into use with a row: the lowest Free one, else the lowest free extent. Damaged where the block map names a

@@ -12,14 +12,11 @@ use Rattle.store_api.specs.declared.pages.Pages.{Ghosts}
 use Rattle.extent_map.specs.Owners.{AreRightNotes}
 use Rattle.extent_map.specs.declared.extents.Extents.{Extents}
 use Rattle.extent_map.specs.declared.kind.Kind.{Kind}
-use Rattle.key_codec.specs.Keys.{key_bytes}
-use Rattle.table_trees.specs.TableTrees.{cell_parts}
 use Rattle.table_trees.specs.ToldPages.{PageList, told_pages}
 use Rattle.mdc_sound.specs.BlockRules.{AreNumbersSound, AreOtherKeysSound, AreSoundIndexes, AreTableKeysSound, IsUniqueSound}
-use Rattle.mdc_sound.specs.Placing.{Spot}
 use Rattle.mdc_sound.specs.SoundDatabase.{IsSoundBetweenChanges, IsSoundWith, KeepAllRules, KeepFirstRules, with_table_page}
 use Rattle.mdc_sound.specs.SpaceRules.{DatabaseView, IsTablePlaceSound, tables_there}
-use Rattle.mdc_sound.specs.StandingTable.{AreRightRooms, IsReadyTable, StandsTable, TableForests, pages_of}
+use Rattle.mdc_sound.specs.StandingTable.{IsReadyTable, RoomNote, StandsTable, TableForests, pages_of}
 use Rattle.mdc_sound.specs.TablePages.{DefinesTable}
 use Rattle.mdc_sound.specs.TableRows.{rows_in_table}
 use Rattle.mdc_sound.specs.TableViews.{TableView}
@@ -27,6 +24,8 @@ use Rattle.mdc_sound.proofs.BlockRulesLemmas.{each_as}
 use Rattle.mdc_sound.proofs.SoundDatabaseLemmas.{length-with_table_page, put_table_page}
 use Rattle.mdc_sound.proofs.SpaceRulesLemmas.{each_there, range_at, same_table, there_at}
 use Rattle.mdc_sound.proofs.StandingTableLemmas.{forests_of, number_of_place, stands_listed, stands_of_rules, stands_still, stands_told}
+use Rattle.cell_rooms.specs.RoomNotes.{no_note}
+use Rattle.mdc_table.proofs.KeptRoomsLemmas.{rooms_forgotten}
 use Rattle.stored_catalog.proofs.OpenedTableLemmas.{defined_there}
 
 -- ---- the table page
@@ -101,18 +100,12 @@ rules_of_between ext def pages between none = record {
 
 -- ---- a table that is ready
 
--- notes that are forgotten are right
-pub forgotten_rooms : (def : TableDef) (room_from : Entry → ℕ) (spots : List Spot) → ((key : Entry) → room_from key ≡ 0) → AreRightRooms def room_from spots
-forgotten_rooms def room_from spots forgotten = record {
-  full = λ block row slots is there below none. omega (arith, below, forgotten (key_bytes def.columns (cell_parts def) row.values));
-}
-
 -- each table of sound pages is ready, where no rooms are noted
-pub ready_table : {S : Type 0} (g : Ghosts S) (ext : Extents) (s : S) (view : DatabaseView) (t : ℕ) (def : TableDef) (room_from : Entry → ℕ) → IsTrue (g.state s).is_told → KeepAllRules ext (pages_of g s) view
-    → AreRightNotes ext view.owners → t < 16 → DefinesTable (pages_of g s) t def → ((key : Entry) → room_from key ≡ 0)
-    → (forests : TableForests) × IsReadyTable g ext room_from s def view.owners forests
-ready_table g ext s view t def room_from told keeps notes low defines forgotten =
+pub ready_table : {S : Type 0} (g : Ghosts S) (ext : Extents) (s : S) (view : DatabaseView) (t : ℕ) (def : TableDef) (room_of : Entry → RoomNote) → IsTrue (g.state s).is_told → KeepAllRules ext (pages_of g s) view
+    → AreRightNotes ext view.owners → t < 16 → DefinesTable (pages_of g s) t def → ((key : Entry) → room_of key ≡ no_note)
+    → (forests : TableForests) × IsReadyTable g ext room_of s def view.owners forests
+ready_table g ext s view t def room_of told keeps notes low defines forgotten =
     let there = defined_there ext (pages_of g s) view t def keeps low defines in
     let st = subst (λ (d : TableDef). StandsTable g ext s d view.owners (forests_of there.table)) there.same
     (stands_told g s told ext there.table.def view.owners (forests_of there.table) (stands_of_rules ext (pages_of g s) view keeps.first t there.table there.there)) in
-    (forests_of there.table, record { stands = st; notes = notes; rooms = forgotten_rooms def room_from _ forgotten })
+    (forests_of there.table, record { stands = st; notes = notes; rooms = rooms_forgotten def room_of _ forgotten })

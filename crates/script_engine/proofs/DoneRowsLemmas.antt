@@ -41,7 +41,7 @@ use Rattle.mdc_sound.specs.RunningFull.{UpdateRunsFull}
 use Rattle.mdc_sound.specs.StandingTable.{StandsTable, TableForests, pages_of, spots_of}
 use Rattle.mdc_sound.specs.StandsForDatabase.{PagesStandFor}
 use Rattle.mdc_sound.specs.TableRows.{PlacedRow}
-use Rattle.cell_rooms.specs.RoomNotes.{room_from}
+use Rattle.cell_rooms.specs.RoomNotes.{room_of}
 use Rattle.binder.specs.Saying.{first_of}
 use Rattle.cell_change.proofs.ChangedSpaceLemmas.{shows_spots}
 use Rattle.row_judging.specs.Executing.{answer_of, done}
@@ -95,7 +95,7 @@ query_does g old new tables select def found text served at told same finds is r
 pub record StandsBetween {S : Type 0} (g : Ghosts S) (s : S) (tables : Tables) (def : TableDef) : Type 0 where
   pub owners : List Kind
   pub forests : TableForests
-  pub between : IsReadyBetween g tables.ext (room_from tables.rooms) s def owners forests
+  pub between : IsReadyBetween g tables.ext (room_of tables.rooms) s def owners forests
 
 -- The rows of the table that is noted were changed, after a scan of it: what is left to say is what the plain database becomes,
 -- and the answer.
@@ -110,7 +110,7 @@ module _ {S : Type 0} (g : Ghosts S) (old mid new : S) (before now : Tables) (de
   -- damage that is met in changing its rows
   pub runs_change : {Early : ℕ → Type 0} {Any : Damage → Type 0} {fault : Option StoreFault} (pred : Option Pred) (found : List Hit) (rows : List PlacedRow) → rows ≡ map placed_row found
       → ((owners : List Kind) (forests : TableForests) → StandsTable g before.ext old def owners forests → FindsRows g before.ext old def pred found forests)
-      → RunsOverPages g NoPage Early Any old mid None → RunsOverPages g AnyPage AnyPage (BreaksReady g before.ext (room_from before.rooms) mid def (HasTheseRows g before.ext mid def rows)) mid new fault
+      → RunsOverPages g NoPage Early Any old mid None → RunsOverPages g AnyPage AnyPage (BreaksReady g before.ext (room_of before.rooms) mid def (HasTheseRows g before.ext mid def rows)) mid new fault
       → RunsOverPages g AnyPage AnyPage (BreaksDatabase g old before) old new fault
   runs_change pred found rows are finds scan change =
       runs_as scan change (λ p there none. absurd none) (λ p there any. any) (λ p of. tt) (λ p any. any)
@@ -122,9 +122,9 @@ module _ {S : Type 0} (g : Ghosts S) (old mid new : S) (before now : Tables) (de
       (subst (λ r. HasTheseRows g before.ext mid def r mid_ready.owners mid_ready.forests) (sym are)
       (these_rows g before.ext mid def mid_ready.owners mid_ready.forests st pred found hits_here mid_ready.between.sound)))
 
-  module _ (ready : IsReady g old before) (owners : List Kind) (forests : TableForests) (mid_ready : IsReadyBetween g before.ext (room_from before.rooms) mid def owners forests)
+  module _ (ready : IsReady g old before) (owners : List Kind) (forests : TableForests) (mid_ready : IsReadyBetween g before.ext (room_of before.rooms) mid def owners forests)
       (statement : Bound) (change : PlainTable → PlainTable)
-      (changed : ChangesRowsOf g before.ext now.ext (room_from now.rooms) mid new def def owners forests (λ was is. PlacesRows def (block_slot_count before.ext def) was is statement) change)
+      (changed : ChangesRowsOf g before.ext now.ext (room_of now.rooms) mid new def def owners forests (λ was is. PlacesRows def (block_slot_count before.ext def) was is statement) change)
       (catalog : now.catalog ≡ before.catalog) (noted : now.noted ≡ before.noted) where
     pub rows_done : (outcome : Outcome) → changed_place statement ≡ Some before.noted
         → ((db : Database) → PagesStandFor before.ext (pages_of g mid) db → (changed_at db before.noted change ≡ (done db statement).0) × ((done db statement).1 ≡ answer_of outcome))
@@ -170,8 +170,8 @@ count_is found table pred rows at are = ap (λ t. length (hits pred t)) at ∙ a
 pub delete_does : {S : Type 0} (g : Ghosts S) (old mid new : S) (before now : Tables) (def : TableDef) (pred : Option Pred) (found items : List Hit) (count : ℕ) → AreServed before.catalog
     → def_at before.catalog before.noted ≡ Some def → (g.state mid).is_told ≡ (g.state old).is_told → (g.state mid).work ≡ (g.state old).work
     → ((owners : List Kind) (forests : TableForests) → StandsTable g before.ext old def owners forests → FindsRows g before.ext old def pred found forests) → items ≡ found → count ≡ length found
-    → ((owners : List Kind) (forests : TableForests) → IsReadyBetween g before.ext (room_from before.rooms) mid def owners forests → HasTheseRows g before.ext mid def (map placed_row items) owners forests
-    → ChangesRowsOf g before.ext now.ext (room_from now.rooms) mid new def def owners forests (λ was is. TakesRows was (map placed_row items) is) (without_rows (map (λ hit. hit.row) items)))
+    → ((owners : List Kind) (forests : TableForests) → IsReadyBetween g before.ext (room_of before.rooms) mid def owners forests → HasTheseRows g before.ext mid def (map placed_row items) owners forests
+    → ChangesRowsOf g before.ext now.ext (room_of now.rooms) mid new def def owners forests (λ was is. TakesRows was (map placed_row items) is) (without_rows (map (λ hit. hit.row) items)))
     → now.catalog ≡ before.catalog → now.noted ≡ before.noted → IsReady g old before → DoesStatement g old new before now (bound.Delete before.noted pred) (said.Done (reply.Deleted count))
 delete_does g old mid new before now def pred found items count served at told same finds are counts deletes catalog noted ready =
     let mid_ready = ready_mid g old mid new before now def served at told same ready in
@@ -180,8 +180,8 @@ delete_does g old mid new before now def pred found items count served at told s
     let st = mid_ready.between.ready.stands in
     let hits_here = found_still g old mid told same before.ext def pred found owners forests finds st in
     let lie = these_rows g before.ext mid def owners forests st pred found hits_here mid_ready.between.sound in
-    let changed : ChangesRowsOf g before.ext now.ext (room_from now.rooms) mid new def def owners forests (λ was is. TakesRows was (map placed_row found) is) (without_rows (map (λ (hit : Hit). hit.row) found)) =
-    subst (λ (l : List Hit). ChangesRowsOf g before.ext now.ext (room_from now.rooms) mid new def def owners forests (λ was is. TakesRows was (map placed_row l) is) (without_rows (map (λ (hit : Hit). hit.row) l))) are
+    let changed : ChangesRowsOf g before.ext now.ext (room_of now.rooms) mid new def def owners forests (λ was is. TakesRows was (map placed_row found) is) (without_rows (map (λ (hit : Hit). hit.row) found)) =
+    subst (λ (l : List Hit). ChangesRowsOf g before.ext now.ext (room_of now.rooms) mid new def def owners forests (λ was is. TakesRows was (map placed_row l) is) (without_rows (map (λ (hit : Hit). hit.row) l))) are
     (deletes owners forests mid_ready.between (subst (λ (l : List Hit). HasTheseRows g before.ext mid def (map placed_row l) owners forests) (sym are) lie)) in
     rows_done g old mid new before now def served at told same ready owners forests mid_ready.between (bound.Delete before.noted pred) (without_rows (map (λ (hit : Hit). hit.row) found))
     (record {
@@ -246,9 +246,9 @@ module _ {S : Type 0} (g : Ghosts S) (old mid new : S) (before now : Tables) (de
     (finds : (owners : List Kind) (forests : TableForests) → StandsTable g before.ext old def owners forests → FindsRows g before.ext old def pred found forests)
     (made : map turned_row items ≡ map (turned_hit sets) found) where
   pub update_does : (count : ℕ) → flat_map (λ hit. changed_causes def.columns sets None hit.row) found ≡ [] → count ≡ length items
-      → ((owners : List Kind) (forests : TableForests) → IsReadyBetween g before.ext (room_from before.rooms) mid def owners forests
+      → ((owners : List Kind) (forests : TableForests) → IsReadyBetween g before.ext (room_of before.rooms) mid def owners forests
       → HasTheseRows g before.ext mid def (map (λ t. (turned_row t).0) items) owners forests
-      → ChangesRowsOf g before.ext now.ext (room_from now.rooms) mid new def def owners forests
+      → ChangesRowsOf g before.ext now.ext (room_of now.rooms) mid new def def owners forests
       (λ was is. ChangesRows def (block_slot_count before.ext def) was (map turned_row items) is) (with_rows (map (λ t. t.row) items)))
       → now.catalog ≡ before.catalog → now.noted ≡ before.noted → IsReady g old before → DoesStatement g old new before now (bound.Update before.noted sets pred) (said.Done (reply.Updated count))
   update_does count nothing counts changes catalog noted ready =
@@ -302,7 +302,7 @@ module _ {S : Type 0} (g : Ghosts S) (old mid new : S) (before now : Tables) (de
 
   -- it runs full on the pages that there were
   update_full : IsReady g old before
-      → ((owners : List Kind) (forests : TableForests) → IsReadyBetween g before.ext (room_from before.rooms) mid def owners forests
+      → ((owners : List Kind) (forests : TableForests) → IsReadyBetween g before.ext (room_of before.rooms) mid def owners forests
       → HasTheseRows g before.ext mid def (map (λ t. (turned_row t).0) items) owners forests → UpdateRunsFull before.ext (pages_of g mid) def (map turned_row items))
       → StatementRunsFull before.ext (pages_of g old) before.catalog (bound.Update before.noted sets pred)
   update_full ready full =
@@ -322,7 +322,7 @@ module _ {S : Type 0} (g : Ghosts S) (old mid new : S) (before now : Tables) (de
   -- and the number that Full states is that of the extents
   pub update_stops : (fault : SpaceFault) → flat_map (λ hit. changed_causes def.columns sets None hit.row) found ≡ []
       → IfFull fault (λ cap. (cap ≡ before.ext.cap)
-      × ((owners : List Kind) (forests : TableForests) → IsReadyBetween g before.ext (room_from before.rooms) mid def owners forests
+      × ((owners : List Kind) (forests : TableForests) → IsReadyBetween g before.ext (room_of before.rooms) mid def owners forests
       → HasTheseRows g before.ext mid def (map (λ t. (turned_row t).0) items) owners forests → UpdateRunsFull before.ext (pages_of g mid) def (map turned_row items)))
       → IfFull fault (λ cap. (cap ≡ before.ext.cap) × (IsReady g old before → RunsFullAlone before.ext (pages_of g old) before.catalog (bound.Update before.noted sets pred)))
   update_stops (Full cap) nothing full = (full.0, λ ready. record { full = update_full ready full.1; faultless = unsaid nothing ready })

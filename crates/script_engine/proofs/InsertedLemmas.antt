@@ -27,7 +27,7 @@ use Rattle.mdc_sound.specs.SoundDatabase.{with_table_page}
 use Rattle.mdc_sound.specs.StandingTable.{TableForests, pages_of}
 use Rattle.mdc_sound.specs.StandsForDatabase.{PagesStandFor}
 use Rattle.mdc_sound.specs.TablePages.{DefinesTable}
-use Rattle.cell_rooms.specs.RoomNotes.{room_from}
+use Rattle.cell_rooms.specs.RoomNotes.{room_of}
 use Rattle.row_judging.specs.Executing.{done}
 use Rattle.row_judging.specs.Served.{IsDefined}
 use Rattle.stored_catalog.specs.StoredDefinitions.{LacksTablePage, with_stored}
@@ -52,7 +52,7 @@ lacks_never g old mid before def place damage at same longer lacks ready =
 
 -- an INSERT that says it is full runs full on ready pages, and nothing is said against its rows
 pub full_insert : {S : Type 0} (g : Ghosts S) (s : S) (before : Tables) (def : TableDef) (tuples : List (List Value)) (fault : SpaceFault) → AreServed before.catalog → def_at before.catalog before.noted ≡ Some def → tuple_causes def tuples ≡ []
-    → IfFull fault (λ cap. (cap ≡ before.ext.cap) × ((owners : List Kind) (forests : TableForests) → IsReadyBetween g before.ext (room_from before.rooms) s def owners forests
+    → IfFull fault (λ cap. (cap ≡ before.ext.cap) × ((owners : List Kind) (forests : TableForests) → IsReadyBetween g before.ext (room_of before.rooms) s def owners forests
     → InsertRunsFull before.ext (pages_of g s) def (numbered def.next tuples)))
     → IfFull fault (λ cap. (cap ≡ before.ext.cap) × (IsReady g s before → RunsFullAlone before.ext (pages_of g s) before.catalog (bound.Insert before.noted tuples)))
 full_insert g s before def tuples (Full cap) served at unsaid full = (
@@ -100,8 +100,8 @@ module _ {S : Type 0} (g : Ghosts S) (old mid new : S) (before now : Tables) (de
     pub served : AreServed before.catalog
     pub at : def_at before.catalog before.noted ≡ Some def
     pub unsaid : tuple_causes def tuples ≡ []
-    pub inserts : (owners : List Kind) (forests : TableForests) → IsReadyBetween g before.ext (room_from before.rooms) old def owners forests
-        → ChangesRowsOf g before.ext now.ext (room_from now.rooms) old mid def (numbered_on def (length tuples)) owners forests Puts (appended tuples)
+    pub inserts : (owners : List Kind) (forests : TableForests) → IsReadyBetween g before.ext (room_of before.rooms) old def owners forests
+        → ChangesRowsOf g before.ext now.ext (room_of now.rooms) old mid def (numbered_on def (length tuples)) owners forests Puts (appended tuples)
     pub catalog : now.catalog ≡ with_def before.catalog before.noted (numbered_on def (length tuples))
     pub noted : now.noted ≡ before.noted
     pub told_mid : (g.state mid).is_told ≡ (g.state old).is_told
@@ -120,10 +120,10 @@ module _ {S : Type 0} (g : Ghosts S) (old mid new : S) (before now : Tables) (de
     mid_tells : IsTrue (g.state mid).is_told
     mid_tells = subst IsTrue (sym is.told_mid) ready.told
 
-    between : (forests : TableForests) × IsReadyBetween g before.ext (room_from before.rooms) old def ready.view.owners forests
+    between : (forests : TableForests) × IsReadyBetween g before.ext (room_of before.rooms) old def ready.view.owners forests
     between = ready_between g old before def is.served ready is.at
 
-    changed : ChangesRowsOf g before.ext now.ext (room_from now.rooms) old mid def def_now ready.view.owners between.0 Puts (appended tuples)
+    changed : ChangesRowsOf g before.ext now.ext (room_of now.rooms) old mid def def_now ready.view.owners between.0 Puts (appended tuples)
     changed = is.inserts ready.view.owners between.0 between.1
 
     -- its page is that of the old definition, since table pages stay

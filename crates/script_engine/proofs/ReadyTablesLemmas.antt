@@ -24,7 +24,7 @@ use Rattle.mdc_sound.specs.TablePages.{DefinesTable, table_page_at}
 use Rattle.mdc_sound.proofs.SoundDatabaseLemmas.{page_at-with_table_page}
 use Rattle.mdc_sound.proofs.SpaceRulesLemmas.{range_at}
 use Rattle.mdc_sound.proofs.StandingTableLemmas.{forests_of, one_standing, stands_of_sound, stands_told}
-use Rattle.cell_rooms.specs.RoomNotes.{IsForgotten, room_from}
+use Rattle.cell_rooms.specs.RoomNotes.{IsForgotten, room_of}
 use Rattle.cell_rooms.specs.declared.rooms.Rooms.{Rooms}
 use Rattle.cell_change.proofs.ChangedSpaceLemmas.{shows_spots}
 use Rattle.stored_catalog.specs.StoredDefinitions.{AreStored, IsWithinLimits}
@@ -76,10 +76,10 @@ ready_with g s before table rooms served either ready = record {
   rooms = λ def at. elim either [
     | inl same ↦
         let was = ready.rooms def (ap (def_at before.catalog) same.0 ∙ at) in
-        (was.0, subst (λ (r : Rooms). IsReadyTable g before.ext (room_from r) s def ready.view.owners was.0) (sym same.1) was.1)
+        (was.0, subst (λ (r : Rooms). IsReadyTable g before.ext (room_of r) s def ready.view.owners was.0) (sym same.1) was.1)
     | inr forgotten ↦
         let is = served_def before.catalog table def served at in
-        ready_table g before.ext s ready.view table def (room_from rooms) ready.told ready.sound ready.notes is.below (stored_at (pages_of g s) before.catalog table def ready.stored at) forgotten
+        ready_table g before.ext s ready.view table def (room_of rooms) ready.told ready.sound ready.notes is.below (stored_at (pages_of g s) before.catalog table def ready.stored at) forgotten
   ];
 }
 
@@ -90,7 +90,7 @@ ready_turned g s before now table served is rooms ready = subst (IsReady g s) (s
 
 -- the table that is noted stands with right notes, in pages that are sound as they are between two changes of rows
 pub ready_between : {S : Type 0} (g : Ghosts S) (s : S) (tables : Tables) (def : TableDef) → AreServed tables.catalog → (ready : IsReady g s tables) → def_at tables.catalog tables.noted ≡ Some def
-    → (forests : TableForests) × IsReadyBetween g tables.ext (room_from tables.rooms) s def ready.view.owners forests
+    → (forests : TableForests) × IsReadyBetween g tables.ext (room_of tables.rooms) s def ready.view.owners forests
 ready_between g s tables def served ready at =
     let is = served_def tables.catalog tables.noted def served at in
     let stored = stored_at (pages_of g s) tables.catalog tables.noted def ready.stored at in
@@ -117,7 +117,7 @@ ready_of_sound g s tables view served told sound stored notes rooms = record {
   notes = notes;
   rooms = λ def at.
       let is = served_def tables.catalog tables.noted def served at in
-      ready_table g tables.ext s view tables.noted def (room_from tables.rooms) told sound notes is.below (stored_at (pages_of g s) tables.catalog tables.noted def stored at) rooms;
+      ready_table g tables.ext s view tables.noted def (room_of tables.rooms) told sound notes is.below (stored_at (pages_of g s) tables.catalog tables.noted def stored at) rooms;
 }
 
 -- what the pages are once the rows of the table that is noted were changed and its page is written
@@ -128,7 +128,7 @@ pub record EndsChange {S : Type 0} (g : Ghosts S) (old new : S) (before now : Ta
 -- an INSERT: the page of the table is written with its new definition
 pub change_ends : {S : Type 0} (g : Ghosts S) (old mid new : S) (before now : Tables) (def def_now : TableDef) (owners : List Kind) (forests : TableForests) (Places : List Spot → List Spot → Type 0) (change : PlainTable → PlainTable)
     → AreServed before.catalog → IsReady g old before → def_at before.catalog before.noted ≡ Some def → def_now ≡ record def { next = def_now.next } → def_now.next < 18446744073709551616
-    → ChangesRowsOf g before.ext now.ext (room_from now.rooms) old mid def def_now owners forests Places change
+    → ChangesRowsOf g before.ext now.ext (room_of now.rooms) old mid def def_now owners forests Places change
     → IsTrue (g.state new).is_told → pages_of g new ≡ with_table_page def_now (pages_of g mid)
     → now.catalog ≡ with_def before.catalog before.noted def_now → now.noted ≡ before.noted → EndsChange g old new before now change
 change_ends g old mid new before now def def_now owners forests Places change served ready at same small changed told written catalog noted = record {
@@ -141,7 +141,7 @@ change_ends g old mid new before now def def_now owners forests Places change se
     rooms = λ d there.
         let defined = subst (λ (t : ℕ). DefinesTable (pages_of g new) t d) noted (stored_at (pages_of g new) now.catalog now.noted d stored there) in
         let is : def_now ≡ d = one_definition before.noted def_now d (table_page_at (pages_of g new) before.noted) defines defined in
-        (changed.forests_now, subst (λ (x : TableDef). IsReadyTable g now.ext (room_from now.rooms) new x changed.now.sound.sound.view.owners changed.forests_now) is table_now);
+        (changed.forests_now, subst (λ (x : TableDef). IsReadyTable g now.ext (room_of now.rooms) new x changed.now.sound.sound.view.owners changed.forests_now) is table_now);
   };
   stands_for = λ db were.
       let after = changed.stands_for db (subst (λ (pages : PageList). PagesStandFor before.ext pages db) (sym (page_is_written g old before before.noted def served ready at)) were) in
@@ -192,10 +192,10 @@ change_ends g old mid new before now def def_now owners forests Places change se
         sym (spots_with_table_page now.ext def_now (pages_of g mid) low def_now changed.owners_now changed.forests_now.map)
         ∙ ap (λ (pages : PageList). table_spots now.ext pages def_now changed.owners_now changed.forests_now.map) (sym written)
 
-    table_now : IsReadyTable g now.ext (room_from now.rooms) new def_now changed.now.sound.sound.view.owners changed.forests_now
+    table_now : IsReadyTable g now.ext (room_of now.rooms) new def_now changed.now.sound.sound.view.owners changed.forests_now
     table_now =
-        subst (λ (o : List Kind). IsReadyTable g now.ext (room_from now.rooms) new def_now o changed.forests_now) one_owners
-        (record { stands = stands_now; notes = changed.now.ready.notes; rooms = subst (AreRightRooms def_now (room_from now.rooms)) spots_now changed.now.ready.rooms })
+        subst (λ (o : List Kind). IsReadyTable g now.ext (room_of now.rooms) new def_now o changed.forests_now) one_owners
+        (record { stands = stands_now; notes = changed.now.ready.notes; rooms = subst (AreRightRooms def_now (room_of now.rooms)) spots_now changed.now.ready.rooms })
 
 -- a definition put where it stands
 put_there : (defs : Definitions) (place : ℕ) (def : TableDef) → slice_get defs place ≡ Some (Some def) → set defs place (Some def) ≡ defs
@@ -206,7 +206,7 @@ put_there (first ∷ defs) (suc place) def at = ap (λ (rest : Definitions). fir
 -- a DELETE or an UPDATE: the page of the table stays
 pub change_ends_unwritten : {S : Type 0} (g : Ghosts S) (old new : S) (before now : Tables) (def : TableDef) (owners : List Kind) (forests : TableForests) (Places : List Spot → List Spot → Type 0) (change : PlainTable → PlainTable)
     → AreServed before.catalog → IsReady g old before → def_at before.catalog before.noted ≡ Some def
-    → ChangesRowsOf g before.ext now.ext (room_from now.rooms) old new def def owners forests Places change
+    → ChangesRowsOf g before.ext now.ext (room_of now.rooms) old new def def owners forests Places change
     → now.catalog ≡ before.catalog → now.noted ≡ before.noted → EndsChange g old new before now change
 change_ends_unwritten g old new before now def owners forests Places change served ready at changed catalog noted =
     let is = served_def before.catalog before.noted def served at in
@@ -235,8 +235,8 @@ shown_written g ext mid pages def def_now owners forests same low stands written
 
 -- rows went where the statement's placing says, on the pages as they are shown
 pub places_shown : {S : Type 0} (g : Ghosts S) (old mid new : S) (before now : Tables) (def def_now : TableDef) (owners : List Kind) (forests : TableForests) (Places : List Spot → List Spot → Type 0) (change : PlainTable → PlainTable) (statement : Bound)
-    → IsReady g old before → def_now ≡ record def { next = def_now.next } → IsReadyBetween g before.ext (room_from before.rooms) old def owners forests
-    → ChangesRowsOf g before.ext now.ext (room_from now.rooms) old mid def def_now owners forests Places change
+    → IsReady g old before → def_now ≡ record def { next = def_now.next } → IsReadyBetween g before.ext (room_of before.rooms) old def owners forests
+    → ChangesRowsOf g before.ext now.ext (room_of now.rooms) old mid def def_now owners forests Places change
     → pages_of g new ≡ with_table_page def_now (pages_of g mid) → ((was is : List Spot) → Places was is → PlacesRows def (block_slot_count before.ext def) was is statement)
     → PlacesOnPages before.ext now.ext (pages_of g old) (pages_of g new) def statement
 places_shown g old mid new before now def def_now owners forests Places change statement ready same between changed written turns = record {

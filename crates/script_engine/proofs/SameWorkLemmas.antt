@@ -9,18 +9,18 @@ use Rattle.mdc_sound.specs.Placing.{table_spots}
 use Rattle.mdc_sound.specs.SoundDatabase.{KeepAllRules}
 use Rattle.mdc_sound.specs.StandingTable.{AreRightRooms, IsReadyTable, TableForests, pages_of}
 use Rattle.mdc_sound.proofs.StandingTableLemmas.{stands_same}
-use Rattle.cell_rooms.specs.RoomNotes.{room_from}
+use Rattle.cell_rooms.specs.RoomNotes.{room_of}
 use Rattle.stored_catalog.specs.StoredDefinitions.{AreStored}
 use Rattle.script_engine.specs.Ready.{IsReady}
 use Rattle.script_engine.specs.declared.tables.Tables.{Tables}
 
 module _ {S : Type 0} (g : Ghosts S) (old new : S) (tables : Tables) (told : (g.state new).is_told ≡ (g.state old).is_told) (same : pages_of g new ≡ pages_of g old) where
-  table_same : (def : TableDef) (owners : List Kind) (forests : TableForests) → IsReadyTable g tables.ext (room_from tables.rooms) old def owners forests
-      → IsReadyTable g tables.ext (room_from tables.rooms) new def owners forests
+  table_same : (def : TableDef) (owners : List Kind) (forests : TableForests) → IsReadyTable g tables.ext (room_of tables.rooms) old def owners forests
+      → IsReadyTable g tables.ext (room_of tables.rooms) new def owners forests
   table_same def owners forests ready = record {
     stands = stands_same tables.ext old new def owners forests told same ready.stands;
     notes = ready.notes;
-    rooms = subst (λ (pages : PageList). AreRightRooms def (room_from tables.rooms) (table_spots tables.ext pages def owners forests.map)) (sym same) ready.rooms;
+    rooms = subst (λ (pages : PageList). AreRightRooms def (room_of tables.rooms) (table_spots tables.ext pages def owners forests.map)) (sym same) ready.rooms;
   }
 
   pub ready_same : IsReady g old tables → IsReady g new tables

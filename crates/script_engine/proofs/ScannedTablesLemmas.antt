@@ -44,7 +44,7 @@ use Rattle.mdc_sound.proofs.StandingTableLemmas.{forests_of, stands_of_sound, st
 use Rattle.mdc_sound.proofs.StandsForLemmas.{one_tree_at}
 use Rattle.cell_change.specs.RowChanges.{HasThisRow}
 use Rattle.cell_change.proofs.RowChangesLemmas.{numbers_here}
-use Rattle.cell_rooms.specs.RoomNotes.{room_from}
+use Rattle.cell_rooms.specs.RoomNotes.{room_of}
 use Rattle.stored_catalog.specs.StoredDefinitions.{AreStored}
 use Rattle.stored_catalog.proofs.LeftDefinitionsLemmas.{stored_at}
 use Rattle.statement_rows.specs.RowsOfStatement.{AnyPage, HasTheseRows}
@@ -98,7 +98,7 @@ module _ {S : Type 0} (g : Ghosts S) (old new : S) (told : (g.state new).is_told
       record {
         stands = stands_same tables.ext old new def ready.view.owners was.0 told same was.1.stands;
         notes = was.1.notes;
-        rooms = subst (λ pages. AreRightRooms def (room_from tables.rooms) (table_spots tables.ext pages def ready.view.owners was.0.map)) (sym same) was.1.rooms;
+        rooms = subst (λ pages. AreRightRooms def (room_of tables.rooms) (table_spots tables.ext pages def ready.view.owners was.0.map)) (sym same) was.1.rooms;
       },
     );
   }

@@ -10,7 +10,7 @@ use Rattle.extent_map.specs.declared.kind.Kind.{Kind}
 use Rattle.mdc_sound.specs.SoundDatabase.{KeepAllRules}
 use Rattle.mdc_sound.specs.SpaceRules.{DatabaseView}
 use Rattle.mdc_sound.specs.StandingTable.{IsReadyTable, StandsTable, TableForests, pages_of}
-use Rattle.cell_rooms.specs.RoomNotes.{room_from}
+use Rattle.cell_rooms.specs.RoomNotes.{room_of}
 use Rattle.stored_catalog.specs.StoredDefinitions.{AreStored, AreWithinLimits}
 use Rattle.script_engine.specs.declared.tables.Tables.{Tables}
 
@@ -28,7 +28,7 @@ pub record IsReady {S : Type 0} (g : Ghosts S) (s : S) (tables : Tables) : Type 
   pub stored : AreStored (pages_of g s) tables.catalog
   pub notes : AreRightNotes tables.ext view.owners
   pub rooms : (def : TableDef) → def_at tables.catalog tables.noted ≡ Some def
-      → (forests : TableForests) × IsReadyTable g tables.ext (room_from tables.rooms) s def view.owners forests
+      → (forests : TableForests) × IsReadyTable g tables.ext (room_of tables.rooms) s def view.owners forests
 
 -- what may be named as damage: the pages weren't ready
 abbrev pub BreaksDatabase : {S : Type 0} → Ghosts S → S → Tables → Damage → Type 0

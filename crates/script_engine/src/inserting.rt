@@ -13,7 +13,7 @@ ghost use Rattle.extent_map.specs.declared.kind.Kind.{Kind};
 ghost use Rattle.mdc_sound.specs.Placing.{PutsRows, block_slot_count};
 ghost use Rattle.mdc_sound.specs.RunningFull.{InsertRunsFull};
 ghost use Rattle.mdc_sound.specs.StandingTable.{TableForests, pages_of};
-ghost use Rattle.cell_rooms.specs.RoomNotes.{room_from};
+ghost use Rattle.cell_rooms.specs.RoomNotes.{room_of};
 ghost use Rattle.row_judging.specs.Served.{IsDefined, MayPut};
 ghost use Rattle.statement_rows.specs.RowsOfStatement.{AnyPage, ChangesRowsOf, IsReadyBetween};
 ghost use Rattle.script_engine.specs.Doing.{DoesStatement, LeavesAll, RunsFullAlone};
@@ -114,15 +114,15 @@ fn put_rows<P: Pages>(
     requires unsaid { IfSome (def_at tables.old.catalog tables.old.noted) (λ def. tuple_causes def tuples ≡ []) }
     requires going { (P.state pages.old).ended ≡ false }
     ensures inserts { (def : TableDef) → def_at tables.old.catalog tables.old.noted ≡ Some def
-        → OnOk result ((owners : List Kind) (forests : TableForests) → IsReadyBetween P.Pages tables.old.ext (room_from tables.old.rooms) pages.old def owners forests
-        → ChangesRowsOf P.Pages tables.old.ext tables.new.ext (room_from tables.new.rooms) pages.old pages.new def (numbered_on def (length tuples)) owners forests
+        → OnOk result ((owners : List Kind) (forests : TableForests) → IsReadyBetween P.Pages tables.old.ext (room_of tables.old.rooms) pages.old def owners forests
+        → ChangesRowsOf P.Pages tables.old.ext tables.new.ext (room_of tables.new.rooms) pages.old pages.new def (numbered_on def (length tuples)) owners forests
         (λ was is. PutsRows def (block_slot_count tables.old.ext def) was (numbered def.next tuples) is) (appended tuples)) }
     ensures numbers { (def : TableDef) → def_at tables.old.catalog tables.old.noted ≡ Some def
         → OnOk result (tables.new.catalog ≡ with_def tables.old.catalog tables.old.noted (numbered_on def (length tuples))) }
     ensures kept { OnErr result (tables.new.catalog ≡ tables.old.catalog) }
     ensures noted { tables.new.noted ≡ tables.old.noted }
     ensures full { (def : TableDef) → def_at tables.old.catalog tables.old.noted ≡ Some def → IfErr result (λ fault. IfFull fault (λ cap. (cap ≡ tables.old.ext.cap)
-        × ((owners : List Kind) (forests : TableForests) → IsReadyBetween P.Pages tables.old.ext (room_from tables.old.rooms) pages.old def owners forests
+        × ((owners : List Kind) (forests : TableForests) → IsReadyBetween P.Pages tables.old.ext (room_of tables.old.rooms) pages.old def owners forests
         → InsertRunsFull tables.old.ext (pages_of P.Pages pages.old) def (numbered def.next tuples)))) }
     ensures shape { IsSameShape tables.old.ext tables.new.ext }
     ensures runs { RunsOverPages P.Pages AnyPage AnyPage (BreaksDatabase P.Pages pages.old tables.old) pages.old pages.new (store_fault_in store_part_of result) }

@@ -13,7 +13,7 @@ use Rattle.extent_map.specs.declared.extents.Extents.{Extents}
 use Rattle.extent_map.specs.declared.kind.Kind.{Kind}
 use Rattle.mdc_sound.specs.Placing.{Spot, TakesRows}
 use Rattle.mdc_sound.specs.SoundDatabase.{IsSoundBetweenChanges, with_table_page}
-use Rattle.mdc_sound.specs.StandingTable.{IsTableOrMapPage, TableForests, pages_of, spots_of}
+use Rattle.mdc_sound.specs.StandingTable.{IsTableOrMapPage, RoomNote, TableForests, pages_of, spots_of}
 use Rattle.mdc_sound.specs.StandsForDatabase.{PagesStandFor, without_row}
 use Rattle.mdc_sound.specs.TableRows.{PlacedRow}
 use Rattle.block_rows.specs.HeldRows.{placed_row}
@@ -47,12 +47,12 @@ module _ {S : Type 0} (g : Ghosts S) where
       (λ at row apart lies.
       lies_after_returns mid (spots_of g now new def owners_now forests_now) at row returns (lies_taken (spots_of g before old def owners forests) mid placed.rid at placed.row row takes apart lies))
 
-  abbrev pub one_deleted : (before now : Extents) (room_from room_now : Entry → ℕ) (old new : S) (def : TableDef) (row : Row) (rid : Rid) (owners : List Kind) (forests : TableForests)
-      → IsReadyBetween g before room_from old def owners forests → DeletesRow g before now room_now old new def row rid owners forests → Works g old new → Touches g (IsTableOrMapPage g before old def) old new
+  abbrev pub one_deleted : (before now : Extents) (room_of room_now : Entry → RoomNote) (old new : S) (def : TableDef) (row : Row) (rid : Rid) (owners : List Kind) (forests : TableForests)
+      → IsReadyBetween g before room_of old def owners forests → DeletesRow g before now room_now old new def row rid owners forests → Works g old new → Touches g (IsTableOrMapPage g before old def) old new
       → IsSoundBetweenChanges now def (pages_of g new)
       → ((db : Database) → PagesStandFor before (with_table_page def (pages_of g old)) db → PagesStandFor now (with_table_page def (pages_of g new)) (changed_at db def.number (without_row row.number)))
       → ChangesRowsOf g before now room_now old new def def owners forests (λ was is. TakesRows was (row_in_place rid row ∷ []) is) (without_row row.number)
-  one_deleted before now room_from room_now old new def row rid owners forests ready deletes works touches sound stands_for = record {
+  one_deleted before now room_of room_now old new def row rid owners forests ready deletes works touches sound stands_for = record {
     owners_now = deletes.takes.owners_now;
     forests_now = deletes.takes.forests_now;
     changes = deletes.takes.changes;
@@ -67,24 +67,24 @@ module _ {S : Type 0} (g : Ghosts S) where
   -- ---- rows so far, and the rest
 
   -- Rows were deleted, and so the table is ready for the rest of these, which lie where they did. With these all are deleted.
-  pub record DeletesOn (before now : Extents) (room_now : Entry → ℕ) (old mid : S) (def : TableDef) (hits rest : List Hit) (owners : List Kind) (forests : TableForests) : Type 0 where
+  pub record DeletesOn (before now : Extents) (room_now : Entry → RoomNote) (old mid : S) (def : TableDef) (hits rest : List Hit) (owners : List Kind) (forests : TableForests) : Type 0 where
     pub rows : RowsLeadOn g before now room_now old mid def def owners forests (λ was is. TakesRows was (map placed_row rest) is) (λ was is. TakesRows was (map placed_row hits) is) (without_hits rest) (without_hits hits)
     pub has : HasTheseRows g now mid def (map placed_row rest) rows.owners_now rows.forests_now
 
-  pub deletes_none : (ext : Extents) (room_from : Entry → ℕ) (s : S) (def : TableDef) (hits : List Hit) (owners : List Kind) (forests : TableForests) → IsReadyBetween g ext room_from s def owners forests
-      → HasTheseRows g ext s def (map placed_row hits) owners forests → DeletesOn ext ext room_from s s def hits hits owners forests
-  deletes_none ext room_from s def hits owners forests ready has = record {
-    rows = leads_none g ext room_from s def owners forests (λ was is. TakesRows was (map placed_row hits) is) (without_hits hits) ready;
+  pub deletes_none : (ext : Extents) (room_of : Entry → RoomNote) (s : S) (def : TableDef) (hits : List Hit) (owners : List Kind) (forests : TableForests) → IsReadyBetween g ext room_of s def owners forests
+      → HasTheseRows g ext s def (map placed_row hits) owners forests → DeletesOn ext ext room_of s s def hits hits owners forests
+  deletes_none ext room_of s def hits owners forests ready has = record {
+    rows = leads_none g ext room_of s def owners forests (λ was is. TakesRows was (map placed_row hits) is) (without_hits hits) ready;
     has = has;
   }
 
-  pub deletes_all : (before now : Extents) (room_now : Entry → ℕ) (old new : S) (def : TableDef) (hits : List Hit) (owners : List Kind) (forests : TableForests) → DeletesOn before now room_now old new def hits [] owners forests
+  pub deletes_all : (before now : Extents) (room_now : Entry → RoomNote) (old new : S) (def : TableDef) (hits : List Hit) (owners : List Kind) (forests : TableForests) → DeletesOn before now room_now old new def hits [] owners forests
       → ChangesRowsOf g before now room_now old new def def owners forests (λ was is. TakesRows was (map placed_row hits) is) (without_hits hits)
   deletes_all before now room_now old new def hits owners forests on =
       leads_all g before now room_now old new def def owners forests (λ was is. TakesRows was [] is) (λ was is. TakesRows was (map placed_row hits) is) (without_hits []) (without_hits hits) on.rows
       (λ spots. TakesRows.none) (λ table. refl)
 
-  pub deletes_more : (before mid next : Extents) (room_mid room_next : Entry → ℕ) (old middle new : S) (def : TableDef) (hits : List Hit) (hit : Hit) (rest : List Hit) (owners : List Kind) (forests : TableForests)
+  pub deletes_more : (before mid next : Extents) (room_mid room_next : Entry → RoomNote) (old middle new : S) (def : TableDef) (hits : List Hit) (hit : Hit) (rest : List Hit) (owners : List Kind) (forests : TableForests)
       (on : DeletesOn before mid room_mid old middle def hits (hit ∷ rest) owners forests) → DeletesRow g mid next room_next middle new def hit.row hit.rid on.rows.owners_now on.rows.forests_now
       → Works g middle new → Touches g (IsTableOrMapPage g mid middle def) middle new → IsSoundBetweenChanges next def (pages_of g new)
       → ((db : Database) → PagesStandFor mid (with_table_page def (pages_of g middle)) db → PagesStandFor next (with_table_page def (pages_of g new)) (changed_at db def.number (without_row hit.row.number)))

@@ -15,22 +15,22 @@ use Rattle.extent_map.specs.declared.kind.Kind.{Kind}
 use Rattle.block_rows.specs.HeldRows.{placed_row}
 use Rattle.block_rows.specs.declared.hit.Hit.{Hit}
 use Rattle.mdc_sound.specs.SoundDatabase.{IsSoundBetweenChanges, with_table_page}
-use Rattle.mdc_sound.specs.StandingTable.{BreaksExpected, IsReadyTable, IsTableOrMapPage, TableForests, pages_of}
+use Rattle.mdc_sound.specs.StandingTable.{BreaksExpected, IsReadyTable, IsTableOrMapPage, RoomNote, TableForests, pages_of}
 use Rattle.mdc_sound.specs.StandsForDatabase.{PagesStandFor, without_row}
 use Rattle.cell_change.specs.RowChanges.{DeletesRow, HasThisRow}
 use Rattle.statement_rows.specs.RowsOfStatement.{AnyPage, BreaksReady, HasTheseRows, IsReadyBetween}
 use Rattle.statement_rows.proofs.DeletingRowsLemmas.{DeletesOn, deletes_more}
 use Rattle.statement_rows.proofs.RowDamageLemmas.{runs_on_rows}
 
-module _ {S : Type 0} (g : Ghosts S) (before mid : Extents) (room_from room_mid : Entry → ℕ) (old middle : S) (def : TableDef) (hits items : List Hit) (hit : Hit) (rest : List Hit) (split : items ≡ hit ∷ rest)
-    (leads : (owners : List Kind) (forests : TableForests) → IsReadyBetween g before room_from old def owners forests → HasTheseRows g before old def (map placed_row hits) owners forests
+module _ {S : Type 0} (g : Ghosts S) (before mid : Extents) (room_of room_mid : Entry → RoomNote) (old middle : S) (def : TableDef) (hits items : List Hit) (hit : Hit) (rest : List Hit) (split : items ≡ hit ∷ rest)
+    (leads : (owners : List Kind) (forests : TableForests) → IsReadyBetween g before room_of old def owners forests → HasTheseRows g before old def (map placed_row hits) owners forests
     → DeletesOn g before mid room_mid old middle def hits items owners forests) where
   -- the rest begins with the row
-  leads_here : (owners : List Kind) (forests : TableForests) → IsReadyBetween g before room_from old def owners forests → HasTheseRows g before old def (map placed_row hits) owners forests
+  leads_here : (owners : List Kind) (forests : TableForests) → IsReadyBetween g before room_of old def owners forests → HasTheseRows g before old def (map placed_row hits) owners forests
       → DeletesOn g before mid room_mid old middle def hits (hit ∷ rest) owners forests
   leads_here owners forests ready has = subst (λ all. DeletesOn g before mid room_mid old middle def hits all owners forests) split (leads owners forests ready has)
 
-  pub row_out : (next : Extents) (room_next : Entry → ℕ) (new : S)
+  pub row_out : (next : Extents) (room_next : Entry → RoomNote) (new : S)
       → ((owners : List Kind) (forests : TableForests) → IsReadyTable g mid room_mid middle def owners forests → HasThisRow g mid middle def hit.rid hit.row owners forests
       → DeletesRow g mid next room_next middle new def hit.row hit.rid owners forests)
       → ((owners : List Kind) (forests : TableForests) → IsReadyTable g mid room_mid middle def owners forests → HasThisRow g mid middle def hit.rid hit.row owners forests
@@ -39,7 +39,7 @@ module _ {S : Type 0} (g : Ghosts S) (before mid : Extents) (room_from room_mid 
       → IsSoundBetweenChanges mid def (pages_of g middle) → (db : Database) → PagesStandFor mid (with_table_page def (pages_of g middle)) db
       → PagesStandFor next (with_table_page def (pages_of g new)) (changed_at db def.number (without_row hit.row.number)))
       → Works g middle new → Touches g (IsTableOrMapPage g mid middle def) middle new
-      → (owners : List Kind) (forests : TableForests) → IsReadyBetween g before room_from old def owners forests → HasTheseRows g before old def (map placed_row hits) owners forests
+      → (owners : List Kind) (forests : TableForests) → IsReadyBetween g before room_of old def owners forests → HasTheseRows g before old def (map placed_row hits) owners forests
       → DeletesOn g before next room_next old new def hits rest owners forests
   row_out next room_next new deletes sound stands_for works touches owners forests ready has =
       let on = leads_here owners forests ready has in
@@ -51,10 +51,10 @@ module _ {S : Type 0} (g : Ghosts S) (before mid : Extents) (room_from room_mid 
       (stands_for now trees here.ready this here.sound)
 
   pub row_out_run : (new : S) (fault : Option StoreFault) → IsSameShape before mid
-      → RunsOverPages g AnyPage AnyPage (BreaksReady g before room_from old def (HasTheseRows g before old def (map placed_row hits))) old middle None
+      → RunsOverPages g AnyPage AnyPage (BreaksReady g before room_of old def (HasTheseRows g before old def (map placed_row hits))) old middle None
       → RunsOverPages g (IsTableOrMapPage g mid middle def) (IsTableOrMapPage g mid middle def) (BreaksExpected g mid middle def (HasThisRow g mid middle def hit.rid hit.row)) middle new fault
-      → RunsOverPages g AnyPage AnyPage (BreaksReady g before room_from old def (HasTheseRows g before old def (map placed_row hits))) old new fault
+      → RunsOverPages g AnyPage AnyPage (BreaksReady g before room_of old def (HasTheseRows g before old def (map placed_row hits))) old new fault
   row_out_run new fault shape first second =
-      runs_on_rows g before mid room_from old middle def def def.next refl shape (HasTheseRows g before old def (map placed_row hits)) (HasThisRow g mid middle def hit.rid hit.row)
+      runs_on_rows g before mid room_of old middle def def def.next refl shape (HasTheseRows g before old def (map placed_row hits)) (HasThisRow g mid middle def hit.rid hit.row)
       (λ owners forests ready has. let on = leads_here owners forests ready has in (on.rows.owners_now, on.rows.forests_now, on.rows.ready.ready.stands, on.has.each.0))
       first second

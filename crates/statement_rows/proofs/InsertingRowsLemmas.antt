@@ -21,7 +21,7 @@ use Rattle.mdc_sound.specs.Placing.{HasRoomFor, HoldsNowhere, PutsRow, PutsRows,
 use Rattle.mdc_sound.specs.Placing.Spot.{FreeExtent, IndexExtent, OtherBlock, FreeBlock, PendingBlock, UsedBlock}
 use Rattle.mdc_sound.specs.RunningFull.{InsertingChanges, InsertRunsFull, block_changes, putting_changes}
 use Rattle.mdc_sound.specs.SoundDatabase.{IsSoundBetweenChanges, with_table_page}
-use Rattle.mdc_sound.specs.StandingTable.{IsTableSpace, TableForests, pages_of, spots_of}
+use Rattle.mdc_sound.specs.StandingTable.{IsTableSpace, RoomNote, TableForests, pages_of, spots_of}
 use Rattle.mdc_sound.specs.StandsForDatabase.{PagesStandFor}
 use Rattle.mdc_sound.proofs.NextNumberLemmas.{stands_next, with_next}
 use Rattle.cell_change.specs.RowChanges.{InsertsRow}
@@ -130,8 +130,8 @@ full_at_first ext pages def row rows full = record {
 
 -- ---- one row
 
-module _ {S : Type 0} (g : Ghosts S) (before now : Extents) (room_from room_now : Entry → ℕ) (old new : S) (def : TableDef) (row : Row) (rid : Rid) (owners : List Kind) (forests : TableForests)
-    (ready : IsReadyBetween g before room_from old def owners forests) (inserts : InsertsRow g before now room_now old new def row rid owners forests) where
+module _ {S : Type 0} (g : Ghosts S) (before now : Extents) (room_of room_now : Entry → RoomNote) (old new : S) (def : TableDef) (row : Row) (rid : Rid) (owners : List Kind) (forests : TableForests)
+    (ready : IsReadyBetween g before room_of old def owners forests) (inserts : InsertsRow g before now room_now old new def row rid owners forests) where
   -- the definition that has the next number
   abbrev pub raised : TableDef
   raised = with_next def (def.next + 1)
@@ -191,28 +191,28 @@ module _ {S : Type 0} (g : Ghosts S) (before now : Extents) (room_from room_now 
 
 -- Rows were inserted, and so the table is ready for the rest of these values. With these all are inserted, and where they run
 -- full, all do.
-pub record InsertsOn {S : Type 0} (g : Ghosts S) (before now : Extents) (room_now : Entry → ℕ) (old mid : S) (def def_now : TableDef) (tuples rest : List (List Value)) (owners : List Kind) (forests : TableForests) : Type 0 where
+pub record InsertsOn {S : Type 0} (g : Ghosts S) (before now : Extents) (room_now : Entry → RoomNote) (old mid : S) (def def_now : TableDef) (tuples rest : List (List Value)) (owners : List Kind) (forests : TableForests) : Type 0 where
   pub rows : RowsLeadOn g before now room_now old mid def def_now owners forests (λ was is. PutsRows def_now (block_slot_count now def_now) was (numbered def_now.next rest) is)
       (λ was is. PutsRows def (block_slot_count before def) was (numbered def.next tuples) is) (appended rest) (appended tuples)
   pub full_on : InsertRunsFull now (pages_of g mid) def_now (numbered def_now.next rest) → InsertRunsFull before (pages_of g old) def (numbered def.next tuples)
 
 module _ {S : Type 0} (g : Ghosts S) where
-  pub inserts_none : (ext : Extents) (room_from : Entry → ℕ) (s : S) (def : TableDef) (tuples : List (List Value)) (owners : List Kind) (forests : TableForests) → IsReadyBetween g ext room_from s def owners forests
-      → InsertsOn g ext ext room_from s s def def tuples tuples owners forests
-  inserts_none ext room_from s def tuples owners forests ready = record {
-    rows = leads_none g ext room_from s def owners forests (λ was is. PutsRows def (block_slot_count ext def) was (numbered def.next tuples) is) (appended tuples) ready;
+  pub inserts_none : (ext : Extents) (room_of : Entry → RoomNote) (s : S) (def : TableDef) (tuples : List (List Value)) (owners : List Kind) (forests : TableForests) → IsReadyBetween g ext room_of s def owners forests
+      → InsertsOn g ext ext room_of s s def def tuples tuples owners forests
+  inserts_none ext room_of s def tuples owners forests ready = record {
+    rows = leads_none g ext room_of s def owners forests (λ was is. PutsRows def (block_slot_count ext def) was (numbered def.next tuples) is) (appended tuples) ready;
     full_on = λ full. full;
   }
 
-  pub inserts_all : (before now : Extents) (room_now : Entry → ℕ) (old new : S) (def def_now : TableDef) (tuples : List (List Value)) (owners : List Kind) (forests : TableForests)
+  pub inserts_all : (before now : Extents) (room_now : Entry → RoomNote) (old new : S) (def def_now : TableDef) (tuples : List (List Value)) (owners : List Kind) (forests : TableForests)
       → InsertsOn g before now room_now old new def def_now tuples [] owners forests
       → ChangesRowsOf g before now room_now old new def def_now owners forests (λ was is. PutsRows def (block_slot_count before def) was (numbered def.next tuples) is) (appended tuples)
   inserts_all before now room_now old new def def_now tuples owners forests on =
       leads_all g before now room_now old new def def_now owners forests (λ was is. PutsRows def_now (block_slot_count now def_now) was [] is)
       (λ was is. PutsRows def (block_slot_count before def) was (numbered def.next tuples) is) (appended []) (appended tuples) on.rows (λ spots. PutsRows.none) appended_none
 
-  module _ (before mid : Extents) (room_mid : Entry → ℕ) (old middle : S) (def def_mid : TableDef) (tuples rest : List (List Value)) (owners : List Kind) (forests : TableForests) where
-    pub inserts_more : (next : Extents) (room_next : Entry → ℕ) (new : S) (values : List Value) (rid : Rid) (on : InsertsOn g before mid room_mid old middle def def_mid tuples (values ∷ rest) owners forests)
+  module _ (before mid : Extents) (room_mid : Entry → RoomNote) (old middle : S) (def def_mid : TableDef) (tuples rest : List (List Value)) (owners : List Kind) (forests : TableForests) where
+    pub inserts_more : (next : Extents) (room_next : Entry → RoomNote) (new : S) (values : List Value) (rid : Rid) (on : InsertsOn g before mid room_mid old middle def def_mid tuples (values ∷ rest) owners forests)
         → (inserts : InsertsRow g mid next room_next middle new def_mid (record { number = def_mid.next; values = values }) rid on.rows.owners_now on.rows.forests_now)
         → MakesChanges mid (pages_of g middle)
         (putting_changes def_mid (record { number = def_mid.next; values = values }) rid (slice_index_or (spots_of g mid middle def_mid on.rows.owners_now on.rows.forests_now) rid.block OtherBlock)) (pages_of g new)

@@ -23,7 +23,7 @@ use Rattle.mdc_sound.specs.FittingRows.{RowFits}
 use Rattle.mdc_sound.specs.Placing.Spot.{OtherBlock}
 use Rattle.mdc_sound.specs.RunningFull.{InsertRunsFull, putting_changes}
 use Rattle.mdc_sound.specs.SoundDatabase.{IsSoundBetweenChanges, with_table_page}
-use Rattle.mdc_sound.specs.StandingTable.{BreaksTable, IsReadyTable, IsTableSpace, TableForests, pages_of, spots_of}
+use Rattle.mdc_sound.specs.StandingTable.{BreaksTable, IsReadyTable, IsTableSpace, RoomNote, TableForests, pages_of, spots_of}
 use Rattle.mdc_sound.specs.StandsForDatabase.{PagesStandFor}
 use Rattle.mdc_sound.proofs.NextNumberLemmas.{with_next}
 use Rattle.cell_change.specs.RowChanges.{InsertsRow}
@@ -49,18 +49,18 @@ number_on end mid now items rest values more split is = omega (arith, ap (λ d. 
 
 -- ---- a row that goes in
 
-module _ {S : Type 0} (g : Ghosts S) (before mid : Extents) (room_from room_mid : Entry → ℕ) (old middle : S) (def def_mid : TableDef) (tuples items : List (List Value)) (values : List Value) (rest : List (List Value))
+module _ {S : Type 0} (g : Ghosts S) (before mid : Extents) (room_of room_mid : Entry → RoomNote) (old middle : S) (def def_mid : TableDef) (tuples items : List (List Value)) (values : List Value) (rest : List (List Value))
     (split : items ≡ values ∷ rest)
-    (leads : (owners : List Kind) (forests : TableForests) → IsReadyBetween g before room_from old def owners forests → InsertsOn g before mid room_mid old middle def def_mid tuples items owners forests) where
+    (leads : (owners : List Kind) (forests : TableForests) → IsReadyBetween g before room_of old def owners forests → InsertsOn g before mid room_mid old middle def def_mid tuples items owners forests) where
   -- the row that goes in next
   abbrev pub next_row : Row
   next_row = record { number = def_mid.next; values = values }
 
   -- the rest begins with it
-  leads_here : (owners : List Kind) (forests : TableForests) → IsReadyBetween g before room_from old def owners forests → InsertsOn g before mid room_mid old middle def def_mid tuples (values ∷ rest) owners forests
+  leads_here : (owners : List Kind) (forests : TableForests) → IsReadyBetween g before room_of old def owners forests → InsertsOn g before mid room_mid old middle def def_mid tuples (values ∷ rest) owners forests
   leads_here owners forests ready = subst (λ all. InsertsOn g before mid room_mid old middle def def_mid tuples all owners forests) split (leads owners forests ready)
 
-  pub row_in : (next : Extents) (room_next : Entry → ℕ) (new : S) (def_now : TableDef) (rid : Rid) → def_now ≡ with_next def_mid (def_mid.next + 1)
+  pub row_in : (next : Extents) (room_next : Entry → RoomNote) (new : S) (def_now : TableDef) (rid : Rid) → def_now ≡ with_next def_mid (def_mid.next + 1)
       → ((owners : List Kind) (forests : TableForests) → IsReadyTable g mid room_mid middle def_mid owners forests → InsertsRow g mid next room_next middle new def_mid next_row rid owners forests)
       → ((owners : List Kind) (forests : TableForests) → IsReadyTable g mid room_mid middle def_mid owners forests
       → MakesChanges mid (pages_of g middle) (putting_changes def_mid next_row rid (slice_index_or (spots_of g mid middle def_mid owners forests) rid.block OtherBlock)) (pages_of g new))
@@ -70,7 +70,7 @@ module _ {S : Type 0} (g : Ghosts S) (before mid : Extents) (room_from room_mid 
       → IsSoundBetweenChanges mid def_mid (pages_of g middle) → (db : Database) → PagesStandFor mid (with_table_page def_mid (pages_of g middle)) db
       → PagesStandFor next (with_table_page def_now (pages_of g new)) (changed_at db def_mid.number (appended (values ∷ []))))
       → Works g middle new → Touches g (IsTableSpace g mid middle def_mid) middle new
-      → (owners : List Kind) (forests : TableForests) → IsReadyBetween g before room_from old def owners forests → InsertsOn g before next room_next old new def def_now tuples rest owners forests
+      → (owners : List Kind) (forests : TableForests) → IsReadyBetween g before room_of old def owners forests → InsertsOn g before next room_next old new def def_now tuples rest owners forests
   row_in next room_next new def_now rid is inserts makes sound stands_for works touches owners forests ready =
       let on = leads_here owners forests ready in
       let here = on.rows.ready in
@@ -85,7 +85,7 @@ module _ {S : Type 0} (g : Ghosts S) (before mid : Extents) (room_from room_mid 
 
   pub row_full : IsSameShape before mid → (cap : ℕ)
       → (cap ≡ mid.cap) × ((owners : List Kind) (forests : TableForests) → IsReadyTable g mid room_mid middle def_mid owners forests → InsertRunsFull mid (pages_of g middle) def_mid (next_row ∷ []))
-      → (cap ≡ before.cap) × ((owners : List Kind) (forests : TableForests) → IsReadyBetween g before room_from old def owners forests → InsertRunsFull before (pages_of g old) def (numbered def.next tuples))
+      → (cap ≡ before.cap) × ((owners : List Kind) (forests : TableForests) → IsReadyBetween g before room_of old def owners forests → InsertRunsFull before (pages_of g old) def (numbered def.next tuples))
   row_full shape cap full = (
     full.0 ∙ shape.cap,
     λ owners forests ready.
@@ -96,11 +96,11 @@ module _ {S : Type 0} (g : Ghosts S) (before mid : Extents) (room_from room_mid 
   -- ---- its run
 
   pub row_run : (new : S) (fault : Option StoreFault) → def_mid ≡ with_next def def_mid.next → IsSameShape before mid
-      → RunsOverPages g AnyPage AnyPage (BreaksReady g before room_from old def NothingMore) old middle None
+      → RunsOverPages g AnyPage AnyPage (BreaksReady g before room_of old def NothingMore) old middle None
       → RunsOverPages g (IsTableSpace g mid middle def_mid) (IsTableSpace g mid middle def_mid) (BreaksTable g mid middle def_mid) middle new fault
-      → RunsOverPages g AnyPage AnyPage (BreaksReady g before room_from old def NothingMore) old new fault
+      → RunsOverPages g AnyPage AnyPage (BreaksReady g before room_of old def NothingMore) old new fault
   row_run new fault is shape first second =
-      runs_on_rows g before mid room_from old middle def def_mid def_mid.next is shape NothingMore NothingMore
+      runs_on_rows g before mid room_of old middle def def_mid def_mid.next is shape NothingMore NothingMore
       (λ owners forests ready expected.
       let on = leads_here owners forests ready in
       (on.rows.owners_now, on.rows.forests_now, on.rows.ready.ready.stands, tt))

@@ -11,7 +11,7 @@ use Rattle.store_api.proofs.RunsOverPagesLemmas.{runs_then}
 use Rattle.extent_map.specs.Owners.{IsSameShape}
 use Rattle.extent_map.specs.declared.extents.Extents.{Extents}
 use Rattle.extent_map.specs.declared.kind.Kind.{Kind}
-use Rattle.mdc_sound.specs.StandingTable.{BreaksExpected, NamesTablePart, StandsTable, TableForests}
+use Rattle.mdc_sound.specs.StandingTable.{BreaksExpected, NamesTablePart, RoomNote, StandsTable, TableForests}
 use Rattle.mdc_sound.proofs.NextNumberLemmas.{with_next}
 use Rattle.cell_change.proofs.ChangeRunsLemmas.{names_at}
 use Rattle.statement_rows.specs.RowsOfStatement.{AnyPage, BreaksReady, IsReadyBetween}
@@ -27,21 +27,21 @@ names_next ext def next damage (NamesTablePart.row_page block rule page) = Names
 names_next ext def next damage (NamesTablePart.row_count block rule page) = NamesTablePart.row_count block rule page
 names_next ext def next damage (NamesTablePart.block_index rule page) = NamesTablePart.block_index rule page
 
-module _ {S : Type 0} (g : Ghosts S) (before now : Extents) (room_from : Entry → ℕ) (old mid : S) (def def_now : TableDef) (next : ℕ) (is : def_now ≡ with_next def next) (shape : IsSameShape before now)
+module _ {S : Type 0} (g : Ghosts S) (before now : Extents) (room_of : Entry → RoomNote) (old mid : S) (def def_now : TableDef) (next : ℕ) (is : def_now ≡ with_next def next) (shape : IsSameShape before now)
     (Expected Later : List Kind → TableForests → Type 0) where
   -- the table stands midway as expected, where it was ready and as expected before
   abbrev pub StandsLater : Type 0
-  StandsLater = (owners : List Kind) (forests : TableForests) → IsReadyBetween g before room_from old def owners forests → Expected owners forests
+  StandsLater = (owners : List Kind) (forests : TableForests) → IsReadyBetween g before room_of old def owners forests → Expected owners forests
       → (owners_now : List Kind) × (forests_now : TableForests) × StandsTable g now mid def_now owners_now forests_now × Later owners_now forests_now
 
   -- damage that is named midway was there before
-  breaks_before : StandsLater → (damage : Damage) → BreaksExpected g now mid def_now Later damage → BreaksReady g before room_from old def Expected damage
+  breaks_before : StandsLater → (damage : Damage) → BreaksExpected g now mid def_now Later damage → BreaksReady g before room_of old def Expected damage
   breaks_before later damage breaks = record {
     names = names_next before def next damage (names_at before now (with_next def next) damage shape (subst (λ d. NamesTablePart now d damage) is breaks.names));
     broken = λ owners forests ready expected. let on = later owners forests ready expected in breaks.broken on.0 on.1 on.2 on.3;
   }
 
   -- a run over the rows so far, and one over the next row
-  pub runs_on_rows : {Mine Kind : ℕ → Type 0} {new : S} {fault : Option StoreFault} → StandsLater → RunsOverPages g AnyPage AnyPage (BreaksReady g before room_from old def Expected) old mid None
-      → RunsOverPages g Mine Kind (BreaksExpected g now mid def_now Later) mid new fault → RunsOverPages g AnyPage AnyPage (BreaksReady g before room_from old def Expected) old new fault
+  pub runs_on_rows : {Mine Kind : ℕ → Type 0} {new : S} {fault : Option StoreFault} → StandsLater → RunsOverPages g AnyPage AnyPage (BreaksReady g before room_of old def Expected) old mid None
+      → RunsOverPages g Mine Kind (BreaksExpected g now mid def_now Later) mid new fault → RunsOverPages g AnyPage AnyPage (BreaksReady g before room_of old def Expected) old new fault
   runs_on_rows later first second = runs_then first second (λ p low mine. tt) (λ p mine. tt) (breaks_before later)

@@ -1,5 +1,6 @@
 -- Changes of rows one after the other: what a change makes of a table, and then another one behind it.
 use Rattle.std.proofs.Common.{◌≡◌, ◌<◌, ◌≤◌, ◌+◌, ℕ, zero, suc, List, [], ◌∷◌, Some, None, length, drop, get_or, refl, ap, arith, sym, ◌∙◌, subst}
+use Rattle.std.specs.Prelude.{slice_index_or}
 use Rattle.std.proofs.lemmas.List.{drop_more}
 use Rattle.mdc_words.specs.ByteOrder.{Entry}
 use Rattle.mdc_ast.specs.declared.definition.TableDef.{TableDef}
@@ -10,8 +11,9 @@ use Rattle.extent_map.specs.declared.extents.Extents.{Extents}
 use Rattle.extent_map.specs.declared.kind.Kind.{Kind}
 use Rattle.table_trees.specs.TreesBeside.{table_of_block}
 use Rattle.mdc_sound.specs.Placing.{Spot}
+use Rattle.mdc_sound.specs.Placing.Spot.{FreeBlock, FreeExtent, IndexExtent, OtherBlock, PendingBlock, UsedBlock}
 use Rattle.mdc_sound.specs.SoundDatabase.{with_table_page}
-use Rattle.mdc_sound.specs.StandingTable.{AreRightRooms, ChangesTable, TableForests, pages_of, spots_of}
+use Rattle.mdc_sound.specs.StandingTable.{AreRightRooms, ChangesTable, HoldsKey, RoomNote, TableForests, pages_of, spots_of}
 use Rattle.mdc_sound.specs.StandsForDatabase.{PagesStandFor}
 use Rattle.mdc_sound.proofs.NextNumberLemmas.{stands_next, with_next}
 use Rattle.cell_change.proofs.TableStepsLemmas.{changes_table_then, same_table}
@@ -43,8 +45,19 @@ rest_at xs i x low is = drop_more xs i x low ∙ ap (λ y. y ∷ drop (i + 1) xs
 
 -- ---- whatever the next number is
 
-pub rooms_next : (def : TableDef) (next : ℕ) (room_from : Entry → ℕ) (spots : List Spot) → AreRightRooms def room_from spots → AreRightRooms (with_next def next) room_from spots
-rooms_next def next room_from spots rooms = record { full = rooms.full }
+holds_next : (def : TableDef) (next : ℕ) (key : Entry) (spot : Spot) → HoldsKey def key spot → HoldsKey (with_next def next) key spot
+holds_next def next key (UsedBlock slots) holds = holds
+holds_next def next key FreeExtent holds = absurd holds
+holds_next def next key IndexExtent holds = absurd holds
+holds_next def next key OtherBlock holds = absurd holds
+holds_next def next key FreeBlock holds = absurd holds
+holds_next def next key PendingBlock holds = absurd holds
+
+pub rooms_next : (def : TableDef) (next : ℕ) (room_of : Entry → RoomNote) (spots : List Spot) → AreRightRooms def room_of spots → AreRightRooms (with_next def next) room_of spots
+rooms_next def next room_of spots rooms = record {
+  full = rooms.full;
+  of_cell = λ key known. holds_next def next key (slice_index_or spots (room_of key).from OtherBlock) (rooms.of_cell key known);
+}
 
 module _ {S : Type 0} (g : Ghosts S) where
   pub changes_next : (before ext : Extents) (old new : S) (def : TableDef) (next : ℕ) (owners owners_now : List Kind) (forests forests_now : TableForests)
@@ -70,10 +83,10 @@ module _ {S : Type 0} (g : Ghosts S) where
   -- ---- no row, and one change of rows behind another
 
   -- no row was changed
-  pub rows_none : (ext : Extents) (room_from : Entry → ℕ) (s : S) (def : TableDef) (owners : List Kind) (forests : TableForests) (Places : List Spot → List Spot → Type 0) (change : PlainTable → PlainTable)
-      → IsReadyBetween g ext room_from s def owners forests → ((spots : List Spot) → Places spots spots) → ((table : PlainTable) → change table ≡ table)
-      → ChangesRowsOf g ext ext room_from s s def def owners forests Places change
-  rows_none ext room_from s def owners forests Places change ready places same = record {
+  pub rows_none : (ext : Extents) (room_of : Entry → RoomNote) (s : S) (def : TableDef) (owners : List Kind) (forests : TableForests) (Places : List Spot → List Spot → Type 0) (change : PlainTable → PlainTable)
+      → IsReadyBetween g ext room_of s def owners forests → ((spots : List Spot) → Places spots spots) → ((table : PlainTable) → change table ≡ table)
+      → ChangesRowsOf g ext ext room_of s s def def owners forests Places change
+  rows_none ext room_of s def owners forests Places change ready places same = record {
     owners_now = owners;
     forests_now = forests;
     changes = same_table g ext s def owners forests ready.ready.stands;
@@ -85,7 +98,7 @@ module _ {S : Type 0} (g : Ghosts S) where
   }
 
   -- where the first left each block one, both together are one change of rows
-  pub rows_then : (before mid ext : Extents) (room_mid room_now : Entry → ℕ) (old middle new : S) (def def_now : TableDef) (next : ℕ) (owners : List Kind) (forests : TableForests)
+  pub rows_then : (before mid ext : Extents) (room_mid room_now : Entry → RoomNote) (old middle new : S) (def def_now : TableDef) (next : ℕ) (owners : List Kind) (forests : TableForests)
       (First Second Both : List Spot → List Spot → Type 0) (change more both : PlainTable → PlainTable)
       → (first : ChangesRowsOf g before mid room_mid old middle def (with_next def next) owners forests First change)
       → ChangesRowsOf g mid ext room_now middle new (with_next def next) def_now first.owners_now first.forests_now Second more
@@ -109,22 +122,22 @@ module _ {S : Type 0} (g : Ghosts S) where
 
   -- Some rows were changed, so that the table is ready again; and what is made of it by the changes of the rest makes the changes
   -- of all from the start.
-  pub record RowsLeadOn (before now : Extents) (room_now : Entry → ℕ) (old mid : S) (def def_now : TableDef) (owners : List Kind) (forests : TableForests)
+  pub record RowsLeadOn (before now : Extents) (room_now : Entry → RoomNote) (old mid : S) (def def_now : TableDef) (owners : List Kind) (forests : TableForests)
       (Rest All : List Spot → List Spot → Type 0) (rest all : PlainTable → PlainTable) : Type 0 where
     pub owners_now : List Kind
     pub forests_now : TableForests
     pub ready : IsReadyBetween g now room_now mid def_now owners_now forests_now
-    pub rows_on : (ext : Extents) (room_from : Entry → ℕ) (new : S) (def_end : TableDef) → length (pages_of g mid) ≤ length (pages_of g new)
-        → ChangesRowsOf g now ext room_from mid new def_now def_end owners_now forests_now Rest rest → ChangesRowsOf g before ext room_from old new def def_end owners forests All all
+    pub rows_on : (ext : Extents) (room_of : Entry → RoomNote) (new : S) (def_end : TableDef) → length (pages_of g mid) ≤ length (pages_of g new)
+        → ChangesRowsOf g now ext room_of mid new def_now def_end owners_now forests_now Rest rest → ChangesRowsOf g before ext room_of old new def def_end owners forests All all
 
   -- before the first row
-  abbrev pub leads_none : (ext : Extents) (room_from : Entry → ℕ) (s : S) (def : TableDef) (owners : List Kind) (forests : TableForests) (All : List Spot → List Spot → Type 0) (all : PlainTable → PlainTable)
-      → IsReadyBetween g ext room_from s def owners forests → RowsLeadOn ext ext room_from s s def def owners forests All All all all
-  leads_none ext room_from s def owners forests All all ready =
-      record { owners_now = owners; forests_now = forests; ready = ready; rows_on = λ ext room_from new def_end longer changes. changes }
+  abbrev pub leads_none : (ext : Extents) (room_of : Entry → RoomNote) (s : S) (def : TableDef) (owners : List Kind) (forests : TableForests) (All : List Spot → List Spot → Type 0) (all : PlainTable → PlainTable)
+      → IsReadyBetween g ext room_of s def owners forests → RowsLeadOn ext ext room_of s s def def owners forests All All all all
+  leads_none ext room_of s def owners forests All all ready =
+      record { owners_now = owners; forests_now = forests; ready = ready; rows_on = λ ext room_of new def_end longer changes. changes }
 
   -- a row more
-  abbrev pub leads_more : (before mid next : Extents) (room_mid room_next : Entry → ℕ) (old middle new : S) (def def_mid : TableDef) (number : ℕ) (owners : List Kind) (forests : TableForests)
+  abbrev pub leads_more : (before mid next : Extents) (room_mid room_next : Entry → RoomNote) (old middle new : S) (def def_mid : TableDef) (number : ℕ) (owners : List Kind) (forests : TableForests)
       (One Left Rest All : List Spot → List Spot → Type 0) (change left rest all : PlainTable → PlainTable) (on : RowsLeadOn before mid room_mid old middle def def_mid owners forests Left All left all)
       → (one : ChangesRowsOf g mid next room_next middle new def_mid (with_next def_mid number) on.owners_now on.forests_now One change)
       → ((was between is : List Spot) → One was between → Rest between is → Left was is) → ((e : ℕ) → table_of_block (owner_of one.owners_now e) ≡ None → table_of_block (owner_of on.owners_now e) ≡ None)
@@ -134,13 +147,13 @@ module _ {S : Type 0} (g : Ghosts S) where
     owners_now = one.owners_now;
     forests_now = one.forests_now;
     ready = one.now;
-    rows_on = λ ext room_from last def_end still_longer more.
-        on.rows_on ext room_from last def_end (omega (arith, longer, still_longer))
-        (rows_then mid next ext room_next room_from middle new last def_mid def_end number on.owners_now on.forests_now One Rest Left change rest left one more places no_block same longer still_longer);
+    rows_on = λ ext room_of last def_end still_longer more.
+        on.rows_on ext room_of last def_end (omega (arith, longer, still_longer))
+        (rows_then mid next ext room_next room_of middle new last def_mid def_end number on.owners_now on.forests_now One Rest Left change rest left one more places no_block same longer still_longer);
   }
 
   -- behind the last row
-  pub leads_all : (before now : Extents) (room_now : Entry → ℕ) (old new : S) (def def_now : TableDef) (owners : List Kind) (forests : TableForests) (Nowhere All : List Spot → List Spot → Type 0)
+  pub leads_all : (before now : Extents) (room_now : Entry → RoomNote) (old new : S) (def def_now : TableDef) (owners : List Kind) (forests : TableForests) (Nowhere All : List Spot → List Spot → Type 0)
       (none all : PlainTable → PlainTable) → RowsLeadOn before now room_now old new def def_now owners forests Nowhere All none all → ((spots : List Spot) → Nowhere spots spots)
       → ((table : PlainTable) → none table ≡ table) → ChangesRowsOf g before now room_now old new def def_now owners forests All all
   leads_all before now room_now old new def def_now owners forests Nowhere All none all on places same =

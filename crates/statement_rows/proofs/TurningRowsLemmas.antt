@@ -18,7 +18,7 @@ use Rattle.table_trees.specs.ToldPages.{PageList}
 use Rattle.mdc_sound.specs.Placing.{ChangesRows, Spot, block_slot_count}
 use Rattle.mdc_sound.specs.RunningFull.{UpdateRunsFull, UpdatingChanges}
 use Rattle.mdc_sound.specs.SoundDatabase.{IsSoundBetweenChanges, with_table_page}
-use Rattle.mdc_sound.specs.StandingTable.{IsTableSpace, TableForests, pages_of, spots_of}
+use Rattle.mdc_sound.specs.StandingTable.{IsTableSpace, RoomNote, TableForests, pages_of, spots_of}
 use Rattle.mdc_sound.specs.StandsForDatabase.{PagesStandFor, with_row}
 use Rattle.mdc_sound.specs.TableRows.{PlacedRow}
 use Rattle.cell_change.specs.RowChanges.{ChangesOneRow}
@@ -81,8 +81,8 @@ full_at_first ext pages def one rest rising full = record {
 
 -- ---- one row
 
-module _ {S : Type 0} (g : Ghosts S) (before now : Extents) (room_from room_now : Entry → ℕ) (old new : S) (def : TableDef) (one : Turned) (to : Rid) (owners : List Kind) (forests : TableForests)
-    (ready : IsReadyBetween g before room_from old def owners forests) (turns : ChangesOneRow g before now room_now old new def one.hit.row one.row one.hit.rid to owners forests) where
+module _ {S : Type 0} (g : Ghosts S) (before now : Extents) (room_of room_now : Entry → RoomNote) (old new : S) (def : TableDef) (one : Turned) (to : Rid) (owners : List Kind) (forests : TableForests)
+    (ready : IsReadyBetween g before room_of old def owners forests) (turns : ChangesOneRow g before now room_now old new def one.hit.row one.row one.hit.rid to owners forests) where
   abbrev pub one_turned : Works g old new → Touches g (IsTableSpace g before old def) old new → IsSoundBetweenChanges now def (pages_of g new)
       → ((db : Database) → PagesStandFor before (with_table_page def (pages_of g old)) db → PagesStandFor now (with_table_page def (pages_of g new)) (changed_at db def.number (with_row one.row)))
       → ChangesRowsOf g before now room_now old new def def owners forests (λ was is. ChangesRows def (block_slot_count before def) was (turned_row one ∷ []) is) (with_row one.row)
@@ -137,27 +137,27 @@ module _ {S : Type 0} (g : Ghosts S) (before now : Extents) (room_from room_now 
 module _ {S : Type 0} (g : Ghosts S) where
   -- Rows became others, and so the table is ready for the rest of these, which lie where they lay. With these all become others,
   -- and where they run full, all do.
-  pub record TurnsOn (before now : Extents) (room_now : Entry → ℕ) (old mid : S) (def : TableDef) (all rest : List Turned) (owners : List Kind) (forests : TableForests) : Type 0 where
+  pub record TurnsOn (before now : Extents) (room_now : Entry → RoomNote) (old mid : S) (def : TableDef) (all rest : List Turned) (owners : List Kind) (forests : TableForests) : Type 0 where
     pub rows : RowsLeadOn g before now room_now old mid def def owners forests (λ was is. ChangesRows def (block_slot_count now def) was (map turned_row rest) is)
         (λ was is. ChangesRows def (block_slot_count before def) was (map turned_row all) is) (with_rows (rows_of_turned rest)) (with_rows (rows_of_turned all))
     pub has : HasTheseRows g now mid def (places_of rest) rows.owners_now rows.forests_now
     pub full_on : UpdateRunsFull now (pages_of g mid) def (map turned_row rest) → UpdateRunsFull before (pages_of g old) def (map turned_row all)
 
-  pub turns_none : (ext : Extents) (room_from : Entry → ℕ) (s : S) (def : TableDef) (all : List Turned) (owners : List Kind) (forests : TableForests) → IsReadyBetween g ext room_from s def owners forests
-      → HasTheseRows g ext s def (places_of all) owners forests → TurnsOn ext ext room_from s s def all all owners forests
-  turns_none ext room_from s def all owners forests ready has = record {
-    rows = leads_none g ext room_from s def owners forests (λ was is. ChangesRows def (block_slot_count ext def) was (map turned_row all) is) (with_rows (rows_of_turned all)) ready;
+  pub turns_none : (ext : Extents) (room_of : Entry → RoomNote) (s : S) (def : TableDef) (all : List Turned) (owners : List Kind) (forests : TableForests) → IsReadyBetween g ext room_of s def owners forests
+      → HasTheseRows g ext s def (places_of all) owners forests → TurnsOn ext ext room_of s s def all all owners forests
+  turns_none ext room_of s def all owners forests ready has = record {
+    rows = leads_none g ext room_of s def owners forests (λ was is. ChangesRows def (block_slot_count ext def) was (map turned_row all) is) (with_rows (rows_of_turned all)) ready;
     has = has;
     full_on = λ full. full;
   }
 
-  pub turns_all : (before now : Extents) (room_now : Entry → ℕ) (old new : S) (def : TableDef) (all : List Turned) (owners : List Kind) (forests : TableForests) → TurnsOn before now room_now old new def all [] owners forests
+  pub turns_all : (before now : Extents) (room_now : Entry → RoomNote) (old new : S) (def : TableDef) (all : List Turned) (owners : List Kind) (forests : TableForests) → TurnsOn before now room_now old new def all [] owners forests
       → ChangesRowsOf g before now room_now old new def def owners forests (λ was is. ChangesRows def (block_slot_count before def) was (map turned_row all) is) (with_rows (rows_of_turned all))
   turns_all before now room_now old new def all owners forests on =
       leads_all g before now room_now old new def def owners forests (λ was is. ChangesRows def (block_slot_count now def) was [] is) (λ was is. ChangesRows def (block_slot_count before def) was (map turned_row all) is)
       (with_rows []) (with_rows (rows_of_turned all)) on.rows (λ spots. ChangesRows.none) (λ table. refl)
 
-  pub turns_more : (before mid next : Extents) (room_mid room_next : Entry → ℕ) (old middle new : S) (def : TableDef) (all : List Turned) (one : Turned) (rest : List Turned) (to : Rid) (owners : List Kind) (forests : TableForests)
+  pub turns_more : (before mid next : Extents) (room_mid room_next : Entry → RoomNote) (old middle new : S) (def : TableDef) (all : List Turned) (one : Turned) (rest : List Turned) (to : Rid) (owners : List Kind) (forests : TableForests)
       (on : TurnsOn before mid room_mid old middle def all (one ∷ rest) owners forests) → ChangesOneRow g mid next room_next middle new def one.hit.row one.row one.hit.rid to on.rows.owners_now on.rows.forests_now
       → Works g middle new → Touches g (IsTableSpace g mid middle def) middle new → IsSoundBetweenChanges next def (pages_of g new)
       → ((db : Database) → PagesStandFor mid (with_table_page def (pages_of g middle)) db → PagesStandFor next (with_table_page def (pages_of g new)) (changed_at db def.number (with_row one.row)))

@@ -18,7 +18,7 @@ use Rattle.entry_tree.proofs.ClaimsLemmas.{shape_none, shape_then}
 use Rattle.mdc_sound.specs.Placing.{ChangesRows, block_slot_count}
 use Rattle.mdc_sound.specs.RunningFull.{UpdateRunsFull}
 use Rattle.mdc_sound.specs.SoundDatabase.{IsSoundBetweenChanges, with_table_page}
-use Rattle.mdc_sound.specs.StandingTable.{BreaksExpected, IsReadyTable, IsTableSpace, TableForests, pages_of}
+use Rattle.mdc_sound.specs.StandingTable.{BreaksExpected, IsReadyTable, IsTableSpace, RoomNote, TableForests, pages_of}
 use Rattle.mdc_sound.specs.StandsForDatabase.{PagesStandFor, with_row}
 use Rattle.cell_change.specs.RowChanges.{ChangesOneRow, HasThisRow, row_in_place}
 use Rattle.cell_change.proofs.ChangedRowLemmas.{full_as}
@@ -29,46 +29,46 @@ use Rattle.statement_rows.proofs.RowDamageLemmas.{runs_on_rows}
 use Rattle.statement_rows.proofs.RowsThenLemmas.{rest_at}
 use Rattle.statement_rows.proofs.TurningRowsLemmas.{TurnsOn, full_at_first, places_of, rows_of_turned, turns_all, turns_more, turns_none}
 
-module _ {S : Type 0} (g : Ghosts S) (before : Extents) (room_from : Entry → ℕ) (old : S) (def : TableDef) (all : List Turned) where
+module _ {S : Type 0} (g : Ghosts S) (before : Extents) (room_of : Entry → RoomNote) (old : S) (def : TableDef) (all : List Turned) where
   -- that all the rows lie where they are said to
   abbrev pub HasAll : List Kind → TableForests → Type 0
   HasAll = HasTheseRows g before old def (places_of all)
 
   -- The rest of the rows is still to become others, and nothing failed so far.
-  pub record IsTurning (ext : Extents) (room_now : Entry → ℕ) (s : S) (rest : List Turned) : Type 0 where
+  pub record IsTurning (ext : Extents) (room_now : Entry → RoomNote) (s : S) (rest : List Turned) : Type 0 where
     pub shape : IsSameShape before ext
-    pub runs : RunsOverPages g AnyPage AnyPage (BreaksReady g before room_from old def HasAll) old s None
-    pub turns : (owners : List Kind) (forests : TableForests) → IsReadyBetween g before room_from old def owners forests → HasAll owners forests → TurnsOn g before ext room_now old s def all rest owners forests
+    pub runs : RunsOverPages g AnyPage AnyPage (BreaksReady g before room_of old def HasAll) old s None
+    pub turns : (owners : List Kind) (forests : TableForests) → IsReadyBetween g before room_of old def owners forests → HasAll owners forests → TurnsOn g before ext room_now old s def all rest owners forests
 
-  pub turning_begins : IsTurning before room_from old all
+  pub turning_begins : IsTurning before room_of old all
   turning_begins = record {
     shape = shape_none before;
     runs = runs_none;
-    turns = λ owners forests ready has. turns_none g before room_from old def all owners forests ready has;
+    turns = λ owners forests ready has. turns_none g before room_of old def all owners forests ready has;
   }
 
-  pub turning_ends : (ext : Extents) (room_now : Entry → ℕ) (s : S) (rest : List Turned) → IsTurning ext room_now s rest → rest ≡ [] → (owners : List Kind) (forests : TableForests)
-      → IsReadyBetween g before room_from old def owners forests → HasAll owners forests
+  pub turning_ends : (ext : Extents) (room_now : Entry → RoomNote) (s : S) (rest : List Turned) → IsTurning ext room_now s rest → rest ≡ [] → (owners : List Kind) (forests : TableForests)
+      → IsReadyBetween g before room_of old def owners forests → HasAll owners forests
       → ChangesRowsOf g before ext room_now old s def def owners forests (λ was is. ChangesRows def (block_slot_count before def) was (map turned_row all) is) (with_rows (rows_of_turned all))
   turning_ends ext room_now s rest turning none owners forests ready has =
       turns_all g before ext room_now old s def all owners forests (subst (λ list. TurnsOn g before ext room_now old s def all list owners forests) none (turning.turns owners forests ready has))
 
   -- the next row is the first of the rest
-  pub turning_at : (ext : Extents) (room_now : Entry → ℕ) (s : S) (i : ℕ) (one : Turned) → IsTurning ext room_now s (drop i all) → i < length all → one ≡ get_or all i one → IsTurning ext room_now s (one ∷ drop (i + 1) all)
+  pub turning_at : (ext : Extents) (room_now : Entry → RoomNote) (s : S) (i : ℕ) (one : Turned) → IsTurning ext room_now s (drop i all) → i < length all → one ≡ get_or all i one → IsTurning ext room_now s (one ∷ drop (i + 1) all)
   turning_at ext room_now s i one turning low is = subst (IsTurning ext room_now s) (rest_at all i one low is) turning
 
-  module _ (ext : Extents) (room_now : Entry → ℕ) (s : S) (one : Turned) (rest : List Turned) (turning : IsTurning ext room_now s (one ∷ rest)) where
+  module _ (ext : Extents) (room_now : Entry → RoomNote) (s : S) (one : Turned) (rest : List Turned) (turning : IsTurning ext room_now s (one ∷ rest)) where
     -- the call that makes the next row another, behind all calls before it
     pub runs_one : (new : S) (fault : Option StoreFault)
         → RunsOverPages g (IsTableSpace g ext s def) (IsTableSpace g ext s def) (BreaksExpected g ext s def (HasThisRow g ext s def one.hit.rid one.hit.row)) s new fault
-        → RunsOverPages g AnyPage AnyPage (BreaksReady g before room_from old def HasAll) old new fault
+        → RunsOverPages g AnyPage AnyPage (BreaksReady g before room_of old def HasAll) old new fault
     runs_one new fault =
-        runs_on_rows g before ext room_from old s def def def.next refl turning.shape HasAll (HasThisRow g ext s def one.hit.rid one.hit.row)
+        runs_on_rows g before ext room_of old s def def def.next refl turning.shape HasAll (HasThisRow g ext s def one.hit.rid one.hit.row)
         (λ owners forests ready has. let on = turning.turns owners forests ready has in (on.rows.owners_now, on.rows.forests_now, on.rows.ready.ready.stands, on.has.each.0))
         turning.runs
 
     -- the next row has become another
-    pub turning_goes_on : (then : Extents) (room_then : Entry → ℕ) (new : S) (to : Rid) → IsSameShape ext then
+    pub turning_goes_on : (then : Extents) (room_then : Entry → RoomNote) (new : S) (to : Rid) → IsSameShape ext then
         → RunsOverPages g (IsTableSpace g ext s def) (IsTableSpace g ext s def) (BreaksExpected g ext s def (HasThisRow g ext s def one.hit.rid one.hit.row)) s new None
         → ((owners : List Kind) (forests : TableForests) → IsReadyTable g ext room_now s def owners forests → HasThisRow g ext s def one.hit.rid one.hit.row owners forests
         → ChangesOneRow g ext then room_then s new def one.hit.row one.row one.hit.rid to owners forests)
@@ -95,7 +95,7 @@ module _ {S : Type 0} (g : Ghosts S) (before : Extents) (room_from : Entry → �
     pub full_at_one : (fault : SpaceFault)
         → IfFull fault (λ cap. (cap ≡ ext.cap) × ((owners : List Kind) (forests : TableForests) → IsReadyTable g ext room_now s def owners forests → HasThisRow g ext s def one.hit.rid one.hit.row owners forests
         → UpdateRunsFull ext (pages_of g s) def ((row_in_place one.hit.rid one.hit.row, one.row) ∷ [])))
-        → IfFull fault (λ cap. (cap ≡ before.cap) × ((owners : List Kind) (forests : TableForests) → IsReadyBetween g before room_from old def owners forests → HasAll owners forests
+        → IfFull fault (λ cap. (cap ≡ before.cap) × ((owners : List Kind) (forests : TableForests) → IsReadyBetween g before room_of old def owners forests → HasAll owners forests
         → UpdateRunsFull before (pages_of g old) def (map turned_row all)))
     full_at_one fault = full_as fault _ _ (λ cap is. (
       is.0 ∙ turning.shape.cap,

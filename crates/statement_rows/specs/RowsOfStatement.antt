@@ -12,7 +12,7 @@ use Rattle.extent_map.specs.declared.kind.Kind.{Kind}
 use Rattle.table_trees.specs.ToldPages.{PageList}
 use Rattle.mdc_sound.specs.Placing.{Spot}
 use Rattle.mdc_sound.specs.SoundDatabase.{IsSoundBetweenChanges, with_table_page}
-use Rattle.mdc_sound.specs.StandingTable.{ChangesTable, IsReadyTable, NamesTablePart, TableForests, pages_of, spots_of}
+use Rattle.mdc_sound.specs.StandingTable.{ChangesTable, IsReadyTable, NamesTablePart, RoomNote, TableForests, pages_of, spots_of}
 use Rattle.mdc_sound.specs.StandsForDatabase.{PagesStandFor, with_row, without_row}
 use Rattle.mdc_sound.specs.TablePages.{table_page_at}
 use Rattle.mdc_sound.specs.TableRows.{PlacedRow}
@@ -22,8 +22,8 @@ use Rattle.statement_rows.specs.OtherTables.{KeepsOtherTables}
 -- ---- before the statement
 
 -- The table is told to stand with right notes, and the pages are sound as they are between two changes of rows.
-pub record IsReadyBetween {S : Type 0} (g : Ghosts S) (ext : Extents) (room_from : Entry → ℕ) (s : S) (def : TableDef) (owners : List Kind) (forests : TableForests) : Type 0 where
-  pub ready : IsReadyTable g ext room_from s def owners forests
+pub record IsReadyBetween {S : Type 0} (g : Ghosts S) (ext : Extents) (room_of : Entry → RoomNote) (s : S) (def : TableDef) (owners : List Kind) (forests : TableForests) : Type 0 where
+  pub ready : IsReadyTable g ext room_of s def owners forests
   pub sound : IsSoundBetweenChanges ext def (pages_of g s)
 
 -- these rows lie in these places, by rising row number
@@ -40,12 +40,12 @@ pub record KeepsTablePages (old new : PageList) : Type 0 where
 -- Rows of one table were changed one after the other. The table stands with right notes, the pages are sound as they are between
 -- two changes of rows, the table's blocks were changed as `Places` says, and whatever plain database the pages stood for, they
 -- stand for the one whose table is changed so. Table pages stay, and so do the blocks of other tables.
-pub record ChangesRowsOf {S : Type 0} (g : Ghosts S) (before ext : Extents) (room_from : Entry → ℕ) (old new : S) (def def_now : TableDef)
+pub record ChangesRowsOf {S : Type 0} (g : Ghosts S) (before ext : Extents) (room_of : Entry → RoomNote) (old new : S) (def def_now : TableDef)
     (owners : List Kind) (forests : TableForests) (Places : List Spot → List Spot → Type 0) (change : PlainTable → PlainTable) : Type 0 where
   pub owners_now : List Kind
   pub forests_now : TableForests
   pub changes : ChangesTable g before ext old new def owners forests owners_now forests_now
-  pub now : IsReadyBetween g ext room_from new def_now owners_now forests_now
+  pub now : IsReadyBetween g ext room_of new def_now owners_now forests_now
   pub places : Places (spots_of g before old def owners forests) (spots_of g ext new def_now owners_now forests_now)
   pub stands_for : (db : Database) → PagesStandFor before (with_table_page def (pages_of g old)) db
       → PagesStandFor ext (with_table_page def_now (pages_of g new)) (changed_at db def.number change)
@@ -68,10 +68,10 @@ with_rows (row ∷ rows) table = with_rows rows (with_row row table)
 
 -- The damage is that of a part of the table, which wasn't told to stand with right notes in sound pages, with what is expected
 -- besides.
-pub record BreaksReady {S : Type 0} (g : Ghosts S) (ext : Extents) (room_from : Entry → ℕ) (s : S) (def : TableDef)
+pub record BreaksReady {S : Type 0} (g : Ghosts S) (ext : Extents) (room_of : Entry → RoomNote) (s : S) (def : TableDef)
     (Expected : List Kind → TableForests → Type 0) (damage : Damage) : Type 0 where
   pub names : NamesTablePart ext def damage
-  pub broken : (owners : List Kind) (forests : TableForests) → IsReadyBetween g ext room_from s def owners forests → Expected owners forests → ⊥
+  pub broken : (owners : List Kind) (forests : TableForests) → IsReadyBetween g ext room_of s def owners forests → Expected owners forests → ⊥
 
 -- nothing is expected besides
 abbrev pub NothingMore : List Kind → TableForests → Type 0

@@ -10,7 +10,7 @@ ghost use Rattle.table_page.specs.TableLimits.{IsTableDef};
 ghost use Rattle.mdc_sound.specs.Placing.{ChangesRows, block_slot_count};
 ghost use Rattle.mdc_sound.specs.RunningFull.{UpdateRunsFull};
 ghost use Rattle.mdc_sound.specs.StandingTable.{TableForests, pages_of};
-ghost use Rattle.cell_rooms.specs.RoomNotes.{room_from};
+ghost use Rattle.cell_rooms.specs.RoomNotes.{room_of};
 ghost use Rattle.statement_rows.specs.RowsOfStatement.{AnyPage, BreaksReady, ChangesRowsOf, HasTheseRows, IsReadyBetween, with_rows};
 ghost use Rattle.statement_rows.specs.Turning.{MayTurn, turned_row};
 
@@ -43,17 +43,17 @@ pub fn change_rows<P: Pages>(
     requires no_indexes { def.now.indexes ≡ [] }
     requires may { AllByRecursion (MayTurn def.now) turned.now }
     requires going { (P.state pages.old).ended ≡ false }
-    ensures changes { OnOk result ((owners : List Kind) (forests : TableForests) → IsReadyBetween P.Pages ext.old (room_from rooms.old) pages.old def.now owners forests
+    ensures changes { OnOk result ((owners : List Kind) (forests : TableForests) → IsReadyBetween P.Pages ext.old (room_of rooms.old) pages.old def.now owners forests
         → HasTheseRows P.Pages ext.old pages.old def.now (map (λ turned. (turned_row turned).0) turned.now) owners forests
-        → ChangesRowsOf P.Pages ext.old ext.new (room_from rooms.new) pages.old pages.new def.now def.now owners forests
+        → ChangesRowsOf P.Pages ext.old ext.new (room_of rooms.new) pages.old pages.new def.now def.now owners forests
         (λ was is. ChangesRows def.now (block_slot_count ext.old def.now) was (map turned_row turned.now) is) (with_rows (map (λ turned. turned.row) turned.now))) }
     ensures full { IfErr result (λ fault. IfFull fault (λ cap. (cap ≡ ext.old.cap)
-        × ((owners : List Kind) (forests : TableForests) → IsReadyBetween P.Pages ext.old (room_from rooms.old) pages.old def.now owners forests
+        × ((owners : List Kind) (forests : TableForests) → IsReadyBetween P.Pages ext.old (room_of rooms.old) pages.old def.now owners forests
         → HasTheseRows P.Pages ext.old pages.old def.now (map (λ turned. (turned_row turned).0) turned.now) owners forests
         → UpdateRunsFull ext.old (pages_of P.Pages pages.old) def.now (map turned_row turned.now)))) }
     ensures shape { IsSameShape ext.old ext.new }
     ensures runs { RunsOverPages P.Pages AnyPage AnyPage
-        (BreaksReady P.Pages ext.old (room_from rooms.old) pages.old def.now (HasTheseRows P.Pages ext.old pages.old def.now (map (λ turned. (turned_row turned).0) turned.now)))
+        (BreaksReady P.Pages ext.old (room_of rooms.old) pages.old def.now (HasTheseRows P.Pages ext.old pages.old def.now (map (λ turned. (turned_row turned).0) turned.now)))
         pages.old pages.new (store_fault_in store_part_of result) }
 {
     for one in turned {

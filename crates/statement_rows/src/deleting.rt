@@ -8,7 +8,7 @@ ghost use Rattle.table_page.specs.TableLimits.{IsTableDef};
 ghost use Rattle.block_rows.specs.HeldRows.{placed_row};
 ghost use Rattle.mdc_sound.specs.Placing.{TakesRows};
 ghost use Rattle.mdc_sound.specs.StandingTable.{TableForests};
-ghost use Rattle.cell_rooms.specs.RoomNotes.{room_from};
+ghost use Rattle.cell_rooms.specs.RoomNotes.{room_of};
 ghost use Rattle.statement_rows.specs.RowsOfStatement.{AnyPage, BreaksReady, ChangesRowsOf, HasTheseRows, IsReadyBetween, without_rows};
 
 use cell_change::delete_row;
@@ -31,14 +31,14 @@ pub fn delete_rows<P: Pages>(
     requires defined { IsTableDef def.now.number def.now }
     requires no_indexes { def.now.indexes ≡ [] }
     requires going { (P.state pages.old).ended ≡ false }
-    ensures deletes { OnOk result ((owners : List Kind) (forests : TableForests) → IsReadyBetween P.Pages ext.old (room_from rooms.old) pages.old def.now owners forests
+    ensures deletes { OnOk result ((owners : List Kind) (forests : TableForests) → IsReadyBetween P.Pages ext.old (room_of rooms.old) pages.old def.now owners forests
         → HasTheseRows P.Pages ext.old pages.old def.now (map placed_row hits.now) owners forests
-        → ChangesRowsOf P.Pages ext.old ext.new (room_from rooms.new) pages.old pages.new def.now def.now owners forests
+        → ChangesRowsOf P.Pages ext.old ext.new (room_of rooms.new) pages.old pages.new def.now def.now owners forests
         (λ was is. TakesRows was (map placed_row hits.now) is) (without_rows (map (λ hit. hit.row) hits.now))) }
     ensures count { length (P.state pages.new).work ≡ length (P.state pages.old).work }
     ensures shape { IsSameShape ext.old ext.new }
     ensures runs { RunsOverPages P.Pages AnyPage AnyPage
-        (BreaksReady P.Pages ext.old (room_from rooms.old) pages.old def.now (HasTheseRows P.Pages ext.old pages.old def.now (map placed_row hits.now))) pages.old pages.new (fault_of result) }
+        (BreaksReady P.Pages ext.old (room_of rooms.old) pages.old def.now (HasTheseRows P.Pages ext.old pages.old def.now (map placed_row hits.now))) pages.old pages.new (fault_of result) }
 {
     for hit in hits {
         delete_row(alloc, def, ext, rooms, pages, hit.rid, &hit.row)?;

@@ -12,7 +12,7 @@ ghost use Rattle.mdc_sound.specs.FittingRows.{RowFits};
 ghost use Rattle.mdc_sound.specs.Placing.{PutsRows, block_slot_count};
 ghost use Rattle.mdc_sound.specs.RunningFull.{InsertRunsFull};
 ghost use Rattle.mdc_sound.specs.StandingTable.{TableForests, pages_of};
-ghost use Rattle.cell_rooms.specs.RoomNotes.{room_from};
+ghost use Rattle.cell_rooms.specs.RoomNotes.{room_of};
 ghost use Rattle.statement_rows.specs.RowsOfStatement.{AnyPage, BreaksReady, ChangesRowsOf, IsReadyBetween, NothingMore};
 
 use cell_change::insert_row;
@@ -39,16 +39,16 @@ pub fn insert_rows<P: Pages>(
     requires fit { AllByRecursion (RowFits def.old) (numbered def.old.next tuples) }
     requires more { def.old.next + length tuples < 2 ^ 64 }
     requires going { (P.state pages.old).ended ≡ false }
-    ensures inserts { OnOk result ((owners : List Kind) (forests : TableForests) → IsReadyBetween P.Pages ext.old (room_from rooms.old) pages.old def.old owners forests
-        → ChangesRowsOf P.Pages ext.old ext.new (room_from rooms.new) pages.old pages.new def.old def.new owners forests
+    ensures inserts { OnOk result ((owners : List Kind) (forests : TableForests) → IsReadyBetween P.Pages ext.old (room_of rooms.old) pages.old def.old owners forests
+        → ChangesRowsOf P.Pages ext.old ext.new (room_of rooms.new) pages.old pages.new def.old def.new owners forests
         (λ was is. PutsRows def.old (block_slot_count ext.old def.old) was (numbered def.old.next tuples) is) (appended tuples)) }
     ensures next { OnOk result (def.new ≡ record def.old { next = def.old.next + length tuples }) }
     ensures kept { OnErr result (def.new ≡ def.old) }
     ensures full { IfErr result (λ fault. IfFull fault (λ cap. (cap ≡ ext.old.cap)
-        × ((owners : List Kind) (forests : TableForests) → IsReadyBetween P.Pages ext.old (room_from rooms.old) pages.old def.old owners forests
+        × ((owners : List Kind) (forests : TableForests) → IsReadyBetween P.Pages ext.old (room_of rooms.old) pages.old def.old owners forests
         → InsertRunsFull ext.old (pages_of P.Pages pages.old) def.old (numbered def.old.next tuples)))) }
     ensures shape { IsSameShape ext.old ext.new }
-    ensures runs { RunsOverPages P.Pages AnyPage AnyPage (BreaksReady P.Pages ext.old (room_from rooms.old) pages.old def.old NothingMore) pages.old pages.new (store_fault_in store_part_of result) }
+    ensures runs { RunsOverPages P.Pages AnyPage AnyPage (BreaksReady P.Pages ext.old (room_of rooms.old) pages.old def.old NothingMore) pages.old pages.new (store_fault_in store_part_of result) }
 {
     let first = def.next;
     let inserted = insert_each(alloc, def, ext, rooms, pages, tuples);
@@ -72,16 +72,16 @@ fn insert_each<P: Pages>(
     requires fit { AllByRecursion (RowFits def.old) (numbered def.old.next tuples) }
     requires more { def.old.next + length tuples < 2 ^ 64 }
     requires going { (P.state pages.old).ended ≡ false }
-    ensures inserts { OnOk result ((owners : List Kind) (forests : TableForests) → IsReadyBetween P.Pages ext.old (room_from rooms.old) pages.old def.old owners forests
-        → ChangesRowsOf P.Pages ext.old ext.new (room_from rooms.new) pages.old pages.new def.old def.new owners forests
+    ensures inserts { OnOk result ((owners : List Kind) (forests : TableForests) → IsReadyBetween P.Pages ext.old (room_of rooms.old) pages.old def.old owners forests
+        → ChangesRowsOf P.Pages ext.old ext.new (room_of rooms.new) pages.old pages.new def.old def.new owners forests
         (λ was is. PutsRows def.old (block_slot_count ext.old def.old) was (numbered def.old.next tuples) is) (appended tuples)) }
     ensures next { OnOk result (def.new ≡ record def.old { next = def.old.next + length tuples }) }
     ensures raised { def.new ≡ record def.old { next = def.new.next } }
     ensures full { IfErr result (λ fault. IfFull fault (λ cap. (cap ≡ ext.old.cap)
-        × ((owners : List Kind) (forests : TableForests) → IsReadyBetween P.Pages ext.old (room_from rooms.old) pages.old def.old owners forests
+        × ((owners : List Kind) (forests : TableForests) → IsReadyBetween P.Pages ext.old (room_of rooms.old) pages.old def.old owners forests
         → InsertRunsFull ext.old (pages_of P.Pages pages.old) def.old (numbered def.old.next tuples)))) }
     ensures shape { IsSameShape ext.old ext.new }
-    ensures runs { RunsOverPages P.Pages AnyPage AnyPage (BreaksReady P.Pages ext.old (room_from rooms.old) pages.old def.old NothingMore) pages.old pages.new (store_fault_in store_part_of result) }
+    ensures runs { RunsOverPages P.Pages AnyPage AnyPage (BreaksReady P.Pages ext.old (room_of rooms.old) pages.old def.old NothingMore) pages.old pages.new (store_fault_in store_part_of result) }
 {
     for values in tuples.into_vec() {
         let row = Row {

@@ -20,6 +20,7 @@ use Rattle.entry_tree.specs.declared.tree.Tree.{Tree}
 use Rattle.table_page.specs.TableLimits.{IsTableDef}
 use Rattle.block_index.specs.Cells.{index_listings}
 use Rattle.block_map.specs.BlockMaps.{BreaksMapTree, HasRow, IsMapForm}
+use Rattle.block_map.specs.Counting.{used_row}
 use Rattle.block_map.specs.MapChanges.{ChangesRowTo}
 use Rattle.block_map.specs.MapLines.{free_blocks, map_entry}
 use Rattle.block_map.specs.MapRows.{row_entry}
@@ -35,7 +36,7 @@ use Rattle.mdc_sound.specs.RunningFull.{block_changes, block_listings}
 use Rattle.mdc_sound.specs.StandingTable.{StandsTable, TableForests, pages_of}
 use Rattle.mdc_sound.proofs.DefinitionTreesLemmas.{has_block_indexes}
 use Rattle.table_blocks.specs.AroundBlock.{StandsAround}
-use Rattle.table_blocks.specs.BlockNow.{IsOwnBlock, free_line, used_line}
+use Rattle.table_blocks.specs.BlockNow.{IsOwnBlock, free_line}
 use Rattle.table_blocks.proofs.AroundLemmas.{own_still}
 use Rattle.table_blocks.proofs.BlockSpaceLemmas.{line_makes, rows_same}
 use Rattle.table_blocks.proofs.FillBegunLemmas.{PutsFirstRow, changes_put, row_keys}
@@ -90,7 +91,7 @@ module _ {S : Type 0} {g : Ghosts S} (ext : Extents) (def : TableDef) (block : �
 -- ---- a Free block
 
 module _ {S : Type 0} {g : Ghosts S} (ext : Extents) (old : S) (def : TableDef) (block : ℕ) (tree : Tree) (root : tree.root ≡ def.roots.map) (width : tree.width ≡ 7) (defined : IsTableDef def.number def)
-    (mid : S) (line : BlockRow) (low : block < ext.cap) (is : line ≡ used_line block 1) (there : (t : Forest) → HoldsTree g old tree t → HasRow (free_line block) t)
+    (mid : S) (line : BlockRow) (low : block < ext.cap) (is : line ≡ used_row block 1) (there : (t : Forest) → HoldsTree g old tree t → HasRow (free_line block) t)
     (changes : (t : Forest) → HoldsTree g old tree t → IsMapForm t → ChangesRowTo g mid tree (free_line block) line t) (count : length (g.state mid).work ≡ length (g.state old).work)
     (run : RunsOverPages g (IsTreePage g old tree) (IsTreePage g old tree) (BreaksMapTree g old tree (HasRow (free_line block))) old mid None) where
   -- its line becomes that of a block with one row

@@ -1,6 +1,6 @@
 -- Slots with one row, in the lowest.
-use Rattle.std.proofs.Common.{◌≡◌, ◌<◌, ◌+◌, ℕ, zero, suc, List, refl, ap, arith, sym, ◌∙◌, subst}
-use Rattle.std.specs.Prelude.{Contains, Option, Some, None, cond, is_some, replicate, slice_set}
+use Rattle.std.proofs.Common.{◌≡◌, ◌<◌, ◌+◌, ℕ, zero, suc, refl, ap, arith, sym, ◌∙◌, subst}
+use Rattle.std.specs.Prelude.{Contains, Some, None, cond, is_some, replicate, slice_set}
 use Rattle.std.proofs.lemmas.List.Sums.{sum_by-cons}
 use Rattle.std.proofs.lemmas.Option.{same_Some}
 use Rattle.mdc_ast.specs.declared.definition.TableDef.{TableDef}

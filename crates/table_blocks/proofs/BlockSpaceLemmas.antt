@@ -23,15 +23,16 @@ use Rattle.table_trees.proofs.KeptOwnersLemmas.{used_no_block}
 use Rattle.table_trees.proofs.TableTreesLemmas.{same_tree_place}
 use Rattle.mdc_sound.specs.StandingTable.{IsPageOfBlock, TableForests}
 use Rattle.table_blocks.specs.AroundBlock.{StandsAround}
-use Rattle.table_blocks.specs.BlockNow.{IsOwnBlock, used_line}
+use Rattle.table_blocks.specs.BlockNow.{IsOwnBlock}
 use Rattle.table_blocks.proofs.LineStepLemmas.{map_around}
 use Rattle.table_trees.proofs.SpaceStepsLemmas.{amendment_makes, space_stays}
+use Rattle.block_map.specs.Counting.{used_row}
 
 -- the line of a Used block, by what it says
-pub line_used : (line : BlockRow) (block rows : ℕ) → line.block ≡ block → line.state ≡ state.Used → line.rows ≡ rows → line ≡ used_line block rows
+pub line_used : (line : BlockRow) (block rows : ℕ) → line.block ≡ block → line.state ≡ state.Used → line.rows ≡ rows → line ≡ used_row block rows
 line_used line block rows here used counted =
     ap (λ (b : ℕ). record { block = b; state = line.state; rows = line.rows }) here
-    ∙ ap (λ s. record { block = block; state = s; rows = line.rows }) used ∙ ap (used_line block) counted
+    ∙ ap (λ s. record { block = block; state = s; rows = line.rows }) used ∙ ap (used_row block) counted
 
 module _ {S : Type 0} {g : Ghosts S} where
   -- a call on the rows of the block

@@ -4,19 +4,15 @@ use Rattle.std.specs.Prelude.{Contains, Option, Some, None, is_none, is_some, sl
 use Rattle.std.specs.List.{list_all}
 use Rattle.std.proofs.lemmas.Bool.{cases_lt}
 use Rattle.std.proofs.lemmas.List.{get_or_past}
-use Rattle.std.proofs.lemmas.List.Sums.{sum_by-cons, sum_by-set}
+use Rattle.std.proofs.lemmas.List.Sums.{sum_by-set}
 use Rattle.mdc_values.specs.declared.value.Value.{Value}
 use Rattle.mdc_ast.specs.declared.definition.TableDef.{TableDef}
 use Rattle.mdc_ast.specs.declared.row.Row.{Row}
 use Rattle.row_page.specs.RowPage.{count_rows}
-use Rattle.block_map.specs.MapLines.{map_line}
-use Rattle.block_map.specs.MapRows.{row_entry}
-use Rattle.block_map.specs.declared.row.BlockRow.{BlockRow}
 use Rattle.block_map.proofs.MapLinesLemmas.{contains_cases, contains_more}
 use Rattle.mdc_sound.proofs.SlotRowsLemmas.{count_slot}
 use Rattle.mdc_sound.specs.Placing.{left_with}
 use Rattle.mdc_sound.specs.Placing.Spot.{FreeBlock, UsedBlock}
-use Rattle.mdc_sound.specs.TableRows.{rows_from_slot}
 use Rattle.table_blocks.specs.BlockNow.{AreOfCell}
 
 -- ---- how many rows there are

@@ -21,6 +21,7 @@ use Rattle.key_codec.specs.Keys.{key_bytes}
 use Rattle.entry_tree.specs.EntryBounds.{IsEntryOf}
 use Rattle.entry_tree.specs.Forest.{Forest, leaf_entries}
 use Rattle.block_map.specs.BlockMaps.{HasRow}
+use Rattle.block_map.specs.Counting.{used_row}
 use Rattle.block_map.specs.MapLines.{map_line, mapped_blocks, free_blocks, used_blocks}
 use Rattle.block_map.specs.MapRows.{row_entry}
 use Rattle.block_map.specs.declared.row.BlockRow.{BlockRow}
@@ -45,7 +46,7 @@ use Rattle.mdc_sound.proofs.MappedBlocksLemmas.{entry_rows, small_block}
 use Rattle.mdc_sound.proofs.SlotRowsLemmas.{few_rows, length-rows_from_slot, placed_in_slot, slot_of_placed, some_row}
 use Rattle.table_blocks.specs.AroundBlock.{IsIndexAround, IsLineSound, StandsAround, block_in_entry}
 use Rattle.table_blocks.specs.BlockChanges.{ChangesAround, IsSpotChange, TurnsSpot, spot_in}
-use Rattle.table_blocks.specs.BlockNow.{IsFreeNow, IsListedIn, IsUnlistedIn, IsUsedNow, free_line, used_line}
+use Rattle.table_blocks.specs.BlockNow.{IsFreeNow, IsListedIn, IsUnlistedIn, IsUsedNow, free_line}
 
 -- ---- the block indexes
 
@@ -193,7 +194,7 @@ module _ {S : Type 0} {g : Ghosts S} (ext : Extents) (s : S) (def : TableDef) (o
 
   module _ (block : ℕ) (values : List Value) (slots : List (Option Row)) (st : StandsAround g ext s def owners forests block) (now : IsUsedNow g ext s def owners forests block values slots) where
     abbrev its_line : BlockRow
-    its_line = used_line block (count_rows slots)
+    its_line = used_row block (count_rows slots)
 
     its_entry : (x : Entry) → IsEntryOf x (leaf_entries forests.map) → (map_line x).block ≡ block → row_entry its_line ≡ x
     its_entry x there same = row_of_block its_line x block st now.own.within now.line refl there same

@@ -16,29 +16,27 @@ use Rattle.row_page.specs.RowPage.{count_rows}
 use Rattle.entry_tree.specs.Forest.{Forest}
 use Rattle.entry_tree.specs.HeldTrees.{HoldsTree, IsTreePage}
 use Rattle.entry_tree.specs.declared.tree.Tree.{Tree}
-use Rattle.block_map.specs.BlockMaps.{BreaksMapTree, HasRow, IsMapForm}
+use Rattle.block_map.specs.BlockMaps.{HasRow, IsMapForm}
+use Rattle.block_map.specs.Counting.{used_row}
 use Rattle.block_map.specs.MapChanges.{ChangesRowTo}
 use Rattle.block_map.specs.MapLines.{map_entry}
 use Rattle.block_map.specs.MapRows.{row_entry}
 use Rattle.block_map.specs.declared.row.BlockRow.{BlockRow}
 use Rattle.block_map.specs.declared.state.BlockState.TheVariants as state
-use Rattle.block_rows.specs.HeldRows.{BreaksRows}
 use Rattle.table_page.specs.TableLimits.{IsTableDef}
-use Rattle.table_trees.specs.SpaceChanges.{IsSameSpace, MakesChange, MakesChanges}
+use Rattle.table_trees.specs.SpaceChanges.{IsSameSpace, MakesChanges}
 use Rattle.table_trees.specs.SpaceChanges.SpaceChange.{AmendEntry}
 use Rattle.table_trees.specs.TableTrees.{map_place}
 use Rattle.mdc_sound.specs.Placing.{Spot}
 use Rattle.mdc_sound.specs.Placing.Spot.{OtherBlock}
 use Rattle.mdc_sound.specs.RunningFull.{block_changes}
 use Rattle.mdc_sound.specs.StandingTable.{HasRowAt, IsPageOfBlock, StandsTable, TableForests, pages_of, spots_of}
-use Rattle.table_blocks.specs.BlockNow.{used_line}
-use Rattle.table_blocks.specs.BlockSteps.{HasRoomAt}
-use Rattle.table_blocks.proofs.AroundLemmas.{own_still}
-use Rattle.table_blocks.proofs.BlockSpaceLemmas.{line_makes, line_used, rows_same}
-use Rattle.table_blocks.proofs.FillingLemmas.{moves, opens}
-use Rattle.table_blocks.proofs.LineStepLemmas.{map_around}
+use Rattle.table_blocks.specs.BlockChanges.{BreaksAround}
+use Rattle.table_blocks.specs.BlockSteps.{HasEmptySlot, HasRoomAt}
+use Rattle.table_blocks.proofs.BlockSpaceLemmas.{line_used, rows_same}
+use Rattle.table_blocks.proofs.CountedSpaceLemmas.{counted_space}
+use Rattle.table_blocks.proofs.FillingLemmas.{opens}
 use Rattle.table_blocks.proofs.OpeningLemmas.{around_block, used_spot_now}
-use Rattle.table_trees.proofs.SpaceChainsLemmas.{changes_to, one_change}
 
 module _ {S : Type 0} {g : Ghosts S} where
   -- a row in the place of another
@@ -52,28 +50,22 @@ module _ {S : Type 0} {g : Ghosts S} where
       (touches_then (touches_same told same) run.touches) (run.works.steady.is_told ∙ told) (count ∙ ap length same)
 
   -- a row more: the block's line, and then the row
-  module _ (ext : Extents) (old : S) (def : TableDef) (line : BlockRow) (row : Row) (defined : IsTableDef def.number def) (low : line.block < ext.cap) (few : line.rows < 2 ^ 16) (tree : Tree) (root : tree.root ≡ def.roots.map)
-      (width : tree.width ≡ 7) (mid : S) (rows : ℕ) (more : rows ≡ line.rows + 1) (there : (t : Forest) → HoldsTree g old tree t → HasRow line t)
-      (changes : (t : Forest) → HoldsTree g old tree t → IsMapForm t → ChangesRowTo g mid tree line (used_line line.block rows) t) (count : length (g.state mid).work ≡ length (g.state old).work)
-      (replaced : RunsOverPages g (IsTreePage g old tree) (IsTreePage g old tree) (BreaksMapTree g old tree (HasRow line)) old mid None) where
-    pub filling_space : (new : S) → line.state ≡ state.Used → RunsOverPages g (IsPageOfBlock ext line.block) (IsPageOfBlock ext line.block) (BreaksRows g ext mid def line.block) mid new None
+  module _ {Any : Damage → Type 0} (ext : Extents) (old : S) (def : TableDef) (line : BlockRow) (defined : IsTableDef def.number def) (low : line.block < ext.cap) (few : line.rows < 2 ^ 16) (tree : Tree)
+      (root : tree.root ≡ def.roots.map) (width : tree.width ≡ 7) (mid : S) (rows : ℕ) (there : (t : Forest) → HoldsTree g old tree t → HasRow line t)
+      (changes : (t : Forest) → HoldsTree g old tree t → IsMapForm t → ChangesRowTo g mid tree line (used_row line.block rows) t) (count : length (g.state mid).work ≡ length (g.state old).work)
+      (replaced : RunsOverPages g (IsTreePage g old tree) (IsTreePage g old tree) Any old mid None) where
+    pub filling_space : (row : Row) (new : S) → rows ≡ line.rows + 1 → line.state ≡ state.Used → RunsOverPages g (IsPageOfBlock ext line.block) (IsPageOfBlock ext line.block) (BreaksAround g ext mid def line.block (HasEmptySlot g ext mid def line.block)) mid new None
         → length (g.state new).work ≡ length (g.state mid).work
         → (owners : List Kind) (forests : TableForests) → StandsTable g ext old def owners forests → HasRoomAt g ext old def line row owners forests
         → MakesChanges ext (pages_of g old) (block_changes def row line.block (slice_index_or (spots_of g ext old def owners forests) line.block OtherBlock)) (pages_of g new)
-    filling_space new used run same_count owners forests st at =
-        let o = opens ext old def line row defined low few owners forests st at in
-        let m = (moves ext old def line row defined low few tree root width mid rows more there changes count replaced owners forests o.around o.now.own).0 in
-        let held = (map_around tree def root width ext old owners forests line.block o.around).held in
+    filling_space row new more used run same_count owners forests st at =
+        let o = (opens ext old def line defined low few row owners forests st at).0.here in
         let n = count_rows o.slots in
         let was : row_entry line ≡ map_entry line.block 1 n = ap row_entry (line_used line line.block n refl used o.counted) in
-        let is : row_entry (used_line line.block rows) ≡ map_entry line.block 1 (n + 1) = ap (map_entry line.block 1) (omega (arith, more, o.counted)) in
-        let first : MakesChange ext (pages_of g old) (AmendEntry (map_place def) (row_entry line) (row_entry (used_line line.block rows))) (pages_of g mid) =
-        line_makes tree def root width ext old mid line.block line (used_line line.block rows) owners forests o.around (changes forests.map held o.around.map.form) replaced.touches replaced.works.steady.is_told count in
-        let named : MakesChange ext (pages_of g old) (AmendEntry (map_place def) (map_entry line.block 1 n) (map_entry line.block 1 (n + 1))) (pages_of g mid) =
-        subst (λ (y : Entry). MakesChange ext (pages_of g old) (AmendEntry (map_place def) (map_entry line.block 1 n) y) (pages_of g mid)) is
-        (subst (λ (x : Entry). MakesChange ext (pages_of g old) (AmendEntry (map_place def) x (row_entry (used_line line.block rows))) (pages_of g mid)) was first) in
-        let own = own_still ext ext old mid def line.block owners m.owners_now forests m.forests_now m.changes o.now.own in
-        let same = rows_same ext mid new def line.block m.owners_now m.forests_now m.changes.stands own run.touches run.works.steady.is_told same_count in
-        subst (λ (spot : Spot). MakesChanges ext (pages_of g old) (block_changes def row line.block spot) (pages_of g new)) (sym o.was)
-        (changes_to ext (pages_of g old) (pages_of g mid) (pages_of g new) (AmendEntry (map_place def) (map_entry line.block 1 n) (map_entry line.block 1 (n + 1)) ∷ [])
-        (one_change ext (pages_of g old) (pages_of g mid) (AmendEntry (map_place def) (map_entry line.block 1 n) (map_entry line.block 1 (n + 1))) named) same)
+        let is : row_entry (used_row line.block rows) ≡ map_entry line.block 1 (n + 1) = ap (map_entry line.block 1) (omega (arith, more, o.counted)) in
+        let made =
+        counted_space ext old mid def line rows defined low tree root width there changes count replaced new run.touches run.works.steady.is_told same_count owners forests st o.now.own in
+        let named : MakesChanges ext (pages_of g old) (AmendEntry (map_place def) (map_entry line.block 1 n) (map_entry line.block 1 (n + 1)) ∷ []) (pages_of g new) =
+        subst (λ (y : Entry). MakesChanges ext (pages_of g old) (AmendEntry (map_place def) (map_entry line.block 1 n) y ∷ []) (pages_of g new)) is
+        (subst (λ (x : Entry). MakesChanges ext (pages_of g old) (AmendEntry (map_place def) x (row_entry (used_row line.block rows)) ∷ []) (pages_of g new)) was made) in
+        subst (λ (spot : Spot). MakesChanges ext (pages_of g old) (block_changes def row line.block spot) (pages_of g new)) (sym (o.was OtherBlock)) named

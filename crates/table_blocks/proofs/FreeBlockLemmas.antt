@@ -1,10 +1,7 @@
 -- A Free block comes into use: its line first, and then its rows and its entries in the block indexes.
-use Rattle.std.proofs.Common.{◌≡◌, ◌<◌, ◌≤◌, ◌*◌, ℕ, zero, suc, List, length, refl, ap, arith, sym, ◌∙◌, subst, ◌⊎◌, inl, inr}
-use Rattle.std.specs.Prelude.{Contains, Option, Some, None, cond, is_some, replicate, slice_set}
+use Rattle.std.proofs.Common.{◌≡◌, ◌<◌, ℕ, List, length, refl, ap, sym, ◌∙◌, subst, inl, inr}
+use Rattle.std.specs.Prelude.{Contains, Option, Some, None, replicate, slice_set}
 use Rattle.std.specs.List.{AllZip}
-use Rattle.std.proofs.Math.Nat.{mul-le-mul_left}
-use Rattle.std.proofs.lemmas.Bool.Decides.{nat_tests}
-use Rattle.std.proofs.lemmas.List.Sums.{sum_by-cons}
 use Rattle.mdc_ast.specs.declared.definition.TableDef.{TableDef}
 use Rattle.mdc_ast.specs.declared.row.Row.{Row}
 use Rattle.store_api.specs.RunsOverPages.{RunsOverPages}
@@ -17,26 +14,24 @@ use Rattle.extent_map.specs.declared.extents.Extents.{Extents}
 use Rattle.extent_map.specs.declared.fault.SpaceFault.{SpaceFault}
 use Rattle.extent_map.specs.declared.fault.SpaceFault.TheVariants.{Full, Store}
 use Rattle.extent_map.specs.declared.kind.Kind.{Kind}
-use Rattle.row_page.specs.RowPage.{count_rows, slot_count}
-use Rattle.row_page.proofs.RowPageLemmas.{slot_count-ge}
+use Rattle.row_page.specs.RowPage.{count_rows}
 use Rattle.entry_tree.specs.Forest.{Forest}
 use Rattle.entry_tree.specs.HeldTrees.{HoldsTree, IsTreePage}
 use Rattle.entry_tree.specs.declared.tree.Tree.{Tree}
 use Rattle.table_page.specs.TableLimits.{IsTableDef}
 use Rattle.block_map.specs.BlockMaps.{BreaksMapTree, HasRow, IsMapForm}
+use Rattle.block_map.specs.Counting.{used_row}
 use Rattle.block_map.specs.MapChanges.{ChangesRowTo}
 use Rattle.block_map.specs.MapLines.{free_blocks}
 use Rattle.block_map.specs.declared.row.BlockRow.{BlockRow}
-use Rattle.block_map.proofs.MapLinesLemmas.{contains_cases}
 use Rattle.table_trees.specs.TableTrees.{cell_parts, rising_parts}
-use Rattle.table_trees.specs.RowCells.{cell_values}
 use Rattle.mdc_sound.specs.FittingRows.{RowFits}
 use Rattle.mdc_sound.specs.Placing.{AfterClaims, block_slot_count}
 use Rattle.mdc_sound.specs.StandingTable.{BreaksExpected, IsSpaceOfBlock, MeetsNoFree, StandsTable, TableForests}
 use Rattle.mdc_sound.proofs.ChangedRowsLemmas.{some_slots}
 use Rattle.table_blocks.specs.AroundBlock.{StandsAround}
 use Rattle.table_blocks.specs.BlockChanges.{BreaksAround, IsSpaceAround}
-use Rattle.table_blocks.specs.BlockNow.{AreOfCell, IsOwnBlock, IsUnlisted, IsUnlistedIn, IsUsedNow, free_line, used_line}
+use Rattle.table_blocks.specs.BlockNow.{IsOwnBlock, IsUnlisted, IsUnlistedIn, IsUsedNow, free_line}
 use Rattle.table_blocks.specs.BlockSteps.{BeginsBlock, FillsBegun, HasFreeBlock, MovesLine, StepsTo}
 use Rattle.table_blocks.proofs.BegunSlotsLemmas.{begun_cell, begun_count}
 use Rattle.table_blocks.proofs.AroundLemmas.{around_then, breaks_of_table, own_still, runs_around_then}
@@ -71,7 +66,7 @@ module _ {S : Type 0} {g : Ghosts S} (ext : Extents) (old : S) (def : TableDef) 
 
   -- ---- and what comes then
 
-  module _ (mid : S) (line : BlockRow) (low : block < ext.cap) (is : line ≡ used_line block 1) (there : (t : Forest) → HoldsTree g old tree t → HasRow (free_line block) t)
+  module _ (mid : S) (line : BlockRow) (low : block < ext.cap) (is : line ≡ used_row block 1) (there : (t : Forest) → HoldsTree g old tree t → HasRow (free_line block) t)
       (changes : (t : Forest) → HoldsTree g old tree t → IsMapForm t → ChangesRowTo g mid tree (free_line block) line t) (count : length (g.state mid).work ≡ length (g.state old).work)
       (run : RunsOverPages g (IsTreePage g old tree) (IsTreePage g old tree) (BreaksMapTree g old tree (HasRow (free_line block))) old mid None) where
     line_there : (owners : List Kind) (forests : TableForests) → StandsAround g ext old def owners forests block → HasRow (free_line block) forests.map
@@ -136,8 +131,8 @@ module _ {S : Type 0} {g : Ghosts S} (ext : Extents) (old : S) (def : TableDef) 
         let used : IsUsedNow g ext_now new def fill.owners_now fill.forests_now block row.values slots = record {
           own = own_still ext ext_now old new def block owners fill.owners_now forests fill.forests_now whole now.own;
           line =
-              subst (HasRow (used_line block (count_rows slots))) (sym fill.same_map)
-              (subst (λ (l : BlockRow). HasRow l moves.forests_now.map) (is ∙ ap (used_line block) (sym counted)) moves.line_there);
+              subst (HasRow (used_row block (count_rows slots))) (sym fill.same_map)
+              (subst (λ (l : BlockRow). HasRow l moves.forests_now.map) (is ∙ ap (used_row block) (sym counted)) moves.line_there);
           rows = fill.rows;
           cell = begun_cell def (block_slot_count ext def) row some fits;
           listed = fill.listed (unlisted_still owners forests moves now.unlisted);

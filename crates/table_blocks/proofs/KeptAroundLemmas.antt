@@ -1,5 +1,5 @@
 -- What stays around a block where calls on the trees of its table changed its line in the block map, and nothing else of it.
-use Rattle.std.proofs.Common.{◌≡◌, ◌≢◌, ◌<◌, ◌≤◌, ◌+◌, ℕ, List, [], ◌∷◌, ◌++◌, Some, length, refl, ap, arith, sym, ◌∙◌, subst, inl, inr, get_or-set_same, get_or-set_other}
+use Rattle.std.proofs.Common.{◌≡◌, ◌≢◌, ◌<◌, ◌≤◌, ◌+◌, ℕ, List, [], ◌∷◌, ◌++◌, length, refl, ap, arith, sym, ◌∙◌, subst, inl, inr, get_or-set_same, get_or-set_other}
 use Rattle.std.specs.Prelude.{◌==◌, AllPairs, Contains, Option, cond}
 use Rattle.std.specs.List.{AllByRecursion, AllZip}
 use Rattle.std.proofs.lemmas.Bool.{cases_eq, cases_lt}
@@ -21,7 +21,7 @@ use Rattle.entry_tree.specs.Standing.{with_pages}
 use Rattle.block_map.specs.MapLines.{MapLine, map_line, map_lines, mapped_state, used_blocks}
 use Rattle.block_map.proofs.MapLinesLemmas.{named_in_state}
 use Rattle.table_trees.specs.TableTrees.{cell_parts, rising_parts, tree_places}
-use Rattle.table_trees.specs.TreesBeside.{ChangesTrees, GrowsPages, IsSpaceOfTrees, table_of_block}
+use Rattle.table_trees.specs.TreesBeside.{ChangesTrees, GrowsPages, IsSpaceOfTrees}
 use Rattle.table_trees.proofs.SideBySideLemmas.{block_page_apart}
 use Rattle.mdc_sound.specs.BlockRules.{IsBlockPageSound}
 use Rattle.table_trees.specs.RowCells.{AreOfOneCell}

@@ -1,9 +1,7 @@
 -- A claimed block comes into the block map and gets its first row: what the calls that follow each other say together.
-use Rattle.std.proofs.Common.{◌≡◌, ◌<◌, ◌+◌, ℕ, zero, suc, List, cond, length, max, inl, inr, refl, ap, sym, subst, ◌∙◌, arith}
+use Rattle.std.proofs.Common.{◌≡◌, ◌<◌, ◌+◌, ℕ, List, length, max, inl, inr, refl, ap, sym, subst, ◌∙◌}
 use Rattle.std.specs.List.{AllZip}
-use Rattle.std.specs.Prelude.{Contains, Option, Some, None, is_some, replicate, slice_set}
-use Rattle.std.proofs.lemmas.List.Sums.{sum_by-cons}
-use Rattle.std.proofs.lemmas.Option.{same_Some}
+use Rattle.std.specs.Prelude.{Option, Some, None, replicate, slice_set}
 use Rattle.mdc_ast.specs.declared.definition.TableDef.{TableDef}
 use Rattle.mdc_ast.specs.declared.row.Row.{Row}
 use Rattle.store_api.specs.Extents.{first_page_of}
@@ -26,18 +24,18 @@ use Rattle.entry_tree.specs.declared.tree.Tree.{Tree}
 use Rattle.entry_tree.proofs.ClaimsLemmas.{shape_then}
 use Rattle.table_page.specs.TableLimits.{IsTableDef}
 use Rattle.block_map.specs.BlockMaps.{HasRow}
+use Rattle.block_map.specs.Counting.{used_row}
 use Rattle.block_map.specs.MapChanges.{BreaksEntering}
 use Rattle.block_map.specs.MapRows.{row_entry}
 use Rattle.block_map.specs.declared.row.BlockRow.{BlockRow}
 use Rattle.table_trees.specs.TableTrees.{cell_parts, rising_parts}
-use Rattle.table_trees.specs.RowCells.{cell_values}
 use Rattle.mdc_sound.specs.FittingRows.{RowFits}
 use Rattle.mdc_sound.specs.Placing.{AfterClaims, begun_with, block_slot_count}
 use Rattle.mdc_sound.specs.StandingTable.{BreaksTable, IsTreeSpaceOfTable, MeetsNoFree, StandsTable, TableForests}
 use Rattle.mdc_sound.proofs.ChangedRowsLemmas.{some_slots}
 use Rattle.table_blocks.specs.AroundBlock.{StandsAround}
 use Rattle.table_blocks.specs.BlockChanges.{BreaksAround, IsSpaceAround, TurnsSpot}
-use Rattle.table_blocks.specs.BlockNow.{AreOfCell, IsOwnBlock, IsUnlisted, IsUnlistedIn, IsUnnamed, IsUsedNow, used_line}
+use Rattle.table_blocks.specs.BlockNow.{IsOwnBlock, IsUnlisted, IsUnlistedIn, IsUnnamed, IsUsedNow}
 use Rattle.table_blocks.specs.BlockSteps.{BeginsBlock, ClaimsBlock, FillsBegun, MovesLine}
 use Rattle.table_blocks.proofs.BegunSlotsLemmas.{begun_cell, begun_count}
 use Rattle.table_blocks.proofs.AroundLemmas.{around_then, own_still}
@@ -68,7 +66,7 @@ module _ {S : Type 0} {g : Ghosts S} (before : Extents) (old : S) (def : TableDe
 
 module _ {S : Type 0} {g : Ghosts S} (before mid_ext : Extents) (old mid : S) (def : TableDef) (block : ℕ) (defined : IsTableDef def.number def)
     (shape : IsSameShape before mid_ext) (claims : (owners : List Kind) (forests : TableForests) → StandsTable g before old def owners forests → ClaimsBlock g before mid_ext old mid def block owners forests)
-    (tree : Tree) (root : tree.root ≡ def.roots.map) (width : tree.width ≡ 7) (line : BlockRow) (is : line ≡ used_line block 1) where
+    (tree : Tree) (root : tree.root ≡ def.roots.map) (width : tree.width ≡ 7) (line : BlockRow) (is : line ≡ used_row block 1) where
   own_line : line.block ≡ block
   own_line = ap (λ (other : BlockRow). other.block) is
 
@@ -166,10 +164,10 @@ module _ {S : Type 0} {g : Ghosts S} (before mid_ext : Extents) (old mid : S) (d
         let slots = slice_set (replicate n None) 0 (Some row) in
         let some : 0 < n = some_slots two_ext def.number def defined in
         let all = around_then claims_change mid_ext two_ext ext mid two new def block (with_block owners block def.number) moves.owners_now fill.owners_now forests moves.forests_now fill.forests_now moves.changes fill.changes in
-        let is_line : line ≡ used_line block (count_rows slots) = is ∙ ap (used_line block) (sym (begun_count n row some)) in
+        let is_line : line ≡ used_row block (count_rows slots) = is ∙ ap (used_row block) (sym (begun_count n row some)) in
         let now : IsUsedNow g ext new def fill.owners_now fill.forests_now block row.values slots = record {
           own = own_still two_ext ext two new def block moves.owners_now fill.owners_now moves.forests_now fill.forests_now fill.changes own;
-          line = subst (λ (map_tree : Forest). HasRow (used_line block (count_rows slots)) map_tree) (sym fill.same_map) (subst (λ (other : BlockRow). HasRow other moves.forests_now.map) is_line moves.line_there);
+          line = subst (λ (map_tree : Forest). HasRow (used_row block (count_rows slots)) map_tree) (sym fill.same_map) (subst (λ (other : BlockRow). HasRow other moves.forests_now.map) is_line moves.line_there);
           rows = fill.rows;
           cell = begun_cell def n row some fits;
           listed = fill.listed (unlisted_then owners forests st);

@@ -34,12 +34,13 @@ use Rattle.mdc_sound.specs.Placing.Spot.{FreeExtent}
 use Rattle.mdc_sound.specs.RunningFull.{block_changes, block_listings}
 use Rattle.mdc_sound.specs.StandingTable.{StandsTable, TableForests, pages_of}
 use Rattle.table_blocks.specs.AroundBlock.{StandsAround}
-use Rattle.table_blocks.specs.BlockNow.{IsOwnBlock, used_line}
+use Rattle.table_blocks.specs.BlockNow.{IsOwnBlock}
 use Rattle.table_blocks.specs.BlockSteps.{ClaimsBlock, NewBlockRunsFull}
 use Rattle.table_blocks.proofs.LineStepLemmas.{map_around}
 use Rattle.table_blocks.proofs.NewBlockLemmas.{own_then, where_entered}
 use Rattle.table_trees.proofs.SpaceChainsLemmas.{asks_full, changes_shaped, changes_then, full_shaped, full_then, one_change}
 use Rattle.table_trees.proofs.SpaceStepsLemmas.{addition_asks, addition_makes, block_asks, block_makes}
+use Rattle.block_map.specs.Counting.{used_row}
 
 -- no extent is free
 pub claim_asks : {S : Type 0} (g : Ghosts S) (ext : Extents) (s : S) (def : TableDef) (row : Row) (fault : SpaceFault)
@@ -87,7 +88,7 @@ module _ {S : Type 0} {g : Ghosts S} (before mid_ext : Extents) (old mid : S) (d
 
   -- ---- its entry in the block map
 
-  module _ (tree : Tree) (root : tree.root ≡ def.roots.map) (width : tree.width ≡ 7) (line : BlockRow) (is : line ≡ used_line block 1) where
+  module _ (tree : Tree) (root : tree.root ≡ def.roots.map) (width : tree.width ≡ 7) (line : BlockRow) (is : line ≡ used_row block 1) where
     -- the entry of its line
     abbrev entered : SpaceChange
     entered = AddEntry (map_place def) (map_entry block 1 1)

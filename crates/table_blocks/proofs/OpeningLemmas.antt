@@ -1,15 +1,12 @@
 -- A table that stands does so around each of its blocks, and what it says of that block.
-use Rattle.std.proofs.Common.{◌≡◌, ◌≢◌, ◌<◌, ◌≤◌, ◌*◌, ◌/◌, ◌^◌, ℕ, zero, suc, List, [], ◌∷◌, Bool, true, false, refl, ap, arith, sym, ◌∙◌, subst, length}
-use Rattle.std.specs.Prelude.{◌&&◌, nat_le, AllPairs, Contains, Option, map, slice_index_or}
-use Rattle.std.specs.List.{AllByRecursion}
+use Rattle.std.proofs.Common.{◌≡◌, ◌≢◌, ◌<◌, ◌/◌, ◌^◌, ℕ, zero, suc, List, [], ◌∷◌, refl, ap, arith, sym, ◌∙◌, subst, length}
+use Rattle.std.specs.Prelude.{AllPairs, Contains, Option, map, slice_index_or}
 use Rattle.std.proofs.lemmas.Bool.{eq-eqb, eqb-true}
-use Rattle.std.proofs.lemmas.Bool.Decides.{nat_tests}
 use Rattle.mdc_words.specs.ByteOrder.{Entry}
 use Rattle.mdc_values.specs.declared.value.Value.{Value}
 use Rattle.mdc_ast.specs.declared.definition.KeyPart.{KeyPart}
 use Rattle.mdc_ast.specs.declared.definition.TableDef.{TableDef}
 use Rattle.mdc_ast.specs.declared.row.Row.{Row}
-use Rattle.store_api.specs.Extents.{is_extent_size}
 use Rattle.store_api.specs.declared.pages.Pages.{Ghosts}
 use Rattle.extent_map.specs.Owners.{owner_of}
 use Rattle.extent_map.specs.declared.extents.Extents.{Extents}
@@ -21,8 +18,9 @@ use Rattle.key_codec.specs.Keys.{ArePartsOf, key_bytes}
 use Rattle.row_page.specs.RowPage.{count_rows}
 use Rattle.entry_tree.specs.EntryBounds.{IsEntryOf}
 use Rattle.entry_tree.specs.Forest.{Forest, leaf_entries}
-use Rattle.block_map.specs.BlockMaps.{HasRow, IsMapForm}
-use Rattle.block_map.specs.MapLines.{MapLine, blocks_of_state, free_blocks, map_entry, map_line, map_lines, used_blocks}
+use Rattle.block_map.specs.BlockMaps.{HasRow}
+use Rattle.block_map.specs.Counting.{used_row}
+use Rattle.block_map.specs.MapLines.{blocks_of_state, free_blocks, map_entry, map_line, used_blocks}
 use Rattle.block_map.specs.MapRows.{row_entry, state_number}
 use Rattle.block_map.specs.declared.row.BlockRow.{BlockRow}
 use Rattle.block_map.proofs.MapLinesLemmas.{in_state_named, named_in_state, row_block}
@@ -44,7 +42,7 @@ use Rattle.mdc_sound.proofs.ElementsLemmas.{contains_flat, each_entry, entry_in,
 use Rattle.mdc_sound.proofs.MappedBlocksLemmas.{few_extents, map_form}
 use Rattle.mdc_sound.proofs.SlotRowsLemmas.{length-rows_from_slot, placed_in_slot, slot_of_placed}
 use Rattle.table_blocks.specs.AroundBlock.{IsIndexAround, IsLineSound, StandsAround, block_in_entry}
-use Rattle.table_blocks.specs.BlockNow.{AreOfCell, IsFreeNow, IsListed, IsListedIn, IsOwnBlock, IsUnlisted, IsUnlistedIn, IsUnnamed, IsUsedNow, free_line, used_line}
+use Rattle.table_blocks.specs.BlockNow.{AreOfCell, IsFreeNow, IsListed, IsListedIn, IsOwnBlock, IsUnlisted, IsUnlistedIn, IsUnnamed, IsUsedNow, free_line}
 use Rattle.table_blocks.proofs.BlockEntriesLemmas.{block_in_entry-block_entry}
 
 -- ---- the block map
@@ -288,7 +286,7 @@ module _ {S : Type 0} {g : Ghosts S} (ext : Extents) (s : S) (def : TableDef) (o
         one.placed.row.values,
         record {
           own = state_own 1 block used;
-          line = state_row (used_line block (count_rows (block_slots ext (pages_of g s) def block))) used (λ x at here is. (used_counted x block at here is).0);
+          line = state_row (used_row block (count_rows (block_slots ext (pages_of g s) def block))) used (λ x at here is. (used_counted x block at here is).0);
           rows = block_held block used;
           cell = block_of_cell block used one;
           listed = block_listed block used one;

@@ -4,10 +4,8 @@ use Rattle.std.specs.Prelude.{AllPairs, Contains, IsTrue, Option, Some, None, co
 use Rattle.std.specs.Int.{bit_at}
 use Rattle.std.specs.List.{AllByRecursion}
 use Rattle.std.proofs.lemmas.Bool.{cases_eq, cases_lt, eq-eqb, ne_eqb}
-use Rattle.std.proofs.lemmas.Bool.Decides.{nat_tests}
 use Rattle.std.proofs.lemmas.List.{get_or_past}
 use Rattle.std.proofs.lemmas.Nat.Bits.{bit_at-suc, bit_at_lowest}
-use Rattle.mdc_words.specs.ByteOrder.{Entry}
 use Rattle.mdc_ast.specs.declared.definition.TableDef.{TableDef}
 use Rattle.mdc_ast.specs.declared.row.Row.{Row}
 use Rattle.store_api.specs.Extents.{first_page_of}
@@ -21,12 +19,10 @@ use Rattle.extent_map.specs.declared.kind.Kind.TheVariants.{Free, Block, Index}
 use Rattle.extent_map.proofs.ExtentsLemmas.{extent_of-page, is_extent_page, place_of-page}
 use Rattle.extent_map.proofs.HoldsMapLemmas.{on_map}
 use Rattle.row_page.specs.RowPage.{IsRowPage, rows_of}
-use Rattle.entry_tree.specs.EntryBounds.{IsEntryOf}
 use Rattle.entry_tree.specs.Forest.{Forest, leaf_entries}
 use Rattle.block_map.specs.MapLines.{MapLine, map_line, map_lines, mapped_state, used_blocks}
 use Rattle.block_map.proofs.MapLinesLemmas.{entry_small, named_in_state}
 use Rattle.table_trees.specs.TreesBeside.{table_of_block}
-use Rattle.mdc_sound.specs.BlockRules.{AreBlockRowsSound, IsOfOneCell}
 use Rattle.table_trees.specs.RowCells.{AreOfOneCell}
 use Rattle.table_trees.specs.ToldPages.{PageList}
 use Rattle.mdc_sound.specs.FittingRows.{RowFits}
@@ -34,11 +30,10 @@ use Rattle.mdc_sound.specs.Placing.{Spot, spot_of_kind, spot_of_state}
 use Rattle.mdc_sound.specs.Placing.Spot.{FreeExtent, IndexExtent, OtherBlock}
 use Rattle.mdc_sound.specs.StandingTable.{pages_of}
 use Rattle.mdc_sound.specs.TableRows.{PlacedRow, block_slots, rows_in_block}
-use Rattle.mdc_sound.proofs.StandingTableLemmas.{block_below}
 use Rattle.mdc_sound.proofs.TableRowsLemmas.{KeepsBlockPages, block_slots-kept, rows_in_block-kept}
 use Rattle.block_rows.specs.HeldRows.{HoldsRows}
 use Rattle.table_blocks.specs.AroundBlock.{IsLineSound, IsMapAround, IsOtherRow}
-use Rattle.table_blocks.specs.BlockChanges.{IsSpotChange, spot_in}
+use Rattle.table_blocks.specs.BlockChanges.{IsSpotChange}
 
 -- ---- the table of a block
 

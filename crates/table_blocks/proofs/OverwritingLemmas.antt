@@ -1,54 +1,43 @@
 -- A row written over another of its cell, and the run that does so.
-use Rattle.std.proofs.Common.{◌≡◌, ◌<◌, ◌^◌, ◌++◌, ◌∷◌, ℕ, List, refl, ap, arith, sym, ◌∙◌, subst, length, set, get_or, ◌⊎◌, inl, inr}
+use Rattle.std.proofs.Common.{◌≡◌, ◌<◌, ℕ, List, ap, arith, sym, ◌∙◌, subst, length, set, get_or, ◌⊎◌, inl, inr}
 use Rattle.std.specs.Prelude.{Contains, Option, Some, None, cond, is_some, slice_index_or}
 use Rattle.std.proofs.lemmas.Bool.{cases_eq}
 use Rattle.std.proofs.lemmas.List.{get_or_default, get_or-set_other, get_or-set_same, length-set}
-use Rattle.std.proofs.lemmas.List.Sums.{sum_by-cons, sum_by-set}
-use Rattle.mdc_words.specs.ByteOrder.{Entry}
+use Rattle.std.proofs.lemmas.List.Sums.{sum_by-set}
 use Rattle.mdc_values.specs.declared.rid.Rid.{Rid}
 use Rattle.mdc_values.specs.declared.value.Value.{Value}
 use Rattle.mdc_ast.specs.declared.definition.TableDef.{TableDef}
 use Rattle.mdc_ast.specs.declared.row.Row.{Row}
-use Rattle.store_api.specs.Frame.{NoPage}
 use Rattle.store_api.specs.RunsOverPages.{RunsOverPages}
 use Rattle.store_api.specs.declared.fault.Damage.{Damage}
 use Rattle.store_api.specs.declared.fault.StoreFault.{StoreFault}
-use Rattle.store_api.specs.declared.fault.StoreFault.TheVariants.{Damaged}
 use Rattle.store_api.specs.declared.pages.Pages.{Ghosts}
 use Rattle.store_api.proofs.FrameLemmas.{touches_same, touches_then}
-use Rattle.store_api.proofs.RunsOverPagesLemmas.{runs_damage, runs_then, runs_wider}
+use Rattle.store_api.proofs.RunsOverPagesLemmas.{runs_then}
 use Rattle.extent_map.specs.declared.extents.Extents.{Extents}
 use Rattle.extent_map.specs.declared.kind.Kind.{Kind}
 use Rattle.table_page.specs.TableLimits.{IsTableDef}
 use Rattle.row_page.specs.RowPage.{count_rows}
-use Rattle.entry_tree.specs.Forest.{Forest, times}
-use Rattle.entry_tree.specs.HeldTrees.{HoldsTree, IsTreePage}
+use Rattle.entry_tree.specs.Forest.{Forest}
+use Rattle.entry_tree.specs.HeldTrees.{HoldsTree}
 use Rattle.entry_tree.specs.declared.tree.Tree.{Tree}
-use Rattle.block_map.specs.BlockMaps.{AnyMap, BreaksMapTree, FindsBlock, HasRow}
-use Rattle.block_map.specs.MapLines.{map_line}
-use Rattle.block_map.specs.MapRows.{row_entry, state_number}
+use Rattle.block_map.specs.BlockMaps.{HasRow}
+use Rattle.block_map.specs.Counting.{used_row}
 use Rattle.block_map.specs.declared.row.BlockRow.{BlockRow}
-use Rattle.block_map.specs.declared.state.BlockState.{BlockState}
-use Rattle.block_map.specs.declared.state.BlockState.TheVariants as state
-use Rattle.block_map.proofs.MapFormLemmas.{form_one}
-use Rattle.block_map.proofs.MapLinesLemmas.{row_block, row_state}
-use Rattle.table_trees.specs.TableTrees.{map_place, place_of_tree}
-use Rattle.table_trees.specs.TreesBeside.{HoldsTreeAt}
-use Rattle.table_trees.proofs.TableTreesLemmas.{same_tree_place}
 use Rattle.table_trees.specs.RowCells.{AreOfOneCell}
 use Rattle.mdc_sound.specs.FittingRows.{RowFits}
 use Rattle.mdc_sound.specs.Placing.{IsRowAt}
 use Rattle.mdc_sound.specs.Placing.Spot.{OtherBlock, UsedBlock}
-use Rattle.mdc_sound.specs.StandingTable.{BreaksExpected, HasRowAt, IsBlockOrMapPage, IsPageOfBlock, NamesTablePart, StandsTable, TableForests, spots_of}
+use Rattle.mdc_sound.specs.StandingTable.{BreaksExpected, HasRowAt, IsBlockOrMapPage, IsPageOfBlock, StandsTable, TableForests, spots_of}
 use Rattle.mdc_sound.proofs.PlacingLemmas.{filled_below}
 use Rattle.mdc_sound.proofs.StandingTableLemmas.{stands_same}
 use Rattle.block_rows.specs.HeldRows.{BreaksRows, HoldsRows}
 use Rattle.block_rows.proofs.HeldRowsLemmas.{rows_stay}
-use Rattle.mdc_sound.proofs.MappedBlocksLemmas.{few_extents, map_form, used_number}
 use Rattle.table_blocks.specs.BlockChanges.{SameSpot, TurnsSpot}
-use Rattle.table_blocks.specs.BlockNow.{AreOfCell, IsOwnBlock, IsUsedNow, used_line}
+use Rattle.table_blocks.specs.BlockNow.{AreOfCell, IsOwnBlock, IsUsedNow}
 use Rattle.table_blocks.proofs.AroundLemmas.{breaks_of_table, breaks_rows, rows_step}
 use Rattle.table_blocks.proofs.ClosingLemmas.{turns_used}
+use Rattle.table_blocks.proofs.MapOfTableLemmas.{map_of_table}
 use Rattle.table_blocks.proofs.OpeningLemmas.{around_block, own_of_line, used_spot_now}
 use Rattle.table_blocks.proofs.SpotChangesLemmas.{same_change}
 
@@ -88,82 +77,15 @@ module _ (slots : List (Option Row)) (k : ℕ) (was row : Row) (there : slice_in
     ];
   }
 
--- ---- what the block map says of a block with a row
+-- ---- the runs
 
 module _ {S : Type 0} {g : Ghosts S} where
-  module _ (ext : Extents) (s : S) (def : TableDef) where
-    -- the block map is the tree of its handle
-    holds_map_tree : (tree : Tree) (owners : List Kind) (forests : TableForests) → tree.root ≡ def.roots.map → tree.width ≡ 7 → StandsTable g ext s def owners forests → HoldsTree g s tree forests.map
-    holds_map_tree tree owners forests root width st =
-        let at : HoldsTreeAt g s (place_of_tree tree) forests.map = subst (λ place. HoldsTreeAt g s place forests.map) (sym (same_tree_place (place_of_tree tree) (map_place def) root width)) st.trees.held.0 in
-        record { is_tree = at.is_tree; trim = at.trim }
-
-    module _ (owners : List Kind) (forests : TableForests) (defined : IsTableDef def.number def) (st : StandsTable g ext s def owners forests) (block : ℕ) (values : List Value) (slots : List (Option Row))
-        (now : IsUsedNow g ext s def owners forests block values slots) where
-      -- it names it
-      used_found : FindsBlock forests.map block None → ⊥
-      used_found none = none (st.map.entries, st.map.all_named block now.own.within now.own.owned)
-
-      -- as Used
-      found_used : (row : BlockRow) → FindsBlock forests.map block (Some row) → row.state ≡ state.Used
-      found_used row found =
-          let small : block < 2 ^ 32 = omega (arith, now.own.within, few_extents ext) in
-          let line = used_line block (count_rows slots) in
-          let low : row.block < 2 ^ 32 = subst (λ (n : ℕ). n < 2 ^ 32) (sym found.0) small in
-          let one : row_entry row ≡ row_entry line = form_one forests.map (row_entry row) (row_entry line) (map_form ext owners def forests.map st.map) found.1 now.line (row_block row low ∙ found.0 ∙ sym (row_block line small)) in
-          used_number row.state (sym (row_state row) ∙ ap (λ (x : Entry). (map_line x).state) one ∙ row_state line)
-
-  -- ---- the runs
-
-  module _ (ext : Extents) (def : TableDef) (rid : Rid) (tree : Tree) (root : tree.root ≡ def.roots.map) (width : tree.width ≡ 7) where
-    -- a block that was found in the block map is one of the table
-    pub own_found : (s : S) (found : Option BlockRow) (line : BlockRow) → IsTableDef def.number def → rid.block < ext.cap → ((t : Forest) → HoldsTree g s tree t → FindsBlock t rid.block found) → found ≡ Some line
-        → (owners : List Kind) (forests : TableForests) → StandsTable g ext s def owners forests → IsOwnBlock ext owners def rid.block
-    own_found s found line defined low finds is owners forests st =
-        let at : FindsBlock forests.map rid.block (Some line) = subst (FindsBlock forests.map rid.block) is (finds forests.map (holds_map_tree ext s def tree owners forests root width st)) in
-        subst (IsOwnBlock ext owners def) at.0 (own_of_line ext s def owners forests defined st line at.1 (omega (arith, at.0, low)))
-
-    -- the call on the block map
-    breaks_map : (s : S) (damage : Damage) → BreaksMapTree g s tree AnyMap damage → IsTableDef def.number def → BreaksExpected g ext s def (HasRowAt g ext s def rid) damage
-    breaks_map s damage (inl b) defined = record {
-      names = NamesTablePart.tree b.rule (0, omega arith, sym (b.page ∙ root));
-      broken = λ owners forests st expected. b.broken forests.map (holds_map_tree ext s def tree owners forests root width st);
-    }
-    breaks_map s damage (inr b) defined = record {
-      names = NamesTablePart.block_map b.rule (b.page ∙ root);
-      broken = λ owners forests st expected. b.broken forests.map (holds_map_tree ext s def tree owners forests root width st) (map_form ext owners def forests.map st.map) tt;
-    }
-
-    pub run_of_map : {old new : S} {fault : Option StoreFault} → IsTableDef def.number def → RunsOverPages g NoPage (IsTreePage g old tree) (BreaksMapTree g old tree AnyMap) old new fault
-        → RunsOverPages g (IsBlockOrMapPage g ext old def rid.block) (IsBlockOrMapPage g ext old def rid.block) (BreaksExpected g ext old def (HasRowAt g ext old def rid)) old new fault
-    run_of_map {old} {new} {fault} defined run =
-        runs_wider run (λ p there none. absurd none)
-        (λ p is owners forests st. inl (omega (arith, is forests.map (holds_map_tree ext old def tree owners forests root width st), sum_by-cons (times p) forests.map (forests.composite ∷ forests.dims ++ forests.indexes))))
-        (λ damage b. breaks_map old damage b defined)
-
-    -- the block map doesn't name the block, or not as Used
-    unmapped_breaks : (s : S) (found : Option BlockRow) (damage : Damage) → IsTableDef def.number def → damage.page ≡ def.roots.map → damage.rule ≡ 6
-        → ((t : Forest) → HoldsTree g s tree t → FindsBlock t rid.block found) → ((row : BlockRow) → found ≡ Some row → row.state ≡ state.Used → ⊥)
-        → BreaksExpected g ext s def (HasRowAt g ext s def rid) damage
-    unmapped_breaks s found damage defined page rule finds unused = record {
-      names = NamesTablePart.block_map rule page;
-      broken = λ owners forests st expected.
-          let used = used_spot_now ext s def owners forests defined st rid.block expected.slots (expected.lies.block OtherBlock) in
-          go owners forests st expected.slots used.0 used.1 found (finds forests.map (holds_map_tree ext s def tree owners forests root width st)) unused;
-    }
-      where
-        go : (owners : List Kind) (forests : TableForests) → StandsTable g ext s def owners forests → (slots : List (Option Row)) (values : List Value) → IsUsedNow g ext s def owners forests rid.block values slots
-            → (f : Option BlockRow) → FindsBlock forests.map rid.block f → ((row : BlockRow) → f ≡ Some row → row.state ≡ state.Used → ⊥) → ⊥
-        go owners forests st slots values now None finds_it never = used_found ext s def owners forests defined st rid.block values slots now finds_it
-        go owners forests st slots values now (Some row) finds_it never = never row refl (found_used ext s def owners forests defined st rid.block values slots now row finds_it)
-
-    pub run_unmapped : {old new : S} (fault : StoreFault) (found : Option BlockRow) → IsTableDef def.number def → fault ≡ Damaged (record { page = def.roots.map; rule = 6 })
-        → RunsOverPages g NoPage (IsTreePage g old tree) (BreaksMapTree g old tree AnyMap) old new None
-        → ((t : Forest) → HoldsTree g old tree t → FindsBlock t rid.block found) → ((row : BlockRow) → found ≡ Some row → row.state ≡ state.Used → ⊥)
-        → RunsOverPages g (IsBlockOrMapPage g ext old def rid.block) (IsBlockOrMapPage g ext old def rid.block) (BreaksExpected g ext old def (HasRowAt g ext old def rid)) old new (Some fault)
-    run_unmapped {old} {new} fault found defined is run finds unused =
-        subst (λ (f : StoreFault). RunsOverPages g (IsBlockOrMapPage g ext old def rid.block) (IsBlockOrMapPage g ext old def rid.block) (BreaksExpected g ext old def (HasRowAt g ext old def rid)) old new (Some f)) (sym is)
-        (runs_damage (run_of_map defined run) (unmapped_breaks old found (record { page = def.roots.map; rule = 6 }) defined refl refl finds unused))
+  -- a block that has a line in the block map is one of the table
+  pub own_found : (ext : Extents) (s : S) (def : TableDef) (rid : Rid) (tree : Tree) → tree.root ≡ def.roots.map → tree.width ≡ 7 → (line : BlockRow) → IsTableDef def.number def → rid.block < ext.cap
+      → ((t : Forest) → HoldsTree g s tree t → HasRow line t) → line.block ≡ rid.block → (owners : List Kind) (forests : TableForests) → StandsTable g ext s def owners forests → IsOwnBlock ext owners def rid.block
+  own_found ext s def rid tree root width line defined low there same owners forests st =
+      let held = map_of_table ext s def defined tree root width owners forests st in
+      subst (IsOwnBlock ext owners def) same (own_of_line ext s def owners forests defined st line (there forests.map held) (omega (arith, same, low)))
 
   -- ---- the call on the block, behind one that left the work as it was
 
@@ -202,7 +124,7 @@ module _ {S : Type 0} {g : Ghosts S} where
         let now = found.1 in
         let after : IsUsedNow g ext new def owners forests rid.block found.0 (set slots rid.slot (Some row)) = record {
           own = now.own;
-          line = subst (λ (n : ℕ). HasRow (used_line rid.block n) forests.map) (sym (overwritten_count slots rid.slot was row lies.slot)) now.line;
+          line = subst (λ (n : ℕ). HasRow (used_row rid.block n) forests.map) (sym (overwritten_count slots rid.slot was row lies.slot)) now.line;
           rows = puts slots (rows_stay g ext def rid.block told same now.rows);
           cell = overwritten_cell slots rid.slot was row lies.slot def found.0 fits one now.cell;
           listed = now.listed;

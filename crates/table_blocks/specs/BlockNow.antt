@@ -15,7 +15,8 @@ use Rattle.row_page.specs.RowPage.{count_rows}
 use Rattle.entry_tree.specs.EntryBounds.{IsEntryOf}
 use Rattle.entry_tree.specs.Forest.{Forest, leaf_entries}
 use Rattle.block_map.specs.BlockMaps.{HasRow}
-use Rattle.block_map.specs.MapLines.{map_line}
+use Rattle.block_map.specs.Counting.{used_row}
+use Rattle.block_map.specs.MapLines.{AreMapEntries, map_line}
 use Rattle.block_map.specs.declared.row.BlockRow.{BlockRow}
 use Rattle.block_map.specs.declared.state.BlockState.TheVariants as state
 use Rattle.table_trees.specs.TableTrees.{block_entry, cell_parts, rising_parts}
@@ -40,9 +41,11 @@ IsUnnamed map_tree block = (x : Entry) → IsEntryOf x (leaf_entries map_tree) �
 abbrev pub free_line : ℕ → BlockRow
 free_line block = record { block = block; state = state.Free; rows = 0 }
 
--- and of a Used one with so many rows
-abbrev pub used_line : ℕ → ℕ → BlockRow
-used_line block rows = record { block = block; state = state.Used; rows = rows }
+-- a block map, whose entries are written as what they say, has the block as a Used one
+pub record MapsUsed (block : ℕ) (map_tree : Forest) : Type 0 where
+  pub entries : AreMapEntries map_tree
+  pub rows : ℕ
+  pub line : HasRow (used_row block rows) map_tree
 
 -- ---- the block indexes
 
@@ -82,7 +85,7 @@ pub record AreOfCell (def : TableDef) (values : List Value) (slots : List (Optio
 -- A Used block of the table with these slots, listed under the cell of these values.
 pub record IsUsedNow {S : Type 0} (g : Ghosts S) (ext : Extents) (s : S) (def : TableDef) (owners : List Kind) (forests : TableForests) (block : ℕ) (values : List Value) (slots : List (Option Row)) : Type 0 where
   pub own : IsOwnBlock ext owners def block
-  pub line : HasRow (used_line block (count_rows slots)) forests.map
+  pub line : HasRow (used_row block (count_rows slots)) forests.map
   pub rows : HoldsRows g ext s def block slots
   pub cell : AreOfCell def values slots
   pub listed : IsListed def forests values block

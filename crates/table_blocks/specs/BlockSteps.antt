@@ -1,5 +1,5 @@
 -- What each call on one block says, in the words of a table that stands around it and of one that stands.
-use Rattle.std.specs.Prelude.{◌≡◌, ◌≢◌, ◌<◌, ◌≤◌, ◌-◌, ℕ, List, [], ◌∷◌, Contains, Option, Some, None, length, replicate, slice_index_or, slice_set}
+use Rattle.std.specs.Prelude.{◌≡◌, ◌≢◌, ◌≤◌, ℕ, List, [], ◌∷◌, Contains, Option, Some, None, length, replicate, slice_index_or, slice_set}
 use Rattle.mdc_values.specs.declared.rid.Rid.{Rid}
 use Rattle.mdc_ast.specs.declared.definition.TableDef.{TableDef}
 use Rattle.mdc_ast.specs.declared.row.Row.{Row}
@@ -12,7 +12,8 @@ use Rattle.block_map.specs.BlockMaps.{HasRow}
 use Rattle.block_map.specs.MapLines.{free_blocks}
 use Rattle.block_map.specs.MapRows.{row_entry}
 use Rattle.block_map.specs.declared.row.BlockRow.{BlockRow}
-use Rattle.table_trees.specs.SpaceChanges.{MakesChanges, RunsFull, SpaceChange, removed_entries}
+use Rattle.table_trees.specs.RowCells.{AreOfOneCell}
+use Rattle.table_trees.specs.SpaceChanges.{RunsFull, SpaceChange, removed_entries}
 use Rattle.table_trees.specs.SpaceChanges.SpaceChange.{AmendEntry, ClaimBlock}
 use Rattle.table_trees.specs.TableTrees.{map_place}
 use Rattle.table_trees.specs.ToldPages.{PageList}
@@ -24,7 +25,7 @@ use Rattle.mdc_sound.specs.StandingTable.{TableForests, pages_of, spots_of}
 use Rattle.block_rows.specs.HeldRows.{HoldsRows}
 use Rattle.table_blocks.specs.AroundBlock.{StandsAround}
 use Rattle.table_blocks.specs.BlockChanges.{ChangesAround, SameSpot, TurnsSpot, spot_in}
-use Rattle.table_blocks.specs.BlockNow.{IsListed, IsOwnBlock, IsUnlisted, IsUnnamed, free_line, used_line}
+use Rattle.table_blocks.specs.BlockNow.{IsListed, IsOwnBlock, IsUnlisted, IsUnnamed, free_line}
 
 -- ---- a block that comes into use
 
@@ -55,6 +56,28 @@ pub record HasRoomAt {S : Type 0} (g : Ghosts S) (ext : Extents) (s : S) (def : 
   pub line_there : HasRow line forests.map
   pub room : HasRoomFor def row (slice_index_or (spots_of g ext s def owners forests) line.block OtherBlock)
 
+-- a block is a Used one, with a row of this one's cell
+pub record IsBlockOfCell {S : Type 0} (g : Ghosts S) (ext : Extents) (s : S) (def : TableDef) (block : ℕ) (row : Row) (owners : List Kind) (forests : TableForests) : Type 0 where
+  pub slots : List (Option Row)
+  pub spot : slice_index_or (spots_of g ext s def owners forests) block OtherBlock ≡ UsedBlock slots
+  pub other : Row
+  pub there : Contains slots (Some other)
+  pub one_cell : AreOfOneCell def other.values row.values
+
+-- a block holds rows, in slots of which this is so
+pub record HoldsSuch (IsSuch : List (Option Row) → Type 0) {S : Type 0} (g : Ghosts S) (ext : Extents) (s : S) (def : TableDef) (block : ℕ) (owners : List Kind) (forests : TableForests) : Type 0 where
+  pub slots : List (Option Row)
+  pub rows : HoldsRows g ext s def block slots
+  pub such : IsSuch slots
+
+-- one of them is empty
+abbrev pub HasEmptySlot : {S : Type 0} → Ghosts S → Extents → S → TableDef → ℕ → List Kind → TableForests → Type 0
+HasEmptySlot g ext s def block = HoldsSuch (λ slots. Contains slots None) g ext s def block
+
+-- there is a row in this one
+abbrev pub HasFilledSlot : ℕ → {S : Type 0} → Ghosts S → Extents → S → TableDef → ℕ → List Kind → TableForests → Type 0
+HasFilledSlot slot g ext s def block = HoldsSuch (λ slots. (row : Row) × (slice_index_or slots slot None ≡ Some row)) g ext s def block
+
 -- The row lies in the lowest slot of its block that was empty, and nothing else changed.
 pub record FillsSlot {S : Type 0} (g : Ghosts S) (ext : Extents) (old new : S) (def : TableDef) (rid : Rid) (row : Row) (owners : List Kind) (forests : TableForests) : Type 0 where
   pub forests_now : TableForests
@@ -62,6 +85,13 @@ pub record FillsSlot {S : Type 0} (g : Ghosts S) (ext : Extents) (old new : S) (
   pub was : slice_index_or (spots_of g ext old def owners forests) rid.block OtherBlock ≡ UsedBlock slots
   pub lowest : IsLowestAt IsEmptySlot slots rid.slot None
   pub turns : TurnsSpot g SameSpot ext ext old new def rid.block (UsedBlock (slice_set slots rid.slot (Some row))) owners forests owners forests_now
+
+-- The row lies in the lowest slot that was empty of a Used block, whatever the block's cell.
+pub record PutsInUsed {S : Type 0} (g : Ghosts S) (ext : Extents) (old new : S) (def : TableDef) (rid : Rid) (row : Row) (owners : List Kind) (forests : TableForests) : Type 0 where
+  pub slots : List (Option Row)
+  pub was : slice_index_or (spots_of g ext old def owners forests) rid.block OtherBlock ≡ UsedBlock slots
+  pub lowest : IsLowestAt IsEmptySlot slots rid.slot None
+  pub held : HoldsRows g ext new def rid.block (slice_set slots rid.slot (Some row))
 
 -- The row that lay in a place was taken out, and a block without rows is Free; after that trees may have given extents back.
 pub record EmptiesSlot {S : Type 0} (g : Ghosts S) (before ext : Extents) (old new : S) (def : TableDef) (rid : Rid) (row : Row) (owners : List Kind) (forests : TableForests) : Type 0 where
@@ -96,30 +126,10 @@ free_changes def row line = AmendEntry (map_place def) (row_entry line) (row_ent
 
 -- ---- a block that loses a row
 
--- what a row that goes from a block with this line changes of space: its line, which has a row less, or all that freeing it does
-pub record DropsSpace (ext : Extents) (old : PageList) (def : TableDef) (line : BlockRow) (row : Row) (new : PageList) : Type 0 where
-  pub fewer : 1 < line.rows → MakesChanges ext old (AmendEntry (map_place def) (row_entry line) (row_entry (used_line line.block (line.rows - 1))) ∷ []) new
-  pub last : line.rows ≤ 1 → MakesChanges ext old (free_changes def row line) new
-
--- The block is Used in the block map with so many rows; its entries in the block indexes and its pages are as they were.
-pub record LeavesFewer {S : Type 0} (g : Ghosts S) (before ext : Extents) (old new : S) (def : TableDef) (block count : ℕ) (forests forests_now : TableForests) : Type 0 where
-  pub line : HasRow (used_line block count) forests_now.map
-  pub composite : forests_now.composite ≡ forests.composite
-  pub dims : forests_now.dims ≡ forests.dims
-  pub rows : (slots : List (Option Row)) → HoldsRows g before old def block slots → HoldsRows g ext new def block slots
-
--- The block is Free in the block map, and none of its entries under the cell of the row is left in a block index.
-pub record LeavesFree (def : TableDef) (block : ℕ) (row : Row) (forests forests_now : TableForests) : Type 0 where
-  pub line : HasRow (free_line block) forests_now.map
-  pub unlisted : IsListed def forests row.values block → IsUnlisted def forests_now block
-
--- The block of this line has a row less in the block map, and is Free where that was its last.
-pub record DropsRow {S : Type 0} (g : Ghosts S) (before ext : Extents) (old new : S) (def : TableDef) (line : BlockRow) (row : Row) (owners : List Kind) (forests : TableForests) : Type 0 where
-  pub owners_now : List Kind
-  pub forests_now : TableForests
-  pub changes : ChangesAround g AfterReturns before ext old new def line.block owners forests owners_now forests_now
-  pub fewer : 1 < line.rows → LeavesFewer g before ext old new def line.block (line.rows - 1) forests forests_now
-  pub last : line.rows ≤ 1 → LeavesFree def line.block row forests forests_now
+-- the row lay in its slot, which is empty now
+pub record TakesFromSlot {S : Type 0} (g : Ghosts S) (ext : Extents) (new : S) (def : TableDef) (rid : Rid) (row : Row) (slots : List (Option Row)) : Type 0 where
+  pub lay : slice_index_or slots rid.slot None ≡ Some row
+  pub held : HoldsRows g ext new def rid.block (slice_set slots rid.slot None)
 
 -- ---- steps midway
 

@@ -1,15 +1,19 @@
 // A row more in a Used block.
-ghost use Rattle.std.specs.Prelude.{◌≡◌, ◌<◌, ℕ, List, false, length, IfOk, slice_index_or};
+ghost use Rattle.std.specs.Prelude.{◌≡◌, ◌<◌, List, Option, Some, None, false, length, IfOk, IfSome, slice_index_or};
 ghost use Rattle.store_api.specs.Causes.{fault_of};
 ghost use Rattle.store_api.specs.RunsOverPages.{RunsOverPages};
 ghost use Rattle.extent_map.specs.declared.kind.Kind.{Kind};
+ghost use Rattle.mdc_ast.specs.declared.row.Row.{Row};
 ghost use Rattle.table_page.specs.TableLimits.{IsTableDef};
 ghost use Rattle.table_trees.specs.SpaceChanges.{MakesChanges};
+ghost use Rattle.block_rows.specs.HeldRows.{HoldsRows, PutsFirst};
 ghost use Rattle.mdc_sound.specs.FittingRows.{RowFits};
+ghost use Rattle.mdc_sound.specs.Placing.{HasRoomFor};
 ghost use Rattle.mdc_sound.specs.Placing.Spot.{OtherBlock};
 ghost use Rattle.mdc_sound.specs.RunningFull.{block_changes};
-ghost use Rattle.mdc_sound.specs.StandingTable.{BreaksExpected, IsBlockOrMapPage, StandsTable, TableForests, pages_of, spots_of};
-ghost use Rattle.table_blocks.specs.BlockSteps.{FillsSlot, HasRoomAt};
+ghost use Rattle.mdc_sound.specs.StandingTable.{BreaksExpected, BreaksTable, IsBlockOrMapPage, IsPageOfBlock, StandsTable, TableForests, pages_of, spots_of};
+ghost use Rattle.table_blocks.specs.BlockChanges.{BreaksAround};
+ghost use Rattle.table_blocks.specs.BlockSteps.{FillsSlot, HasEmptySlot, HasRoomAt, IsBlockOfCell, PutsInUsed};
 
 use crate::faults::miscounted;
 use block_map::{BlockMap, BlockRow, BlockState};
@@ -17,6 +21,7 @@ use block_rows::put_first;
 use extent_map::Extents;
 use mdc_ast::{Row, TableDef};
 use mdc_values::Rid;
+use row_page::capacity;
 use std::alloc::Global;
 use store_api::{Pages, StoreFault};
 
@@ -55,11 +60,73 @@ pub fn put_in_block<P: Pages>(
         rows,
     };
     map.replace(pages, line, more)?;
-    let Some(slot) = put_first(def, ext, pages, line.block, row)? else {
-        return Err(miscounted(ext, line.block));
-    };
+    let slot = put_counted(def, ext, pages, line.block, row)?;
     Ok(Rid {
         block: line.block,
         slot,
     })
+}
+
+/// Puts a row into the lowest empty slot of a Used block of its cell, and answers where it lies. None where the block isn't a Used
+/// one of the table, or has no empty slot: then nothing is changed. It claims no page.
+pub fn put_if_room<P: Pages>(
+    alloc: Global,
+    def: &TableDef,
+    ext: &Extents,
+    pages: &mut P,
+    block: u32,
+    row: &Row,
+) -> Result<Option<Rid>, StoreFault>
+    requires defined { IsTableDef def.now.number def.now }
+    requires fits { RowFits def.now row.now }
+    requires within { block < ext.now.cap }
+    requires going { (P.state pages.old).ended ≡ false }
+    ensures block { IfOk result (λ put. IfSome put (λ rid. rid.block ≡ block)) }
+    ensures puts { IfOk result (λ put. IfSome put (λ rid. (owners : List Kind) (forests : TableForests) → StandsTable P.Pages ext.now pages.old def.now owners forests
+        → PutsInUsed P.Pages ext.now pages.old pages.new def.now rid row.now owners forests)) }
+    ensures fills { IfOk result (λ put. IfSome put (λ rid. (owners : List Kind) (forests : TableForests) → StandsTable P.Pages ext.now pages.old def.now owners forests
+        → IsBlockOfCell P.Pages ext.now pages.old def.now block row.now owners forests
+        → HasRoomFor def.now row.now (slice_index_or (spots_of P.Pages ext.now pages.old def.now owners forests) block OtherBlock) × FillsSlot P.Pages ext.now pages.old pages.new def.now rid row.now owners forests)) }
+    ensures makes { IfOk result (λ put. IfSome put (λ rid. (owners : List Kind) (forests : TableForests) → StandsTable P.Pages ext.now pages.old def.now owners forests
+        → IsBlockOfCell P.Pages ext.now pages.old def.now block row.now owners forests
+        → MakesChanges ext.now (pages_of P.Pages pages.old) (block_changes def.now row.now block (slice_index_or (spots_of P.Pages ext.now pages.old def.now owners forests) block OtherBlock)) (pages_of P.Pages pages.new))) }
+    ensures no_room { IfOk result (λ put. put ≡ None → (owners : List Kind) (forests : TableForests) → StandsTable P.Pages ext.now pages.old def.now owners forests
+        → HasRoomFor def.now row.now (slice_index_or (spots_of P.Pages ext.now pages.old def.now owners forests) block OtherBlock) → ⊥) }
+    ensures kept { IfOk result (λ put. put ≡ None → (P.state pages.new).work ≡ (P.state pages.old).work) }
+    ensures count { length (P.state pages.new).work ≡ length (P.state pages.old).work }
+    ensures runs { RunsOverPages P.Pages (IsBlockOrMapPage P.Pages ext.now pages.old def.now block) (IsBlockOrMapPage P.Pages ext.now pages.old def.now block)
+        (BreaksTable P.Pages ext.now pages.old def.now) pages.old pages.new (fault_of result) }
+{
+    let slots = ext.extent_pages * u32::from(capacity(&def.columns));
+    let map = BlockMap::at(alloc, def.roots.map);
+    let Some(_had) = map.count_row(pages, block, slots)? else {
+        return Ok(None);
+    };
+    let slot = put_counted(def, ext, pages, block, row)?;
+    Ok(Some(Rid { block, slot }))
+}
+
+/// Puts a row into the lowest empty slot of a block whose line counts it already, and answers that slot. Damaged where no slot is
+/// empty.
+fn put_counted<P: Pages>(
+    def: &TableDef,
+    ext: &Extents,
+    pages: &mut P,
+    block: u32,
+    row: &Row,
+) -> Result<u16, StoreFault>
+    requires defined { IsTableDef def.now.number def.now }
+    requires fits { RowFits def.now row.now }
+    requires within { block < ext.now.cap }
+    requires going { (P.state pages.old).ended ≡ false }
+    ensures puts { IfOk result (λ slot. (slots : List (Option Row)) → HoldsRows P.Pages ext.now pages.old def.now block slots
+        → PutsFirst P.Pages ext.now pages.old pages.new def.now block row.now slots (Some slot)) }
+    ensures count { length (P.state pages.new).work ≡ length (P.state pages.old).work }
+    ensures runs { RunsOverPages P.Pages (IsPageOfBlock ext.now block) (IsPageOfBlock ext.now block)
+        (BreaksAround P.Pages ext.now pages.old def.now block (HasEmptySlot P.Pages ext.now pages.old def.now block)) pages.old pages.new (fault_of result) }
+{
+    let Some(slot) = put_first(def, ext, pages, block, row)? else {
+        return Err(miscounted(ext, block));
+    };
+    Ok(slot)
 }

@@ -1,10 +1,10 @@
 //! One block of a table changed, while the rest of the table stands.
 //!
-//! A block comes into use with its first row (`begin_free_block`, `begin_new_block`), takes rows (`put_in_block`), has rows
-//! written over (`overwrite_row`), and loses rows until the last one frees it (`take_row`). Each call changes that block, its
-//! line in the block map and its entries in the block indexes. Where the table was told to stand it stands afterwards: one
-//! block is another, and other extents are as they were but for what its trees took or gave back. Where it wasn't, damage of a
-//! part of it may be named, and of nothing else.
+//! A block comes into use with its first row (`begin_free_block`, `begin_new_block`), takes rows (`put_in_block`, and
+//! `put_if_room` where it isn't known yet whether it has room), has rows written over (`overwrite_row`), and loses rows until the
+//! last one frees it (`take_row`). Each call changes that block, its line in the block map and its entries in the block indexes.
+//! Where the table was told to stand it stands afterwards: one block is another, and other extents are as they were but for what
+//! its trees took or gave back. Where it wasn't, damage of a part of it may be named, and of nothing else.
 //!
 //! It stands on `block_map`, `block_index` and `block_rows` for the three things that it changes, and on the words of
 //! `mdc_sound`. Which block a row goes to is for the caller.
@@ -15,10 +15,11 @@ mod cells;
 mod faults;
 mod filling;
 mod freeing;
+mod lines;
 mod overwriting;
 mod taking;
 
 pub use beginning::{begin_free_block, begin_new_block};
-pub use filling::put_in_block;
+pub use filling::{put_if_room, put_in_block};
 pub use overwriting::overwrite_row;
 pub use taking::take_row;

@@ -13,8 +13,8 @@ ghost use Rattle.mdc_sound.specs.Placing.Spot.{UsedBlock};
 ghost use Rattle.mdc_sound.specs.StandingTable.{BreaksExpected, HasRowAt, IsBlockOrMapPage, StandsTable, TableForests, pages_of, spots_of};
 ghost use Rattle.table_blocks.specs.BlockChanges.{SameSpot, TurnsSpot};
 
-use crate::faults::unmapped;
-use block_map::{BlockMap, BlockState};
+use crate::lines::line_of_used;
+use block_map::BlockMap;
 use block_rows::put_slot;
 use extent_map::Extents;
 use mdc_ast::{Row, TableDef};
@@ -47,11 +47,6 @@ pub fn overwrite_row<P: Pages>(
         (BreaksExpected P.Pages ext.now pages.old def.now (HasRowAt P.Pages ext.now pages.old def.now rid)) pages.old pages.new (fault_of result) }
 {
     let map = BlockMap::at(alloc, def.roots.map);
-    let Some(line) = map.get(pages, rid.block)? else {
-        return Err(unmapped(def));
-    };
-    if line.state != BlockState::Used {
-        return Err(unmapped(def));
-    }
+    line_of_used(def, &map, pages, rid.block)?;
     put_slot(def, ext, pages, rid, row)
 }

@@ -1,7 +1,7 @@
 use Rattle.std.proofs.Common.{arith, inl, inr, refl}
 use Rattle.std.proofs.lemmas.Result.{IfOk-weaker}
 use Rattle.store_api.proofs.RunsOverPagesLemmas.{runs_none}
-use Rattle.cell_rooms.specs.RoomNotes.{room_from}
+use Rattle.cell_rooms.specs.RoomNotes.{room_of}
 use Rattle.cell_rooms.proofs.TableRunsLemmas.{runs_broken}
 use Rattle.mdc_table.proofs.KeptBlocksLemmas.{keeps_in_block, runs_of_block}
 use Rattle.mdc_table.proofs.TakingRowsLemmas.{no_row_there, row_overwritten}
@@ -18,7 +18,7 @@ returns-then-rid-ext-clause-runs g c =
 
 pub returns-clause-overwrites : goal.returns-clause-overwrites
 returns-clause-overwrites g c =
-    row_overwritten g.P.Pages c.args.ext.now c.args.pages.now c.overwrite_row.new.pages c.args.def.now c.args.rid c.args.row.now (room_from c.args.rooms.now) c.overwrite_row.result c.overwrite_row.ensures.overwrites
+    row_overwritten g.P.Pages c.args.ext.now c.args.pages.now c.overwrite_row.new.pages c.args.def.now c.args.rid c.args.row.now (room_of c.args.rooms.now) c.overwrite_row.result c.overwrite_row.ensures.overwrites
 
 pub returns-clause-makes : goal.returns-clause-makes
 returns-clause-makes g c =

@@ -1,24 +1,18 @@
-use Rattle.std.proofs.Common.{◌≡◌, List, None, Some, ap, arith, refl, subst, sym, ◌∙◌}
+use Rattle.std.proofs.Common.{◌≡◌, None, Some, refl, subst, sym, ◌∙◌}
+use Rattle.std.proofs.lemmas.Result.{IfOk-weaker}
 use Rattle.store_api.specs.RunsOverPages.{RunsOverPages}
 use Rattle.store_api.proofs.RunsOverPagesLemmas.{runs_exit_as, runs_memory, runs_none}
 use Rattle.extent_map.specs.Damages.{store_part_of}
-use Rattle.entry_tree.proofs.ClaimsLemmas.{if_err_by}
 use Rattle.block_index.proofs.CellsLemmas.{keys_of_fitting}
 use Rattle.table_trees.specs.RowCells.{cell_places}
-use Rattle.extent_map.specs.declared.kind.Kind.{Kind}
-use Rattle.mdc_sound.specs.Placing.{HasRoomFor, HoldsNowhere}
-use Rattle.mdc_sound.specs.StandingTable.{BreaksTable, IsReadyTable, IsTableSpace, KeepsBlocksBut, TableForests, spots_of}
+use Rattle.mdc_sound.specs.StandingTable.{BreaksTable, IsTableSpace, KeepsBlocksBut}
 use Rattle.mdc_sound.proofs.DefinitionTreesLemmas.{has_block_indexes}
-use Rattle.mdc_sound.proofs.StandingTableLemmas.{stands_same}
-use Rattle.table_blocks.specs.BlockSteps.{HasRoomAt}
-use Rattle.block_map.specs.declared.row.BlockRow.{BlockRow}
-use Rattle.block_map.specs.declared.state.BlockState.TheVariants as state
-use Rattle.cell_rooms.specs.FoundRoom.{FindsRoom}
-use Rattle.cell_rooms.specs.RoomNotes.{room_from}
-use Rattle.mdc_table.proofs.KeptBlocksLemmas.{keeps_along, keeps_in_block}
-use Rattle.mdc_table.proofs.NextBlocksLemmas.{full_along, full_no_place, full_ready, runs_in_space, runs_of_place, runs_space_expecting, runs_space_then}
-use Rattle.mdc_table.proofs.PlacingRowsLemmas.{no_room_found, placed_in_cell, placed_in_next, room_at}
-use Rattle.mdc_table.proofs.RowSpaceLemmas.{block_makes_along, row_full}
+use Rattle.cell_rooms.specs.RoomNotes.{note_of, room_of}
+use Rattle.mdc_table.proofs.KeptBlocksLemmas.{if_some_at, keeps_along, keeps_in_block}
+use Rattle.mdc_table.proofs.LaterPlacesLemmas.{no_place_result_along, placed_along, ready_along}
+use Rattle.mdc_table.proofs.NextBlocksLemmas.{runs_of_place, runs_space_behind}
+use Rattle.mdc_table.proofs.PlacingRowsLemmas.{noted_of_cell, placed_where_noted}
+use Rattle.mdc_table.proofs.RowSpaceLemmas.{block_makes_along}
 use Rattle.mdc_table.proofs.placing.place_row.Goals as goal
 
 pub cell_key-requires-clause-parts : goal.cell_key-requires-clause-parts
@@ -38,167 +32,103 @@ returns-in_err-key-clause-runs g c =
     (subst (λ fault. RunsOverPages g.P.Pages (IsTableSpace g.P.Pages ext s def) (IsTableSpace g.P.Pages ext s def) (BreaksTable g.P.Pages ext s def) s s (Some fault)) (sym c.in_err-key.ensures.memory)
     (runs_memory runs_none))
 
-pub returns-in_err-line-clause-runs : goal.returns-in_err-line-clause-runs
-returns-in_err-line-clause-runs g c =
-    runs_exit_as store_part_of c.from_residual-in_err-line.result c.from_residual-in_err-line.ensures.1
-    (runs_in_space c.args.ext.now c.args.def.now {fault = Some c.in_err-line.field-0.0} c.in_err-line.ensures.runs)
+pub returns-in_err-rid-clause-runs : goal.returns-in_err-rid-clause-runs
+returns-in_err-rid-clause-runs g c =
+    runs_exit_as store_part_of c.from_residual-in_err-rid.result c.from_residual-in_err-rid.ensures.1
+    (runs_of_place c.args.ext.now c.args.def.now {fault = Some c.in_err-rid.field-0.0} c.of-room.result.first c.in_err-rid.ensures.runs)
 
-pub returns-in_err-block-clause-full : goal.returns-in_err-block-clause-full
-returns-in_err-block-clause-full g c =
-    let fault = c.in_err-block.field-0.0 in
+pub returns-in-Some-clause-places : goal.returns-in-Some-clause-places
+returns-in-Some-clause-places g c owners forests ready =
     let ext = c.args.ext.now in
-    let def = c.args.def.now in
     let s = c.args.pages.now in
+    let def = c.args.def.now in
     let row = c.args.row.now in
-    let rooms = c.args.rooms.now in
-    let key = c.in_ok-key.key.items in
-    let is = c.in_ok-key.ensures.key in
-    let noted_from = c.first-from.ensures ∙ ap (room_from rooms) c.deref.ensures.value in
-    let no_room : (owners : List Kind) (forests : TableForests) → IsReadyTable g.P.Pages ext (room_from rooms) s def owners forests → HoldsNowhere (HasRoomFor def row) (spots_of g.P.Pages ext s def owners forests) =
-    λ owners forests ready.
-    let spots = spots_of g.P.Pages ext s def owners forests in
-    let found : FindsRoom def spots forests.map row c.first-from.result None =
-    subst (FindsRoom def spots forests.map row c.first-from.result) c.in_default.is (c.in_ok-line.ensures.finds owners forests row ready.stands c.requires.fits.values (c.deref-2.ensures.value ∙ is)) in
-    no_room_found forests.map row (room_from rooms) key is ready.rooms (subst (λ n. FindsRoom def spots forests.map row n None) noted_from found) in
-    if_err_by c.from_residual-in_err-block.result fault _ c.from_residual-in_err-block.ensures.1
-    (full_no_place g.P.Pages ext c.begin_block.new.ext s c.begin_block.new.pages def row (room_from rooms) fault no_room
-    (full_ready g.P.Pages ext c.begin_block.new.ext s c.begin_block.new.pages def (room_from rooms) fault
-    (full_along g.P.Pages ext c.begin_block.new.ext s c.find_room.new.pages c.begin_block.new.pages def c.in_ok-line.ensures.runs.works.steady.is_told c.find_room.ensures.same fault c.in_err-block.ensures.full))
-    (row_full g.P.Pages ext s c.find_room.new.pages c.begin_block.new.pages def row c.in_ok-line.ensures.runs.works.steady.is_told c.find_room.ensures.same (room_from rooms) fault no_room c.in_err-block.ensures.runs_full))
+    let from = room_of c.args.rooms.now in
+    let key = c.deref.result.now in
+    let is = c.deref.ensures.value ∙ c.in_ok-key.ensures.key in
+    let note = note_of c.of-room.result in
+    let rid = c.in-Some.rid in
+    let known = if_some_at _ c.in_ok-rid.field-0 rid c.in-Some.is c.in_ok-rid.ensures.known in
+    let fills = if_some_at _ c.in_ok-rid.field-0 rid c.in-Some.is c.in_ok-rid.ensures.fills owners forests ready.stands
+    (noted_of_cell ext s def owners forests row from c.requires.defined c.requires.fits ready key is note c.of-room.ensures known) in
+    placed_where_noted ext s def owners forests row from c.requires.defined c.requires.fits ready key is note c.of-room.ensures known c.put_where_noted.new.pages rid
+    (if_some_at _ c.in_ok-rid.field-0 rid c.in-Some.is c.in_ok-rid.ensures.block) fills.0 fills.1
 
-pub returns-in_err-block-clause-runs : goal.returns-in_err-block-clause-runs
-returns-in_err-block-clause-runs g c =
-    runs_exit_as store_part_of c.from_residual-in_err-block.result c.from_residual-in_err-block.ensures.1
-    (runs_space_then c.args.ext.now c.args.def.now {fault = store_part_of c.in_err-block.field-0.0} c.find_room.ensures.same c.in_ok-line.ensures.runs c.in_err-block.ensures.runs)
-
-pub returns-in_default-clause-places : goal.returns-in_default-clause-places
-returns-in_default-clause-places g c owners forests ready =
+pub returns-in-Some-clause-makes : goal.returns-in-Some-clause-makes
+returns-in-Some-clause-makes g c owners forests ready =
     let ext = c.args.ext.now in
-    let def = c.args.def.now in
     let s = c.args.pages.now in
-    let mid = c.find_room.new.pages in
+    let def = c.args.def.now in
     let row = c.args.row.now in
-    let rooms = c.args.rooms.now in
-    let told = c.in_ok-line.ensures.runs.works.steady.is_told in
-    let same = c.find_room.ensures.same in
-    let key = c.in_ok-key.key.items in
-    let is = c.in_ok-key.ensures.key in
-    let spots = spots_of g.P.Pages ext s def owners forests in
-    let found : FindsRoom def spots forests.map row c.first-from.result None =
-    subst (FindsRoom def spots forests.map row c.first-from.result) c.in_default.is (c.in_ok-line.ensures.finds owners forests row ready.stands c.requires.fits.values (c.deref-2.ensures.value ∙ is)) in
-    let noted_from = c.first-from.ensures ∙ ap (room_from rooms) c.deref.ensures.value in
-    placed_in_next ext c.begin_block.new.ext s mid c.begin_block.new.pages def owners forests row (room_from rooms) (room_from c.note.new.self) c.requires.defined c.requires.fits told same ready c.in_ok-block.block key is
-    (subst (λ n. FindsRoom def spots forests.map row n None) noted_from found)
-    (c.in_ok-block.ensures.begins owners forests (stands_same ext s mid def owners forests told same ready.stands))
-    (omega (arith, c.note.ensures.noted, ap (room_from c.note.new.self) c.deref-in_default.ensures.value))
-    (λ other differ. c.note.ensures.others other (λ e. differ (e ∙ c.deref-in_default.ensures.value)))
+    let note = note_of c.of-room.result in
+    let rid = c.in-Some.rid in
+    let known = if_some_at _ c.in_ok-rid.field-0 rid c.in-Some.is c.in_ok-rid.ensures.known in
+    block_makes_along g.P.Pages ext s s c.put_where_noted.new.pages def row refl refl owners forests note.from rid.block (if_some_at _ c.in_ok-rid.field-0 rid c.in-Some.is c.in_ok-rid.ensures.block)
+    (if_some_at _ c.in_ok-rid.field-0 rid c.in-Some.is c.in_ok-rid.ensures.makes owners forests ready.stands
+    (noted_of_cell ext s def owners forests row (room_of c.args.rooms.now) c.requires.defined c.requires.fits ready c.deref.result.now (c.deref.ensures.value ∙ c.in_ok-key.ensures.key) note c.of-room.ensures known))
 
-pub returns-in_default-clause-runs : goal.returns-in_default-clause-runs
-returns-in_default-clause-runs g c =
-    runs_space_then c.args.ext.now c.args.def.now {fault = None} c.find_room.ensures.same c.in_ok-line.ensures.runs c.in_ok-block.ensures.runs
-
-pub returns-in_err-put_in_block-clause-runs : goal.returns-in_err-put_in_block-clause-runs
-returns-in_err-put_in_block-clause-runs g c =
+pub returns-in-Some-clause-stay : goal.returns-in-Some-clause-stay
+returns-in-Some-clause-stay g c owners forests ready =
     let ext = c.args.ext.now in
-    let def = c.args.def.now in
     let s = c.args.pages.now in
-    let mid = c.find_room.new.pages in
-    let row = c.args.row.now in
-    let line = c.in-Some.line in
-    let used : BlockRow = record { block = line.block; state = state.Used; rows = line.rows } in
-    let fault = Some c.in_err-put_in_block.field-0.0 in
-    runs_exit_as store_part_of c.from_residual-in_err-put_in_block.result c.from_residual-in_err-put_in_block.ensures.1
-    (runs_space_expecting ext def {fault = fault} (HasRoomAt g.P.Pages ext mid def used row) c.find_room.ensures.same
-    (λ owners forests st.
-    room_at ext s mid def owners forests row c.first-from.result line c.find_room.ensures.same
-    (subst (FindsRoom def (spots_of g.P.Pages ext s def owners forests) forests.map row c.first-from.result) c.in-Some.is
-    (c.in_ok-line.ensures.finds owners forests row st c.requires.fits.values (c.deref-2.ensures.value ∙ c.in_ok-key.ensures.key))))
-    c.in_ok-line.ensures.runs (runs_of_place ext def {fault = fault} line.block (HasRoomAt g.P.Pages ext mid def used row) c.in_err-put_in_block.ensures.runs))
+    let def = c.args.def.now in
+    subst (λ block. KeepsBlocksBut g.P.Pages ext s c.put_where_noted.new.pages def owners (λ other. other ≡ block)) (sym (if_some_at _ c.in_ok-rid.field-0 c.in-Some.rid c.in-Some.is c.in_ok-rid.ensures.block))
+    (keeps_in_block ext s s c.put_where_noted.new.pages def owners forests refl refl ready.stands c.of-room.result.first c.in_ok-rid.ensures.runs.touches)
+
+pub returns-in-Some-clause-runs : goal.returns-in-Some-clause-runs
+returns-in-Some-clause-runs g c =
+    runs_of_place c.args.ext.now c.args.def.now {fault = None} c.of-room.result.first c.in_ok-rid.ensures.runs
 
 pub returns-clause-places : goal.returns-clause-places
-returns-clause-places g c owners forests ready =
-    let ext = c.args.ext.now in
-    let def = c.args.def.now in
+returns-clause-places g c =
     let s = c.args.pages.now in
-    let mid = c.find_room.new.pages in
-    let row = c.args.row.now in
-    let rooms = c.args.rooms.now in
-    let line = c.in-Some.line in
-    let told = c.in_ok-line.ensures.runs.works.steady.is_told in
-    let same = c.find_room.ensures.same in
-    let key = c.in_ok-key.key.items in
-    let is = c.in_ok-key.ensures.key in
-    let spots = spots_of g.P.Pages ext s def owners forests in
-    let found : FindsRoom def spots forests.map row c.first-from.result (Some line) =
-    subst (FindsRoom def spots forests.map row c.first-from.result) c.in-Some.is (c.in_ok-line.ensures.finds owners forests row ready.stands c.requires.fits.values (c.deref-2.ensures.value ∙ is)) in
-    let noted_from = c.first-from.ensures ∙ ap (room_from rooms) c.deref.ensures.value in
-    placed_in_cell ext s mid c.put_in_block.new.pages def owners forests row (room_from rooms) (room_from c.note_found.new.rooms) c.requires.defined c.requires.fits told same ready line c.in_ok-put_in_block.field-0 key is
-    (subst (λ n. FindsRoom def spots forests.map row n (Some line)) noted_from found) c.in_ok-put_in_block.ensures.block
-    (c.in_ok-put_in_block.ensures.fills owners forests (stands_same ext s mid def owners forests told same ready.stands) (room_at ext s mid def owners forests row c.first-from.result line same found))
-    (omega (arith, c.note_found.ensures.noted, ap (room_from c.note_found.new.rooms) c.deref-3.ensures.value))
-    (λ other differ. c.note_found.ensures.others other (λ e. differ (e ∙ c.deref-3.ensures.value)))
+    let mid = c.put_where_noted.new.pages in
+    let told = c.in_ok-rid.ensures.runs.works.steady.is_told in
+    let same = c.in_ok-rid.ensures.kept c.in_default.is in
+    let from = room_of c.args.rooms.now in
+    IfOk-weaker c.place_by_search.result _ _
+    (λ rid places owners forests ready.
+    placed_along g.P.Pages c.args.ext.now c.place_by_search.new.ext s mid c.place_by_search.new.pages c.args.def.now told same from (room_of c.place_by_search.new.rooms) c.args.row.now rid owners forests
+    (places owners forests (ready_along g.P.Pages c.args.ext.now c.place_by_search.new.ext s mid c.place_by_search.new.pages c.args.def.now told same from owners forests ready)))
+    c.place_by_search.ensures.places
+
+pub returns-clause-full : goal.returns-clause-full
+returns-clause-full g c =
+    no_place_result_along g.P.Pages c.args.ext.now c.place_by_search.new.ext c.args.pages.now c.put_where_noted.new.pages c.place_by_search.new.pages c.args.def.now c.in_ok-rid.ensures.runs.works.steady.is_told
+    (c.in_ok-rid.ensures.kept c.in_default.is) (room_of c.args.rooms.now) c.args.row.now c.place_by_search.result c.place_by_search.ensures.full
+
+pub returns-clause-makes : goal.returns-clause-makes
+returns-clause-makes g c =
+    let ext = c.args.ext.now in
+    let s = c.args.pages.now in
+    let mid = c.put_where_noted.new.pages in
+    let new = c.place_by_search.new.pages in
+    let def = c.args.def.now in
+    let told = c.in_ok-rid.ensures.runs.works.steady.is_told in
+    let same = c.in_ok-rid.ensures.kept c.in_default.is in
+    IfOk-weaker c.place_by_search.result _ _
+    (λ rid makes owners forests ready.
+    block_makes_along g.P.Pages ext s mid new def c.args.row.now told same owners forests rid.block rid.block refl
+    (makes owners forests (ready_along g.P.Pages ext c.place_by_search.new.ext s mid new def told same (room_of c.args.rooms.now) owners forests ready)))
+    c.place_by_search.ensures.makes
+
+pub returns-clause-stay : goal.returns-clause-stay
+returns-clause-stay g c =
+    let ext = c.args.ext.now in
+    let s = c.args.pages.now in
+    let mid = c.put_where_noted.new.pages in
+    let new = c.place_by_search.new.pages in
+    let def = c.args.def.now in
+    let told = c.in_ok-rid.ensures.runs.works.steady.is_told in
+    let same = c.in_ok-rid.ensures.kept c.in_default.is in
+    IfOk-weaker c.place_by_search.result _ _
+    (λ rid stay owners forests ready.
+    keeps_along ext s mid new def owners forests told same (λ block. block ≡ rid.block)
+    (stay owners forests (ready_along g.P.Pages ext c.place_by_search.new.ext s mid new def told same (room_of c.args.rooms.now) owners forests ready)))
+    c.place_by_search.ensures.stay
 
 pub returns-clause-runs : goal.returns-clause-runs
 returns-clause-runs g c =
     let ext = c.args.ext.now in
     let def = c.args.def.now in
-    let s = c.args.pages.now in
-    let mid = c.find_room.new.pages in
-    let row = c.args.row.now in
-    let line = c.in-Some.line in
-    let used : BlockRow = record { block = line.block; state = state.Used; rows = line.rows } in
-    runs_space_expecting ext def {fault = None} (HasRoomAt g.P.Pages ext mid def used row) c.find_room.ensures.same
-    (λ owners forests st.
-    room_at ext s mid def owners forests row c.first-from.result line c.find_room.ensures.same
-    (subst (FindsRoom def (spots_of g.P.Pages ext s def owners forests) forests.map row c.first-from.result) c.in-Some.is
-    (c.in_ok-line.ensures.finds owners forests row st c.requires.fits.values (c.deref-2.ensures.value ∙ c.in_ok-key.ensures.key))))
-    c.in_ok-line.ensures.runs (runs_of_place ext def {fault = None} line.block (HasRoomAt g.P.Pages ext mid def used row) c.in_ok-put_in_block.ensures.runs)
-
-pub returns-in_default-clause-makes : goal.returns-in_default-clause-makes
-returns-in_default-clause-makes g c owners forests ready =
-    let ext = c.args.ext.now in
-    let def = c.args.def.now in
-    let s = c.args.pages.now in
-    let mid = c.find_room.new.pages in
-    let told = c.in_ok-line.ensures.runs.works.steady.is_told in
-    let same = c.find_room.ensures.same in
-    block_makes_along g.P.Pages ext s mid c.begin_block.new.pages def c.args.row.now told same owners forests c.in_ok-block.block c.in_ok-block.block refl
-    (c.in_ok-block.ensures.makes owners forests (stands_same ext s mid def owners forests told same ready.stands) ready.notes)
-
-pub returns-in_default-clause-stay : goal.returns-in_default-clause-stay
-returns-in_default-clause-stay g c owners forests ready =
-    let ext = c.args.ext.now in
-    let def = c.args.def.now in
-    let s = c.args.pages.now in
-    let mid = c.find_room.new.pages in
-    let told = c.in_ok-line.ensures.runs.works.steady.is_told in
-    let same = c.find_room.ensures.same in
-    keeps_along ext s mid c.begin_block.new.pages def owners forests told same (λ other. other ≡ c.in_ok-block.block)
-    (c.in_ok-block.ensures.stay owners forests (stands_same ext s mid def owners forests told same ready.stands))
-
-pub returns-clause-makes : goal.returns-clause-makes
-returns-clause-makes g c owners forests ready =
-    let ext = c.args.ext.now in
-    let def = c.args.def.now in
-    let s = c.args.pages.now in
-    let mid = c.find_room.new.pages in
-    let told = c.in_ok-line.ensures.runs.works.steady.is_told in
-    let same = c.find_room.ensures.same in
-    let row = c.args.row.now in
-    let line = c.in-Some.line in
-    let found : FindsRoom def (spots_of g.P.Pages ext s def owners forests) forests.map row c.first-from.result (Some line) =
-    subst (FindsRoom def (spots_of g.P.Pages ext s def owners forests) forests.map row c.first-from.result) c.in-Some.is
-    (c.in_ok-line.ensures.finds owners forests row ready.stands c.requires.fits.values (c.deref-2.ensures.value ∙ c.in_ok-key.ensures.key)) in
-    block_makes_along g.P.Pages ext s mid c.put_in_block.new.pages def row told same owners forests line.block c.in_ok-put_in_block.field-0.block c.in_ok-put_in_block.ensures.block
-    (c.in_ok-put_in_block.ensures.makes owners forests (stands_same ext s mid def owners forests told same ready.stands) (room_at ext s mid def owners forests row c.first-from.result line same found))
-
-pub returns-clause-stay : goal.returns-clause-stay
-returns-clause-stay g c owners forests ready =
-    let ext = c.args.ext.now in
-    let def = c.args.def.now in
-    let s = c.args.pages.now in
-    let mid = c.find_room.new.pages in
-    let told = c.in_ok-line.ensures.runs.works.steady.is_told in
-    let same = c.find_room.ensures.same in
-    subst (λ block. KeepsBlocksBut g.P.Pages ext s c.put_in_block.new.pages def owners (λ other. other ≡ block)) (sym c.in_ok-put_in_block.ensures.block)
-    (keeps_in_block ext s mid c.put_in_block.new.pages def owners forests told same ready.stands c.in-Some.line.block c.in_ok-put_in_block.ensures.runs.touches)
+    runs_space_behind ext def (c.in_ok-rid.ensures.kept c.in_default.is) (runs_of_place ext def {fault = None} c.of-room.result.first c.in_ok-rid.ensures.runs) c.place_by_search.ensures.runs

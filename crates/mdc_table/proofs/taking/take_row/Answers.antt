@@ -1,6 +1,7 @@
 use Rattle.std.proofs.Common.{None, Some, arith, inl, inr, refl, ◌∙◌}
 use Rattle.store_api.proofs.RunsOverPagesLemmas.{runs_exit, runs_none}
-use Rattle.cell_rooms.specs.RoomNotes.{room_from}
+use Rattle.cell_rooms.specs.RoomNotes.{lowered_to, room_of}
+use Rattle.cell_rooms.proofs.RoomNotesLemmas.{noted_at_most, others_at_most}
 use Rattle.cell_rooms.proofs.TableRunsLemmas.{runs_broken}
 use Rattle.table_trees.specs.RowCells.{cell_places}
 use Rattle.mdc_sound.proofs.DefinitionTreesLemmas.{has_block_indexes}
@@ -31,16 +32,19 @@ pub returns-in_default-clause-takes : goal.returns-in_default-clause-takes
 returns-in_default-clause-takes g c owners forests ready =
     let row = c.in_ok-row.row in (
       row,
-      row_taken_forgetting c.args.ext.now c.take_row.new.ext c.args.pages.now c.take_row.new.pages c.args.def.now c.args.rid row owners forests (room_from c.args.rooms.now) (room_from c.forget.new.self) ready
+      row_taken_forgetting c.args.ext.now c.take_row.new.ext c.args.pages.now c.take_row.new.pages c.args.def.now c.args.rid row owners forests (room_of c.args.rooms.now) (room_of c.forget.new.self) ready
           (c.in_ok-row.ensures.takes owners forests ready.stands) c.forget.ensures,
     )
 
 pub returns-clause-takes : goal.returns-clause-takes
 returns-clause-takes g c owners forests ready =
-    let row = c.in_ok-row.row in (
+    let row = c.in_ok-row.row in
+    let key = c.deref.result.now in
+    let note = lowered_to c.args.rid.block (room_of c.args.rooms.now key) in (
       row,
-      row_taken c.args.ext.now c.take_row.new.ext c.args.pages.now c.take_row.new.pages c.args.def.now c.args.rid row owners forests (room_from c.args.rooms.now) (room_from c.lower.new.self) ready
-          (c.in_ok-row.ensures.takes owners forests ready.stands) c.deref.result.now (c.deref.ensures.value ∙ c.in-Ok.ensures.key) c.lower.ensures.lowered c.lower.ensures.kept,
+      row_taken c.args.ext.now c.take_row.new.ext c.args.pages.now c.take_row.new.pages c.args.def.now c.args.rid row owners forests (room_of c.args.rooms.now) (room_of c.lower.new.self) ready
+          (c.in_ok-row.ensures.takes owners forests ready.stands) key (c.deref.ensures.value ∙ c.in-Ok.ensures.key) (noted_at_most key note c.args.rooms.now c.lower.new.self c.lower.ensures)
+          (others_at_most key note c.args.rooms.now c.lower.new.self c.lower.ensures),
     )
 
 pub returns-in_default-clause-leaves : goal.returns-in_default-clause-leaves

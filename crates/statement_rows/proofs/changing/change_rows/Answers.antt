@@ -3,12 +3,12 @@ use Rattle.std.proofs.Math.ListN.{drop_of_length-le}
 use Rattle.store_api.proofs.RunsOverPagesLemmas.{runs_exit_as}
 use Rattle.extent_map.specs.Damages.{store_part_of}
 use Rattle.entry_tree.proofs.ClaimsLemmas.{if_err_by}
-use Rattle.cell_rooms.specs.RoomNotes.{room_from}
+use Rattle.cell_rooms.specs.RoomNotes.{room_of}
 use Rattle.statement_rows.proofs.TurningStepsLemmas.{full_at_one, runs_one, turning_at, turning_begins, turning_ends, turning_goes_on}
 use Rattle.statement_rows.proofs.changing.change_rows.Goals as goal
 
 pub loop-one-init : goal.loop-one-init
-loop-one-init g c = turning_begins g.P.Pages c.args.ext.now (room_from c.args.rooms.now) c.args.pages.now c.args.def.now c.args.turned.now
+loop-one-init g c = turning_begins g.P.Pages c.args.ext.now (room_of c.args.rooms.now) c.args.pages.now c.args.def.now c.args.turned.now
 
 pub returns-in_err-change_row-clause-full : goal.returns-in_err-change_row-clause-full
 returns-in_err-change_row-clause-full g c =
@@ -17,10 +17,10 @@ returns-in_err-change_row-clause-full g c =
     let one = c.one-item.result in
     let fault = c.in_err-change_row.field-0.0 in
     let turning =
-    turning_at g.P.Pages c.args.ext.now (room_from c.args.rooms.now) c.args.pages.now c.args.def.now all c.loop-one.ext (room_from c.loop-one.rooms) c.loop-one.pages i one c.loop-one.invariant c.loop-one-test.true
+    turning_at g.P.Pages c.args.ext.now (room_of c.args.rooms.now) c.args.pages.now c.args.def.now all c.loop-one.ext (room_of c.loop-one.rooms) c.loop-one.pages i one c.loop-one.invariant c.loop-one-test.true
     c.one-item.is in
     if_err_by c.from_residual.result fault _ c.from_residual.ensures.1
-    (full_at_one g.P.Pages c.args.ext.now (room_from c.args.rooms.now) c.args.pages.now c.args.def.now all c.loop-one.ext (room_from c.loop-one.rooms) c.loop-one.pages one (drop (i + 1) all) turning fault
+    (full_at_one g.P.Pages c.args.ext.now (room_of c.args.rooms.now) c.args.pages.now c.args.def.now all c.loop-one.ext (room_of c.loop-one.rooms) c.loop-one.pages one (drop (i + 1) all) turning fault
     c.in_err-change_row.ensures.full)
 
 pub returns-in_err-change_row-clause-runs : goal.returns-in_err-change_row-clause-runs
@@ -29,10 +29,10 @@ returns-in_err-change_row-clause-runs g c =
     let i = c.loop-one.one-index in
     let one = c.one-item.result in
     let turning =
-    turning_at g.P.Pages c.args.ext.now (room_from c.args.rooms.now) c.args.pages.now c.args.def.now all c.loop-one.ext (room_from c.loop-one.rooms) c.loop-one.pages i one c.loop-one.invariant c.loop-one-test.true
+    turning_at g.P.Pages c.args.ext.now (room_of c.args.rooms.now) c.args.pages.now c.args.def.now all c.loop-one.ext (room_of c.loop-one.rooms) c.loop-one.pages i one c.loop-one.invariant c.loop-one-test.true
     c.one-item.is in
     runs_exit_as store_part_of c.from_residual.result c.from_residual.ensures.1
-    (runs_one g.P.Pages c.args.ext.now (room_from c.args.rooms.now) c.args.pages.now c.args.def.now all c.loop-one.ext (room_from c.loop-one.rooms) c.loop-one.pages one (drop (i + 1) all) turning c.change_row.new.pages
+    (runs_one g.P.Pages c.args.ext.now (room_of c.args.rooms.now) c.args.pages.now c.args.def.now all c.loop-one.ext (room_of c.loop-one.rooms) c.loop-one.pages one (drop (i + 1) all) turning c.change_row.new.pages
     (store_part_of c.in_err-change_row.field-0.0) c.in_err-change_row.ensures.runs)
 
 pub loop-one-preserved : goal.loop-one-preserved
@@ -41,14 +41,14 @@ loop-one-preserved g c =
     let i = c.loop-one.one-index in
     let one = c.one-item.result in
     let turning =
-    turning_at g.P.Pages c.args.ext.now (room_from c.args.rooms.now) c.args.pages.now c.args.def.now all c.loop-one.ext (room_from c.loop-one.rooms) c.loop-one.pages i one c.loop-one.invariant c.loop-one-test.true
+    turning_at g.P.Pages c.args.ext.now (room_of c.args.rooms.now) c.args.pages.now c.args.def.now all c.loop-one.ext (room_of c.loop-one.rooms) c.loop-one.pages i one c.loop-one.invariant c.loop-one-test.true
     c.one-item.is in
     let said = c.in_ok-change_row.ensures in
-    turning_goes_on g.P.Pages c.args.ext.now (room_from c.args.rooms.now) c.args.pages.now c.args.def.now all c.loop-one.ext (room_from c.loop-one.rooms) c.loop-one.pages one (drop (i + 1) all) turning
-    c.change_row.new.ext (room_from c.change_row.new.rooms) c.change_row.new.pages c.in_ok-change_row.field-0 said.shape said.runs said.changes said.sound said.stands_for
+    turning_goes_on g.P.Pages c.args.ext.now (room_of c.args.rooms.now) c.args.pages.now c.args.def.now all c.loop-one.ext (room_of c.loop-one.rooms) c.loop-one.pages one (drop (i + 1) all) turning
+    c.change_row.new.ext (room_of c.change_row.new.rooms) c.change_row.new.pages c.in_ok-change_row.field-0 said.shape said.runs said.changes said.sound said.stands_for
 
 pub returns-clause-changes : goal.returns-clause-changes
 returns-clause-changes g c owners forests ready has =
     let all = c.args.turned.now in
-    turning_ends g.P.Pages c.args.ext.now (room_from c.args.rooms.now) c.args.pages.now c.args.def.now all c.loop-one.ext (room_from c.loop-one.rooms) c.loop-one.pages (drop c.loop-one.one-index all) c.loop-one.invariant
+    turning_ends g.P.Pages c.args.ext.now (room_of c.args.rooms.now) c.args.pages.now c.args.def.now all c.loop-one.ext (room_of c.loop-one.rooms) c.loop-one.pages (drop c.loop-one.one-index all) c.loop-one.invariant
     (drop_of_length-le all c.loop-one-test.false) owners forests ready has

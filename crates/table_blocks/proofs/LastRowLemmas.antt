@@ -1,0 +1,197 @@
+-- The last row of a block is taken out, and the block is freed. The block map was asked for its line first, behind a call that
+-- changed nothing.
+use Rattle.std.proofs.Common.{◌≡◌, ◌<◌, ◌≤◌, ◌^◌, ℕ, List, refl, ap, arith, sym, ◌∙◌, subst, length, inl, inr}
+use Rattle.std.specs.Prelude.{IfNone, None, Option, slice_set}
+use Rattle.mdc_values.specs.declared.rid.Rid.{Rid}
+use Rattle.mdc_values.specs.declared.value.Value.{Value}
+use Rattle.mdc_ast.specs.declared.definition.TableDef.{TableDef}
+use Rattle.mdc_ast.specs.declared.row.Row.{Row}
+use Rattle.store_api.specs.Causes.{NoDamage}
+use Rattle.store_api.specs.Frame.{NoPage}
+use Rattle.store_api.specs.RunsOverPages.{RunsOverPages}
+use Rattle.store_api.specs.declared.fault.Damage.{Damage}
+use Rattle.store_api.specs.declared.fault.StoreFault.{StoreFault}
+use Rattle.store_api.specs.declared.pages.Pages.{Ghosts}
+use Rattle.store_api.proofs.FrameLemmas.{touches_same}
+use Rattle.store_api.proofs.RunsOverPagesLemmas.{runs_none, runs_on, runs_then, runs_wider}
+use Rattle.extent_map.specs.declared.extents.Extents.{Extents}
+use Rattle.extent_map.specs.declared.kind.Kind.{Kind}
+use Rattle.row_page.specs.RowPage.{count_rows}
+use Rattle.table_page.specs.TableLimits.{IsTableDef}
+use Rattle.entry_tree.specs.Forest.{Forest}
+use Rattle.entry_tree.specs.HeldTrees.{HoldsTree, IsTreePage}
+use Rattle.entry_tree.specs.declared.tree.Tree.{Tree}
+use Rattle.entry_tree.proofs.RemoveLemmas.{held_same as tree_same}
+use Rattle.block_map.specs.BlockMaps.{BreaksMapTree, HasRow, IsMapForm}
+use Rattle.block_map.specs.Counting.{IfUsed, used_row}
+use Rattle.block_map.specs.declared.row.BlockRow.{BlockRow}
+use Rattle.block_rows.specs.HeldRows.{HoldsRows}
+use Rattle.mdc_sound.specs.Placing.{AfterReturns, Spot}
+use Rattle.mdc_sound.specs.Placing.Spot.{OtherBlock}
+use Rattle.mdc_sound.specs.StandingTable.{BreaksExpected, HasRowAt, IsBlockOrMapPage, IsPageOfBlock, NamesTablePart, StandsTable, TableForests, pages_of}
+use Rattle.mdc_sound.proofs.StandingTableLemmas.{stands_same}
+use Rattle.mdc_sound.proofs.TableSpotsLemmas.{length-spots}
+use Rattle.table_blocks.specs.AroundBlock.{StandsAround}
+use Rattle.table_blocks.specs.BlockChanges.{BreaksAround, ChangesAround, IsPlaceAround, TurnsSpot}
+use Rattle.table_blocks.specs.BlockNow.{IsListed, IsOwnBlock, IsUsedNow, MapsUsed}
+use Rattle.table_blocks.specs.BlockSteps.{EmptiesSlot, ExpectsFreeing, FreesBlock, HasFilledSlot, TakesFromSlot}
+use Rattle.table_blocks.proofs.AroundLemmas.{around_then, breaks_of_table, own_still, rows_step, runs_place_then}
+use Rattle.table_blocks.proofs.BlockPagesLemmas.{place_of_block}
+use Rattle.table_blocks.proofs.ClearedSlotsLemmas.{count_cleared, left_free, row_there}
+use Rattle.table_blocks.proofs.ClosingLemmas.{turns_free}
+use Rattle.table_blocks.proofs.CountedBlockLemmas.{IsCountedNow, used_counted}
+use Rattle.table_blocks.proofs.LineStepLemmas.{place_of_map}
+use Rattle.table_blocks.proofs.ListedCellsLemmas.{listed_in_cell}
+use Rattle.table_blocks.proofs.MapOfTableLemmas.{form_of_table, map_of_table, map_page}
+use Rattle.table_blocks.proofs.OpeningLemmas.{around_block, own_of_line, used_spot_now}
+use Rattle.table_blocks.proofs.SpotChangesLemmas.{returns_change}
+use Rattle.table_blocks.proofs.SuchSlotsLemmas.{rows_as_was}
+
+module _ {S : Type 0} {g : Ghosts S} (ext : Extents) (s : S) (def : TableDef) (defined : IsTableDef def.number def) (rid : Rid) (low : rid.block < ext.cap) where
+  -- the block of a row that lies there
+  row_now : (owners : List Kind) (forests : TableForests) → StandsTable g ext s def owners forests → (has : HasRowAt g ext s def rid owners forests) → (values : List Value) × IsUsedNow g ext s def owners forests rid.block values has.slots
+  row_now owners forests st has = used_spot_now ext s def owners forests defined st rid.block has.slots (has.lies.block OtherBlock)
+
+  -- ---- the line
+
+  module _ {Any : Damage → Type 0} (tree : Tree) (root : tree.root ≡ def.roots.map) (width : tree.width ≡ 7) (mid : S) (first : RunsOverPages g (IsTreePage g s tree) (IsTreePage g s tree) Any s mid None)
+      (same : (g.state mid).work ≡ (g.state s).work) where
+    map_then : (owners : List Kind) (forests : TableForests) → StandsTable g ext s def owners forests → HoldsTree g mid tree forests.map
+    map_then owners forests st = tree_same first.works.steady.is_told same (map_of_table ext s def defined tree root width owners forests st)
+
+    breaks_line : (damage : Damage) → BreaksMapTree g mid tree (MapsUsed rid.block) damage → BreaksExpected g ext s def (HasRowAt g ext s def rid) damage
+    breaks_line damage (inl b) = record {
+      names = NamesTablePart.tree b.rule (0, omega arith, sym (b.page ∙ root));
+      broken = λ owners forests st has. b.broken forests.map (map_then owners forests st);
+    }
+    breaks_line damage (inr b) = record {
+      names = NamesTablePart.block_map b.rule (b.page ∙ root);
+      broken = λ owners forests st has.
+          b.broken forests.map (map_then owners forests st) (form_of_table ext s def defined tree root width owners forests st)
+          (record { entries = st.map.entries; rows = count_rows has.slots; line = (row_now owners forests st has).1.line });
+    }
+
+    pub runs_looking : {looked : S} {fault : Option StoreFault} → RunsOverPages g NoPage (IsTreePage g mid tree) (BreaksMapTree g mid tree (MapsUsed rid.block)) mid looked fault
+        → RunsOverPages g NoPage (IsTreePage g s tree) (BreaksExpected g ext s def (HasRowAt g ext s def rid)) s looked fault
+    runs_looking second =
+        let told = first.works.steady.is_told in
+        let on : RunsOverPages g (IsTreePage g s tree) (IsTreePage g s tree) (BreaksExpected g ext s def (HasRowAt g ext s def rid)) s mid None = runs_on first in
+        let still : RunsOverPages g NoPage (IsTreePage g s tree) (BreaksExpected g ext s def (HasRowAt g ext s def rid)) s mid None =
+        record { works = on.works; touches = touches_same told same; brings = on.brings; cause = on.cause } in
+        runs_then still second (λ p within none. none) (λ p is t held. is t (tree_same told same held)) (λ damage b. breaks_line damage b)
+
+    pub line_of_table : (line : BlockRow) → ((t : Forest) → HoldsTree g mid tree t → HasRow line t) → (owners : List Kind) (forests : TableForests) → StandsTable g ext s def owners forests → HasRow line forests.map
+    line_of_table line found owners forests st = found forests.map (map_then owners forests st)
+
+  -- in the words of the table
+  pub runs_of_table : (tree : Tree) (root : tree.root ≡ def.roots.map) (width : tree.width ≡ 7) {looked : S} {fault : Option StoreFault}
+      → RunsOverPages g NoPage (IsTreePage g s tree) (BreaksExpected g ext s def (HasRowAt g ext s def rid)) s looked fault
+      → RunsOverPages g (IsBlockOrMapPage g ext s def rid.block) (IsBlockOrMapPage g ext s def rid.block) (BreaksExpected g ext s def (HasRowAt g ext s def rid)) s looked fault
+  runs_of_table tree root width run = runs_wider run (λ p there none. absurd none) (λ p is. map_page ext s def defined tree root width rid.block p is) (λ damage b. b)
+
+  -- the same, where no call came first
+  pub run_looking : (tree : Tree) (root : tree.root ≡ def.roots.map) (width : tree.width ≡ 7) {looked : S} {fault : Option StoreFault}
+      → RunsOverPages g NoPage (IsTreePage g s tree) (BreaksMapTree g s tree (MapsUsed rid.block)) s looked fault
+      → RunsOverPages g (IsBlockOrMapPage g ext s def rid.block) (IsBlockOrMapPage g ext s def rid.block) (BreaksExpected g ext s def (HasRowAt g ext s def rid)) s looked fault
+  run_looking tree root width run = runs_of_table tree root width (runs_looking {Any = NoDamage} tree root width s (runs_none) refl run)
+
+  -- ---- the row
+
+  module _ (rows : ℕ) (few : rows < 2 ^ 16) (there : (owners : List Kind) (forests : TableForests) → StandsTable g ext s def owners forests → HasRow (used_row rid.block rows) forests.map) where
+    pub opens : (owners : List Kind) (forests : TableForests) → StandsTable g ext s def owners forests → StandsAround g ext s def owners forests rid.block × IsOwnBlock ext owners def rid.block
+    opens owners forests st = (around_block ext s def owners forests defined st rid.block, own_of_line ext s def owners forests defined st (used_row rid.block rows) (there owners forests st) low)
+
+    pub block_now : (owners : List Kind) (forests : TableForests) → StandsTable g ext s def owners forests → IsCountedNow g ext s def (used_row rid.block rows) owners forests
+    block_now owners forests st = used_counted ext s def (used_row rid.block rows) defined low few owners forests st (there owners forests st) refl
+
+    pub runs_on_slot : {looked new : S} {fault : Option StoreFault} → (g.state looked).work ≡ (g.state s).work
+        → RunsOverPages g (IsBlockOrMapPage g ext s def rid.block) (IsBlockOrMapPage g ext s def rid.block) (BreaksExpected g ext s def (HasRowAt g ext s def rid)) s looked None
+        → RunsOverPages g (IsPageOfBlock ext rid.block) (IsPageOfBlock ext rid.block) (BreaksAround g ext looked def rid.block (HasFilledSlot rid.slot g ext looked def rid.block)) looked new fault
+        → RunsOverPages g (IsBlockOrMapPage g ext s def rid.block) (IsBlockOrMapPage g ext s def rid.block) (BreaksExpected g ext s def (HasRowAt g ext s def rid)) s new fault
+    runs_on_slot {looked} as_was first second =
+        let told = first.works.steady.is_told in
+        runs_then first second (λ p within is. page p is) (λ p is. page p is)
+        (λ damage b. record {
+          names = b.names;
+          broken = λ owners forests st has.
+              b.broken owners forests (around_block ext looked def owners forests defined (stands_same ext s looked def owners forests told as_was st) rid.block) (opens owners forests st).1
+              (record { slots = has.slots; rows = rows_as_was ext s def rid.block looked has.slots told as_was (row_now owners forests st has).1.rows; such = (has.row, has.lies.slot) });
+        })
+      where
+        page : (p : ℕ) → IsPageOfBlock ext rid.block p → IsBlockOrMapPage g ext s def rid.block p
+        page p is owners forests st = inr (inl (record { page = is; own = (opens owners forests st).1.owned }))
+
+    module _ {Any : Damage → Type 0} (tree : Tree) (root : tree.root ≡ def.roots.map) (width : tree.width ≡ 7) (row : Row) (looked cleared : S) (first : RunsOverPages g NoPage (IsTreePage g s tree) Any s looked None)
+        (as_was : (g.state looked).work ≡ (g.state s).work)
+        (second : RunsOverPages g (IsPageOfBlock ext rid.block) (IsPageOfBlock ext rid.block) (BreaksAround g ext looked def rid.block (HasFilledSlot rid.slot g ext looked def rid.block)) looked cleared None)
+        (count : length (g.state cleared).work ≡ length (g.state looked).work) (takes : (slots : List (Option Row)) → HoldsRows g ext looked def rid.block slots → TakesFromSlot g ext cleared def rid row slots) where
+      pub so_far : RunsOverPages g (IsPageOfBlock ext rid.block) (IsPlaceAround g ext s def rid.block) (BreaksAround g ext s def rid.block (ExpectsFreeing def (used_row rid.block rows) row)) s cleared None
+      so_far =
+          runs_then (runs_wider (runs_on {Breaks = NoDamage} first) (λ p within none. absurd none) (λ p is. place_of_map tree def root width ext s rid.block p is) (λ damage none. absurd none)) (runs_on {Breaks = NoDamage} second)
+          (λ p within is. is) (λ p is owners forests st own. inr (inl is)) (λ damage none. absurd none)
+
+      pub cleared_change : (owners : List Kind) (forests : TableForests) → StandsAround g ext s def owners forests rid.block → IsOwnBlock ext owners def rid.block
+          → ChangesAround g AfterReturns ext ext s cleared def rid.block owners forests owners forests
+      cleared_change owners forests st own = rows_step returns_change ext s cleared def rid.block owners forests st own so_far.touches so_far.works.steady.is_told (count ∙ ap length as_was)
+
+      took : (slots : List (Option Row)) → HoldsRows g ext s def rid.block slots → TakesFromSlot g ext cleared def rid row slots
+      took slots held = takes slots (rows_as_was ext s def rid.block looked slots first.works.steady.is_told as_was held)
+
+      listed : (owners : List Kind) (forests : TableForests) (values : List Value) (slots : List (Option Row)) → IsUsedNow g ext s def owners forests rid.block values slots → IsListed def forests row.values rid.block
+      listed owners forests values slots now =
+          listed_in_cell def forests values row.values rid.block (sym (now.cell.one_cell row (row_there slots rid.slot row (took slots now.rows).lay))) now.listed
+
+      -- its block is freed
+      pub runs_last : (line : BlockRow) → line ≡ used_row rid.block rows → {new : S} {fault : Option StoreFault}
+          → RunsOverPages g (IsPlaceAround g ext cleared def line.block) (IsPlaceAround g ext cleared def line.block) (BreaksAround g ext cleared def line.block (ExpectsFreeing def line row)) cleared new fault
+          → RunsOverPages g (IsBlockOrMapPage g ext s def rid.block) (IsBlockOrMapPage g ext s def rid.block) (BreaksExpected g ext s def (HasRowAt g ext s def rid)) s new fault
+      runs_last line is {new} {fault} run =
+          let expects = ExpectsFreeing def (used_row rid.block rows) row in
+          let last : RunsOverPages g (IsPlaceAround g ext cleared def rid.block) (IsPlaceAround g ext cleared def rid.block) (BreaksAround g ext cleared def rid.block expects) cleared new fault =
+          subst (λ (l : BlockRow). RunsOverPages g (IsPlaceAround g ext cleared def l.block) (IsPlaceAround g ext cleared def l.block) (BreaksAround g ext cleared def l.block (ExpectsFreeing def l row)) cleared new fault) is run in
+          let before = runs_wider so_far (λ p within is owners forests st own. inr (inl is)) (λ p is. is) (λ damage b. b) in
+          let whole = runs_place_then ext ext s cleared new def rid.block expects expects fault (record { cap = refl; extent_pages = refl })
+          (λ owners forests st own. (record { owners_now = owners; forests_now = forests; changes = cleared_change owners forests st own; expects = λ e. e }, λ p l. l)) before last in
+          runs_wider whole (λ p within is. place_of_block ext s def rid.block p opens is) (λ p is. place_of_block ext s def rid.block p opens is)
+          (λ damage b. breaks_of_table ext s def rid.block expects (HasRowAt g ext s def rid) damage b
+          (λ owners forests st has.
+          let o = opens owners forests st in
+          let now = row_now owners forests st has in
+          (o.0, o.1, record { line_there = there owners forests st; listed = listed owners forests now.0 has.slots now.1 })))
+
+      pub empties_last : (line : BlockRow) → line ≡ used_row rid.block rows → (now : Extents) (new : S)
+          → ((owners : List Kind) (forests : TableForests) → StandsAround g ext cleared def owners forests line.block → IsOwnBlock ext owners def line.block → FreesBlock g ext now cleared new def line.block row owners forests)
+          → (owners : List Kind) (forests : TableForests) → StandsTable g ext s def owners forests → rows ≤ 1 → EmptiesSlot g ext now s new def rid row owners forests
+      empties_last line is now new frees owners forests st last =
+          let o = opens owners forests st in
+          let here = block_now owners forests st in
+          let lay = (took here.slots here.now.rows).lay in
+          let left = slice_set here.slots rid.slot None in
+          let none : count_rows left ≡ 0 = omega (arith, count_cleared here.slots rid.slot row lay, here.counted, last) in
+          let step = cleared_change owners forests o.0 o.1 in
+          let freed : FreesBlock g ext now cleared new def rid.block row owners forests =
+          subst
+          (λ (l : BlockRow). (owners : List Kind) (forests : TableForests) → StandsAround g ext cleared def owners forests l.block → IsOwnBlock ext owners def l.block → FreesBlock g ext now cleared new def l.block row owners forests)
+          is frees owners forests step.stands o.1 in
+          let whole = around_then returns_change ext ext now s cleared new def rid.block owners owners freed.owners_now forests forests freed.forests_now step freed.changes in
+          record {
+            owners_now = freed.owners_now;
+            forests_now = freed.forests_now;
+            slots = here.slots;
+            lies = record { within = omega (arith, low, length-spots ext (pages_of g s) def owners forests.map); block = here.was; slot = lay };
+            turns = subst (λ (spot : Spot). TurnsSpot g AfterReturns ext now s new def rid.block spot owners forests freed.owners_now freed.forests_now) (sym (left_free left none))
+                (turns_free returns_change ext now s new def rid.block owners freed.owners_now forests freed.forests_now defined whole (record {
+                  own = own_still ext now s new def rid.block owners freed.owners_now forests freed.forests_now whole o.1;
+                  line = freed.line;
+                  unlisted = freed.unlisted (listed owners forests here.values here.slots here.now);
+                }));
+          }
+
+  -- it was the last one, since the map counted none less
+  pub is_last : (tree : Tree) (root : tree.root ≡ def.roots.map) (width : tree.width ≡ 7) (counted : Option ℕ) → counted ≡ None
+      → IfNone counted ((t : Forest) → HoldsTree g s tree t → IsMapForm t → IfUsed rid.block (λ n. n ≤ 1) t) → (rows : ℕ) → rows < 2 ^ 16
+      → (owners : List Kind) (forests : TableForests) → StandsTable g ext s def owners forests → HasRow (used_row rid.block rows) forests.map → rows ≤ 1
+  is_last tree root width counted is last rows few owners forests st there =
+      let said : (t : Forest) → HoldsTree g s tree t → IsMapForm t → IfUsed rid.block (λ n. n ≤ 1) t =
+      subst (λ (o : Option ℕ). IfNone o ((t : Forest) → HoldsTree g s tree t → IsMapForm t → IfUsed rid.block (λ n. n ≤ 1) t)) is last in
+      said forests.map (map_of_table ext s def defined tree root width owners forests st) (form_of_table ext s def defined tree root width owners forests st) rows few there
