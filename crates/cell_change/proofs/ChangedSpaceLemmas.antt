@@ -23,7 +23,7 @@ use Rattle.mdc_sound.specs.Placing.{IsRowAt, PutsRow, Spot, block_slot_count}
 use Rattle.mdc_sound.specs.Placing.Spot.{OtherBlock}
 use Rattle.mdc_sound.specs.RunningFull.{InsertingChanges, InsertRunsFull, RowRunsFull, ShowsTableSpots, UpdateRunsFull, UpdatingChanges, block_changes, left_changes, listings_in, putting_changes, row_listings, taking_changes}
 use Rattle.mdc_sound.specs.StandingTable.{OverwritesRow, PlacesRow, RoomNote, StandsTable, TableForests, TakesRowOut, pages_of, spots_of}
-use Rattle.cell_change.specs.RowChanges.{MakesOneChange, row_in_place}
+use Rattle.cell_change.specs.RowChanges.{MakesOneChange, TurnsRowBy, row_in_place}
 use Rattle.cell_change.proofs.ChangedRowLemmas.{same_claims, slots_same, stays_turns}
 use Rattle.table_trees.proofs.SpaceChainsLemmas.{changes_shaped, changes_then, full_before, full_shaped, full_then, no_changes}
 
@@ -80,9 +80,9 @@ pub stays_makes : {S : Type 0} (g : Ghosts S) (ext : Extents) (room_of : Entry �
     → AreOfOneCell def row.values other.values → OverwritesRow g ext ext room_of old new def owners forests row other rid → IsSameSpace ext (pages_of g old) (pages_of g new)
     → MakesOneChange g ext old new def row other rid owners forests (spots_of g ext new def owners forests)
 stays_makes g ext room_of old new def row other rid owners forests none cell over same = record {
-  front = removed_entries (listings_in def (filter differs def.indexes) row rid) ++ added_entries (listings_in def (filter differs def.indexes) other rid);
+  changes = removed_entries (listings_in def (filter differs def.indexes) row rid) ++ added_entries (listings_in def (filter differs def.indexes) other rid);
   makes = subst (λ (list : List SpaceChange). MakesChanges ext (pages_of g old) list (pages_of g new)) (sym (none_differ def.indexes none)) (no_changes ext (pages_of g old) (pages_of g new) same);
-  goes_on = λ rows changes more. UpdatingChanges.stays cell (stays_turns g ext room_of old new def row other rid owners forests cell over) (same_claims (spots_of g ext new def owners forests)) more;
+  turns = TurnsRowBy.stays cell (stays_turns g ext room_of old new def row other rid owners forests cell over) (same_claims (spots_of g ext new def owners forests));
 }
   where
     differs : IndexDef → Bool
@@ -119,9 +119,9 @@ module _ {S : Type 0} (g : Ghosts S) (before mid : Extents) (room_mid : Entry �
       subst (λ (changes : List SpaceChange). MakesChanges before (pages_of g middle) changes (pages_of g new)) (sym plain)
       (changes_shaped before mid (pages_of g middle) (pages_of g new) (block_changes def other to.block (slice_index_or free to.block OtherBlock)) takes.changes.shape makes) in
       record {
-        front = taking ++ putting;
+        changes = taking ++ putting;
         makes = changes_then before (pages_of g old) (pages_of g middle) (pages_of g new) taking putting out then;
-        goes_on = λ rows changes more. UpdatingChanges.moves free apart lies takes.takes takes.returns (puts_before places.mid to places.puts) places.claims more;
+        turns = TurnsRowBy.moves free apart lies takes.takes takes.returns (puts_before places.mid to places.puts) places.claims;
       }
 
   -- ---- it runs full once the row is out

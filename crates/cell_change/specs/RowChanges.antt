@@ -1,5 +1,5 @@
 -- What a change of one row makes of a table: where the row lies, and which rows there are.
-use Rattle.std.specs.Prelude.{ℕ, List, ◌∷◌, ◌++◌, Option, IsPermutation}
+use Rattle.std.specs.Prelude.{ℕ, List, ◌∷◌, ◌++◌, Option, IsPermutation, slice_index_or}
 use Rattle.mdc_words.specs.ByteOrder.{Entry}
 use Rattle.mdc_values.specs.declared.rid.Rid.{Rid}
 use Rattle.mdc_ast.specs.declared.definition.TableDef.{TableDef}
@@ -7,9 +7,12 @@ use Rattle.mdc_ast.specs.declared.row.Row.{Row}
 use Rattle.store_api.specs.declared.pages.Pages.{Ghosts}
 use Rattle.extent_map.specs.declared.extents.Extents.{Extents}
 use Rattle.extent_map.specs.declared.kind.Kind.{Kind}
-use Rattle.table_trees.specs.SpaceChanges.{MakesChanges, SpaceChange}
-use Rattle.mdc_sound.specs.Placing.{ChangesRow, IsRowAt, Spot, SpotsAfterClaims, block_slot_count}
-use Rattle.mdc_sound.specs.RunningFull.{UpdatingChanges}
+use Rattle.row_page.specs.RowPage.{count_rows}
+use Rattle.table_trees.specs.RowCells.{AreOfOneCell}
+use Rattle.table_trees.specs.SpaceChanges.{MakesChanges, SpaceChange, added_entries, removed_entries}
+use Rattle.mdc_sound.specs.Placing.{ChangesRow, IsRowAt, PutsRow, Spot, SpotsAfterClaims, SpotsAfterReturns, TakesRow, block_slot_count}
+use Rattle.mdc_sound.specs.Placing.Spot.{OtherBlock}
+use Rattle.mdc_sound.specs.RunningFull.{differing_indexes, listings_in, putting_changes, taking_changes}
 use Rattle.mdc_sound.specs.StandingTable.{AreRightRooms, ChangesTable, PlacesRow, RoomNote, TableForests, TakesRowOut, pages_of, spots_of}
 use Rattle.mdc_sound.specs.TableRows.{PlacedRow, rows_in_table}
 
@@ -36,16 +39,24 @@ pub record DeletesRow {S : Type 0} (g : Ghosts S) (before ext : Extents) (room_o
   pub takes : TakesRowOut g before ext room_of old new def owners forests row rid
   pub rows : IsPermutation (row_in_place rid row ∷ rows_now g ext new def takes.forests_now) (rows_now g before old def forests)
 
--- An UPDATE that turns this row first makes these changes of space, and whatever goes on from the spots now goes on from those
--- before, with these in front.
+-- The changes of space that one row of an UPDATE asks for, and the spots after it. All that is taken out for it goes before what is
+-- put. A row that keeps its cell changes the record indexes in which its keys differ.
+pub data TurnsRowBy (def : TableDef) (n : ℕ) (old : List Spot) (rid : Rid) (row other : Row) (new : List Spot) : List SpaceChange → Type 0 where
+  stays : {mid : List Spot} → AreOfOneCell def row.values other.values → ChangesRow def n old rid row other mid rid → SpotsAfterClaims mid new
+      → TurnsRowBy def n old rid row other new
+      (removed_entries (listings_in def (differing_indexes def row other) row rid) ++ added_entries (listings_in def (differing_indexes def row other) other rid))
+  moves : {left mid : List Spot} (free : List Spot) {to : Rid} {slots : List (Option Row)} → (AreOfOneCell def row.values other.values → ⊥) → IsRowAt old rid row slots
+      → TakesRow old rid row left → SpotsAfterReturns left free → PutsRow def n free other mid to → SpotsAfterClaims mid new
+      → TurnsRowBy def n old rid row other new (taking_changes def row rid (count_rows slots) ++ putting_changes def other to (slice_index_or free to.block OtherBlock))
+
+-- these changes were made, and are those that the row asks for
 pub record MakesOneChange {S : Type 0} (g : Ghosts S) (ext : Extents) (old new : S) (def : TableDef) (row other : Row) (rid : Rid) (owners : List Kind) (forests : TableForests) (spots_now : List Spot) : Type 0 where
-  pub front : List SpaceChange
-  pub makes : MakesChanges ext (pages_of g old) front (pages_of g new)
-  pub goes_on : (rows : List (PlacedRow × Row)) (changes : List SpaceChange) → UpdatingChanges def (block_slot_count ext def) spots_now rows changes
-      → UpdatingChanges def (block_slot_count ext def) (spots_of g ext old def owners forests) ((row_in_place rid row, other) ∷ rows) (front ++ changes)
+  pub changes : List SpaceChange
+  pub makes : MakesChanges ext (pages_of g old) changes (pages_of g new)
+  pub turns : TurnsRowBy def (block_slot_count ext def) (spots_of g ext old def owners forests) rid row other spots_now changes
 
 -- The row became another, in its place where it keeps its cell; the other rows stay. After that trees may have taken free extents.
--- What it makes of space is what an UPDATE makes that turns this row first.
+-- Trees took no more space than that asks for.
 pub record ChangesOneRow {S : Type 0} (g : Ghosts S) (before ext : Extents) (room_of : Entry → RoomNote) (old new : S) (def : TableDef) (row other : Row) (rid to : Rid) (owners : List Kind) (forests : TableForests) : Type 0 where
   pub owners_now : List Kind
   pub forests_now : TableForests

@@ -12,7 +12,9 @@ use Rattle.store_api.specs.declared.pages.Pages.{Ghosts}
 use Rattle.extent_map.specs.Owners.{AreRightNotes}
 use Rattle.extent_map.specs.declared.extents.Extents.{Extents}
 use Rattle.extent_map.specs.declared.kind.Kind.{Kind}
+use Rattle.table_trees.specs.SpaceChanges.{IsSameSpace}
 use Rattle.table_trees.specs.ToldPages.{PageList, told_pages}
+use Rattle.table_trees.proofs.ToldPagesLemmas.{map_of_told}
 use Rattle.mdc_sound.specs.BlockRules.{AreNumbersSound, AreOtherKeysSound, AreSoundIndexes, AreTableKeysSound, IsUniqueSound}
 use Rattle.mdc_sound.specs.SoundDatabase.{IsSoundBetweenChanges, IsSoundWith, KeepAllRules, KeepFirstRules, with_table_page}
 use Rattle.mdc_sound.specs.SpaceRules.{DatabaseView, IsTablePlaceSound, tables_there}
@@ -21,7 +23,7 @@ use Rattle.mdc_sound.specs.TablePages.{DefinesTable}
 use Rattle.mdc_sound.specs.TableRows.{rows_in_table}
 use Rattle.mdc_sound.specs.TableViews.{TableView}
 use Rattle.mdc_sound.proofs.BlockRulesLemmas.{each_as}
-use Rattle.mdc_sound.proofs.SoundDatabaseLemmas.{length-with_table_page, put_table_page}
+use Rattle.mdc_sound.proofs.SoundDatabaseLemmas.{length-with_table_page, page_at-with_table_page, put_table_page}
 use Rattle.mdc_sound.proofs.SpaceRulesLemmas.{each_there, range_at, same_table, there_at}
 use Rattle.mdc_sound.proofs.StandingTableLemmas.{forests_of, number_of_place, stands_listed, stands_of_rules, stands_still, stands_told}
 use Rattle.cell_rooms.specs.RoomNotes.{no_note}
@@ -57,6 +59,17 @@ stands_written g ext s def owners forests low st =
     (λ p on only. omega (arith, on.0, only, low))
     (λ p l only. omega (arith, (listed.trees.used p l).page.behind, only, low))
     (λ p of only. omega (arith, of.page.behind, only, low))
+
+-- it takes no space
+pub space_written : {S : Type 0} (g : Ghosts S) (ext : Extents) (s : S) (def : TableDef) (owners : List Kind) (forests : TableForests) → def.number < 16 → StandsTable g ext s def owners forests
+    → IsSameSpace ext (pages_of g s) (with_table_page def (pages_of g s))
+space_written g ext s def owners forests low st = record {
+  owners = owners;
+  had = map_of_told g s st.told ext owners st.trees.map;
+  has = (stands_written g ext s def owners forests low st).trees.map;
+  bytes = λ p of. page_at-with_table_page def (pages_of g s) p (λ e. omega (arith, of.page.behind, e, low));
+  count = length-with_table_page def (pages_of g s);
+}
 
 -- ---- sound pages
 

@@ -191,7 +191,8 @@ module _ {S : Type 0} (g : Ghosts S) (old new : S) (before now : Tables) (place 
         answers = refl;
       };
       places = λ reply done place other changes at. absurd cc;
-      others = others_created g old new before now place (rooted def roots) (empty_table def_now) added.owners_now ready added.sound refl refl is.shape is.served is.lowest is.is_entered is.touches;
+      others = others_created g old new before now place (rooted def roots) (empty_table def_now) added.owners_now ready added.sound refl refl is.shape is.served is.lowest is.is_entered is.touches
+          (added.makes ready.notes);
     }
 
 -- ---- a table less

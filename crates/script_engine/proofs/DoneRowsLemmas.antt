@@ -36,7 +36,8 @@ use Rattle.extent_map.specs.declared.kind.Kind.{Kind}
 use Rattle.entry_tree.proofs.ClaimsLemmas.{shape_none}
 use Rattle.block_rows.specs.HeldRows.{placed_row}
 use Rattle.block_rows.specs.declared.hit.Hit.{Hit}
-use Rattle.mdc_sound.specs.Placing.{ChangesRows, Spot, TakesRows, block_slot_count}
+use Rattle.table_trees.specs.SpaceChanges.{SpaceChange}
+use Rattle.mdc_sound.specs.Placing.{Spot, block_slot_count}
 use Rattle.mdc_sound.specs.RunningFull.{UpdateRunsFull}
 use Rattle.mdc_sound.specs.StandingTable.{StandsTable, TableForests, pages_of, spots_of}
 use Rattle.mdc_sound.specs.StandsForDatabase.{PagesStandFor}
@@ -45,6 +46,7 @@ use Rattle.cell_rooms.specs.RoomNotes.{room_of}
 use Rattle.binder.specs.Saying.{first_of}
 use Rattle.cell_change.proofs.ChangedSpaceLemmas.{shows_spots}
 use Rattle.row_judging.specs.Executing.{answer_of, done}
+use Rattle.statement_rows.specs.RowsAndSpace.{TakesRowsBy, TurnsRowsBy}
 use Rattle.statement_rows.specs.RowsOfStatement.{AnyPage, BreaksReady, ChangesRowsOf, HasTheseRows, IsReadyBetween, with_rows, without_rows}
 use Rattle.statement_rows.specs.Turning.{turned_row}
 use Rattle.statement_rows.specs.declared.changing.Turned.{Turned}
@@ -124,19 +126,19 @@ module _ {S : Type 0} (g : Ghosts S) (old mid new : S) (before now : Tables) (de
 
   module _ (ready : IsReady g old before) (owners : List Kind) (forests : TableForests) (mid_ready : IsReadyBetween g before.ext (room_of before.rooms) mid def owners forests)
       (statement : Bound) (change : PlainTable → PlainTable)
-      (changed : ChangesRowsOf g before.ext now.ext (room_of now.rooms) mid new def def owners forests (λ was is. PlacesRows def (block_slot_count before.ext def) was is statement) change)
+      (changed : ChangesRowsOf g before.ext now.ext (room_of now.rooms) mid new def def owners forests (λ was space is. PlacesRows def (block_slot_count before.ext def) was space is statement) change)
       (catalog : now.catalog ≡ before.catalog) (noted : now.noted ≡ before.noted) where
     pub rows_done : (outcome : Outcome) → changed_place statement ≡ Some before.noted
         → ((db : Database) → PagesStandFor before.ext (pages_of g mid) db → (changed_at db before.noted change ≡ (done db statement).0) × ((done db statement).1 ≡ answer_of outcome))
         → DoesStatement g old new before now statement outcome
     rows_done outcome is_changed means =
-        let Places : List Spot → List Spot → Type 0 = λ was is. PlacesRows def (block_slot_count before.ext def) was is statement in
+        let Places : List Spot → List SpaceChange → List Spot → Type 0 = λ was space is. PlacesRows def (block_slot_count before.ext def) was space is statement in
         let still = ready_still g old mid told same before ready in
         let ends = change_ends_unwritten g mid new before now def owners forests Places change served still at changed catalog noted in
         let at_now : def_at now.catalog before.noted ≡ Some def = ap (λ defs. def_at defs before.noted) catalog ∙ at in
         let served_now : AreServed now.catalog = subst AreServed (sym catalog) served in
         let written = sym (page_is_written g new now before.noted def served_now ends.ready at_now) in
-        let shown = places_shown g mid new new before now def def owners forests Places change statement still refl mid_ready changed written (λ was is puts. puts) in record {
+        let shown = places_shown g mid new new before now def def owners forests Places change statement still refl mid_ready changed written (λ was space is puts. puts) in record {
           ready = ends.ready;
           stands = λ db stands.
               let midway : PagesStandFor before.ext (pages_of g mid) db = subst (λ pages. PagesStandFor before.ext pages db) (sym same) stands in
@@ -171,7 +173,7 @@ pub delete_does : {S : Type 0} (g : Ghosts S) (old mid new : S) (before now : Ta
     → def_at before.catalog before.noted ≡ Some def → (g.state mid).is_told ≡ (g.state old).is_told → (g.state mid).work ≡ (g.state old).work
     → ((owners : List Kind) (forests : TableForests) → StandsTable g before.ext old def owners forests → FindsRows g before.ext old def pred found forests) → items ≡ found → count ≡ length found
     → ((owners : List Kind) (forests : TableForests) → IsReadyBetween g before.ext (room_of before.rooms) mid def owners forests → HasTheseRows g before.ext mid def (map placed_row items) owners forests
-    → ChangesRowsOf g before.ext now.ext (room_of now.rooms) mid new def def owners forests (λ was is. TakesRows was (map placed_row items) is) (without_rows (map (λ hit. hit.row) items)))
+    → ChangesRowsOf g before.ext now.ext (room_of now.rooms) mid new def def owners forests (λ was space is. TakesRowsBy def was (map placed_row items) space is) (without_rows (map (λ hit. hit.row) items)))
     → now.catalog ≡ before.catalog → now.noted ≡ before.noted → IsReady g old before → DoesStatement g old new before now (bound.Delete before.noted pred) (said.Done (reply.Deleted count))
 delete_does g old mid new before now def pred found items count served at told same finds are counts deletes catalog noted ready =
     let mid_ready = ready_mid g old mid new before now def served at told same ready in
@@ -180,8 +182,8 @@ delete_does g old mid new before now def pred found items count served at told s
     let st = mid_ready.between.ready.stands in
     let hits_here = found_still g old mid told same before.ext def pred found owners forests finds st in
     let lie = these_rows g before.ext mid def owners forests st pred found hits_here mid_ready.between.sound in
-    let changed : ChangesRowsOf g before.ext now.ext (room_of now.rooms) mid new def def owners forests (λ was is. TakesRows was (map placed_row found) is) (without_rows (map (λ (hit : Hit). hit.row) found)) =
-    subst (λ (l : List Hit). ChangesRowsOf g before.ext now.ext (room_of now.rooms) mid new def def owners forests (λ was is. TakesRows was (map placed_row l) is) (without_rows (map (λ (hit : Hit). hit.row) l))) are
+    let changed : ChangesRowsOf g before.ext now.ext (room_of now.rooms) mid new def def owners forests (λ was space is. TakesRowsBy def was (map placed_row found) space is) (without_rows (map (λ (hit : Hit). hit.row) found)) =
+    subst (λ (l : List Hit). ChangesRowsOf g before.ext now.ext (room_of now.rooms) mid new def def owners forests (λ was space is. TakesRowsBy def was (map placed_row l) space is) (without_rows (map (λ (hit : Hit). hit.row) l))) are
     (deletes owners forests mid_ready.between (subst (λ (l : List Hit). HasTheseRows g before.ext mid def (map placed_row l) owners forests) (sym are) lie)) in
     rows_done g old mid new before now def served at told same ready owners forests mid_ready.between (bound.Delete before.noted pred) (without_rows (map (λ (hit : Hit). hit.row) found))
     (record {
@@ -189,6 +191,8 @@ delete_does g old mid new before now def pred found items count served at told s
       forests_now = changed.forests_now;
       changes = changed.changes;
       now = changed.now;
+      space = changed.space;
+      makes = changed.makes;
       places = PlacesRows.delete (map placed_row found) (qualifying g before.ext mid def owners forests st pred found hits_here mid_ready.between.sound) changed.places;
       stands_for = changed.stands_for;
       table_pages = changed.table_pages;
@@ -249,7 +253,7 @@ module _ {S : Type 0} (g : Ghosts S) (old mid new : S) (before now : Tables) (de
       → ((owners : List Kind) (forests : TableForests) → IsReadyBetween g before.ext (room_of before.rooms) mid def owners forests
       → HasTheseRows g before.ext mid def (map (λ t. (turned_row t).0) items) owners forests
       → ChangesRowsOf g before.ext now.ext (room_of now.rooms) mid new def def owners forests
-      (λ was is. ChangesRows def (block_slot_count before.ext def) was (map turned_row items) is) (with_rows (map (λ t. t.row) items)))
+      (λ was space is. TurnsRowsBy def (block_slot_count before.ext def) was (map turned_row items) space is) (with_rows (map (λ t. t.row) items)))
       → now.catalog ≡ before.catalog → now.noted ≡ before.noted → IsReady g old before → DoesStatement g old new before now (bound.Update before.noted sets pred) (said.Done (reply.Updated count))
   update_does count nothing counts changes catalog noted ready =
       let mid_ready = ready_mid g old mid new before now def served at told same ready in
@@ -261,8 +265,8 @@ module _ {S : Type 0} (g : Ghosts S) (old mid new : S) (before now : Tables) (de
       let q = hits_qualify g before.ext mid def owners forests st pred found hits_here in
       let rows = with_changed sets pred (map placed_row found) in
       let changed = changes owners forests mid_ready.between (subst (λ r. HasTheseRows g before.ext mid def r owners forests) (sym (turned_places sets items found made)) lie) in
-      let placed : ChangesRows def (block_slot_count before.ext def) (spots_of g before.ext mid def owners forests) rows (spots_of g now.ext new def changed.owners_now changed.forests_now) =
-      subst (λ r. ChangesRows def (block_slot_count before.ext def) (spots_of g before.ext mid def owners forests) r (spots_of g now.ext new def changed.owners_now changed.forests_now))
+      let placed : TurnsRowsBy def (block_slot_count before.ext def) (spots_of g before.ext mid def owners forests) rows changed.space (spots_of g now.ext new def changed.owners_now changed.forests_now) =
+      subst (λ r. TurnsRowsBy def (block_slot_count before.ext def) (spots_of g before.ext mid def owners forests) r changed.space (spots_of g now.ext new def changed.owners_now changed.forests_now))
       (turned_changed sets pred items found made q) changed.places in
       rows_done g old mid new before now def served at told same ready owners forests mid_ready.between (bound.Update before.noted sets pred) (with_rows (map (λ (t : Turned). t.row) items))
       (record {
@@ -270,6 +274,8 @@ module _ {S : Type 0} (g : Ghosts S) (old mid new : S) (before now : Tables) (de
         forests_now = changed.forests_now;
         changes = changed.changes;
         now = changed.now;
+        space = changed.space;
+        makes = changed.makes;
         places = PlacesRows.update (map placed_row found) (qualifying g before.ext mid def owners forests st pred found hits_here mid_ready.between.sound) placed;
         stands_for = changed.stands_for;
         table_pages = changed.table_pages;

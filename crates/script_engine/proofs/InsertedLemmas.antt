@@ -21,7 +21,8 @@ use Rattle.extent_map.specs.declared.fault.SpaceFault.{SpaceFault}
 use Rattle.extent_map.specs.declared.fault.SpaceFault.TheVariants.{Full, Store}
 use Rattle.extent_map.specs.declared.kind.Kind.{Kind}
 use Rattle.table_page.specs.TablePage.{IsTablePageOf, table_page}
-use Rattle.mdc_sound.specs.Placing.{PutsRows, Spot, block_slot_count}
+use Rattle.table_trees.specs.SpaceChanges.{SpaceChange}
+use Rattle.mdc_sound.specs.Placing.{Spot, block_slot_count}
 use Rattle.mdc_sound.specs.RunningFull.{InsertRunsFull}
 use Rattle.mdc_sound.specs.SoundDatabase.{with_table_page}
 use Rattle.mdc_sound.specs.StandingTable.{TableForests, pages_of}
@@ -33,6 +34,7 @@ use Rattle.row_judging.specs.Served.{IsDefined}
 use Rattle.stored_catalog.specs.StoredDefinitions.{LacksTablePage, with_stored}
 use Rattle.stored_catalog.proofs.DroppingLemmas.{defined_within}
 use Rattle.stored_catalog.proofs.LeftDefinitionsLemmas.{stored_at}
+use Rattle.statement_rows.specs.RowsAndSpace.{PutsRowsBy}
 use Rattle.statement_rows.specs.RowsOfStatement.{ChangesRowsOf, IsReadyBetween}
 use Rattle.script_engine.specs.Doing.{DoesStatement, PlacesOnPages, PlacesRows, RunsFullAlone, StatementRunsFull}
 use Rattle.script_engine.specs.Inserting.{first_refusal, numbered_on, tuple_causes}
@@ -92,8 +94,8 @@ module _ (before now : Definitions) (place noted : ℕ) (def : TableDef) (count 
       ∙ (set-set before place _ _ ∙ (ap (λ d. slice_set before place (Some d)) (own_number place def (served_def before place def served at).number) ∙ put_where_it_stands before place def at)))))
 
 module _ {S : Type 0} (g : Ghosts S) (old mid new : S) (before now : Tables) (def : TableDef) (tuples : List (List Value)) (count : ℕ) where
-  abbrev Puts : List Spot → List Spot → Type 0
-  Puts was is = PutsRows def (block_slot_count before.ext def) was (numbered def.next tuples) is
+  abbrev Puts : List Spot → List SpaceChange → List Spot → Type 0
+  Puts was space is = PutsRowsBy def (block_slot_count before.ext def) was (numbered def.next tuples) space is
 
   -- all that is known once the rows were put and the table page was written
   pub record IsInserted : Type 0 where
@@ -153,7 +155,7 @@ module _ {S : Type 0} (g : Ghosts S) (old mid new : S) (before now : Tables) (de
     here : PlacesOnPages before.ext now.ext (pages_of g old) (pages_of g new) def (bound.Insert before.noted tuples)
     here =
         places_shown g old mid new before now def def_now ready.view.owners between.0 Puts (appended tuples) (bound.Insert before.noted tuples)
-        ready refl between.1 changed written (λ was is puts. PlacesRows.insert puts)
+        ready refl between.1 changed written (λ was space is puts. PlacesRows.insert puts)
 
     -- then the INSERT is done
     pub inserted : DoesStatement g old new before now (bound.Insert before.noted tuples) (said.Done (reply.Inserted count))

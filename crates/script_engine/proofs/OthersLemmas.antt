@@ -21,9 +21,10 @@ use Rattle.entry_tree.specs.Standing.{IsIdlePage}
 use Rattle.entry_tree.proofs.ClaimsLemmas.{shape_none}
 use Rattle.entry_tree.proofs.UsedPagesLemmas.{shape_back}
 use Rattle.block_map.specs.MapLines.{mapped_blocks}
+use Rattle.table_trees.specs.SpaceChanges.{MakesChanges}
 use Rattle.table_trees.specs.ToldPages.{PageList, told_pages}
 use Rattle.table_trees.proofs.ToldPagesLemmas.{told_of_map}
-use Rattle.mdc_sound.specs.RunningFull.{ShowsTableSpots}
+use Rattle.mdc_sound.specs.RunningFull.{ShowsTableSpots, creating_changes}
 use Rattle.mdc_sound.specs.SoundDatabase.{KeepAllRules, with_table_page}
 use Rattle.mdc_sound.specs.SpaceRules.{DatabaseView, IsTablePlaceSound}
 use Rattle.mdc_sound.specs.StandingTable.{IsBlockPageOf, StandsTable, pages_of}
@@ -38,7 +39,7 @@ use Rattle.stored_catalog.proofs.EnteringLemmas.{empty_place_below, lowest_place
 use Rattle.stored_catalog.proofs.LeftDefinitionsLemmas.{def_there, stored_at}
 use Rattle.stored_catalog.proofs.OpenedTableLemmas.{defined_there}
 use Rattle.script_engine.specs.Doing.{changed_place}
-use Rattle.script_engine.specs.Others.{FreesBlocks, HasNoBlock, KeepsOthers, touched_place}
+use Rattle.script_engine.specs.Others.{ComesEmpty, FreesBlocks, KeepsOthers, touched_place}
 use Rattle.script_engine.specs.Ready.{AreServed, IsReady}
 use Rattle.script_engine.specs.declared.tables.Tables.{Tables}
 use Rattle.script_engine.proofs.ComingTablesLemmas.{frees_along, no_block_along, no_block_mapped, none_comes, none_goes}
@@ -81,7 +82,7 @@ others_along before ext old new defs now place shape keeps =
     record {
       each = λ t other apart at.
           let kept = keeps.each t other apart at in (kept.0, λ was shows. let is = kept.1 was shows in (is.0, shows_along ext before new other is.0 back is.1, is.2));
-      made = λ t def none some. no_block_along ext before new def back (keeps.made t def none some);
+      made = λ t def none some. let comes = keeps.made t def none some in record { blocks = no_block_along ext before new def back comes.blocks; makes = comes.makes };
       gone = λ t def some none. frees_along before ext before old new t back (keeps.gone t def some none);
     }
 
@@ -202,8 +203,9 @@ module _ {S : Type 0} (g : Ghosts S) (old new : S) (before now : Tables) (place 
 pub others_created : {S : Type 0} (g : Ghosts S) (old new : S) (before now : Tables) (place : ℕ) (def : TableDef) (table : TableView) (owners_now : List Kind) (ready : IsReady g old before)
     → KeepAllRules now.ext (pages_of g new) (view_with ready.view owners_now place (Some table)) → mapped_blocks table.map ≡ [] → table.def ≡ record def { number = place } → IsSameShape before.ext now.ext → AreServed before.catalog
     → empty_place before.catalog ≡ Some place → now.catalog ≡ with_def before.catalog place def → Touches g (IsAddingPage g before.ext old before.catalog) old new
+    → MakesChanges before.ext (pages_of g old) (creating_changes table.def) (pages_of g new)
     → KeepsOthers before.ext now.ext (pages_of g old) (pages_of g new) before.catalog now.catalog None
-others_created g old new before now place def table owners_now ready sound unmapped its_def shape served lowest catalog touches = record {
+others_created g old new before now place def table owners_now ready sound unmapped its_def shape served lowest catalog touches makes = record {
   each = λ t other apart at. (
     still_elsewhere t (not_there t other at) ∙ at,
     others_stay g old new before now place (Some table) owners_now ready sound shape served (IsAddingPage g before.ext old before.catalog) touches off t other (not_there t other at) at,
@@ -211,7 +213,8 @@ others_created g old new before now place def table owners_now ready sound unmap
   made = λ t other none some. elim (cases_eq t place) [
     | inl here ↦
         let same : table.def ≡ other = its_def ∙ same_Some (record def { number = place }) other (sym put_there ∙ (ap (def_at now.catalog) (sym here) ∙ some)) in
-        subst (HasNoBlock now.ext (pages_of g new)) same (no_block_mapped now.ext (pages_of g new) (view_with ready.view owners_now place (Some table)) place table sound.first table_there unmapped)
+        subst (ComesEmpty before.ext now.ext (pages_of g old) (pages_of g new)) same
+        (record { blocks = no_block_mapped now.ext (pages_of g new) (view_with ready.view owners_now place (Some table)) place table sound.first table_there unmapped; makes = makes })
     | inr apart ↦ absurd (none_comes (def_at before.catalog t) (def_at now.catalog t) other (still_elsewhere t apart) none some)
   ];
   gone = λ t other some none. absurd (none_goes (def_at before.catalog t) (def_at now.catalog t) other (still_elsewhere t (not_there t other some)) some none);

@@ -12,8 +12,11 @@ use Rattle.extent_map.specs.declared.extents.Extents.{Extents}
 use Rattle.extent_map.specs.declared.kind.Kind.{Kind}
 use Rattle.table_page.specs.TableLimits.{IsTableDef}
 use Rattle.table_page.proofs.TablePageLemmas.{one_definition}
+use Rattle.table_trees.specs.SpaceChanges.{MakesChanges, SpaceChange}
 use Rattle.table_trees.specs.TableTrees.{map_place}
 use Rattle.table_trees.specs.ToldPages.{HasTree, PageList, told_pages}
+use Rattle.table_trees.proofs.ShapedSpaceLemmas.{same_space_shaped}
+use Rattle.table_trees.proofs.SpaceChainsLemmas.{changes_to}
 use Rattle.mdc_sound.specs.Placing.{Spot, block_slot_count, table_spots}
 use Rattle.mdc_sound.specs.RunningFull.{ShowsTableSpots}
 use Rattle.mdc_sound.specs.SoundDatabase.{KeepAllRules, with_table_page}
@@ -35,7 +38,7 @@ use Rattle.statement_rows.specs.RowsOfStatement.{ChangesRowsOf, IsReadyBetween}
 use Rattle.script_engine.specs.Doing.{PlacesOnPages, PlacesRows}
 use Rattle.script_engine.specs.Ready.{AreServed, IsReady}
 use Rattle.script_engine.specs.declared.tables.Tables.{Tables}
-use Rattle.script_engine.proofs.BetweenChangesLemmas.{between_of_rules, number_is_low, ready_table, rules_of_between, stands_written, written_already, written_defines}
+use Rattle.script_engine.proofs.BetweenChangesLemmas.{between_of_rules, number_is_low, ready_table, rules_of_between, space_written, stands_written, written_already, written_defines}
 use Rattle.script_engine.proofs.TablePageSpotsLemmas.{spots_with_table_page}
 
 -- ---- at the start of a statement
@@ -126,7 +129,7 @@ pub record EndsChange {S : Type 0} (g : Ghosts S) (old new : S) (before now : Ta
   pub stands_for : (db : Database) → PagesStandFor before.ext (pages_of g old) db → PagesStandFor now.ext (pages_of g new) (changed_at db before.noted change)
 
 -- an INSERT: the page of the table is written with its new definition
-pub change_ends : {S : Type 0} (g : Ghosts S) (old mid new : S) (before now : Tables) (def def_now : TableDef) (owners : List Kind) (forests : TableForests) (Places : List Spot → List Spot → Type 0) (change : PlainTable → PlainTable)
+pub change_ends : {S : Type 0} (g : Ghosts S) (old mid new : S) (before now : Tables) (def def_now : TableDef) (owners : List Kind) (forests : TableForests) (Places : List Spot → List SpaceChange → List Spot → Type 0) (change : PlainTable → PlainTable)
     → AreServed before.catalog → IsReady g old before → def_at before.catalog before.noted ≡ Some def → def_now ≡ record def { next = def_now.next } → def_now.next < 18446744073709551616
     → ChangesRowsOf g before.ext now.ext (room_of now.rooms) old mid def def_now owners forests Places change
     → IsTrue (g.state new).is_told → pages_of g new ≡ with_table_page def_now (pages_of g mid)
@@ -204,7 +207,7 @@ put_there (first ∷ defs) zero def at = ap (λ (d : Option TableDef). d ∷ def
 put_there (first ∷ defs) (suc place) def at = ap (λ (rest : Definitions). first ∷ rest) (put_there defs place def at)
 
 -- a DELETE or an UPDATE: the page of the table stays
-pub change_ends_unwritten : {S : Type 0} (g : Ghosts S) (old new : S) (before now : Tables) (def : TableDef) (owners : List Kind) (forests : TableForests) (Places : List Spot → List Spot → Type 0) (change : PlainTable → PlainTable)
+pub change_ends_unwritten : {S : Type 0} (g : Ghosts S) (old new : S) (before now : Tables) (def : TableDef) (owners : List Kind) (forests : TableForests) (Places : List Spot → List SpaceChange → List Spot → Type 0) (change : PlainTable → PlainTable)
     → AreServed before.catalog → IsReady g old before → def_at before.catalog before.noted ≡ Some def
     → ChangesRowsOf g before.ext now.ext (room_of now.rooms) old new def def owners forests Places change
     → now.catalog ≡ before.catalog → now.noted ≡ before.noted → EndsChange g old new before now change
@@ -234,17 +237,22 @@ shown_written g ext mid pages def def_now owners forests same low stands written
     }
 
 -- rows went where the statement's placing says, on the pages as they are shown
-pub places_shown : {S : Type 0} (g : Ghosts S) (old mid new : S) (before now : Tables) (def def_now : TableDef) (owners : List Kind) (forests : TableForests) (Places : List Spot → List Spot → Type 0) (change : PlainTable → PlainTable) (statement : Bound)
+pub places_shown : {S : Type 0} (g : Ghosts S) (old mid new : S) (before now : Tables) (def def_now : TableDef) (owners : List Kind) (forests : TableForests) (Places : List Spot → List SpaceChange → List Spot → Type 0) (change : PlainTable → PlainTable) (statement : Bound)
     → IsReady g old before → def_now ≡ record def { next = def_now.next } → IsReadyBetween g before.ext (room_of before.rooms) old def owners forests
     → ChangesRowsOf g before.ext now.ext (room_of now.rooms) old mid def def_now owners forests Places change
-    → pages_of g new ≡ with_table_page def_now (pages_of g mid) → ((was is : List Spot) → Places was is → PlacesRows def (block_slot_count before.ext def) was is statement)
+    → pages_of g new ≡ with_table_page def_now (pages_of g mid) → ((was : List Spot) (space : List SpaceChange) (is : List Spot) → Places was space is → PlacesRows def (block_slot_count before.ext def) was space is statement)
     → PlacesOnPages before.ext now.ext (pages_of g old) (pages_of g new) def statement
 places_shown g old mid new before now def def_now owners forests Places change statement ready same between changed written turns = record {
   was = spots_of g before.ext old def owners forests;
   is = spots_of g now.ext mid def_now changed.owners_now changed.forests_now;
   shown_before = shows_spots g before.ext old def owners forests between.ready.stands;
   shown_after = shown_written g now.ext mid (pages_of g new) def def_now changed.owners_now changed.forests_now same (number_is_low now.ext def_now (pages_of g mid) changed.now.sound.sound) changed.now.ready.stands written;
-  places = turns (spots_of g before.ext old def owners forests) (spots_of g now.ext mid def_now changed.owners_now changed.forests_now) changed.places;
+  space = changed.space;
+  places = turns (spots_of g before.ext old def owners forests) changed.space (spots_of g now.ext mid def_now changed.owners_now changed.forests_now) changed.places;
+  makes = subst (λ (pages : PageList). MakesChanges before.ext (pages_of g old) changed.space pages) (sym written)
+      (changes_to before.ext (pages_of g old) (pages_of g mid) (with_table_page def_now (pages_of g mid)) changed.space changed.makes
+      (same_space_shaped before.ext now.ext changed.changes.shape (pages_of g mid) (with_table_page def_now (pages_of g mid))
+      (space_written g now.ext mid def_now changed.owners_now changed.forests_now (number_is_low now.ext def_now (pages_of g mid) changed.now.sound.sound) changed.now.ready.stands)));
   defined = (
     def_now.next,
     subst (λ (pages : PageList). DefinesTable pages def.number (record def { next = def_now.next })) (sym written)

@@ -154,7 +154,7 @@ stands_for_along before now pages db shape stands =
 pub shows_along : (before now : Extents) (pages : PageList) (def : TableDef) (spots : List Spot) → IsSameShape before now → ShowsTableSpots before pages def spots → ShowsTableSpots now pages def spots
 shows_along before now pages def spots shape shows = along (λ ext. ShowsTableSpots ext pages def spots) (λ c n f u h v w x is. spots_along c n f u h v w x pages def spots is) before now shape shows
 
--- and rows lie where they lay
+-- and rows lie where they lay, by the same changes of space
 pub places_along : (before now : Extents) (old new : PageList) (def : TableDef) (statement : Bound) → IsSameShape before now → PlacesOnPages before now old new def statement
     → PlacesOnPages before before old new def statement
 places_along before now old new def statement shape is = record {
@@ -162,6 +162,8 @@ places_along before now old new def statement shape is = record {
   is = is.is;
   shown_before = is.shown_before;
   shown_after = shows_along now before new def is.is (record { cap = sym shape.cap; extent_pages = sym shape.extent_pages }) is.shown_after;
+  space = is.space;
   places = is.places;
+  makes = is.makes;
   defined = is.defined;
 }

@@ -17,14 +17,16 @@ use Rattle.mdc_ast.specs.meaning.Doing.{causes_of_rows, changed_row, numbered, q
 use Rattle.mdc_ast.specs.meaning.Step.{Answer, faults, step}
 use Rattle.store_api.specs.declared.pages.Pages.{Ghosts}
 use Rattle.extent_map.specs.declared.extents.Extents.{Extents}
+use Rattle.table_trees.specs.SpaceChanges.{MakesChanges, SpaceChange}
 use Rattle.table_trees.specs.ToldPages.{PageList}
 use Rattle.mdc_sound.specs.RunningFull.{CreateRunsFull, InsertRunsFull, ShowsTableSpots, UpdateRunsFull}
-use Rattle.mdc_sound.specs.Placing.{Spot, ChangesRows, PutsRows, TakesRows, block_slot_count, rows_from_spot}
+use Rattle.mdc_sound.specs.Placing.{Spot, block_slot_count, rows_from_spot}
 use Rattle.mdc_sound.specs.StandingTable.{pages_of}
 use Rattle.mdc_sound.specs.StandsForDatabase.{PagesStandFor}
 use Rattle.mdc_sound.specs.TablePages.{DefinesTable}
 use Rattle.mdc_sound.specs.TableRows.{PlacedRow}
 use Rattle.row_judging.specs.Executing.{answer_of, done}
+use Rattle.statement_rows.specs.RowsAndSpace.{PutsRowsBy, TakesRowsBy, TurnsRowsBy}
 use Rattle.script_engine.specs.Others.{KeepsOthers, touched_place}
 use Rattle.script_engine.specs.Ready.{IsReady}
 use Rattle.script_engine.specs.declared.tables.Tables.{Tables}
@@ -47,21 +49,25 @@ pub record AreQualifying (spots : List Spot) (pred : Option Pred) (rows : List P
 abbrev pub with_changed : List BoundSet → Option Pred → List PlacedRow → List (PlacedRow × Row)
 with_changed sets pred rows = map (λ placed. (placed, changed_row sets pred placed.row)) rows
 
--- Where the rows of a statement that is done went, in blocks of n slots: an INSERT puts them in order, a DELETE takes them out, an
--- UPDATE turns them, each by row number.
-pub data PlacesRows (def : TableDef) (n : ℕ) (was is : List Spot) : Bound → Type 0 where
-  insert : {place : ℕ} {tuples : _} → PutsRows def n was (numbered def.next tuples) is → PlacesRows def n was is (bound.Insert place tuples)
-  delete : {place : ℕ} {pred : Option Pred} (rows : List PlacedRow) → AreQualifying was pred rows → TakesRows was rows is → PlacesRows def n was is (bound.Delete place pred)
+-- Where the rows of a statement that is done went, in blocks of n slots, and the changes of space that they ask for: an INSERT puts
+-- them in order, a DELETE takes them out, an UPDATE turns them, each by row number.
+pub data PlacesRows (def : TableDef) (n : ℕ) (was : List Spot) (space : List SpaceChange) (is : List Spot) : Bound → Type 0 where
+  insert : {place : ℕ} {tuples : _} → PutsRowsBy def n was (numbered def.next tuples) space is → PlacesRows def n was space is (bound.Insert place tuples)
+  delete : {place : ℕ} {pred : Option Pred} (rows : List PlacedRow) → AreQualifying was pred rows → TakesRowsBy def was rows space is
+      → PlacesRows def n was space is (bound.Delete place pred)
   update : {place : ℕ} {sets : List BoundSet} {pred : Option Pred} (rows : List PlacedRow) → AreQualifying was pred rows
-      → ChangesRows def n was (with_changed sets pred rows) is → PlacesRows def n was is (bound.Update place sets pred)
+      → TurnsRowsBy def n was (with_changed sets pred rows) space is → PlacesRows def n was space is (bound.Update place sets pred)
 
--- the same on pages: they show the table's spots before and after, and its definition stays but for its next row number
+-- The same on pages: they show the table's spots before and after, trees took no more space than these changes, and the table's
+-- definition stays but for its next row number.
 pub record PlacesOnPages (before ext : Extents) (old new : PageList) (def : TableDef) (statement : Bound) : Type 0 where
   pub was : List Spot
   pub is : List Spot
   pub shown_before : ShowsTableSpots before old def was
   pub shown_after : ShowsTableSpots ext new def is
-  pub places : PlacesRows def (block_slot_count before def) was is statement
+  pub space : List SpaceChange
+  pub places : PlacesRows def (block_slot_count before def) was space is statement
+  pub makes : MakesChanges before old space new
   pub defined : (n : ℕ) × DefinesTable new def.number (record def { next = n })
 
 -- the place of the table whose rows a statement changes, if it changes any
@@ -74,7 +80,8 @@ changed_place statement = Option.None
 -- ---- a statement
 
 -- A bound statement was done on ready pages, or its rows were against it. They are ready again, stand for the plain database that
--- it makes of whatever they stood for, and the outcome says its answer. Rows went where placing says, and other tables stay.
+-- it makes of whatever they stood for, and the outcome says its answer. Rows went where placing says, trees took no more space than
+-- these ask for, and other tables stay.
 pub record DoesStatement {S : Type 0} (g : Ghosts S) (old new : S) (before now : Tables) (statement : Bound) (outcome : Outcome) : Type 0 where
   pub ready : IsReady g new now
   pub stands : (db : Database) → PagesStandFor before.ext (pages_of g old) db → StandsAfter now.ext (pages_of g new) (done db statement) outcome

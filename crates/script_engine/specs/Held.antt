@@ -89,9 +89,9 @@ abbrev pub LeavesOthers : Extents → Stmt → HeldPages → HeldPages → Type 
 LeavesOthers ext Rollback old new = Unit {0}
 LeavesOthers ext stmt old new = KeepsOthers ext ext old.work new.work old.defs new.defs (touched_place (bound_of old.defs stmt))
 
--- What a statement may do to what is held: it turns whatever session that stands for, rows go where placing says, and other tables
--- stay, where a refusal changes nothing; or it tells the blocks of a table, and nothing changes; or it is refused with 70, where it
--- runs full and nothing else is said against it, and nothing changes.
+-- What a statement may do to what is held: it turns whatever session that stands for, rows go where placing says, trees take no
+-- more space than these ask for, and other tables stay, where a refusal changes nothing; or it tells the blocks of a table, and
+-- nothing changes; or it is refused with 70, where it runs full and nothing else is said against it, and nothing changes.
 pub data StepsOnPages (ext : Extents) (old : HeldPages) (stmt : Stmt) (outcome : Outcome) (new : HeldPages) : Type 0 where
   turns : asks_blocks old.defs stmt ≡ false → ((session : Session) → StandsForSession ext old session → StandsForTurn ext new (turn_over session stmt) outcome) → KeepsBase old new → KeepsWork stmt old new
       → LeavesOthers ext stmt old new → ((refusal : _) → outcome ≡ said.Refused refusal → new ≡ old)

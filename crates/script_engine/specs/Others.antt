@@ -10,10 +10,11 @@ use Rattle.extent_map.specs.Owners.{owner_of}
 use Rattle.extent_map.specs.declared.extents.Extents.{Extents}
 use Rattle.extent_map.specs.declared.kind.Kind.{Kind}
 use Rattle.extent_map.specs.declared.kind.Kind.TheVariants as kind
+use Rattle.table_trees.specs.SpaceChanges.{MakesChanges}
 use Rattle.table_trees.specs.ToldPages.{PageList, told_pages}
 use Rattle.mdc_sound.specs.Placing.{Spot}
 use Rattle.mdc_sound.specs.Placing.Spot.{OtherBlock}
-use Rattle.mdc_sound.specs.RunningFull.{ShowsTableSpots}
+use Rattle.mdc_sound.specs.RunningFull.{ShowsTableSpots, creating_changes}
 use Rattle.statement_rows.specs.OtherTables.{KeepsBlocks, own_spot}
 
 -- the place of the table that a bound statement drops, or whose rows it changes
@@ -30,6 +31,11 @@ pub record HasNoBlock (ext : Extents) (pages : PageList) (def : TableDef) : Type
   pub shown : ShowsTableSpots ext pages def spots
   pub none : AllByRecursion (λ spot. own_spot spot ≡ OtherBlock) spots
 
+-- a table came: it has no block, and trees took no more space than making its own asks for
+pub record ComesEmpty (before ext : Extents) (old new : PageList) (def : TableDef) : Type 0 where
+  pub blocks : HasNoBlock ext new def
+  pub makes : MakesChanges before old (creating_changes def) new
+
 -- the extents that were blocks of table t are free
 pub record FreesBlocks (before ext : Extents) (old new : PageList) (t : ℕ) : Type 0 where
   pub owners : List Kind
@@ -39,9 +45,9 @@ pub record FreesBlocks (before ext : Extents) (old new : PageList) (t : ℕ) : T
   pub freed : (e : ℕ) → owner_of owners e ≡ kind.Block t → owner_of owners_now e ≡ kind.Free
 
 -- The tables in all other places have the definitions that they had, and their blocks, each in its state, with its rows in their
--- slots. One that comes has no block, and the blocks of one that goes are free.
+-- slots. One that comes has no block, for the space that its trees ask for, and the blocks of one that goes are free.
 pub record KeepsOthers (before ext : Extents) (old new : PageList) (defs now : Definitions) (place : Option ℕ) : Type 0 where
   pub each : (t : ℕ) (other : TableDef) → (place ≡ Some t → ⊥) → def_at defs t ≡ Some other
       → (def_at now t ≡ Some other) × KeepsBlocks before ext old new other
-  pub made : (t : ℕ) (def : TableDef) → def_at defs t ≡ None → def_at now t ≡ Some def → HasNoBlock ext new def
+  pub made : (t : ℕ) (def : TableDef) → def_at defs t ≡ None → def_at now t ≡ Some def → ComesEmpty before ext old new def
   pub gone : (t : ℕ) (def : TableDef) → def_at defs t ≡ Some def → def_at now t ≡ None → FreesBlocks before ext old new t

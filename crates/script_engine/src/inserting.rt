@@ -10,11 +10,12 @@ ghost use Rattle.store_api.specs.RunsOverPages.{RunsOverPages};
 ghost use Rattle.extent_map.specs.Damages.{IfFull, store_part_of};
 ghost use Rattle.extent_map.specs.Owners.{IsSameShape};
 ghost use Rattle.extent_map.specs.declared.kind.Kind.{Kind};
-ghost use Rattle.mdc_sound.specs.Placing.{PutsRows, block_slot_count};
+ghost use Rattle.mdc_sound.specs.Placing.{block_slot_count};
 ghost use Rattle.mdc_sound.specs.RunningFull.{InsertRunsFull};
 ghost use Rattle.mdc_sound.specs.StandingTable.{TableForests, pages_of};
 ghost use Rattle.cell_rooms.specs.RoomNotes.{room_of};
 ghost use Rattle.row_judging.specs.Served.{IsDefined, MayPut};
+ghost use Rattle.statement_rows.specs.RowsAndSpace.{PutsRowsBy};
 ghost use Rattle.statement_rows.specs.RowsOfStatement.{AnyPage, ChangesRowsOf, IsReadyBetween};
 ghost use Rattle.script_engine.specs.Doing.{DoesStatement, LeavesAll, RunsFullAlone};
 ghost use Rattle.script_engine.specs.Inserting.{first_refusal, numbered_on, tuple_causes};
@@ -116,7 +117,7 @@ fn put_rows<P: Pages>(
     ensures inserts { (def : TableDef) → def_at tables.old.catalog tables.old.noted ≡ Some def
         → OnOk result ((owners : List Kind) (forests : TableForests) → IsReadyBetween P.Pages tables.old.ext (room_of tables.old.rooms) pages.old def owners forests
         → ChangesRowsOf P.Pages tables.old.ext tables.new.ext (room_of tables.new.rooms) pages.old pages.new def (numbered_on def (length tuples)) owners forests
-        (λ was is. PutsRows def (block_slot_count tables.old.ext def) was (numbered def.next tuples) is) (appended tuples)) }
+        (λ was space is. PutsRowsBy def (block_slot_count tables.old.ext def) was (numbered def.next tuples) space is) (appended tuples)) }
     ensures numbers { (def : TableDef) → def_at tables.old.catalog tables.old.noted ≡ Some def
         → OnOk result (tables.new.catalog ≡ with_def tables.old.catalog tables.old.noted (numbered_on def (length tuples))) }
     ensures kept { OnErr result (tables.new.catalog ≡ tables.old.catalog) }

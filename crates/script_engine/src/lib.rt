@@ -1,11 +1,12 @@
 //! The engine: statements executed on the pages of a store, one after another, in transactions.
 //!
 //! It promises that a statement on sound pages is answered as plain lists of rows answer it, that it leaves sound pages that stand
-//! for those lists, with rows where placing says and the blocks of other tables as they were, that LIST BLOCKS tells how many blocks
-//! a table has in each state, and that a statement which is refused changes nothing. Outside a transaction its change is committed
-//! before the answer; a crash at any moment of a call leaves the pages of the last commit before it or those that it commits. 70 is
-//! answered only where the statement runs full. Sound pages stand for such lists, by the law here, and for no others, by one of
-//! `mdc_sound`: what is promised for each database that pages stand for is promised for just one.
+//! for those lists, with rows where placing says, in trees that took no more space than these rows ask for, and the blocks of other
+//! tables as they were, that LIST BLOCKS tells how many blocks a table has in each state, and that a statement which is refused
+//! changes nothing. Outside a transaction its change is committed before the answer; a crash at any moment of a call leaves the
+//! pages of the last commit before it or those that it commits. 70 is answered only where the statement runs full. Sound pages stand
+//! for such lists, by the law here, and for no others, by one of `mdc_sound`: what is promised for each database that pages stand
+//! for is promised for just one.
 //!
 //! It stands on `binder` for what a statement means, on `table_scan`, `statement_rows` and `stored_catalog` for what it does to
 //! pages, on `mdc_table` for the count of a table's blocks, and on `row_judging` for what is said against its rows.

@@ -1,5 +1,5 @@
 -- Rows that are deleted one after the other: what one of them and the rest make.
-use Rattle.std.proofs.Common.{ℕ, List, [], ◌∷◌, map, refl}
+use Rattle.std.proofs.Common.{ℕ, List, [], ◌∷◌, ◌++◌, map, refl}
 use Rattle.mdc_words.specs.ByteOrder.{Entry}
 use Rattle.mdc_values.specs.declared.rid.Rid.{Rid}
 use Rattle.mdc_ast.specs.declared.definition.TableDef.{TableDef}
@@ -11,16 +11,20 @@ use Rattle.store_api.specs.declared.pages.Pages.{Ghosts}
 use Rattle.store_api.proofs.FrameLemmas.{touches_wider}
 use Rattle.extent_map.specs.declared.extents.Extents.{Extents}
 use Rattle.extent_map.specs.declared.kind.Kind.{Kind}
-use Rattle.mdc_sound.specs.Placing.{Spot, TakesRows}
+use Rattle.row_page.specs.RowPage.{count_rows}
+use Rattle.table_trees.specs.SpaceChanges.{MakesChanges, SpaceChange}
+use Rattle.mdc_sound.specs.Placing.{Spot, SpotsAfterReturns, TakesRow}
+use Rattle.mdc_sound.specs.RunningFull.{taking_changes}
 use Rattle.mdc_sound.specs.SoundDatabase.{IsSoundBetweenChanges, with_table_page}
 use Rattle.mdc_sound.specs.StandingTable.{IsTableOrMapPage, RoomNote, TableForests, pages_of, spots_of}
 use Rattle.mdc_sound.specs.StandsForDatabase.{PagesStandFor, without_row}
 use Rattle.mdc_sound.specs.TableRows.{PlacedRow}
 use Rattle.block_rows.specs.HeldRows.{placed_row}
 use Rattle.block_rows.specs.declared.hit.Hit.{Hit}
-use Rattle.cell_change.specs.RowChanges.{DeletesRow, row_in_place}
+use Rattle.cell_change.specs.RowChanges.{DeletesRow, HasThisRow, row_in_place}
 use Rattle.cell_change.proofs.ChangeRunsLemmas.{in_space}
 use Rattle.cell_change.proofs.TableStepsLemmas.{takes_no_block}
+use Rattle.statement_rows.specs.RowsAndSpace.{TakesRowsBy}
 use Rattle.statement_rows.specs.RowsOfStatement.{ChangesRowsOf, HasTheseRows, IsReadyBetween, without_rows}
 use Rattle.statement_rows.proofs.OtherRowsLemmas.{lies_after_returns, lies_taken, rows_behind}
 use Rattle.statement_rows.proofs.OtherTablesLemmas.{others_kept}
@@ -29,9 +33,14 @@ use Rattle.statement_rows.proofs.TablePagesLemmas.{table_pages_kept}
 
 -- ---- one row
 
--- a row is taken out, and then the rest
-takes_then : (placed : PlacedRow) (rows : List PlacedRow) (was between is : List Spot) → TakesRows was (placed ∷ []) between → TakesRows between rows is → TakesRows was (placed ∷ rows) is
-takes_then placed rows was between is (TakesRows.one takes returns TakesRows.none) rest = TakesRows.one takes returns rest
+-- rows are taken out behind one, by whichever changes
+abbrev pub TakesBefore : TableDef → PlacedRow → List Spot → List SpaceChange → List Spot → Type 0
+TakesBefore def placed was space between =
+    (rows : List PlacedRow) (more : List SpaceChange) (is : List Spot) → TakesRowsBy def between rows more is → TakesRowsBy def was (placed ∷ rows) (space ++ more) is
+
+-- the changes of a row in a place
+abbrev pub left_by : {S : Type 0} (g : Ghosts S) (ext : Extents) (s : S) (def : TableDef) (rid : Rid) (row : Row) (owners : List Kind) (forests : TableForests) → HasThisRow g ext s def rid row owners forests → List SpaceChange
+left_by g ext s def rid row owners forests this = taking_changes def row rid (count_rows this.slots)
 
 -- the plain table without the rows of hits
 abbrev pub without_hits : List Hit → PlainTable → PlainTable
@@ -39,25 +48,28 @@ without_hits hits = without_rows (map (λ hit. hit.row) hits)
 
 module _ {S : Type 0} (g : Ghosts S) where
   -- rows behind the first lie where they did once it is out
-  pub these_still : (before now : Extents) (old new : S) (def : TableDef) (owners owners_now : List Kind) (forests forests_now : TableForests) (placed : PlacedRow) (rows : List PlacedRow)
-      → TakesRows (spots_of g before old def owners forests) (placed ∷ []) (spots_of g now new def owners_now forests_now) → HasTheseRows g before old def (placed ∷ rows) owners forests
+  pub these_still : (before now : Extents) (old new : S) (def : TableDef) (owners owners_now : List Kind) (forests forests_now : TableForests) (placed : PlacedRow) (rows : List PlacedRow) (mid : List Spot)
+      → TakesRow (spots_of g before old def owners forests) placed.rid placed.row mid → SpotsAfterReturns mid (spots_of g now new def owners_now forests_now) → HasTheseRows g before old def (placed ∷ rows) owners forests
       → HasTheseRows g now new def rows owners_now forests_now
-  these_still before now old new def owners owners_now forests forests_now placed rows (TakesRows.one {mid = mid} takes returns TakesRows.none) =
+  these_still before now old new def owners owners_now forests forests_now placed rows mid takes returns =
       rows_behind g before now old new def owners owners_now forests forests_now placed rows
       (λ at row apart lies.
       lies_after_returns mid (spots_of g now new def owners_now forests_now) at row returns (lies_taken (spots_of g before old def owners forests) mid placed.rid at placed.row row takes apart lies))
 
   abbrev pub one_deleted : (before now : Extents) (room_of room_now : Entry → RoomNote) (old new : S) (def : TableDef) (row : Row) (rid : Rid) (owners : List Kind) (forests : TableForests)
-      → IsReadyBetween g before room_of old def owners forests → DeletesRow g before now room_now old new def row rid owners forests → Works g old new → Touches g (IsTableOrMapPage g before old def) old new
+      → IsReadyBetween g before room_of old def owners forests → (this : HasThisRow g before old def rid row owners forests) → DeletesRow g before now room_now old new def row rid owners forests
+      → MakesChanges before (pages_of g old) (left_by g before old def rid row owners forests this) (pages_of g new) → Works g old new → Touches g (IsTableOrMapPage g before old def) old new
       → IsSoundBetweenChanges now def (pages_of g new)
       → ((db : Database) → PagesStandFor before (with_table_page def (pages_of g old)) db → PagesStandFor now (with_table_page def (pages_of g new)) (changed_at db def.number (without_row row.number)))
-      → ChangesRowsOf g before now room_now old new def def owners forests (λ was is. TakesRows was (row_in_place rid row ∷ []) is) (without_row row.number)
-  one_deleted before now room_of room_now old new def row rid owners forests ready deletes works touches sound stands_for = record {
+      → ChangesRowsOf g before now room_now old new def def owners forests (TakesBefore def (row_in_place rid row)) (without_row row.number)
+  one_deleted before now room_of room_now old new def row rid owners forests ready this deletes makes works touches sound stands_for = record {
     owners_now = deletes.takes.owners_now;
     forests_now = deletes.takes.forests_now;
     changes = deletes.takes.changes;
     now = record { ready = record { stands = deletes.takes.changes.stands; notes = deletes.takes.changes.notes ready.ready.notes; rooms = deletes.takes.rooms }; sound = sound };
-    places = TakesRows.one deletes.takes.takes deletes.takes.returns TakesRows.none;
+    space = left_by g before old def rid row owners forests this;
+    places = λ rows more is rest. TakesRowsBy.one this.lies deletes.takes.takes deletes.takes.returns rest;
+    makes = makes;
     stands_for = stands_for;
     table_pages = table_pages_kept g before old new def owners forests ready.ready.stands works (touches_wider touches (in_space g before old def));
     others = others_kept g before now old new def owners deletes.takes.owners_now forests deletes.takes.forests_now ready.sound.sound ready.ready.stands deletes.takes.changes
@@ -68,32 +80,32 @@ module _ {S : Type 0} (g : Ghosts S) where
 
   -- Rows were deleted, and so the table is ready for the rest of these, which lie where they did. With these all are deleted.
   pub record DeletesOn (before now : Extents) (room_now : Entry → RoomNote) (old mid : S) (def : TableDef) (hits rest : List Hit) (owners : List Kind) (forests : TableForests) : Type 0 where
-    pub rows : RowsLeadOn g before now room_now old mid def def owners forests (λ was is. TakesRows was (map placed_row rest) is) (λ was is. TakesRows was (map placed_row hits) is) (without_hits rest) (without_hits hits)
+    pub rows : RowsLeadOn g before now room_now old mid def def owners forests (λ was space is. TakesRowsBy def was (map placed_row rest) space is) (λ was space is. TakesRowsBy def was (map placed_row hits) space is) (without_hits rest) (without_hits hits)
     pub has : HasTheseRows g now mid def (map placed_row rest) rows.owners_now rows.forests_now
 
   pub deletes_none : (ext : Extents) (room_of : Entry → RoomNote) (s : S) (def : TableDef) (hits : List Hit) (owners : List Kind) (forests : TableForests) → IsReadyBetween g ext room_of s def owners forests
       → HasTheseRows g ext s def (map placed_row hits) owners forests → DeletesOn ext ext room_of s s def hits hits owners forests
   deletes_none ext room_of s def hits owners forests ready has = record {
-    rows = leads_none g ext room_of s def owners forests (λ was is. TakesRows was (map placed_row hits) is) (without_hits hits) ready;
+    rows = leads_none g ext room_of s def owners forests (λ was space is. TakesRowsBy def was (map placed_row hits) space is) (without_hits hits) ready;
     has = has;
   }
 
   pub deletes_all : (before now : Extents) (room_now : Entry → RoomNote) (old new : S) (def : TableDef) (hits : List Hit) (owners : List Kind) (forests : TableForests) → DeletesOn before now room_now old new def hits [] owners forests
-      → ChangesRowsOf g before now room_now old new def def owners forests (λ was is. TakesRows was (map placed_row hits) is) (without_hits hits)
+      → ChangesRowsOf g before now room_now old new def def owners forests (λ was space is. TakesRowsBy def was (map placed_row hits) space is) (without_hits hits)
   deletes_all before now room_now old new def hits owners forests on =
-      leads_all g before now room_now old new def def owners forests (λ was is. TakesRows was [] is) (λ was is. TakesRows was (map placed_row hits) is) (without_hits []) (without_hits hits) on.rows
-      (λ spots. TakesRows.none) (λ table. refl)
+      leads_all g before now room_now old new def def owners forests (λ was space is. TakesRowsBy def was [] space is) (λ was space is. TakesRowsBy def was (map placed_row hits) space is) (without_hits []) (without_hits hits) on.rows
+      (λ spots. TakesRowsBy.none) (λ table. refl)
 
   pub deletes_more : (before mid next : Extents) (room_mid room_next : Entry → RoomNote) (old middle new : S) (def : TableDef) (hits : List Hit) (hit : Hit) (rest : List Hit) (owners : List Kind) (forests : TableForests)
       (on : DeletesOn before mid room_mid old middle def hits (hit ∷ rest) owners forests) → DeletesRow g mid next room_next middle new def hit.row hit.rid on.rows.owners_now on.rows.forests_now
-      → Works g middle new → Touches g (IsTableOrMapPage g mid middle def) middle new → IsSoundBetweenChanges next def (pages_of g new)
+      → MakesChanges mid (pages_of g middle) (left_by g mid middle def hit.rid hit.row on.rows.owners_now on.rows.forests_now on.has.each.0) (pages_of g new) → Works g middle new → Touches g (IsTableOrMapPage g mid middle def) middle new → IsSoundBetweenChanges next def (pages_of g new)
       → ((db : Database) → PagesStandFor mid (with_table_page def (pages_of g middle)) db → PagesStandFor next (with_table_page def (pages_of g new)) (changed_at db def.number (without_row hit.row.number)))
       → DeletesOn before next room_next old new def hits rest owners forests
-  deletes_more before mid next room_mid room_next old middle new def hits hit rest owners forests on deletes works touches sound stands_for =
-      let one = one_deleted mid next room_mid room_next middle new def hit.row hit.rid on.rows.owners_now on.rows.forests_now on.rows.ready deletes works touches sound stands_for in
+  deletes_more before mid next room_mid room_next old middle new def hits hit rest owners forests on deletes makes works touches sound stands_for =
+      let one = one_deleted mid next room_mid room_next middle new def hit.row hit.rid on.rows.owners_now on.rows.forests_now on.rows.ready on.has.each.0 deletes makes works touches sound stands_for in
       record {
-        rows = leads_more g before mid next room_mid room_next old middle new def def def.next owners forests (λ was is. TakesRows was (placed_row hit ∷ []) is) (λ was is. TakesRows was (map placed_row (hit ∷ rest)) is)
-            (λ was is. TakesRows was (map placed_row rest) is) (λ was is. TakesRows was (map placed_row hits) is) (without_row hit.row.number) (without_hits (hit ∷ rest)) (without_hits rest) (without_hits hits) on.rows one
-            (takes_then (placed_row hit) (map placed_row rest)) (takes_no_block g mid next middle new def on.rows.owners_now on.rows.forests_now room_next hit.row hit.rid on.rows.ready.ready.stands deletes.takes) (λ table. refl) works.no_shorter;
-        has = these_still mid next middle new def on.rows.owners_now one.owners_now on.rows.forests_now one.forests_now (placed_row hit) (map placed_row rest) one.places on.has;
+        rows = leads_more g before mid next room_mid room_next old middle new def def def.next owners forests (TakesBefore def (placed_row hit)) (λ was space is. TakesRowsBy def was (map placed_row (hit ∷ rest)) space is)
+            (λ was space is. TakesRowsBy def was (map placed_row rest) space is) (λ was space is. TakesRowsBy def was (map placed_row hits) space is) (without_row hit.row.number) (without_hits (hit ∷ rest)) (without_hits rest) (without_hits hits) on.rows one
+            (λ was between is space more first. first (map placed_row rest) more is) (takes_no_block g mid next middle new def on.rows.owners_now on.rows.forests_now room_next hit.row hit.rid on.rows.ready.ready.stands deletes.takes) (λ table. refl) works.no_shorter;
+        has = these_still mid next middle new def on.rows.owners_now one.owners_now on.rows.forests_now one.forests_now (placed_row hit) (map placed_row rest) deletes.takes.mid deletes.takes.takes deletes.takes.returns on.has;
       }

@@ -3,6 +3,7 @@ use Rattle.std.proofs.Common.{◌≡◌, ℕ, List, ◌∷◌, None, map, refl, 
 use Rattle.std.specs.Prelude.{Option}
 use Rattle.mdc_words.specs.ByteOrder.{Entry}
 use Rattle.mdc_ast.specs.declared.definition.TableDef.{TableDef}
+use Rattle.mdc_ast.specs.declared.row.Row.{Row}
 use Rattle.mdc_ast.specs.meaning.Database.{Database, changed_at}
 use Rattle.store_api.specs.Frame.{Touches}
 use Rattle.store_api.specs.RunsOverPages.{RunsOverPages}
@@ -12,10 +13,14 @@ use Rattle.store_api.specs.declared.pages.Pages.{Ghosts}
 use Rattle.extent_map.specs.Owners.{IsSameShape}
 use Rattle.extent_map.specs.declared.extents.Extents.{Extents}
 use Rattle.extent_map.specs.declared.kind.Kind.{Kind}
+use Rattle.row_page.specs.RowPage.{count_rows}
+use Rattle.table_trees.specs.SpaceChanges.{MakesChanges}
 use Rattle.block_rows.specs.HeldRows.{placed_row}
 use Rattle.block_rows.specs.declared.hit.Hit.{Hit}
+use Rattle.mdc_sound.specs.Placing.{IsRowAt}
+use Rattle.mdc_sound.specs.RunningFull.{taking_changes}
 use Rattle.mdc_sound.specs.SoundDatabase.{IsSoundBetweenChanges, with_table_page}
-use Rattle.mdc_sound.specs.StandingTable.{BreaksExpected, IsReadyTable, IsTableOrMapPage, RoomNote, TableForests, pages_of}
+use Rattle.mdc_sound.specs.StandingTable.{BreaksExpected, IsReadyTable, IsTableOrMapPage, RoomNote, TableForests, pages_of, spots_of}
 use Rattle.mdc_sound.specs.StandsForDatabase.{PagesStandFor, without_row}
 use Rattle.cell_change.specs.RowChanges.{DeletesRow, HasThisRow}
 use Rattle.statement_rows.specs.RowsOfStatement.{AnyPage, BreaksReady, HasTheseRows, IsReadyBetween}
@@ -33,6 +38,8 @@ module _ {S : Type 0} (g : Ghosts S) (before mid : Extents) (room_of room_mid : 
   pub row_out : (next : Extents) (room_next : Entry → RoomNote) (new : S)
       → ((owners : List Kind) (forests : TableForests) → IsReadyTable g mid room_mid middle def owners forests → HasThisRow g mid middle def hit.rid hit.row owners forests
       → DeletesRow g mid next room_next middle new def hit.row hit.rid owners forests)
+      → ((owners : List Kind) (forests : TableForests) → IsReadyTable g mid room_mid middle def owners forests → (slots : List (Option Row)) → IsRowAt (spots_of g mid middle def owners forests) hit.rid hit.row slots
+      → MakesChanges mid (pages_of g middle) (taking_changes def hit.row hit.rid (count_rows slots)) (pages_of g new))
       → ((owners : List Kind) (forests : TableForests) → IsReadyTable g mid room_mid middle def owners forests → HasThisRow g mid middle def hit.rid hit.row owners forests
       → IsSoundBetweenChanges mid def (pages_of g middle) → IsSoundBetweenChanges next def (pages_of g new))
       → ((owners : List Kind) (forests : TableForests) → IsReadyTable g mid room_mid middle def owners forests → HasThisRow g mid middle def hit.rid hit.row owners forests
@@ -41,13 +48,13 @@ module _ {S : Type 0} (g : Ghosts S) (before mid : Extents) (room_of room_mid : 
       → Works g middle new → Touches g (IsTableOrMapPage g mid middle def) middle new
       → (owners : List Kind) (forests : TableForests) → IsReadyBetween g before room_of old def owners forests → HasTheseRows g before old def (map placed_row hits) owners forests
       → DeletesOn g before next room_next old new def hits rest owners forests
-  row_out next room_next new deletes sound stands_for works touches owners forests ready has =
+  row_out next room_next new deletes makes sound stands_for works touches owners forests ready has =
       let on = leads_here owners forests ready has in
       let here = on.rows.ready in
       let now = on.rows.owners_now in
       let trees = on.rows.forests_now in
       let this = on.has.each.0 in
-      deletes_more g before mid next room_mid room_next old middle new def hits hit rest owners forests on (deletes now trees here.ready this) works touches (sound now trees here.ready this here.sound)
+      deletes_more g before mid next room_mid room_next old middle new def hits hit rest owners forests on (deletes now trees here.ready this) (makes now trees here.ready this.slots this.lies) works touches (sound now trees here.ready this here.sound)
       (stands_for now trees here.ready this here.sound)
 
   pub row_out_run : (new : S) (fault : Option StoreFault) → IsSameShape before mid

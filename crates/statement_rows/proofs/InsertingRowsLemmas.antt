@@ -17,7 +17,7 @@ use Rattle.extent_map.specs.declared.kind.Kind.{Kind}
 use Rattle.table_trees.specs.SpaceChanges.{MakesChanges, SpaceChange}
 use Rattle.table_trees.specs.ToldPages.{PageList}
 use Rattle.table_trees.proofs.SpaceChainsLemmas.{full_shaped, full_then}
-use Rattle.mdc_sound.specs.Placing.{HasRoomFor, HoldsNowhere, PutsRow, PutsRows, Spot, block_slot_count}
+use Rattle.mdc_sound.specs.Placing.{HasRoomFor, HoldsNowhere, PutsRow, Spot, block_slot_count}
 use Rattle.mdc_sound.specs.Placing.Spot.{FreeExtent, IndexExtent, OtherBlock, FreeBlock, PendingBlock, UsedBlock}
 use Rattle.mdc_sound.specs.RunningFull.{InsertingChanges, InsertRunsFull, block_changes, putting_changes}
 use Rattle.mdc_sound.specs.SoundDatabase.{IsSoundBetweenChanges, with_table_page}
@@ -28,6 +28,7 @@ use Rattle.cell_change.specs.RowChanges.{InsertsRow}
 use Rattle.cell_change.proofs.ChangedRowLemmas.{slots_same}
 use Rattle.cell_change.proofs.ChangedSpaceLemmas.{shows_spots}
 use Rattle.cell_change.proofs.TableStepsLemmas.{places_no_block}
+use Rattle.statement_rows.specs.RowsAndSpace.{PutsRowsBy}
 use Rattle.statement_rows.specs.RowsOfStatement.{ChangesRowsOf, IsReadyBetween}
 use Rattle.statement_rows.proofs.OtherTablesLemmas.{others_kept}
 use Rattle.statement_rows.proofs.RowsThenLemmas.{RowsLeadOn, leads_all, leads_more, leads_none, rooms_next}
@@ -87,11 +88,6 @@ module _ (def : TableDef) (next n : ℕ) where
   put_next old new row rid (PutsRow.in_free_block block none lowest is) = PutsRow.in_free_block block (no_room row old none) lowest is
   put_next old new row rid (PutsRow.in_free_extent block none no_block lowest is) = PutsRow.in_free_extent block (no_room row old none) no_block lowest is
 
-  -- and so are rows
-  pub puts_next : (old new : List Spot) (rows : List Row) → PutsRows (with_next def next) n old rows new → PutsRows def n old rows new
-  puts_next old new [] (PutsRows.none) = PutsRows.none
-  puts_next old new (row ∷ rows) (PutsRows.one {mid = mid} {next = later} rid puts claims rest) = PutsRows.one rid (put_next old mid row rid puts) claims (puts_next later new rows rest)
-
   -- what a row changes
   block_changes_next : (row : Row) (block : ℕ) (spot : Spot) → block_changes (with_next def next) row block spot ≡ block_changes def row block spot
   block_changes_next row block FreeExtent = refl
@@ -103,6 +99,13 @@ module _ (def : TableDef) (next n : ℕ) where
 
   putting_next : (row : Row) (rid : Rid) (spot : Spot) → putting_changes (with_next def next) row rid spot ≡ putting_changes def row rid spot
   putting_next row rid spot = rw (block_changes_next row rid.block spot) refl
+
+  -- and so all rows
+  pub puts_next : (old new : List Spot) (rows : List Row) (space : List SpaceChange) → PutsRowsBy (with_next def next) n old rows space new → PutsRowsBy def n old rows space new
+  puts_next old new [] _ (PutsRowsBy.none) = PutsRowsBy.none
+  puts_next old new (row ∷ rows) _ (PutsRowsBy.one {mid = mid} {next = later} {changes = changes} rid puts claims rest) =
+      subst (λ (first : List SpaceChange). PutsRowsBy def n old (row ∷ rows) (first ++ changes) new) (sym (putting_next row rid (slice_index_or old rid.block OtherBlock)))
+      (PutsRowsBy.one rid (put_next old mid row rid puts) claims (puts_next later new rows changes rest))
 
   -- and what an INSERT does
   inserting_next : (spots : List Spot) (rows : List Row) (changes : List SpaceChange) → InsertingChanges (with_next def next) n spots rows changes → InsertingChanges def n spots rows changes
@@ -136,10 +139,19 @@ module _ {S : Type 0} (g : Ghosts S) (before now : Extents) (room_of room_now : 
   abbrev pub raised : TableDef
   raised = with_next def (def.next + 1)
 
-  abbrev pub one_inserted : Works g old new → Touches g (IsTableSpace g before old def) old new → IsSoundBetweenChanges now raised (pages_of g new)
+  -- what the row needs
+  abbrev pub needed : List SpaceChange
+  needed = putting_changes def row rid (slice_index_or (spots_of g before old def owners forests) rid.block OtherBlock)
+
+  -- rows are put behind it, by whichever changes
+  abbrev pub PutsBefore : List Spot → List SpaceChange → List Spot → Type 0
+  PutsBefore was space between =
+      (rows : List Row) (more : List SpaceChange) (is : List Spot) → PutsRowsBy def (block_slot_count before def) between rows more is → PutsRowsBy def (block_slot_count before def) was (row ∷ rows) (space ++ more) is
+
+  abbrev pub one_inserted : MakesChanges before (pages_of g old) needed (pages_of g new) → Works g old new → Touches g (IsTableSpace g before old def) old new → IsSoundBetweenChanges now raised (pages_of g new)
       → ((db : Database) → PagesStandFor before (with_table_page def (pages_of g old)) db → PagesStandFor now (with_table_page raised (pages_of g new)) (changed_at db def.number (appended (row.values ∷ []))))
-      → ChangesRowsOf g before now room_now old new def raised owners forests (λ was is. PutsRows def (block_slot_count before def) was (row ∷ []) is) (appended (row.values ∷ []))
-  one_inserted works touches sound stands_for = record {
+      → ChangesRowsOf g before now room_now old new def raised owners forests PutsBefore (appended (row.values ∷ []))
+  one_inserted makes works touches sound stands_for = record {
     owners_now = inserts.places.owners_now;
     forests_now = inserts.places.forests_now;
     changes = inserts.places.changes;
@@ -151,7 +163,9 @@ module _ {S : Type 0} (g : Ghosts S) (before now : Extents) (room_of room_now : 
       };
       sound = sound;
     };
-    places = PutsRows.one rid inserts.places.puts inserts.places.claims PutsRows.none;
+    space = needed;
+    places = λ rows more is rest. PutsRowsBy.one rid inserts.places.puts inserts.places.claims rest;
+    makes = makes;
     stands_for = stands_for;
     table_pages = table_pages_kept g before old new def owners forests ready.ready.stands works touches;
     others = others_kept g before now old new def owners inserts.places.owners_now forests inserts.places.forests_now ready.sound.sound ready.ready.stands inserts.places.changes touches works.no_shorter;
@@ -162,18 +176,17 @@ module _ {S : Type 0} (g : Ghosts S) (before now : Extents) (room_of room_now : 
   slots_now = slots_same before now def inserts.places.changes.shape
 
   -- the rows behind it are put as well by the definition before
-  pub puts_then : (rows : List Row) (was between is : List Spot) → PutsRows def (block_slot_count before def) was (row ∷ []) between → PutsRows raised (block_slot_count now raised) between rows is
-      → PutsRows def (block_slot_count before def) was (row ∷ rows) is
-  puts_then rows was between is (PutsRows.one rid puts claims PutsRows.none) rest =
-      PutsRows.one rid puts claims (puts_next def (def.next + 1) (block_slot_count before def) between is rows (subst (λ n. PutsRows raised n between rows is) slots_now rest))
+  pub puts_then : (rows : List Row) (was between is : List Spot) (space more : List SpaceChange) → PutsBefore was space between → PutsRowsBy raised (block_slot_count now raised) between rows more is
+      → PutsRowsBy def (block_slot_count before def) was (row ∷ rows) (space ++ more) is
+  puts_then rows was between is space more first rest =
+      first rows more is (puts_next def (def.next + 1) (block_slot_count before def) between is rows more (subst (λ n. PutsRowsBy raised n between rows more is) slots_now rest))
 
   -- where the rest runs full, all do
-  pub full_behind : (rows : List Row) → MakesChanges before (pages_of g old) (putting_changes def row rid (slice_index_or (spots_of g before old def owners forests) rid.block OtherBlock)) (pages_of g new)
+  pub full_behind : (rows : List Row) → MakesChanges before (pages_of g old) needed (pages_of g new)
       → InsertRunsFull now (pages_of g new) raised rows → InsertRunsFull before (pages_of g old) def (row ∷ rows)
   full_behind rows makes full =
       let spots = spots_of g before old def owners forests in
       let later = spots_of g now new def inserts.places.owners_now inserts.places.forests_now in
-      let putting = putting_changes def row rid (slice_index_or spots rid.block OtherBlock) in
       let stands = stands_next g now new def (def.next + 1) inserts.places.owners_now inserts.places.forests_now inserts.places.changes.stands in
       let same : full.spots ≡ later = shown_spots g now new raised inserts.places.owners_now inserts.places.forests_now full.spots stands full.shows in
       let rest : InsertingChanges def (block_slot_count before def) later rows full.changes =
@@ -181,10 +194,10 @@ module _ {S : Type 0} (g : Ghosts S) (before now : Extents) (room_of room_now : 
       (subst (λ n. InsertingChanges raised n later rows full.changes) slots_now (subst (λ all. InsertingChanges raised (block_slot_count now raised) all rows full.changes) same full.inserting)) in
       record {
         spots = spots;
-        changes = putting ++ full.changes;
+        changes = needed ++ full.changes;
         shows = shows_spots g before old def owners forests ready.ready.stands;
         inserting = InsertingChanges.one rid inserts.places.puts inserts.places.claims rest;
-        full = full_then before (pages_of g old) (pages_of g new) putting full.changes makes (full_shaped before now (pages_of g new) full.changes inserts.places.changes.shape full.full);
+        full = full_then before (pages_of g old) (pages_of g new) needed full.changes makes (full_shaped before now (pages_of g new) full.changes inserts.places.changes.shape full.full);
       }
 
 -- ---- rows so far, and the rest
@@ -192,24 +205,24 @@ module _ {S : Type 0} (g : Ghosts S) (before now : Extents) (room_of room_now : 
 -- Rows were inserted, and so the table is ready for the rest of these values. With these all are inserted, and where they run
 -- full, all do.
 pub record InsertsOn {S : Type 0} (g : Ghosts S) (before now : Extents) (room_now : Entry → RoomNote) (old mid : S) (def def_now : TableDef) (tuples rest : List (List Value)) (owners : List Kind) (forests : TableForests) : Type 0 where
-  pub rows : RowsLeadOn g before now room_now old mid def def_now owners forests (λ was is. PutsRows def_now (block_slot_count now def_now) was (numbered def_now.next rest) is)
-      (λ was is. PutsRows def (block_slot_count before def) was (numbered def.next tuples) is) (appended rest) (appended tuples)
+  pub rows : RowsLeadOn g before now room_now old mid def def_now owners forests (λ was space is. PutsRowsBy def_now (block_slot_count now def_now) was (numbered def_now.next rest) space is)
+      (λ was space is. PutsRowsBy def (block_slot_count before def) was (numbered def.next tuples) space is) (appended rest) (appended tuples)
   pub full_on : InsertRunsFull now (pages_of g mid) def_now (numbered def_now.next rest) → InsertRunsFull before (pages_of g old) def (numbered def.next tuples)
 
 module _ {S : Type 0} (g : Ghosts S) where
   pub inserts_none : (ext : Extents) (room_of : Entry → RoomNote) (s : S) (def : TableDef) (tuples : List (List Value)) (owners : List Kind) (forests : TableForests) → IsReadyBetween g ext room_of s def owners forests
       → InsertsOn g ext ext room_of s s def def tuples tuples owners forests
   inserts_none ext room_of s def tuples owners forests ready = record {
-    rows = leads_none g ext room_of s def owners forests (λ was is. PutsRows def (block_slot_count ext def) was (numbered def.next tuples) is) (appended tuples) ready;
+    rows = leads_none g ext room_of s def owners forests (λ was space is. PutsRowsBy def (block_slot_count ext def) was (numbered def.next tuples) space is) (appended tuples) ready;
     full_on = λ full. full;
   }
 
   pub inserts_all : (before now : Extents) (room_now : Entry → RoomNote) (old new : S) (def def_now : TableDef) (tuples : List (List Value)) (owners : List Kind) (forests : TableForests)
       → InsertsOn g before now room_now old new def def_now tuples [] owners forests
-      → ChangesRowsOf g before now room_now old new def def_now owners forests (λ was is. PutsRows def (block_slot_count before def) was (numbered def.next tuples) is) (appended tuples)
+      → ChangesRowsOf g before now room_now old new def def_now owners forests (λ was space is. PutsRowsBy def (block_slot_count before def) was (numbered def.next tuples) space is) (appended tuples)
   inserts_all before now room_now old new def def_now tuples owners forests on =
-      leads_all g before now room_now old new def def_now owners forests (λ was is. PutsRows def_now (block_slot_count now def_now) was [] is)
-      (λ was is. PutsRows def (block_slot_count before def) was (numbered def.next tuples) is) (appended []) (appended tuples) on.rows (λ spots. PutsRows.none) appended_none
+      leads_all g before now room_now old new def def_now owners forests (λ was space is. PutsRowsBy def_now (block_slot_count now def_now) was [] space is)
+      (λ was space is. PutsRowsBy def (block_slot_count before def) was (numbered def.next tuples) space is) (appended []) (appended tuples) on.rows (λ spots. PutsRowsBy.none) appended_none
 
   module _ (before mid : Extents) (room_mid : Entry → RoomNote) (old middle : S) (def def_mid : TableDef) (tuples rest : List (List Value)) (owners : List Kind) (forests : TableForests) where
     pub inserts_more : (next : Extents) (room_next : Entry → RoomNote) (new : S) (values : List Value) (rid : Rid) (on : InsertsOn g before mid room_mid old middle def def_mid tuples (values ∷ rest) owners forests)
@@ -225,11 +238,11 @@ module _ {S : Type 0} (g : Ghosts S) where
         let ready = on.rows.ready in
         let rows = numbered (def_mid.next + 1) rest in
         record {
-          rows = leads_more g before mid next room_mid room_next old middle new def def_mid (def_mid.next + 1) owners forests (λ was is. PutsRows def_mid (block_slot_count mid def_mid) was (row ∷ []) is)
-              (λ was is. PutsRows def_mid (block_slot_count mid def_mid) was (numbered def_mid.next (values ∷ rest)) is)
-              (λ was is. PutsRows (with_next def_mid (def_mid.next + 1)) (block_slot_count next (with_next def_mid (def_mid.next + 1))) was rows is)
-              (λ was is. PutsRows def (block_slot_count before def) was (numbered def.next tuples) is) (appended (values ∷ [])) (appended (values ∷ rest)) (appended rest) (appended tuples) on.rows
-              (one_inserted g mid next room_mid room_next middle new def_mid row rid on.rows.owners_now on.rows.forests_now ready inserts works touches sound stands_for)
+          rows = leads_more g before mid next room_mid room_next old middle new def def_mid (def_mid.next + 1) owners forests (PutsBefore g mid next room_mid room_next middle new def_mid row rid on.rows.owners_now on.rows.forests_now ready inserts)
+              (λ was space is. PutsRowsBy def_mid (block_slot_count mid def_mid) was (numbered def_mid.next (values ∷ rest)) space is)
+              (λ was space is. PutsRowsBy (with_next def_mid (def_mid.next + 1)) (block_slot_count next (with_next def_mid (def_mid.next + 1))) was rows space is)
+              (λ was space is. PutsRowsBy def (block_slot_count before def) was (numbered def.next tuples) space is) (appended (values ∷ [])) (appended (values ∷ rest)) (appended rest) (appended tuples) on.rows
+              (one_inserted g mid next room_mid room_next middle new def_mid row rid on.rows.owners_now on.rows.forests_now ready inserts makes works touches sound stands_for)
               (puts_then g mid next room_mid room_next middle new def_mid row rid on.rows.owners_now on.rows.forests_now ready inserts rows)
               (places_no_block g mid next middle new def_mid on.rows.owners_now on.rows.forests_now room_next row rid ready.ready.stands inserts.places) (appended_more values rest) works.no_shorter;
           full_on = λ full. on.full_on (full_behind g mid next room_mid room_next middle new def_mid row rid on.rows.owners_now on.rows.forests_now ready inserts rows makes full);

@@ -1,5 +1,5 @@
 -- Changes of rows one after the other: what a change makes of a table, and then another one behind it.
-use Rattle.std.proofs.Common.{◌≡◌, ◌<◌, ◌≤◌, ◌+◌, ℕ, zero, suc, List, [], ◌∷◌, Some, None, length, drop, get_or, refl, ap, arith, sym, ◌∙◌, subst}
+use Rattle.std.proofs.Common.{◌≡◌, ◌<◌, ◌≤◌, ◌+◌, ℕ, zero, suc, List, [], ◌∷◌, ◌++◌, Some, None, length, drop, get_or, refl, ap, arith, sym, ◌∙◌, subst}
 use Rattle.std.specs.Prelude.{slice_index_or}
 use Rattle.std.proofs.lemmas.List.{drop_more}
 use Rattle.mdc_words.specs.ByteOrder.{Entry}
@@ -9,7 +9,10 @@ use Rattle.store_api.specs.declared.pages.Pages.{Ghosts}
 use Rattle.extent_map.specs.Owners.{owner_of}
 use Rattle.extent_map.specs.declared.extents.Extents.{Extents}
 use Rattle.extent_map.specs.declared.kind.Kind.{Kind}
+use Rattle.table_trees.specs.SpaceChanges.{SpaceChange}
 use Rattle.table_trees.specs.TreesBeside.{table_of_block}
+use Rattle.table_trees.proofs.SpaceChainsLemmas.{changes_shaped, changes_then, no_changes, same_space_itself}
+use Rattle.table_trees.proofs.ToldPagesLemmas.{map_of_told}
 use Rattle.mdc_sound.specs.Placing.{Spot}
 use Rattle.mdc_sound.specs.Placing.Spot.{FreeBlock, FreeExtent, IndexExtent, OtherBlock, PendingBlock, UsedBlock}
 use Rattle.mdc_sound.specs.SoundDatabase.{with_table_page}
@@ -83,15 +86,17 @@ module _ {S : Type 0} (g : Ghosts S) where
   -- ---- no row, and one change of rows behind another
 
   -- no row was changed
-  pub rows_none : (ext : Extents) (room_of : Entry → RoomNote) (s : S) (def : TableDef) (owners : List Kind) (forests : TableForests) (Places : List Spot → List Spot → Type 0) (change : PlainTable → PlainTable)
-      → IsReadyBetween g ext room_of s def owners forests → ((spots : List Spot) → Places spots spots) → ((table : PlainTable) → change table ≡ table)
+  pub rows_none : (ext : Extents) (room_of : Entry → RoomNote) (s : S) (def : TableDef) (owners : List Kind) (forests : TableForests) (Places : List Spot → List SpaceChange → List Spot → Type 0) (change : PlainTable → PlainTable)
+      → IsReadyBetween g ext room_of s def owners forests → ((spots : List Spot) → Places spots [] spots) → ((table : PlainTable) → change table ≡ table)
       → ChangesRowsOf g ext ext room_of s s def def owners forests Places change
   rows_none ext room_of s def owners forests Places change ready places same = record {
     owners_now = owners;
     forests_now = forests;
     changes = same_table g ext s def owners forests ready.ready.stands;
     now = ready;
+    space = [];
     places = places (spots_of g ext s def owners forests);
+    makes = no_changes ext (pages_of g s) (pages_of g s) (same_space_itself ext (pages_of g s) owners (map_of_told g s ready.ready.stands.told ext owners ready.ready.stands.trees.map));
     stands_for = λ db stands. subst (PagesStandFor ext (with_table_page def (pages_of g s))) (sym (changed_none db def.number change same)) stands;
     table_pages = same_table_pages (pages_of g s);
     others = same_others ext (pages_of g s) def.number;
@@ -99,10 +104,10 @@ module _ {S : Type 0} (g : Ghosts S) where
 
   -- where the first left each block one, both together are one change of rows
   pub rows_then : (before mid ext : Extents) (room_mid room_now : Entry → RoomNote) (old middle new : S) (def def_now : TableDef) (next : ℕ) (owners : List Kind) (forests : TableForests)
-      (First Second Both : List Spot → List Spot → Type 0) (change more both : PlainTable → PlainTable)
+      (First Second Both : List Spot → List SpaceChange → List Spot → Type 0) (change more both : PlainTable → PlainTable)
       → (first : ChangesRowsOf g before mid room_mid old middle def (with_next def next) owners forests First change)
       → ChangesRowsOf g mid ext room_now middle new (with_next def next) def_now first.owners_now first.forests_now Second more
-      → ((was between is : List Spot) → First was between → Second between is → Both was is) → ((e : ℕ) → table_of_block (owner_of first.owners_now e) ≡ None → table_of_block (owner_of owners e) ≡ None)
+      → ((was between is : List Spot) (space more_space : List SpaceChange) → First was space between → Second between more_space is → Both was (space ++ more_space) is) → ((e : ℕ) → table_of_block (owner_of first.owners_now e) ≡ None → table_of_block (owner_of owners e) ≡ None)
       → ((table : PlainTable) → more (change table) ≡ both table) → length (pages_of g old) ≤ length (pages_of g middle) → length (pages_of g middle) ≤ length (pages_of g new)
       → ChangesRowsOf g before ext room_now old new def def_now owners forests Both both
   rows_then before mid ext room_mid room_now old middle new def def_now next owners forests First Second Both change more both first second places no_block same longer still_longer = record {
@@ -111,7 +116,10 @@ module _ {S : Type 0} (g : Ghosts S) where
     changes = changes_table_then g before mid old middle def owners forests first.owners_now first.forests_now first.changes ext new second.owners_now second.forests_now
         (back mid ext middle new def next first.owners_now second.owners_now first.forests_now second.forests_now second.changes) no_block longer still_longer;
     now = second.now;
-    places = places _ _ _ first.places second.places;
+    space = first.space ++ second.space;
+    places = places _ _ _ first.space second.space first.places second.places;
+    makes = changes_then before (pages_of g old) (pages_of g middle) (pages_of g new) first.space second.space first.makes
+        (changes_shaped before mid (pages_of g middle) (pages_of g new) second.space first.changes.shape second.makes);
     stands_for = λ db stands.
         subst (PagesStandFor ext (with_table_page def_now (pages_of g new))) (changed_twice db def.number change more both same) (second.stands_for (changed_at db def.number change) (first.stands_for db stands));
     table_pages = table_pages_then (pages_of g old) (pages_of g middle) (pages_of g new) first.table_pages second.table_pages;
@@ -123,7 +131,7 @@ module _ {S : Type 0} (g : Ghosts S) where
   -- Some rows were changed, so that the table is ready again; and what is made of it by the changes of the rest makes the changes
   -- of all from the start.
   pub record RowsLeadOn (before now : Extents) (room_now : Entry → RoomNote) (old mid : S) (def def_now : TableDef) (owners : List Kind) (forests : TableForests)
-      (Rest All : List Spot → List Spot → Type 0) (rest all : PlainTable → PlainTable) : Type 0 where
+      (Rest All : List Spot → List SpaceChange → List Spot → Type 0) (rest all : PlainTable → PlainTable) : Type 0 where
     pub owners_now : List Kind
     pub forests_now : TableForests
     pub ready : IsReadyBetween g now room_now mid def_now owners_now forests_now
@@ -131,16 +139,16 @@ module _ {S : Type 0} (g : Ghosts S) where
         → ChangesRowsOf g now ext room_of mid new def_now def_end owners_now forests_now Rest rest → ChangesRowsOf g before ext room_of old new def def_end owners forests All all
 
   -- before the first row
-  abbrev pub leads_none : (ext : Extents) (room_of : Entry → RoomNote) (s : S) (def : TableDef) (owners : List Kind) (forests : TableForests) (All : List Spot → List Spot → Type 0) (all : PlainTable → PlainTable)
+  abbrev pub leads_none : (ext : Extents) (room_of : Entry → RoomNote) (s : S) (def : TableDef) (owners : List Kind) (forests : TableForests) (All : List Spot → List SpaceChange → List Spot → Type 0) (all : PlainTable → PlainTable)
       → IsReadyBetween g ext room_of s def owners forests → RowsLeadOn ext ext room_of s s def def owners forests All All all all
   leads_none ext room_of s def owners forests All all ready =
       record { owners_now = owners; forests_now = forests; ready = ready; rows_on = λ ext room_of new def_end longer changes. changes }
 
   -- a row more
   abbrev pub leads_more : (before mid next : Extents) (room_mid room_next : Entry → RoomNote) (old middle new : S) (def def_mid : TableDef) (number : ℕ) (owners : List Kind) (forests : TableForests)
-      (One Left Rest All : List Spot → List Spot → Type 0) (change left rest all : PlainTable → PlainTable) (on : RowsLeadOn before mid room_mid old middle def def_mid owners forests Left All left all)
+      (One Left Rest All : List Spot → List SpaceChange → List Spot → Type 0) (change left rest all : PlainTable → PlainTable) (on : RowsLeadOn before mid room_mid old middle def def_mid owners forests Left All left all)
       → (one : ChangesRowsOf g mid next room_next middle new def_mid (with_next def_mid number) on.owners_now on.forests_now One change)
-      → ((was between is : List Spot) → One was between → Rest between is → Left was is) → ((e : ℕ) → table_of_block (owner_of one.owners_now e) ≡ None → table_of_block (owner_of on.owners_now e) ≡ None)
+      → ((was between is : List Spot) (space more : List SpaceChange) → One was space between → Rest between more is → Left was (space ++ more) is) → ((e : ℕ) → table_of_block (owner_of one.owners_now e) ≡ None → table_of_block (owner_of on.owners_now e) ≡ None)
       → ((table : PlainTable) → rest (change table) ≡ left table) → length (pages_of g middle) ≤ length (pages_of g new)
       → RowsLeadOn before next room_next old new def (with_next def_mid number) owners forests Rest All rest all
   leads_more before mid next room_mid room_next old middle new def def_mid number owners forests One Left Rest All change left rest all on one places no_block same longer = record {
@@ -153,8 +161,8 @@ module _ {S : Type 0} (g : Ghosts S) where
   }
 
   -- behind the last row
-  pub leads_all : (before now : Extents) (room_now : Entry → RoomNote) (old new : S) (def def_now : TableDef) (owners : List Kind) (forests : TableForests) (Nowhere All : List Spot → List Spot → Type 0)
-      (none all : PlainTable → PlainTable) → RowsLeadOn before now room_now old new def def_now owners forests Nowhere All none all → ((spots : List Spot) → Nowhere spots spots)
+  pub leads_all : (before now : Extents) (room_now : Entry → RoomNote) (old new : S) (def def_now : TableDef) (owners : List Kind) (forests : TableForests) (Nowhere All : List Spot → List SpaceChange → List Spot → Type 0)
+      (none all : PlainTable → PlainTable) → RowsLeadOn before now room_now old new def def_now owners forests Nowhere All none all → ((spots : List Spot) → Nowhere spots [] spots)
       → ((table : PlainTable) → none table ≡ table) → ChangesRowsOf g before now room_now old new def def_now owners forests All all
   leads_all before now room_now old new def def_now owners forests Nowhere All none all on places same =
       on.rows_on now room_now new def_now (omega arith) (rows_none now room_now new def_now on.owners_now on.forests_now Nowhere none on.ready places same)

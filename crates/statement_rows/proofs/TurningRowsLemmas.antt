@@ -15,16 +15,17 @@ use Rattle.extent_map.specs.declared.kind.Kind.{Kind}
 use Rattle.table_trees.specs.SpaceChanges.{SpaceChange}
 use Rattle.table_trees.proofs.SpaceChainsLemmas.{full_shaped, full_then}
 use Rattle.table_trees.specs.ToldPages.{PageList}
-use Rattle.mdc_sound.specs.Placing.{ChangesRows, Spot, block_slot_count}
+use Rattle.mdc_sound.specs.Placing.{Spot, block_slot_count}
 use Rattle.mdc_sound.specs.RunningFull.{UpdateRunsFull, UpdatingChanges}
 use Rattle.mdc_sound.specs.SoundDatabase.{IsSoundBetweenChanges, with_table_page}
 use Rattle.mdc_sound.specs.StandingTable.{IsTableSpace, RoomNote, TableForests, pages_of, spots_of}
 use Rattle.mdc_sound.specs.StandsForDatabase.{PagesStandFor, with_row}
 use Rattle.mdc_sound.specs.TableRows.{PlacedRow}
-use Rattle.cell_change.specs.RowChanges.{ChangesOneRow}
+use Rattle.cell_change.specs.RowChanges.{ChangesOneRow, TurnsRowBy, row_in_place}
 use Rattle.cell_change.proofs.ChangedRowLemmas.{slots_same}
 use Rattle.cell_change.proofs.ChangedSpaceLemmas.{shows_spots}
 use Rattle.cell_change.proofs.TableStepsLemmas.{turns_no_block}
+use Rattle.statement_rows.specs.RowsAndSpace.{TurnsRowsBy}
 use Rattle.statement_rows.specs.RowsOfStatement.{ChangesRowsOf, HasTheseRows, IsReadyBetween, with_rows}
 use Rattle.statement_rows.specs.Turning.{turned_row}
 use Rattle.statement_rows.specs.declared.changing.Turned.{Turned}
@@ -51,6 +52,12 @@ updating_more more UpdatingChanges.none = UpdatingChanges.none
 updating_more more (UpdatingChanges.stays cell turns claims rest) = UpdatingChanges.stays cell turns claims (updating_more more rest)
 updating_more more (UpdatingChanges.moves free apart lies takes returns puts claims rest) = UpdatingChanges.moves free apart lies takes returns puts claims (updating_more more rest)
 updating_more more (UpdatingChanges.stuck free apart lies takes returns no_spot) = UpdatingChanges.stuck free apart lies takes returns no_spot
+
+-- the changes of one row go before those of the rows behind it
+updating_behind : (def : TableDef) (n : ℕ) (old next : List Spot) (rid : Rid) (row other : Row) (first : List SpaceChange) → TurnsRowBy def n old rid row other next first
+    → (rows : List (PlacedRow × Row)) (changes : List SpaceChange) → UpdatingChanges def n next rows changes → UpdatingChanges def n old ((row_in_place rid row, other) ∷ rows) (first ++ changes)
+updating_behind def n old next rid row other _ (TurnsRowBy.stays cell turns claims) rows changes more = UpdatingChanges.stays cell turns claims more
+updating_behind def n old next rid row other _ (TurnsRowBy.moves free apart lies takes returns puts claims) rows changes more = UpdatingChanges.moves free apart lies takes returns puts claims more
 
 -- rows whose places are given by rising number rise
 rising_turned : (all : List Turned) → AllPairs (λ a b. a.row.number < b.row.number) (places_of all) → AllPairs (λ a b. a.0.row.number < b.0.row.number) (map turned_row all)
@@ -83,15 +90,23 @@ full_at_first ext pages def one rest rising full = record {
 
 module _ {S : Type 0} (g : Ghosts S) (before now : Extents) (room_of room_now : Entry → RoomNote) (old new : S) (def : TableDef) (one : Turned) (to : Rid) (owners : List Kind) (forests : TableForests)
     (ready : IsReadyBetween g before room_of old def owners forests) (turns : ChangesOneRow g before now room_now old new def one.hit.row one.row one.hit.rid to owners forests) where
+  -- rows become others behind it, by whichever changes
+  abbrev pub TurnsBefore : List Spot → List SpaceChange → List Spot → Type 0
+  TurnsBefore was space between =
+      (rows : List (PlacedRow × Row)) (more : List SpaceChange) (is : List Spot) → TurnsRowsBy def (block_slot_count before def) between rows more is
+      → TurnsRowsBy def (block_slot_count before def) was (turned_row one ∷ rows) (space ++ more) is
+
   abbrev pub one_turned : Works g old new → Touches g (IsTableSpace g before old def) old new → IsSoundBetweenChanges now def (pages_of g new)
       → ((db : Database) → PagesStandFor before (with_table_page def (pages_of g old)) db → PagesStandFor now (with_table_page def (pages_of g new)) (changed_at db def.number (with_row one.row)))
-      → ChangesRowsOf g before now room_now old new def def owners forests (λ was is. ChangesRows def (block_slot_count before def) was (turned_row one ∷ []) is) (with_row one.row)
+      → ChangesRowsOf g before now room_now old new def def owners forests TurnsBefore (with_row one.row)
   one_turned works touches sound stands_for = record {
     owners_now = turns.owners_now;
     forests_now = turns.forests_now;
     changes = turns.changes;
     now = record { ready = record { stands = turns.changes.stands; notes = turns.changes.notes ready.ready.notes; rooms = turns.rooms }; sound = sound };
-    places = ChangesRows.one to turns.turns turns.claims ChangesRows.none;
+    space = turns.space.changes;
+    places = λ rows more is rest. TurnsRowsBy.one turns.space.turns rest;
+    makes = turns.space.makes;
     stands_for = stands_for;
     table_pages = table_pages_kept g before old new def owners forests ready.ready.stands works touches;
     others = others_kept g before now old new def owners turns.owners_now forests turns.forests_now ready.sound.sound ready.ready.stands turns.changes touches works.no_shorter;
@@ -102,9 +117,9 @@ module _ {S : Type 0} (g : Ghosts S) (before now : Extents) (room_of room_now : 
   slots_now = slots_same before now def turns.changes.shape
 
   -- the rows behind it become others as well
-  pub turns_then : (rows : List (PlacedRow × Row)) (was between is : List Spot) → ChangesRows def (block_slot_count before def) was (turned_row one ∷ []) between → ChangesRows def (block_slot_count now def) between rows is
-      → ChangesRows def (block_slot_count before def) was (turned_row one ∷ rows) is
-  turns_then rows was between is (ChangesRows.one at turned claims ChangesRows.none) rest = ChangesRows.one at turned claims (subst (λ n. ChangesRows def n between rows is) slots_now rest)
+  pub turns_then : (rows : List (PlacedRow × Row)) (was between is : List Spot) (space more : List SpaceChange) → TurnsBefore was space between → TurnsRowsBy def (block_slot_count now def) between rows more is
+      → TurnsRowsBy def (block_slot_count before def) was (turned_row one ∷ rows) (space ++ more) is
+  turns_then rows was between is space more first rest = first rows more is (subst (λ n. TurnsRowsBy def n between rows more is) slots_now rest)
 
   -- they lie where they lay
   pub rows_stay : (rows : List PlacedRow) → HasTheseRows g before old def ((turned_row one).0 ∷ rows) owners forests → HasTheseRows g now new def rows turns.owners_now turns.forests_now
@@ -125,11 +140,11 @@ module _ {S : Type 0} (g : Ghosts S) (before now : Extents) (room_of room_now : 
       subst (λ n. UpdatingChanges def n later rows full.changes) slots_now (subst (λ all. UpdatingChanges def (block_slot_count now def) all rows full.changes) same full.updating) in
       record {
         spots = spots_of g before old def owners forests;
-        changes = turns.space.front ++ full.changes;
+        changes = turns.space.changes ++ full.changes;
         shows = shows_spots g before old def owners forests ready.ready.stands;
         rising = rising_turned (one ∷ rest) rising;
-        updating = turns.space.goes_on rows full.changes updating;
-        full = full_then before (pages_of g old) (pages_of g new) turns.space.front full.changes turns.space.makes (full_shaped before now (pages_of g new) full.changes turns.changes.shape full.full);
+        updating = updating_behind def (block_slot_count before def) (spots_of g before old def owners forests) later one.hit.rid one.hit.row one.row turns.space.changes turns.space.turns rows full.changes updating;
+        full = full_then before (pages_of g old) (pages_of g new) turns.space.changes full.changes turns.space.makes (full_shaped before now (pages_of g new) full.changes turns.changes.shape full.full);
       }
 
 -- ---- rows so far, and the rest
@@ -138,24 +153,24 @@ module _ {S : Type 0} (g : Ghosts S) where
   -- Rows became others, and so the table is ready for the rest of these, which lie where they lay. With these all become others,
   -- and where they run full, all do.
   pub record TurnsOn (before now : Extents) (room_now : Entry → RoomNote) (old mid : S) (def : TableDef) (all rest : List Turned) (owners : List Kind) (forests : TableForests) : Type 0 where
-    pub rows : RowsLeadOn g before now room_now old mid def def owners forests (λ was is. ChangesRows def (block_slot_count now def) was (map turned_row rest) is)
-        (λ was is. ChangesRows def (block_slot_count before def) was (map turned_row all) is) (with_rows (rows_of_turned rest)) (with_rows (rows_of_turned all))
+    pub rows : RowsLeadOn g before now room_now old mid def def owners forests (λ was space is. TurnsRowsBy def (block_slot_count now def) was (map turned_row rest) space is)
+        (λ was space is. TurnsRowsBy def (block_slot_count before def) was (map turned_row all) space is) (with_rows (rows_of_turned rest)) (with_rows (rows_of_turned all))
     pub has : HasTheseRows g now mid def (places_of rest) rows.owners_now rows.forests_now
     pub full_on : UpdateRunsFull now (pages_of g mid) def (map turned_row rest) → UpdateRunsFull before (pages_of g old) def (map turned_row all)
 
   pub turns_none : (ext : Extents) (room_of : Entry → RoomNote) (s : S) (def : TableDef) (all : List Turned) (owners : List Kind) (forests : TableForests) → IsReadyBetween g ext room_of s def owners forests
       → HasTheseRows g ext s def (places_of all) owners forests → TurnsOn ext ext room_of s s def all all owners forests
   turns_none ext room_of s def all owners forests ready has = record {
-    rows = leads_none g ext room_of s def owners forests (λ was is. ChangesRows def (block_slot_count ext def) was (map turned_row all) is) (with_rows (rows_of_turned all)) ready;
+    rows = leads_none g ext room_of s def owners forests (λ was space is. TurnsRowsBy def (block_slot_count ext def) was (map turned_row all) space is) (with_rows (rows_of_turned all)) ready;
     has = has;
     full_on = λ full. full;
   }
 
   pub turns_all : (before now : Extents) (room_now : Entry → RoomNote) (old new : S) (def : TableDef) (all : List Turned) (owners : List Kind) (forests : TableForests) → TurnsOn before now room_now old new def all [] owners forests
-      → ChangesRowsOf g before now room_now old new def def owners forests (λ was is. ChangesRows def (block_slot_count before def) was (map turned_row all) is) (with_rows (rows_of_turned all))
+      → ChangesRowsOf g before now room_now old new def def owners forests (λ was space is. TurnsRowsBy def (block_slot_count before def) was (map turned_row all) space is) (with_rows (rows_of_turned all))
   turns_all before now room_now old new def all owners forests on =
-      leads_all g before now room_now old new def def owners forests (λ was is. ChangesRows def (block_slot_count now def) was [] is) (λ was is. ChangesRows def (block_slot_count before def) was (map turned_row all) is)
-      (with_rows []) (with_rows (rows_of_turned all)) on.rows (λ spots. ChangesRows.none) (λ table. refl)
+      leads_all g before now room_now old new def def owners forests (λ was space is. TurnsRowsBy def (block_slot_count now def) was [] space is) (λ was space is. TurnsRowsBy def (block_slot_count before def) was (map turned_row all) space is)
+      (with_rows []) (with_rows (rows_of_turned all)) on.rows (λ spots. TurnsRowsBy.none) (λ table. refl)
 
   pub turns_more : (before mid next : Extents) (room_mid room_next : Entry → RoomNote) (old middle new : S) (def : TableDef) (all : List Turned) (one : Turned) (rest : List Turned) (to : Rid) (owners : List Kind) (forests : TableForests)
       (on : TurnsOn before mid room_mid old middle def all (one ∷ rest) owners forests) → ChangesOneRow g mid next room_next middle new def one.hit.row one.row one.hit.rid to on.rows.owners_now on.rows.forests_now
@@ -167,9 +182,9 @@ module _ {S : Type 0} (g : Ghosts S) where
       let trees = on.rows.forests_now in
       let ready = on.rows.ready in
       record {
-        rows = leads_more g before mid next room_mid room_next old middle new def def def.next owners forests (λ was is. ChangesRows def (block_slot_count mid def) was (turned_row one ∷ []) is)
-            (λ was is. ChangesRows def (block_slot_count mid def) was (map turned_row (one ∷ rest)) is) (λ was is. ChangesRows def (block_slot_count next def) was (map turned_row rest) is)
-            (λ was is. ChangesRows def (block_slot_count before def) was (map turned_row all) is) (with_row one.row) (with_rows (rows_of_turned (one ∷ rest))) (with_rows (rows_of_turned rest))
+        rows = leads_more g before mid next room_mid room_next old middle new def def def.next owners forests (TurnsBefore g mid next room_mid room_next middle new def one to now trees ready turns)
+            (λ was space is. TurnsRowsBy def (block_slot_count mid def) was (map turned_row (one ∷ rest)) space is) (λ was space is. TurnsRowsBy def (block_slot_count next def) was (map turned_row rest) space is)
+            (λ was space is. TurnsRowsBy def (block_slot_count before def) was (map turned_row all) space is) (with_row one.row) (with_rows (rows_of_turned (one ∷ rest))) (with_rows (rows_of_turned rest))
             (with_rows (rows_of_turned all)) on.rows (one_turned g mid next room_mid room_next middle new def one to now trees ready turns works touches sound stands_for)
             (turns_then g mid next room_mid room_next middle new def one to now trees ready turns (map turned_row rest))
             (turns_no_block g mid next middle new def now trees room_next one.hit.row one.row one.hit.rid to ready.ready.stands turns) (λ table. refl) works.no_shorter;

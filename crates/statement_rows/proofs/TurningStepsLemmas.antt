@@ -15,13 +15,14 @@ use Rattle.extent_map.specs.declared.extents.Extents.{Extents}
 use Rattle.extent_map.specs.declared.fault.SpaceFault.{SpaceFault}
 use Rattle.extent_map.specs.declared.kind.Kind.{Kind}
 use Rattle.entry_tree.proofs.ClaimsLemmas.{shape_none, shape_then}
-use Rattle.mdc_sound.specs.Placing.{ChangesRows, block_slot_count}
+use Rattle.mdc_sound.specs.Placing.{block_slot_count}
 use Rattle.mdc_sound.specs.RunningFull.{UpdateRunsFull}
 use Rattle.mdc_sound.specs.SoundDatabase.{IsSoundBetweenChanges, with_table_page}
 use Rattle.mdc_sound.specs.StandingTable.{BreaksExpected, IsReadyTable, IsTableSpace, RoomNote, TableForests, pages_of}
 use Rattle.mdc_sound.specs.StandsForDatabase.{PagesStandFor, with_row}
 use Rattle.cell_change.specs.RowChanges.{ChangesOneRow, HasThisRow, row_in_place}
 use Rattle.cell_change.proofs.ChangedRowLemmas.{full_as}
+use Rattle.statement_rows.specs.RowsAndSpace.{TurnsRowsBy}
 use Rattle.statement_rows.specs.RowsOfStatement.{AnyPage, BreaksReady, ChangesRowsOf, HasTheseRows, IsReadyBetween, with_rows}
 use Rattle.statement_rows.specs.Turning.{turned_row}
 use Rattle.statement_rows.specs.declared.changing.Turned.{Turned}
@@ -49,7 +50,7 @@ module _ {S : Type 0} (g : Ghosts S) (before : Extents) (room_of : Entry → Roo
 
   pub turning_ends : (ext : Extents) (room_now : Entry → RoomNote) (s : S) (rest : List Turned) → IsTurning ext room_now s rest → rest ≡ [] → (owners : List Kind) (forests : TableForests)
       → IsReadyBetween g before room_of old def owners forests → HasAll owners forests
-      → ChangesRowsOf g before ext room_now old s def def owners forests (λ was is. ChangesRows def (block_slot_count before def) was (map turned_row all) is) (with_rows (rows_of_turned all))
+      → ChangesRowsOf g before ext room_now old s def def owners forests (λ was space is. TurnsRowsBy def (block_slot_count before def) was (map turned_row all) space is) (with_rows (rows_of_turned all))
   turning_ends ext room_now s rest turning none owners forests ready has =
       turns_all g before ext room_now old s def all owners forests (subst (λ list. TurnsOn g before ext room_now old s def all list owners forests) none (turning.turns owners forests ready has))
 

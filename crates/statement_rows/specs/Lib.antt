@@ -1,3 +1,4 @@
 pub mod OtherTables
+pub mod RowsAndSpace
 pub mod RowsOfStatement
 pub mod Turning

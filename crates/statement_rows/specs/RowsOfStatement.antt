@@ -9,6 +9,7 @@ use Rattle.store_api.specs.declared.fault.Damage.{Damage}
 use Rattle.store_api.specs.declared.pages.Pages.{Ghosts}
 use Rattle.extent_map.specs.declared.extents.Extents.{Extents}
 use Rattle.extent_map.specs.declared.kind.Kind.{Kind}
+use Rattle.table_trees.specs.SpaceChanges.{MakesChanges, SpaceChange}
 use Rattle.table_trees.specs.ToldPages.{PageList}
 use Rattle.mdc_sound.specs.Placing.{Spot}
 use Rattle.mdc_sound.specs.SoundDatabase.{IsSoundBetweenChanges, with_table_page}
@@ -38,15 +39,18 @@ pub record KeepsTablePages (old new : PageList) : Type 0 where
   pub each : (t : ℕ) → t < 16 → table_page_at new t ≡ table_page_at old t
 
 -- Rows of one table were changed one after the other. The table stands with right notes, the pages are sound as they are between
--- two changes of rows, the table's blocks were changed as `Places` says, and whatever plain database the pages stood for, they
--- stand for the one whose table is changed so. Table pages stay, and so do the blocks of other tables.
+-- two changes of rows, the table's blocks were changed as `Places` says, trees took no more space than the changes that it
+-- says with that, and whatever plain database the pages stood for, they stand for the one whose table is changed so. Table pages
+-- stay, and so do the blocks of other tables.
 pub record ChangesRowsOf {S : Type 0} (g : Ghosts S) (before ext : Extents) (room_of : Entry → RoomNote) (old new : S) (def def_now : TableDef)
-    (owners : List Kind) (forests : TableForests) (Places : List Spot → List Spot → Type 0) (change : PlainTable → PlainTable) : Type 0 where
+    (owners : List Kind) (forests : TableForests) (Places : List Spot → List SpaceChange → List Spot → Type 0) (change : PlainTable → PlainTable) : Type 0 where
   pub owners_now : List Kind
   pub forests_now : TableForests
   pub changes : ChangesTable g before ext old new def owners forests owners_now forests_now
   pub now : IsReadyBetween g ext room_of new def_now owners_now forests_now
-  pub places : Places (spots_of g before old def owners forests) (spots_of g ext new def_now owners_now forests_now)
+  pub space : List SpaceChange
+  pub places : Places (spots_of g before old def owners forests) space (spots_of g ext new def_now owners_now forests_now)
+  pub makes : MakesChanges before (pages_of g old) space (pages_of g new)
   pub stands_for : (db : Database) → PagesStandFor before (with_table_page def (pages_of g old)) db
       → PagesStandFor ext (with_table_page def_now (pages_of g new)) (changed_at db def.number change)
   pub table_pages : KeepsTablePages (pages_of g old) (pages_of g new)

@@ -7,10 +7,11 @@ ghost use Rattle.extent_map.specs.Damages.{IfFull, store_part_of};
 ghost use Rattle.extent_map.specs.Owners.{IsSameShape};
 ghost use Rattle.extent_map.specs.declared.kind.Kind.{Kind};
 ghost use Rattle.table_page.specs.TableLimits.{IsTableDef};
-ghost use Rattle.mdc_sound.specs.Placing.{ChangesRows, block_slot_count};
+ghost use Rattle.mdc_sound.specs.Placing.{block_slot_count};
 ghost use Rattle.mdc_sound.specs.RunningFull.{UpdateRunsFull};
 ghost use Rattle.mdc_sound.specs.StandingTable.{TableForests, pages_of};
 ghost use Rattle.cell_rooms.specs.RoomNotes.{room_of};
+ghost use Rattle.statement_rows.specs.RowsAndSpace.{TurnsRowsBy};
 ghost use Rattle.statement_rows.specs.RowsOfStatement.{AnyPage, BreaksReady, ChangesRowsOf, HasTheseRows, IsReadyBetween, with_rows};
 ghost use Rattle.statement_rows.specs.Turning.{MayTurn, turned_row};
 
@@ -28,9 +29,9 @@ pub struct Turned {
     pub row: Row,
 }
 
-/// Makes rows others, by rising row number. Each of them was read, and becomes one that fits the definition and has its number.
-/// `Full` says that an UPDATE of them runs full. After a fault `undo` goes back to a mark, and the notes of the extents and of the
-/// rooms are to be forgotten.
+/// Makes rows others, by rising row number. Each of them was read, and becomes one that fits the definition and has its number. It
+/// claims no more pages than the rows ask for, and `Full` says that an UPDATE of them runs full. After a fault `undo` goes back to
+/// a mark, and the notes of the extents and of the rooms are to be forgotten.
 pub fn change_rows<P: Pages>(
     alloc: Global,
     def: &TableDef,
@@ -46,7 +47,7 @@ pub fn change_rows<P: Pages>(
     ensures changes { OnOk result ((owners : List Kind) (forests : TableForests) → IsReadyBetween P.Pages ext.old (room_of rooms.old) pages.old def.now owners forests
         → HasTheseRows P.Pages ext.old pages.old def.now (map (λ turned. (turned_row turned).0) turned.now) owners forests
         → ChangesRowsOf P.Pages ext.old ext.new (room_of rooms.new) pages.old pages.new def.now def.now owners forests
-        (λ was is. ChangesRows def.now (block_slot_count ext.old def.now) was (map turned_row turned.now) is) (with_rows (map (λ turned. turned.row) turned.now))) }
+        (λ was space is. TurnsRowsBy def.now (block_slot_count ext.old def.now) was (map turned_row turned.now) space is) (with_rows (map (λ turned. turned.row) turned.now))) }
     ensures full { IfErr result (λ fault. IfFull fault (λ cap. (cap ≡ ext.old.cap)
         × ((owners : List Kind) (forests : TableForests) → IsReadyBetween P.Pages ext.old (room_of rooms.old) pages.old def.now owners forests
         → HasTheseRows P.Pages ext.old pages.old def.now (map (λ turned. (turned_row turned).0) turned.now) owners forests

@@ -6,9 +6,9 @@ ghost use Rattle.extent_map.specs.Owners.{IsSameShape};
 ghost use Rattle.extent_map.specs.declared.kind.Kind.{Kind};
 ghost use Rattle.table_page.specs.TableLimits.{IsTableDef};
 ghost use Rattle.block_rows.specs.HeldRows.{placed_row};
-ghost use Rattle.mdc_sound.specs.Placing.{TakesRows};
 ghost use Rattle.mdc_sound.specs.StandingTable.{TableForests};
 ghost use Rattle.cell_rooms.specs.RoomNotes.{room_of};
+ghost use Rattle.statement_rows.specs.RowsAndSpace.{TakesRowsBy};
 ghost use Rattle.statement_rows.specs.RowsOfStatement.{AnyPage, BreaksReady, ChangesRowsOf, HasTheseRows, IsReadyBetween, without_rows};
 
 use cell_change::delete_row;
@@ -18,8 +18,8 @@ use mdc_table::{Hit, Rooms};
 use std::alloc::Global;
 use store_api::{Pages, StoreFault};
 
-/// Deletes rows, which are given with their places, by rising row number. It claims no page. After a fault `undo` goes back to a
-/// mark, and the notes of the extents and of the rooms are to be forgotten.
+/// Deletes rows, which are given with their places, by rising row number. It claims no page, and trees change as the rows ask for.
+/// After a fault `undo` goes back to a mark, and the notes of the extents and of the rooms are to be forgotten.
 pub fn delete_rows<P: Pages>(
     alloc: Global,
     def: &TableDef,
@@ -34,7 +34,7 @@ pub fn delete_rows<P: Pages>(
     ensures deletes { OnOk result ((owners : List Kind) (forests : TableForests) → IsReadyBetween P.Pages ext.old (room_of rooms.old) pages.old def.now owners forests
         → HasTheseRows P.Pages ext.old pages.old def.now (map placed_row hits.now) owners forests
         → ChangesRowsOf P.Pages ext.old ext.new (room_of rooms.new) pages.old pages.new def.now def.now owners forests
-        (λ was is. TakesRows was (map placed_row hits.now) is) (without_rows (map (λ hit. hit.row) hits.now))) }
+        (λ was space is. TakesRowsBy def.now was (map placed_row hits.now) space is) (without_rows (map (λ hit. hit.row) hits.now))) }
     ensures count { length (P.state pages.new).work ≡ length (P.state pages.old).work }
     ensures shape { IsSameShape ext.old ext.new }
     ensures runs { RunsOverPages P.Pages AnyPage AnyPage

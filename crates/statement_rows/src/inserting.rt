@@ -9,10 +9,11 @@ ghost use Rattle.extent_map.specs.declared.kind.Kind.{Kind};
 ghost use Rattle.mdc_ast.specs.meaning.Doing.{appended, numbered};
 ghost use Rattle.table_page.specs.TableLimits.{IsTableDef};
 ghost use Rattle.mdc_sound.specs.FittingRows.{RowFits};
-ghost use Rattle.mdc_sound.specs.Placing.{PutsRows, block_slot_count};
+ghost use Rattle.mdc_sound.specs.Placing.{block_slot_count};
 ghost use Rattle.mdc_sound.specs.RunningFull.{InsertRunsFull};
 ghost use Rattle.mdc_sound.specs.StandingTable.{TableForests, pages_of};
 ghost use Rattle.cell_rooms.specs.RoomNotes.{room_of};
+ghost use Rattle.statement_rows.specs.RowsAndSpace.{PutsRowsBy};
 ghost use Rattle.statement_rows.specs.RowsOfStatement.{AnyPage, BreaksReady, ChangesRowsOf, IsReadyBetween, NothingMore};
 
 use cell_change::insert_row;
@@ -23,9 +24,9 @@ use mdc_values::{List, Value};
 use std::alloc::Global;
 use store_api::Pages;
 
-/// Inserts rows of these values, which fit the definition, numbered from the table's next number on. `Full` says that an INSERT
-/// of them runs full. After a fault the definition is as it was, `undo` goes back to a mark, and the notes of the extents and of
-/// the rooms are to be forgotten.
+/// Inserts rows of these values, which fit the definition, numbered from the table's next number on. It claims no more pages than
+/// the rows ask for, and `Full` says that an INSERT of them runs full. After a fault the definition is as it was, `undo` goes back
+/// to a mark, and the notes of the extents and of the rooms are to be forgotten.
 pub fn insert_rows<P: Pages>(
     alloc: Global,
     def: &mut TableDef,
@@ -41,7 +42,7 @@ pub fn insert_rows<P: Pages>(
     requires going { (P.state pages.old).ended ≡ false }
     ensures inserts { OnOk result ((owners : List Kind) (forests : TableForests) → IsReadyBetween P.Pages ext.old (room_of rooms.old) pages.old def.old owners forests
         → ChangesRowsOf P.Pages ext.old ext.new (room_of rooms.new) pages.old pages.new def.old def.new owners forests
-        (λ was is. PutsRows def.old (block_slot_count ext.old def.old) was (numbered def.old.next tuples) is) (appended tuples)) }
+        (λ was space is. PutsRowsBy def.old (block_slot_count ext.old def.old) was (numbered def.old.next tuples) space is) (appended tuples)) }
     ensures next { OnOk result (def.new ≡ record def.old { next = def.old.next + length tuples }) }
     ensures kept { OnErr result (def.new ≡ def.old) }
     ensures full { IfErr result (λ fault. IfFull fault (λ cap. (cap ≡ ext.old.cap)
@@ -74,7 +75,7 @@ fn insert_each<P: Pages>(
     requires going { (P.state pages.old).ended ≡ false }
     ensures inserts { OnOk result ((owners : List Kind) (forests : TableForests) → IsReadyBetween P.Pages ext.old (room_of rooms.old) pages.old def.old owners forests
         → ChangesRowsOf P.Pages ext.old ext.new (room_of rooms.new) pages.old pages.new def.old def.new owners forests
-        (λ was is. PutsRows def.old (block_slot_count ext.old def.old) was (numbered def.old.next tuples) is) (appended tuples)) }
+        (λ was space is. PutsRowsBy def.old (block_slot_count ext.old def.old) was (numbered def.old.next tuples) space is) (appended tuples)) }
     ensures next { OnOk result (def.new ≡ record def.old { next = def.old.next + length tuples }) }
     ensures raised { def.new ≡ record def.old { next = def.new.next } }
     ensures full { IfErr result (λ fault. IfFull fault (λ cap. (cap ≡ ext.old.cap)

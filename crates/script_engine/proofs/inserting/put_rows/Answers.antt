@@ -2,9 +2,10 @@ use Rattle.std.proofs.Common.{◌∙◌, List, length, sym}
 use Rattle.std.proofs.lemmas.Option.{same_Some}
 use Rattle.extent_map.specs.declared.kind.Kind.{Kind}
 use Rattle.mdc_ast.specs.meaning.Doing.{appended, numbered}
-use Rattle.mdc_sound.specs.Placing.{PutsRows, block_slot_count}
+use Rattle.mdc_sound.specs.Placing.{block_slot_count}
 use Rattle.mdc_sound.specs.StandingTable.{TableForests}
 use Rattle.cell_rooms.specs.RoomNotes.{room_of}
+use Rattle.statement_rows.specs.RowsAndSpace.{PutsRowsBy}
 use Rattle.statement_rows.specs.RowsOfStatement.{ChangesRowsOf, IsReadyBetween}
 use Rattle.store_api.proofs.RunsOverPagesLemmas.{runs_wider}
 use Rattle.script_engine.proofs.PuttingTuplesLemmas.{becomes, defs_stay, may_put, number_stays, numbers_on, of_that, tuples_fit}
@@ -37,7 +38,7 @@ returns-clause-inserts g c def at =
     becomes c.insert_rows-result.result c.in-Some.def c.insert_rows-result.new.def (length c.args.tuples) c.insert_rows-result.ensures.next
     (λ d now. (owners : List Kind) (forests : TableForests) → IsReadyBetween g.P.Pages c.args.tables.now.ext (room_of c.args.tables.now.rooms) c.args.pages.now d owners forests
     → ChangesRowsOf g.P.Pages c.args.tables.now.ext c.insert_rows-result.new.ext (room_of c.insert_rows-result.new.rooms) c.args.pages.now c.insert_rows-result.new.pages d now owners forests
-    (λ was is. PutsRows d (block_slot_count c.args.tables.now.ext d) was (numbered d.next c.args.tuples) is) (appended c.args.tuples))
+    (λ was space is. PutsRowsBy d (block_slot_count c.args.tables.now.ext d) was (numbered d.next c.args.tuples) space is) (appended c.args.tuples))
     def (same_Some c.in-Some.def def (c.in-Some.ensures.taken ∙ at)) c.insert_rows-result.ensures.inserts
 
 pub returns-clause-numbers : goal.returns-clause-numbers

@@ -35,7 +35,7 @@ loop-hit-preserved g c =
     record {
       deletes = row_out g.P.Pages c.args.ext.now c.loop-hit.ext (room_of c.args.rooms.now) (room_of c.loop-hit.rooms) c.args.pages.now c.loop-hit.pages c.args.def.now c.args.hits.now
           (drop c.loop-hit.hit-index c.args.hits.now) c.hit-item.result (drop (c.loop-hit.hit-index + 1) c.args.hits.now) split so_far.deletes c.delete_row.new.ext (room_of c.delete_row.new.rooms) c.delete_row.new.pages
-          said.deletes said.sound said.stands_for said.runs.works said.runs.touches;
+          said.deletes said.makes said.sound said.stands_for said.runs.works said.runs.touches;
       count = said.count ∙ so_far.count;
       shape = shape_then c.args.ext.now c.loop-hit.ext c.delete_row.new.ext so_far.shape said.shape;
       runs = row_out_run g.P.Pages c.args.ext.now c.loop-hit.ext (room_of c.args.rooms.now) (room_of c.loop-hit.rooms) c.args.pages.now c.loop-hit.pages c.args.def.now c.args.hits.now
