@@ -12,7 +12,6 @@ use Rattle.store_api.specs.declared.pages.Pages as pages
 use Rattle.extent_map.specs.declared.extents.Extents.{Extents}
 use Rattle.table_trees.specs.ToldPages.{PageList}
 use Rattle.page_file.specs.Bound.{LeavesOf}
-use Rattle.page_file.proofs.LeavesLemmas.{nothing_said}
 use Rattle.page_store.specs.Bound.{OpensOf}
 use Rattle.page_store.specs.Opened.{CouldBeLeft, LeavesBaseSince, StandsSince}
 use Rattle.page_store.specs.Opening.{StandsAs}
@@ -59,11 +58,11 @@ module _ {D : Type 0} (d : disk.Ghosts D) where
   on_file before said script left old new result runs = record { ext = runs.ext; states_extents = runs.states_extents; run = runs.run; leaves = runs.leaves }
 
   -- a host tells that of its file and its tape what a crash now leaves
-  abbrev TellsNow : D → Type 0
+  abbrev pub TellsNow : D → Type 0
   TellsNow host = WhereTold (d.file host) (d.beside host).tape (λ file said. (image tape : List ℕ) → d.moment host (d.clock host) image tape ↔ IsMoment file.since said [] image tape)
 
   -- since the origin of an opening a crash leaves what stands for the pages of the file
-  since_origin : (before : File) (said : List ℕ) (old origin new : D) → StandsSince d.clock d.moment before said old origin new → (image heard : List ℕ) → d.moment new (d.clock origin) image heard
+  pub since_origin : (before : File) (said : List ℕ) (old origin new : D) → StandsSince d.clock d.moment before said old origin new → (image heard : List ℕ) → d.moment new (d.clock origin) image heard
       → StandsAs before.bytes image × (heard ≡ said)
   since_origin before said old origin new stands image heard now = elim (stands.since.only (d.clock origin) image heard (omega arith) now) [
     | inl was ↦ stands.at_origin.only_rest image heard was
@@ -71,7 +70,7 @@ module _ {D : Type 0} (d : disk.Ghosts D) where
   ]
 
   -- since a time before an opening a crash leaves what was said as it began, or could be left before
-  said_by_opening : (before : File) (said : List ℕ) (old origin new : D) → StandsSince d.clock d.moment before said old origin new
+  pub said_by_opening : (before : File) (said : List ℕ) (old origin new : D) → StandsSince d.clock d.moment before said old origin new
       → (t : ℕ) (image heard : List ℕ) → t ≤ d.clock old → d.moment new t image heard → WasTold d t said old heard
   said_by_opening before said old origin new stands t image heard early now = elim (stands.since.only t image heard (omega (arith, early, stands.until.later)) now) [
     | inl at_origin ↦ elim (stands.until.only t image heard early at_origin) [ inl at_start ↦ inr (image, at_start) | inr could ↦ inl could.1 ]
@@ -177,7 +176,7 @@ module _ {D : Type 0} (d : disk.Ghosts D) where
         leaves = leaves_refused before said well.ext run.held run.states run.outcomes run.in_hand old new First well.formed well.states well.served run.opened.base now_old is told leaves;
       }
 
-  -- ---- each image is well
+  -- ---- each image is of a kind
 
   -- an image that may be left now was left since an earlier time
   image_since : (host : D) (after : File) (heard : List ℕ) (t : ℕ) (image : List ℕ) → TellsNow host → ReachesBack d.clock d.moment host → d.file host ≡ Some after → (d.beside host).tape ≡ Some heard
@@ -186,21 +185,23 @@ module _ {D : Type 0} (d : disk.Ghosts D) where
       let tells = where_told (d.file host) (d.beside host).tape after heard (λ file said. (image tape : List ℕ) → d.moment host (d.clock host) image tape ↔ IsMoment file.since said [] image tape) is told now in
       back t (d.clock host) image heard early (omega arith) ((tells image heard).1 (record { left = left; said = ([], [], refl, sym (append-nil heard)) }))
 
-  well_since : (before after : File) (said heard : List ℕ) (old new : D) (Left : List ℕ → List ℕ → Type 0) → TellsNow old → TellsNow new → ReachesBack d.clock d.moment new → d.file old ≡ Some before → (d.beside old).tape ≡ Some said
-      → d.file new ≡ Some after → (d.beside new).tape ≡ Some heard → ((image tape : List ℕ) → Left image tape → IsWell image) → AreWell before → LeavesSince d before said Left old new → AreWell after
-  well_since before after said heard old new Left now_old now_new back is told is_after heard_after each well (inl rest) image left =
+  -- where each image was of a kind, and a run leaves such ones, each is so after it
+  pub each_since : (Kind : List ℕ → Type 0) (before after : File) (said heard : List ℕ) (old new : D) (Left : List ℕ → List ℕ → Type 0) → TellsNow old → TellsNow new → ReachesBack d.clock d.moment new → d.file old ≡ Some before → (d.beside old).tape ≡ Some said
+      → d.file new ≡ Some after → (d.beside new).tape ≡ Some heard → ((image tape : List ℕ) → Left image tape → Kind image) → ((image : List ℕ) → IsImage before.since image → Kind image)
+      → LeavesSince d before said Left old new → (image : List ℕ) → IsImage after.since image → Kind image
+  each_since Kind before after said heard old new Left now_old now_new back is told is_after heard_after each were (inl rest) image left =
       each image heard (rest.since image heard (image_since new after heard (d.clock rest.origin) image now_new back is_after heard_after rest.later left))
-  well_since before after said heard old new Left now_old now_new back is told is_after heard_after each well (inr run) image left =
+  each_since Kind before after said heard old new Left now_old now_new back is told is_after heard_after each were (inr run) image left =
       let was = image_since new after heard (d.clock old) image now_new back is_after heard_after run.later left in
       let tells = where_told (d.file old) (d.beside old).tape before said (λ file said. (image tape : List ℕ) → d.moment old (d.clock old) image tape ↔ IsMoment file.since said [] image tape) is told now_old in
       elim (run.only (d.clock old) image heard (omega arith) was) [
-        | inl now ↦ well image ((tells image heard).0 now).left
-        | inr could ↦ well image could.0
+        | inl now ↦ were image ((tells image heard).0 now).left
+        | inr could ↦ were image could.0
       ]
 
   -- after a run each image is well, where each was before
   pub stays_well : (before after : File) (said : List ℕ) (script left : Option (List ℕ)) (old new : D) (result : Result Served FileStop) → TellsNow old → TellsNow new → ReachesBack d.clock d.moment new
       → d.file old ≡ Some before → (d.beside old).tape ≡ Some said → d.file new ≡ Some after → AreWell before → RunsOnFile d before said script left old new result → AreWell after
   stays_well before after said script left old new result now_old now_new back is told is_after well runs =
-      well_since before after said (said ++ runs.run.more) old new (LeftByRun runs.ext runs.run.held runs.run.states runs.run.outcomes runs.run.in_hand said) now_old now_new back is told is_after runs.run.tape_is
+      each_since IsWell before after said (said ++ runs.run.more) old new (LeftByRun runs.ext runs.run.held runs.run.states runs.run.outcomes runs.run.in_hand said) now_old now_new back is told is_after runs.run.tape_is
       (λ image heard run. well_left runs.ext runs.run.held runs.run.states runs.run.outcomes runs.run.in_hand said image heard run) well runs.leaves

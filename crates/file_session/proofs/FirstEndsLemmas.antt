@@ -1,5 +1,5 @@
 -- The end of a run that stopped before its first read, and what it took.
-use Rattle.std.proofs.Common.{◌≡◌, ◌⊎◌, ◌++◌, ℕ, List, [], ◌∷◌, length, Option, Some, None, Err, IfSome, refl, ap, subst, sym, inl, inr, arith}
+use Rattle.std.proofs.Common.{◌≡◌, ◌⊎◌, ℕ, List, [], Option, Some, None, Err, IfSome, refl, ap, subst, sym, inl, inr, arith}
 use Rattle.script_session.specs.Ending.{EndsSo, StopsWithin}
 use Rattle.mdc_outside.specs.Outside.{Takes}
 use Rattle.script_session.specs.Replying.{RepliesTo}
@@ -10,7 +10,7 @@ use Rattle.script_session.proofs.ScriptItemsLemmas.{closes_nothing, in_time_firs
 use Rattle.script_session.proofs.ToldLemmas.{takes_nothing}
 use Rattle.page_store.specs.declared.fault.OpenFault.{OpenFault}
 use Rattle.page_store.specs.declared.fault.OpenFault.TheVariants as opening
-use Rattle.file_session.specs.Ending.{IsRefused, StopsOpening, stop_of_session}
+use Rattle.file_session.specs.Ending.{IsRefused, StopsOpening}
 use Rattle.file_session.specs.Serving.{RepliesBySession, TakesBySession}
 use Rattle.file_session.specs.declared.stop.FileStop.{FileStop}
 

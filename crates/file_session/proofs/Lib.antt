@@ -3,6 +3,7 @@ pub mod EndOfSessionLemmas
 pub mod FileRunsLemmas
 pub mod FirstEndsLemmas
 pub mod FirstLeftLemmas
+pub mod FormedRunsLemmas
 pub mod HostRunsLemmas
 pub mod MadeFilesLemmas
 pub mod StoreRunsLemmas

@@ -1,5 +1,6 @@
 -- Runs on a store: of a session that was served, and of an engine that stopped as it was opened.
 use Rattle.std.proofs.Common.{◌≡◌, ℕ, List, [], Option, IfSome, Result, Err, false, refl, sym, ◌∙◌, subst}
+use Rattle.mdc_words.specs.Time.{OverTime}
 use Rattle.mdc_words.proofs.TimeLemmas.{over_time_then, over_time_wider}
 use Rattle.mdc_outside.specs.Outside.{Takes}
 use Rattle.store_api.specs.declared.fault.Damage.{Damage}
@@ -17,7 +18,7 @@ use Rattle.script_engine.specs.declared.stop.EngineStop.{EngineStop}
 use Rattle.script_engine.specs.declared.stop.EngineStop.TheVariants as engine
 use Rattle.script_engine.proofs.ShapeLemmas.{keeps_along}
 use Rattle.script_session.specs.Going.{GoesOnPages}
-use Rattle.script_session.specs.Leaving.{AreServedPages}
+use Rattle.script_session.specs.Leaving.{AreServedPages, ReopensAlways}
 use Rattle.script_session.specs.Replying.{RepliesTo}
 use Rattle.script_session.specs.Serving.{RunsScript, TakesScript}
 use Rattle.script_session.specs.Stops.{stop_of_engine}
@@ -138,6 +139,19 @@ module _ {S : Type 0} (g : pages.Ghosts S) where
         ends = ends_first script (stop_of_engine stop) (unread stop) (not_long stop);
         time = λ before is. over_time_wider keeps.time (λ left heard only. left_only_base ext held [] [] [] before (g.state old) left heard served refl is only);
       }
+
+-- ---- whatever the pages are
+
+module _ {S : Type 0} (g : pages.Ghosts S) where
+  -- a crash while an engine is opened leaves a file that reopens
+  pub reopens_opening : (old new : S) → KeepsPages g old new → OverTime g.clock g.left ReopensAlways old new
+  reopens_opening old new keeps = over_time_wider keeps.time (λ left told only. ((g.state old).base, only.0))
+
+  -- and so does one while a session is served on it
+  pub reopens_served : (old mid new : S) → KeepsPages g old mid → OverTime g.clock g.left ReopensAlways mid new → OverTime g.clock g.left ReopensAlways old new
+  reopens_served old mid new keeps serves = over_time_then (reopens_opening old mid keeps) serves
+
+-- ---- extents of one shape
 
 -- a run in extents of a shape is one in others of that shape
 pub runs_along : {S : Type 0} (g : pages.Ghosts S) (before now : Extents) (script left : Option (List ℕ)) (old last : S) (end_ : Result Served SessionStop) → IsSameShape before now

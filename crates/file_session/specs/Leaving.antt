@@ -3,11 +3,13 @@ use Rattle.std.specs.Prelude.{◌≡◌, ◌⊎◌, ◌≤◌, ℕ, List, Some}
 use Rattle.mdc_words.specs.Time.{OverTime}
 use Rattle.mdc_ast.specs.declared.reply.Outcome.{Outcome}
 use Rattle.mdc_ast.specs.Reading.{Item}
-use Rattle.mdc_outside.specs.Disk.{File}
+use Rattle.mdc_outside.specs.Disk.{File, IsImage}
 use Rattle.mdc_outside.specs.declared.disk.Disk.{Ghosts}
 use Rattle.extent_map.specs.declared.extents.Extents.{Extents}
+use Rattle.page_file.specs.Layout.{file_page}
 use Rattle.page_file.specs.Leaving.{LeavesImage}
 use Rattle.page_store.specs.Opened.{CouldBeLeft}
+use Rattle.page_store.specs.Shape.{extents_in, extent_pages_in}
 use Rattle.page_store.specs.Standing.{IsFormed, pages_of}
 use Rattle.script_engine.specs.Held.{HeldPages}
 use Rattle.script_session.specs.Leaving.{LeftByServing}
@@ -37,3 +39,13 @@ pub record ComesToRest {D : Type 0} (g : Ghosts D) (before : File) (said : List 
 abbrev pub LeavesSince : {D : Type 0} → Ghosts D → File → List ℕ → (List ℕ → List ℕ → Type 0) → D → D → Type 0
 LeavesSince g before said Left old new =
     ComesToRest g before said Left old new ⊎ OverTime g.clock g.moment (LeavesImage (CouldBeLeft before) said) old new
+
+-- An image of a file, whatever its pages are: it is formed, and its birth page states the extents that the file states.
+pub record StaysFormed (file image : List ℕ) : Type 0 where
+  pub formed : IsFormed image
+  pub extents : extents_in (file_page image 1) ≡ extents_in (file_page file 1)
+  pub extent_pages : extent_pages_in (file_page image 1) ≡ extent_pages_in (file_page file 1)
+
+-- each image that a crash may leave of a file is formed
+abbrev pub AreFormed : File → Type 0
+AreFormed file = (image : List ℕ) → IsImage file.since image → IsFormed image

@@ -17,6 +17,7 @@ use Rattle.script_session.specs.Serving.{EndsScript}
 use Rattle.script_session.specs.declared.stop.Served.{Served}
 use Rattle.script_session.specs.declared.stop.SessionStop.{SessionStop}
 use Rattle.script_session.specs.declared.stop.SessionStop.TheVariants.{Damaged}
+use Rattle.file_session.specs.Leaving.{StaysFormed}
 use Rattle.file_session.specs.Serving.{IsOpened, RunsItems}
 use Rattle.file_session.specs.Well.{StatesExtents}
 use Rattle.file_session.specs.declared.stop.FileStop.{FileStop}
@@ -55,3 +56,8 @@ pub record ServesStore {S D : Type 0} (g : pages.Ghosts S) (d : disk.Ghosts D) (
   pub run : RunsItems ext (g.state old).base said script left (d.beside new).tape result
   pub since : (t : ℕ) → t ≤ g.clock old → (image heard : List ℕ) → d.moment new t image heard
       → IsLeftSince (λ pages heard. LeftByServing ext run.held run.states run.outcomes run.in_hand said (Some pages) heard) ext (g.left old t) image heard
+
+-- Whatever the pages are: since each time up to the opening of the store, a crash leaves an image of the host that is formed and
+-- states what the file states, or the store left a file then that doesn't reopen.
+pub record LeavesFormed {S D : Type 0} (g : pages.Ghosts S) (d : disk.Ghosts D) (file : List ℕ) (old : S) (new : D) : Type 0 where
+  pub since : (t : ℕ) → t ≤ g.clock old → (image heard : List ℕ) → d.moment new t image heard → StaysFormed file image ⊎ g.left old t None heard

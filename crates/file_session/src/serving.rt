@@ -2,18 +2,22 @@
 ghost use Rattle.std.specs.Prelude.{◌≡◌, ◌≢◌, ◌≤◌, ◌⊎◌, ℕ, List, Some, None, IfSome, Result, Err, IsTrue, false};
 ghost use Rattle.std.specs.Option.{ForSome};
 ghost use Rattle.mdc_words.specs.Faults.{CountsFault};
+ghost use Rattle.mdc_words.specs.Time.{OverTime};
 ghost use Rattle.mdc_outside.specs.Disk.{File};
 ghost use Rattle.store_api.specs.declared.fault.Damage.{Damage};
 ghost use Rattle.extent_map.specs.declared.extents.Extents.{Extents};
 ghost use Rattle.page_file.specs.Bound.{LeavesOf};
 ghost use Rattle.page_store.specs.Opened.{CouldBeLeft, file_bytes};
 ghost use Rattle.page_store.specs.Opening.{IsServed};
+ghost use Rattle.page_store.specs.Standing.{IsFormed};
 ghost use Rattle.script_engine.specs.Opening.{IsSoundStore};
+ghost use Rattle.script_session.specs.Leaving.{ReopensAlways};
 ghost use Rattle.script_session.specs.Replying.{RepliesTo};
 ghost use Rattle.script_session.specs.Serving.{TakesScript};
 ghost use Rattle.script_session.specs.Told.{StaysTold, TellsMore};
 ghost use Rattle.file_session.specs.Ending.{IsCauseIn, IsRefused, IsUnopened, StopsOpening, end_of_session};
-ghost use Rattle.file_session.specs.Running.{RunsOnStore, ServesStore};
+ghost use Rattle.file_session.specs.Leaving.{AreFormed, LeavesSince, StaysFormed};
+ghost use Rattle.file_session.specs.Running.{LeavesFormed, RunsOnStore, ServesStore};
 ghost use Rattle.file_session.specs.Serving.{RepliesBySession, RunsOnFile, TakesBySession};
 ghost use Rattle.file_session.specs.Well.{AreWell, IsWell, StatesExtents};
 
@@ -56,6 +60,11 @@ pub fn serve_file<I: Source, H: Host>(alloc: Global, input: &mut I, host: H) -> 
     ensures takes { IsRefused result.end ⊎ TakesBySession (I.left input.old) (I.left input.new) result.end }
     // And the texts of outcomes are told, one for each item that was answered, by which the run ends.
     ensures replies { IsRefused result.end ⊎ RepliesBySession (I.left input.old) (I.left input.new) (H.beside host).tape (H.beside result.host).tape result.end }
+    // And from the run's origin on a crash leaves a formed image of the extents that the file states.
+    ensures reopens { (before : File) (said : List ℕ) → H.file host ≡ Some before → (H.beside host).tape ≡ Some said → IsFormed before.bytes
+        → LeavesSince H.Disk before said (λ image tape. StaysFormed before.bytes image) host result.host }
+    ensures stays_formed { (before : File) (said : List ℕ) → H.file host ≡ Some before → (H.beside host).tape ≡ Some said → AreFormed before
+        → (after : File) × (H.file result.host ≡ Some after) × AreFormed after }
     ensures refused { IsRefused result.end → (input.new ≡ input.old) × ((H.beside result.host).tape ≡ (H.beside host).tape) }
     ensures reads { CountsFault (result.end ≡ Err FileStop.Unread) (I.read_faults input.old) (I.read_faults input.new) }
     ensures unsaid { CountsFault (result.end ≡ Err FileStop.Unsaid) (H.say_faults host) (H.say_faults result.host) }
@@ -94,6 +103,8 @@ fn serve_store<I: Source, H: Host>(alloc: Global, input: &mut I, store: FileStor
         → (ext : Extents) → StatesExtents file.bytes ext → IsSoundStore ⟦<FileStore<H> as Pages>⟧ ext store → ⊥ }
     ensures takes { TakesBySession (I.left input.old) (I.left input.new) result.end }
     ensures replies { RepliesBySession (I.left input.old) (I.left input.new) (H.beside store.host).tape (H.beside result.host).tape result.end }
+    ensures reopens { (file : File) (said : List ℕ) → H.file store.host ≡ Some file → (H.beside store.host).tape ≡ Some said
+        → LeavesFormed ⟦<FileStore<H> as Pages>⟧ H.Disk file.bytes store result.host }
     ensures reads { CountsFault (result.end ≡ Err FileStop.Unread) (I.read_faults input.old) (I.read_faults input.new) }
     ensures unsaid { CountsFault (result.end ≡ Err FileStop.Unsaid) (H.say_faults store.host) (H.say_faults result.host) }
     ensures device { CountsFault (result.end ≡ Err FileStop.Device) (H.disk_faults store.host) (H.disk_faults result.host) }
@@ -134,6 +145,7 @@ fn serve_pages<I: Source, S: Store>(
     ensures takes { IfSome (I.left input.old) (λ script. TakesScript script (I.left input.new) result.end) }
     ensures replies { RepliesTo (I.left input.old) (I.left input.new) (S.state store).told (S.state result.store).told result.end }
     ensures tells { TellsMore (S.state store).told (S.state result.store).told }
+    ensures reopens { OverTime S.clock S.left ReopensAlways store result.store }
     ensures later { S.clock store ≤ S.clock result.store }
 {
     match Engine::open(alloc, store, ext) {

@@ -1,16 +1,17 @@
 -- A run on the store that was opened, or a refusal.
-use Rattle.std.proofs.Common.{Err, List, Option, ap, inr, refl, subst, sym, ℕ, ◌∙◌}
+use Rattle.std.proofs.Common.{◌++◌, Err, List, Option, ap, inr, refl, subst, sym, ℕ, ◌∙◌}
 use Rattle.mdc_words.proofs.FaultsLemmas.{counts_fault_then}
 use Rattle.page_file.proofs.LeavesLemmas.{sound_image}
 use Rattle.page_store.specs.Faults.{MayComeFirst}
 use Rattle.page_store.specs.FileStore.{attached_of}
 use Rattle.page_store.specs.Standing.{pages_of}
 use Rattle.script_session.specs.Told.{TellsMore}
-use Rattle.script_session.proofs.ToldLemmas.{same-tells_more}
+use Rattle.script_session.proofs.ToldLemmas.{same-tells_more, told_behind}
 use Rattle.file_session.specs.Serving.{RepliesBySession}
 use Rattle.file_session.proofs.CausesLemmas.{cause_of_opening, cause_of_session, not_device}
 use Rattle.file_session.proofs.FirstEndsLemmas.{replies_unopened, takes_unopened}
 use Rattle.file_session.proofs.FileRunsLemmas.{kept_beside, refused_on_file, run_on_file, stays_file, stays_well}
+use Rattle.file_session.proofs.FormedRunsLemmas.{formed_after, formed_on_file, formed_refused}
 use Rattle.file_session.proofs.ToldLemmas.{test_by_told}
 use Rattle.file_session.proofs.WellFilesLemmas.{sound_opened, states_standing, stop_of_well, well_is_served}
 use Rattle.file_session.proofs.serving.serve_file.Goals as goal
@@ -121,3 +122,40 @@ returns-in-Err-clause-replies g c =
     let new = c.in-Err.field-0.host in
     replies_unopened (g.I.Source.left c.args.input.now) (g.H.Disk.beside c.args.host).tape (g.H.Disk.beside new).tape c.in-Err.field-0.fault c.stop_of_opening.result c.stop_of_opening.ensures
     (ap (λ b. b.tape) (kept_beside g.H.Disk c.args.host new (MayComeFirst c.in-Err.field-0.fault) c.in-Err.ensures.opens_or_leaves))
+
+pub returns-in-Ok-clause-reopens : goal.returns-in-Ok-clause-reopens
+returns-in-Ok-clause-reopens g c = λ before said is told formed.
+    let opened = c.in-Ok.ensures in
+    let store = c.in-Ok.store in
+    let after = opened.opens.told before is in
+    let leaves = c.serve_store.ensures.reopens after.0 said after.1 (ap (λ b. b.tape) opened.opens.beside ∙ told) in
+    formed_on_file g.H.Disk _ store before after.0 said c.args.host store.host c.serve_store.result.host formed after.2 leaves (opened.opens.crash before said is told) refl c.serve_store.ensures.later
+    (λ t pages heard left. (left.4, left.5)) (opened.base_since before is said)
+
+pub returns-in-Err-clause-reopens : goal.returns-in-Err-clause-reopens
+returns-in-Err-clause-reopens g c = λ before said is told formed.
+    formed_refused g.H.Disk before said c.args.host c.in-Err.field-0.host (MayComeFirst c.in-Err.field-0.fault) formed is told c.in-Err.ensures.opens_or_leaves
+
+pub returns-in-Ok-clause-stays_formed : goal.returns-in-Ok-clause-stays_formed
+returns-in-Ok-clause-stays_formed g c = λ before said is told formed.
+    let new = c.serve_store.result.host in
+    let tells = returns-in-Ok-clause-told g c in
+    let after = tells.0 before is in
+    let first = formed before.bytes (sound_image (g.H.Disk.file c.args.host) before (g.met.H.Disk.sound c.args.host) is) in (
+      after.0,
+      after.1,
+      formed_after g.H.Disk before after.0 said (said ++ tells.1.0) c.args.host new (g.met.H.Disk.only_now c.args.host) (g.met.H.Disk.only_now new) (g.met.H.Disk.earlier new) is told after.1
+          (told_behind (g.H.Disk.beside c.args.host).tape (g.H.Disk.beside new).tape tells.1.0 said told tells.1.1) formed (returns-in-Ok-clause-reopens g c before said is told first),
+    )
+
+pub returns-in-Err-clause-stays_formed : goal.returns-in-Err-clause-stays_formed
+returns-in-Err-clause-stays_formed g c = λ before said is told formed.
+    let new = c.in-Err.field-0.host in
+    let tells = returns-in-Err-clause-told g c in
+    let after = tells.0 before is in
+    let first = formed before.bytes (sound_image (g.H.Disk.file c.args.host) before (g.met.H.Disk.sound c.args.host) is) in (
+      after.0,
+      after.1,
+      formed_after g.H.Disk before after.0 said (said ++ tells.1.0) c.args.host new (g.met.H.Disk.only_now c.args.host) (g.met.H.Disk.only_now new) (g.met.H.Disk.earlier new) is told after.1
+          (told_behind (g.H.Disk.beside c.args.host).tape (g.H.Disk.beside new).tape tells.1.0 said told tells.1.1) formed (returns-in-Err-clause-reopens g c before said is told first),
+    )

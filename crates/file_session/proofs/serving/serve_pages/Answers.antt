@@ -1,10 +1,12 @@
 -- A session on an engine that was opened, or none where it wasn't.
+use Rattle.mdc_words.specs.Time.{OverTime}
+use Rattle.script_session.specs.Leaving.{ReopensAlways}
 use Rattle.std.proofs.Common.{Err, List, Option, subst, sym, ℕ}
 use Rattle.script_session.specs.Replying.{RepliesTo}
 use Rattle.script_session.specs.declared.stop.SessionStop.{SessionStop}
 use Rattle.script_session.proofs.ToldLemmas.{same-tells_more}
 use Rattle.file_session.specs.Running.{RunsOnStore}
-use Rattle.file_session.proofs.StoreRunsLemmas.{replies_stopped, served_on_store, stopped_on_store, takes_stopped}
+use Rattle.file_session.proofs.StoreRunsLemmas.{reopens_opening, reopens_served, replies_stopped, served_on_store, stopped_on_store, takes_stopped}
 use Rattle.file_session.proofs.serving.serve_pages.Goals as goal
 
 pub returns-in-Ok-clause-runs : goal.returns-in-Ok-clause-runs
@@ -43,3 +45,11 @@ returns-in-Ok-clause-replies g c =
 pub returns-in-Err-clause-replies : goal.returns-in-Err-clause-replies
 returns-in-Err-clause-replies g c =
     replies_stopped (g.I.Source.left c.args.input.now) (g.S.Pages.state c.args.store).told (g.S.Pages.state c.in-Err.field-0.store).told c.in-Err.field-0.stop c.from.result c.from.ensures c.in-Err.ensures.pages.told
+
+pub returns-in-Ok-clause-reopens : goal.returns-in-Ok-clause-reopens
+returns-in-Ok-clause-reopens g c =
+    let Reopens : g.row.S.Denot → Type 0 = λ s. OverTime g.S.Pages.clock g.S.Pages.left ReopensAlways c.args.store s in
+    subst Reopens (sym c.close.ensures) (reopens_served g.S.Pages c.args.store c.in-Ok.engine.store c.serve-end.new.engine.store c.in-Ok.ensures.pages c.serve-end.ensures.reopens)
+
+pub returns-in-Err-clause-reopens : goal.returns-in-Err-clause-reopens
+returns-in-Err-clause-reopens g c = reopens_opening g.S.Pages c.args.store c.in-Err.field-0.store c.in-Err.ensures.pages

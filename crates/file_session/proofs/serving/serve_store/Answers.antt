@@ -8,6 +8,7 @@ use Rattle.extent_map.specs.Owners.{IsSameShape}
 use Rattle.page_store.specs.FileStore.{left_of}
 use Rattle.page_store.proofs.AttachedLemmas.{attached_of-attaches, attached_of-shape}
 use Rattle.file_session.proofs.EndOfSessionLemmas.{end_counted, end_counted_as, stop_of_end}
+use Rattle.file_session.proofs.FormedRunsLemmas.{left_formed}
 use Rattle.file_session.proofs.HostRunsLemmas.{left_in_shape, run_on_host}
 use Rattle.file_session.proofs.StoreRunsLemmas.{runs_along, sound_along}
 use Rattle.file_session.proofs.ToldLemmas.{stays_by_test, told_by_test}
@@ -77,3 +78,18 @@ returns-clause-replies g c =
     let Replies : Option (List ℕ) → Type 0 =
     λ tape. RepliesTo (g.I.Source.left c.args.input.now) (g.I.Source.left c.serve_pages-answered.new.input) (g.H.Disk.beside c.args.store.host).tape tape ended in
     (ended, c.end_of.ensures, subst Replies (sym (ap (λ host. (g.H.Disk.beside host).tape) c.close.ensures.same)) c.serve_pages-answered.ensures.replies)
+
+pub returns-clause-reopens : goal.returns-clause-reopens
+returns-clause-reopens g c = λ file said is told.
+    let last = c.serve_pages-answered.result.store in
+    let tells = c.serve_pages-answered.ensures.tells in
+    let stated = c.shape-extents.ensures.stated c.requires.going file is in
+    let now_told = told_by_test (g.H.Disk.file last.host) (c.serve_pages-answered.ensures.is_told ∙ ap is_some is) in
+    let tape = told_behind (g.H.Disk.beside c.args.store.host).tape (g.H.Disk.beside last.host).tape tells.0 said told tells.1 in
+    let same_cap = ap (λ shape. shape.extents) (kept_shape g c) ∙ (sym (ap (λ parts. parts.0) c.shape-extents.ensures.parts) ∙ sym stated.0) in
+    let same_size = ap (λ shape. shape.extent_pages) (kept_shape g c) ∙ (sym (ap (λ parts. parts.1) c.shape-extents.ensures.parts) ∙ sym stated.1) in
+    record {
+      since = λ t early image heard now.
+          left_formed last.desk.shape file.bytes now_told.0.bytes c.args.store last t image heard c.serve_pages-answered.ensures.reopens early same_cap same_size
+          (c.close.ensures.left now_told.0 (said ++ tells.0) now_told.1 tape t image heard now);
+    }
