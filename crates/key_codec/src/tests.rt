@@ -204,7 +204,14 @@ fn ranges_of_ascending_parts(rt: HostRuntime) -> Result<(), Fail> {
         span(Cut::First, after(2)),
         &[],
         Some(&past_two),
-    )?;
+    )
+}
+
+#[test]
+fn ranges_of_ascending_parts_to_nulls(rt: HostRuntime) -> Result<(), Fail> {
+    let alloc = rt.alloc();
+    let two = [0, 0x80, 0, 0, 2];
+    let past_two = [0, 0x80, 0, 0, 3];
     range_is(
         &rt,
         alloc,
@@ -275,7 +282,14 @@ fn ranges_of_descending_parts(rt: HostRuntime) -> Result<(), Fail> {
         span(Cut::First, after(2)),
         &two,
         None,
-    )?;
+    )
+}
+
+#[test]
+fn ranges_of_descending_parts_to_nulls(rt: HostRuntime) -> Result<(), Fail> {
+    let alloc = rt.alloc();
+    let two = [0xff, 0x7f, 0xff, 0xff, 0xfd];
+    let past_two = [0xff, 0x7f, 0xff, 0xff, 0xfe];
     range_is(
         &rt,
         alloc,
@@ -345,7 +359,13 @@ fn ranges_outside_the_type(rt: HostRuntime) -> Result<(), Fail> {
         span(after(-large), before_null()),
         &[],
         Some(&[1]),
-    )?;
+    )
+}
+
+#[test]
+fn ranges_at_the_ends_of_the_type(rt: HostRuntime) -> Result<(), Fail> {
+    let alloc = rt.alloc();
+    let large = 5_000_000_000;
     range_is(
         &rt,
         alloc,
