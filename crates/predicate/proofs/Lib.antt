@@ -1,3 +1,5 @@
+pub mod CellsLemmas
+pub mod MayHoldLemmas
 pub mod OppositeLemmas
 pub mod PredLemmas
 pub mod PushedLemmas

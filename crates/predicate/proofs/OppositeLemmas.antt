@@ -19,7 +19,7 @@ told-not : (b : Bool) → told (not b) ≡ not_of (told b)
 told-not true = refl
 told-not false = refl
 
-not-not : (b : Bool) → b ≡ not (not b)
+pub not-not : (b : Bool) → b ≡ not (not b)
 not-not true = refl
 not-not false = refl
 

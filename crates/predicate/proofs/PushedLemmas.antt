@@ -87,7 +87,7 @@ Any_whole negated whole pushed preds items parts i is same end e all =
 
 -- ---- NOT, and the NOT of a test
 
-negated_if-not : (negated : Bool) (t : Truth) → negated_if (not negated) t ≡ negated_if negated (not_of t)
+pub negated_if-not : (negated : Bool) (t : Truth) → negated_if (not negated) t ≡ negated_if negated (not_of t)
 negated_if-not true t = sym (not_of-not_of t)
 negated_if-not false t = refl
 
