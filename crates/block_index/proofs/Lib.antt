@@ -6,5 +6,6 @@ pub mod ListingSpaceLemmas
 pub mod PartRangesLemmas
 pub mod ReadingRunsLemmas
 pub mod RisingLemmas
+pub mod SameValuesLemmas
 pub mod SpansLemmas
 pub mod UnderKeyLemmas

@@ -1,5 +1,5 @@
-// The entries of an index, a leaf at a time.
-ghost use Rattle.std.specs.Prelude.{◌≡◌, ◌<◌, ◌++◌, length, false, true, Some, IfOk, OnOk};
+// The entries of a tree, a leaf at a time.
+ghost use Rattle.std.specs.Prelude.{◌≡◌, ◌<◌, ◌≤◌, ◌++◌, length, replicate, false, true, Some, IfOk, OnOk};
 ghost use Rattle.store_api.specs.Causes.{fault_of};
 ghost use Rattle.store_api.specs.Frame.{NoPage};
 ghost use Rattle.store_api.specs.RunsOverPages.{RunsOverPages};
@@ -10,12 +10,21 @@ ghost use Rattle.entry_tree.specs.HeldTrees.{BreaksTree, HoldsTree, IsTreePage};
 ghost use Rattle.entry_tree.specs.Reading.{BoundFits, entries_from};
 ghost use Rattle.block_index.specs.Reading.{entries_left, room_above};
 
-use entry_tree::{Entry, Leaf, TREE_RULE, Tree};
+use entry_tree::{Entry, Leaf, MAX_WIDTH, TREE_RULE, Tree};
 use store_api::{Damage, Pages, StoreFault};
+
+/// The lowest entry of a width: zeros.
+pub fn lowest_bound(width: u16) -> Entry
+    requires { width ≤ MAX_WIDTH }
+    ensures { result ≡ replicate width 0 }
+{
+    let bytes = [0; MAX_WIDTH];
+    Entry::of(&bytes[..usize::from(width)])
+}
 
 /// Reads entries of one leaf from a bound on, and gives the bound at which the rest begins, if there is a rest. It lies
 /// above the first one, so that a walk ends whatever the pages hold.
-pub(crate) fn read_leaf<P: Pages>(
+pub fn read_leaf<P: Pages>(
     tree: &Tree,
     pages: &mut P,
     bound: &[u8],
@@ -52,14 +61,14 @@ fn lies_above(high: &[u8], low: &[u8]) -> bool
 
 /// Whether a byte string comes before another.
 #[tactic(auto, unfolding(mdc_words::specs::ByteOrder::below))]
-pub(crate) fn is_below(a: &[u8], b: &[u8]) -> bool
+pub fn is_below(a: &[u8], b: &[u8]) -> bool
     ensures { result ≡ below a.now b.now }
 {
     a.cmp(b).is_lt()
 }
 
 /// The fault of a tree whose entries don't rise.
-pub(crate) fn out_of_order(tree: &Tree) -> StoreFault
+pub fn out_of_order(tree: &Tree) -> StoreFault
     ensures { result ≡ StoreFault.Damaged (record { page = tree.now.root; rule = 4 }) }
 {
     StoreFault::Damaged(Damage {

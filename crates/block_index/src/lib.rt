@@ -8,7 +8,10 @@
 //! `first_block_from`, `blocks_of` and `blocks_in` read them: they answer exactly for whatever tree an index is told to hold,
 //! bring pages of that index alone to hand, and name its root by rule 4 only where it hasn't the form of a tree. `cells` reads
 //! the whole composite index: where each entry lists a block under a cell, it gives exactly these cells and blocks, in the
-//! order of the index. It stands on `table_trees` and `key_codec`, and on `mdc_steps` for how many entries a search goes over.
+//! order of the index. `read_leaf` is the step of a walk over the entries of any tree, a leaf at a time, from `lowest_bound` on.
+//! `are_of_one_cell` tells whether two rows have the same values in all dimensions.
+//!
+//! It stands on `table_page`, `table_trees` and `key_codec`, and on `mdc_steps` for how many entries a search goes over.
 #![tactic(auto)]
 
 mod entries;
@@ -17,13 +20,16 @@ mod keys;
 mod leaves;
 mod listed_cells;
 mod listing;
+mod one_cell;
 mod part_range;
 mod under_key;
 mod unlisting;
 
 pub use in_span::blocks_in;
 pub use keys::cell_key;
+pub use leaves::{is_below, lowest_bound, out_of_order, read_leaf};
 pub use listed_cells::{CellBlock, cells};
 pub use listing::list_block;
+pub use one_cell::are_of_one_cell;
 pub use under_key::{blocks_of, first_block_from};
 pub use unlisting::unlist_block;

@@ -1,5 +1,5 @@
 // The cells that the composite index lists.
-ghost use Rattle.std.specs.Prelude.{◌≡◌, ◌+◌, ◌≤◌, ◌++◌, ℕ, List, false, length, replicate, IfErr, IfOk, OnOk};
+ghost use Rattle.std.specs.Prelude.{◌≡◌, ◌+◌, ◌≤◌, ◌++◌, ℕ, List, false, length, IfErr, IfOk, OnOk};
 ghost use Rattle.std.specs.List.{AllByRecursion};
 ghost use Rattle.mdc_words.specs.ByteOrder.{Entry};
 ghost use Rattle.mdc_values.specs.declared.value.Value.{Value};
@@ -13,9 +13,9 @@ ghost use Rattle.table_trees.specs.TableTrees.{AreIndexParts, cell_parts, compos
 ghost use Rattle.table_trees.specs.TreesBeside.{BreaksTreeAt, HoldsTreeAt, IsTreePageAt};
 ghost use Rattle.block_index.specs.ListedCells.{AreCellEntries, IsCellEntry, IsListedTo, IsReadTo};
 
-use crate::leaves::read_leaf;
+use crate::leaves::{lowest_bound, read_leaf};
 use byteorder::{BigEndian, ByteOrder};
-use entry_tree::{Entries, Entry, Leaf, MAX_WIDTH, Tree};
+use entry_tree::{Entries, Leaf, Tree};
 use key_codec::{part_width, read_part};
 use mdc_ast::{Cell, ColumnDef, TableDef};
 use mdc_values::{List, Memory, Value};
@@ -72,15 +72,6 @@ fn walk_cells<P: Pages>(
         bound = read_leaf(tree, pages, low.bytes(), &mut leaf)?;
         take_leaf(alloc, def, &leaf.entries, &mut found)?;
     }
-}
-
-/// The lowest entry of a width: zeros.
-fn lowest_bound(width: u16) -> Entry
-    requires { width ≤ MAX_WIDTH }
-    ensures { result ≡ replicate width 0 }
-{
-    let bytes = [0; MAX_WIDTH];
-    Entry::of(&bytes[..usize::from(width)])
 }
 
 /// Puts the cells of the entries of a leaf last.

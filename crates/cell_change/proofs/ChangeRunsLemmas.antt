@@ -1,24 +1,24 @@
 -- Which pages the calls that change one row touch, and what damage they name.
-use Rattle.std.proofs.Common.{◌≡◌, ◌<◌, ◌≤◌, ◌⊎◌, ℕ, List, None, sum_by, refl, ◌∙◌, inl, inr}
+use Rattle.std.proofs.Common.{◌≡◌, ℕ, List, None, refl, ◌∙◌, inl, inr}
 use Rattle.std.specs.Prelude.{Option}
 use Rattle.mdc_values.specs.declared.rid.Rid.{Rid}
 use Rattle.mdc_ast.specs.declared.definition.TableDef.{TableDef}
 use Rattle.mdc_ast.specs.declared.row.Row.{Row}
+use Rattle.store_api.specs.Frame.{Touches}
 use Rattle.store_api.specs.RunsOverPages.{RunsOverPages}
 use Rattle.store_api.specs.declared.fault.Damage.{Damage}
 use Rattle.store_api.specs.declared.fault.StoreFault.{StoreFault}
 use Rattle.store_api.specs.declared.pages.Pages.{Ghosts}
 use Rattle.store_api.proofs.RunsOverPagesLemmas.{runs_as, runs_wider}
 use Rattle.store_api.specs.Extents.{first_page_of}
-use Rattle.extent_map.specs.Map.{IsSpacePage}
 use Rattle.extent_map.specs.Owners.{IsSameShape, extent_of}
 use Rattle.extent_map.specs.declared.extents.Extents.{Extents}
 use Rattle.extent_map.specs.declared.kind.Kind.{Kind}
-use Rattle.entry_tree.specs.Forest.{times}
-use Rattle.entry_tree.specs.Standing.{IsIdlePage}
 use Rattle.entry_tree.proofs.ReturnedPagesLemmas.{map_page-shape}
 use Rattle.entry_tree.proofs.UsedPagesLemmas.{extent_page_same}
-use Rattle.mdc_sound.specs.StandingTable.{BreaksExpected, BreaksTable, ChangesTable, HasRowAt, IsBlockPageOf, IsTableOrMapPage, IsTableSpace, NamesTablePart, StandsTable, TableForests, forests_in_order}
+use Rattle.mdc_sound.specs.StandingTable.{BreaksExpected, BreaksTable, ChangesTable, HasRowAt, IsTableOrMapPage, IsTableSpace, NamesTablePart, StandsTable, TableForests}
+use Rattle.mdc_table.specs.KnownBlocks.{IsExpectedPlace, IsExpectedSpace, IsUsedIfKnown}
+use Rattle.mdc_table.proofs.KnownBlocksLemmas.{touches_known, used_with_row}
 use Rattle.cell_change.specs.RowChanges.{HasThisRow}
 use Rattle.cell_change.proofs.RowChangesLemmas.{has_row}
 use Rattle.cell_change.proofs.TableStepsLemmas.{space_before}
@@ -66,13 +66,34 @@ module _ {S : Type 0} (g : Ghosts S) where
       → RunsOverPages g (IsTableSpace g ext old def) (IsTableSpace g ext old def) (BreaksExpected g ext old def (HasThisRow g ext old def rid row)) old new fault
   runs_within ext old new def rid row fault run = runs_wider run (λ p low mine. in_space ext old def p mine) (λ p mine. in_space ext old def p mine) (breaks_this ext old def rid row)
 
-  -- ---- two calls, one behind the other
+  -- ---- calls that may expect more of a table than that it stands
 
-  -- the pages that calls may touch which expect more of a table than that it stands
-  abbrev pub IsExpectedSpace : Extents → S → TableDef → (List Kind → TableForests → Type 0) → ℕ → Type 0
-  IsExpectedSpace ext s def Expected p =
-      (owners : List Kind) (forests : TableForests) → StandsTable g ext s def owners forests → Expected owners forests
-      → 0 < sum_by (times p) (forests_in_order forests) ⊎ (IsBlockPageOf ext owners def.number p ⊎ (IsSpacePage ext p ⊎ IsIdlePage ext owners p))
+  -- one that claims nothing
+  pub runs_expecting : (ext : Extents) (old new : S) (def : TableDef) (Expected : List Kind → TableForests → Type 0) (rid : Rid) (row : Row) (fault : Option StoreFault)
+      → RunsOverPages g (IsExpectedPlace g ext old def Expected) (IsExpectedPlace g ext old def Expected) (BreaksExpected g ext old def (HasRowAt g ext old def rid)) old new fault
+      → RunsOverPages g (IsExpectedSpace g ext old def Expected) (IsExpectedSpace g ext old def Expected) (BreaksExpected g ext old def (HasThisRow g ext old def rid row)) old new fault
+  runs_expecting ext old new def Expected rid row fault run = runs_wider run (λ p low is. wider p is) wider (breaks_this ext old def rid row)
+    where
+      wider : (p : ℕ) → IsExpectedPlace g ext old def Expected p → IsExpectedSpace g ext old def Expected p
+      wider p is owners forests st expected = elim (is owners forests st expected) [
+        | inl some ↦ inl some
+        | inr more ↦ elim more [ inl of ↦ inr (inl of) | inr map ↦ inr (inr (inl (inr map))) ]
+      ]
+
+  -- one that expects nothing
+  pub runs_whatever : {Breaks : Damage → Type 0} (ext : Extents) (old new : S) (def : TableDef) (Expected : List Kind → TableForests → Type 0) (fault : Option StoreFault)
+      → RunsOverPages g (IsTableSpace g ext old def) (IsTableSpace g ext old def) Breaks old new fault
+      → RunsOverPages g (IsExpectedSpace g ext old def Expected) (IsExpectedSpace g ext old def Expected) Breaks old new fault
+  runs_whatever ext old new def Expected fault run =
+      runs_wider run (λ p low is owners forests st expected. is owners forests st) (λ p is owners forests st expected. is owners forests st) (λ damage b. b)
+
+  -- where this row lies there, the pages that are touched are the table's
+  pub touches_of_row : (ext : Extents) (old new : S) (def : TableDef) (owners : List Kind) (forests : TableForests) → StandsTable g ext old def owners forests → (known : Option ℕ) (rid : Rid) (row : Row)
+      → HasThisRow g ext old def rid row owners forests → Touches g (IsExpectedSpace g ext old def (IsUsedIfKnown known rid.block)) old new → Touches g (IsTableSpace g ext old def) old new
+  touches_of_row ext old new def owners forests st known rid row has touched =
+      touches_known ext old def owners forests st known rid.block (used_with_row ext old def rid owners forests st (has_row g ext old def rid row owners forests has)) touched
+
+  -- ---- two calls, one behind the other
 
   -- a change of the table, whatever it is now
   pub record LeadsOn (before mid : Extents) (old middle : S) (def : TableDef) (owners : List Kind) (forests : TableForests) : Type 0 where
@@ -85,13 +106,13 @@ module _ {S : Type 0} (g : Ghosts S) where
       → ((owners : List Kind) (forests : TableForests) → StandsTable g before old def owners forests → Expected owners forests → LeadsOn before mid old middle def owners forests)
       → RunsOverPages g (IsTableOrMapPage g before old def) (IsTableOrMapPage g before old def) Any old middle None
       → RunsOverPages g (IsTableSpace g mid middle def) (IsTableSpace g mid middle def) (BreaksTable g mid middle def) middle new fault
-      → RunsOverPages g (IsExpectedSpace before old def Expected) (IsExpectedSpace before old def Expected) (BreaksExpected g before old def Expected) old new fault
+      → RunsOverPages g (IsExpectedSpace g before old def Expected) (IsExpectedSpace g before old def Expected) (BreaksExpected g before old def Expected) old new fault
   runs_moved before mid old middle new def Expected Any fault shape leads first second = runs_as first second (λ p low mine. early p mine) (λ p low mine. late p mine) early late breaks
     where
-      early : (p : ℕ) → IsTableOrMapPage g before old def p → IsExpectedSpace before old def Expected p
+      early : (p : ℕ) → IsTableOrMapPage g before old def p → IsExpectedSpace g before old def Expected p
       early p mine owners forests st expected = in_space before old def p mine owners forests st
 
-      late : (p : ℕ) → IsTableSpace g mid middle def p → IsExpectedSpace before old def Expected p
+      late : (p : ℕ) → IsTableSpace g mid middle def p → IsExpectedSpace g before old def Expected p
       late p mine owners forests st expected =
           let on = leads owners forests st expected in
           space_before g before mid old middle def owners forests on.owners_now on.forests_now on.changes p (mine on.owners_now on.forests_now on.changes.stands)

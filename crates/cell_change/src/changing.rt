@@ -11,12 +11,13 @@ ghost use Rattle.block_rows.specs.HeldRows.{HasReadValues};
 ghost use Rattle.mdc_sound.specs.FittingRows.{RowFits};
 ghost use Rattle.mdc_sound.specs.RunningFull.{UpdateRunsFull};
 ghost use Rattle.mdc_sound.specs.SoundDatabase.{IsSoundBetweenChanges, with_table_page};
-ghost use Rattle.mdc_sound.specs.StandingTable.{BreaksExpected, IsReadyTable, IsTableSpace, KeepsBlocksBut, TableForests, pages_of};
+ghost use Rattle.mdc_sound.specs.StandingTable.{BreaksExpected, IsReadyTable, KeepsBlocksBut, TableForests, pages_of};
 ghost use Rattle.mdc_sound.specs.StandsForDatabase.{PagesStandFor, with_row};
 ghost use Rattle.cell_rooms.specs.RoomNotes.{room_of};
+ghost use Rattle.mdc_table.specs.KnownBlocks.{IsExpectedSpace, IsUsedIfKnown};
 ghost use Rattle.cell_change.specs.RowChanges.{ChangesOneRow, HasThisRow, row_in_place};
 
-use crate::cells::are_of_one_cell;
+use block_index::are_of_one_cell;
 use extent_map::{Extents, SpaceFault};
 use mdc_ast::{Row, TableDef};
 use mdc_table::{Rooms, overwrite_row, place_row, take_row};
@@ -25,8 +26,9 @@ use std::alloc::Global;
 use store_api::Pages;
 
 /// Makes the row in a place, which is given, another one that fits the definition and has its number, and answers where that
-/// lies: in the same place where the cell is the same, else where placing puts it once the old one is out. It claims
-/// no more pages than the row asks for, and `Full` says that an UPDATE of this row runs full: it moves, and what it needs then asks
+/// lies: in the same place where the cell is the same, else where placing puts it once the old one is out. A block that is known to
+/// be a Used one of the table isn't asked of the block map again: the block of a row that was just changed is one. It claims no
+/// more pages than the row asks for, and `Full` says that an UPDATE of this row runs full: it moves, and what it needs then asks
 /// for more extents than are free. After a fault `undo` goes back to a mark, and the notes of the extents and of the rooms are to
 /// be forgotten.
 pub fn change_row<P: Pages>(
@@ -35,6 +37,7 @@ pub fn change_row<P: Pages>(
     ext: &mut Extents,
     rooms: &mut Rooms,
     pages: &mut P,
+    known: Option<u32>,
     rid: Rid,
     was: &Row,
     is: &Row,
@@ -60,11 +63,12 @@ pub fn change_row<P: Pages>(
     ensures full { IfErr result (λ fault. IfFull fault (λ cap. (cap ≡ ext.old.cap) × ((owners : List Kind) (forests : TableForests) → IsReadyTable P.Pages ext.old (room_of rooms.old) pages.old def.now owners forests
         → HasThisRow P.Pages ext.old pages.old def.now rid was.now owners forests → UpdateRunsFull ext.old (pages_of P.Pages pages.old) def.now ((row_in_place rid was.now, is.now) ∷ [])))) }
     ensures shape { IsSameShape ext.old ext.new }
-    ensures runs { RunsOverPages P.Pages (IsTableSpace P.Pages ext.old pages.old def.now) (IsTableSpace P.Pages ext.old pages.old def.now)
+    ensures runs { RunsOverPages P.Pages (IsExpectedSpace P.Pages ext.old pages.old def.now (IsUsedIfKnown known rid.block))
+        (IsExpectedSpace P.Pages ext.old pages.old def.now (IsUsedIfKnown known rid.block))
         (BreaksExpected P.Pages ext.old pages.old def.now (HasThisRow P.Pages ext.old pages.old def.now rid was.now)) pages.old pages.new (store_fault_in store_part_of result) }
 {
     if are_of_one_cell(def, &was.values, &is.values) {
-        overwrite_row(alloc, def, ext, rooms, pages, rid, is)?;
+        overwrite_row(alloc, def, ext, rooms, pages, known, rid, is)?;
         return Ok(rid);
     }
     take_row(alloc, def, ext, rooms, pages, rid)?;

@@ -5,10 +5,9 @@
 //! exactly, makes the one change of the table's rows that its name says, and keeps all pages sound as they are between two
 //! changes of rows. They are for tables without record indexes today.
 //!
-//! It stands on `mdc_table` and on the words of `mdc_sound`.
+//! It stands on `mdc_table` and `block_index`, and on the words of `mdc_sound`.
 #![tactic(auto)]
 
-mod cells;
 mod changing;
 mod deleting;
 mod inserting;

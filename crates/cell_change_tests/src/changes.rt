@@ -122,7 +122,7 @@ pub fn change<P: Pages>(
     if !does_fit(def, &was) || !does_fit(def, &is) {
         return Err("a row that doesn't fit")?;
     }
-    let rid = change_row(alloc, def, ext, rooms, pages, held.rid, &was, &is)?;
+    let rid = change_row(alloc, def, ext, rooms, pages, None, held.rid, &was, &is)?;
     Ok(Held {
         rid,
         number: held.number,

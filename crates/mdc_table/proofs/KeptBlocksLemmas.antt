@@ -23,7 +23,7 @@ use Rattle.mdc_ast.specs.declared.definition.TableDef.{TableDef}
 use Rattle.table_trees.specs.ToldPages.{PageList}
 use Rattle.table_trees.specs.TreesBeside.{table_of_block}
 use Rattle.table_trees.proofs.KeptOwnersLemmas.{idle_no_block, used_no_block}
-use Rattle.mdc_sound.specs.StandingTable.{IsBlockOrMapPage, IsBlockPageOf, IsPageOfOwnBlock, IsSpaceOfBlock, IsTableOrMapPage, IsTableSpace, IsTreeSpaceOfTable, KeepsBlocksBut, StandsTable, TableForests, forests_in_order}
+use Rattle.mdc_sound.specs.StandingTable.{IsBlockOrMapPage, IsBlockPageOf, IsPageOfBlock, IsPageOfOwnBlock, IsSpaceOfBlock, IsTableOrMapPage, IsTableSpace, IsTreeSpaceOfTable, KeepsBlocksBut, StandsTable, TableForests, forests_in_order}
 use Rattle.mdc_sound.proofs.StandingTableLemmas.{stands_same}
 
 -- what is so of each value
@@ -96,6 +96,10 @@ module _ {S : Type 0} {g : Ghosts S} where
         | inl tree ↦ block_page_apart ext mid def owners forests st_mid p of (inl tree)
         | inr rest ↦ elim rest [ inl own ↦ not own.page.1 | inr map ↦ block_page_apart ext mid def owners forests st_mid p of (inr (inl (inr map))) ]
       ])
+
+      -- it touches the pages of one block alone
+      pub keeps_but_one : (block : ℕ) → Touches g (IsPageOfBlock ext block) mid new → KeepsBlocksBut g ext old new def owners (λ other. other ≡ block)
+      keeps_but_one block touched = keeps_off (IsPageOfBlock ext block) (λ other. other ≡ block) touched (λ p of not mine. not mine.1)
 
   -- ---- what calls on one block touch are pages of the table
 

@@ -1,5 +1,6 @@
 pub mod KeptBlocksLemmas
 pub mod KeptRoomsLemmas
+pub mod KnownBlocksLemmas
 pub mod LaterPlacesLemmas
 pub mod NextBlocksLemmas
 pub mod PlacingRowsLemmas

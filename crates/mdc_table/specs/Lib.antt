@@ -1,2 +1,3 @@
+pub mod KnownBlocks
 pub mod NextBlock
 pub mod TableReading

@@ -2,8 +2,9 @@
 //!
 //! `row_at`, `push_rows_of_used_block`, `used_blocks` and `account_of` read them. `place_row` puts a row where placing says: into
 //! the lowest Used block of its cell that has an empty slot, else into the lowest Free block, else into the lowest free extent.
-//! `take_row` takes one out, and `overwrite_row` puts another of the same cell in its place. Wherever the table was told to
-//! stand, it stands afterwards and has the rows that the call's name says, and all other tables are as they were.
+//! `take_row` takes one out, and `overwrite_row` puts another of the same cell in its place, and asks the block map of a block only
+//! where that isn't known to be Used. Wherever the table was told to stand, it stands afterwards and has the rows that the call's
+//! name says, and all other tables are as they were.
 //!
 //! Notes in memory make a put cheap (`Rooms`): they are part of what a table is between calls. It stands on `table_blocks` for
 //! one block at a time, on `cell_rooms` for where a row finds room, and on the words of `mdc_sound`. Record indexes are not kept

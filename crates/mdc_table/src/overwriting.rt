@@ -7,8 +7,9 @@ ghost use Rattle.mdc_ast.specs.declared.row.Row.{Row};
 ghost use Rattle.table_page.specs.TableLimits.{IsTableDef};
 ghost use Rattle.table_trees.specs.SpaceChanges.{IsSameSpace};
 ghost use Rattle.mdc_sound.specs.FittingRows.{RowFits};
-ghost use Rattle.mdc_sound.specs.StandingTable.{BreaksExpected, HasRowAt, IsReadyTable, IsTableOrMapPage, KeepsBlocksBut, OverwritesRow, TableForests, pages_of};
+ghost use Rattle.mdc_sound.specs.StandingTable.{BreaksExpected, HasRowAt, IsReadyTable, KeepsBlocksBut, OverwritesRow, TableForests, pages_of};
 ghost use Rattle.cell_rooms.specs.RoomNotes.{room_of};
+ghost use Rattle.mdc_table.specs.KnownBlocks.{IsExpectedPlace, IsUsedIfKnown};
 ghost use Rattle.mdc_table.specs.TableReading.{HasRowOfCell};
 
 use crate::faults::unmapped;
@@ -19,15 +20,18 @@ use mdc_ast::{Row, TableDef};
 use mdc_values::Rid;
 use std::alloc::Global;
 use store_api::{Pages, StoreFault};
+use table_blocks::overwrite_row_of_used;
 
-/// Puts a row into the place of one that lies there and is of the same cell. Damaged where no row lies there. It changes no tree,
-/// and the notes stay right. After a fault `undo` goes back to a mark.
+/// Puts a row into the place of one that lies there and is of the same cell. Damaged where no row can lie there, which the block map
+/// isn't asked where the block is known to be a Used one of the table. It changes no tree, and the notes stay right. After a fault
+/// `undo` goes back to a mark.
 pub fn overwrite_row<P: Pages>(
     alloc: Global,
     def: &TableDef,
     ext: &Extents,
     rooms: &Rooms,
     pages: &mut P,
+    known: Option<u32>,
     rid: Rid,
     row: &Row,
 ) -> Result<(), StoreFault>
@@ -41,12 +45,16 @@ pub fn overwrite_row<P: Pages>(
         → HasRowAt P.Pages ext.now pages.old def.now rid owners forests → IsSameSpace ext.now (pages_of P.Pages pages.old) (pages_of P.Pages pages.new)) }
     ensures stay { (owners : List Kind) (forests : TableForests) → IsReadyTable P.Pages ext.now (room_of rooms.now) pages.old def.now owners forests → KeepsBlocksBut P.Pages ext.now pages.old pages.new def.now owners (λ block. block ≡ rid.block) }
     ensures count { length (P.state pages.new).work ≡ length (P.state pages.old).work }
-    ensures runs { RunsOverPages P.Pages (IsTableOrMapPage P.Pages ext.now pages.old def.now) (IsTableOrMapPage P.Pages ext.now pages.old def.now)
+    ensures runs { RunsOverPages P.Pages (IsExpectedPlace P.Pages ext.now pages.old def.now (IsUsedIfKnown known rid.block))
+        (IsExpectedPlace P.Pages ext.now pages.old def.now (IsUsedIfKnown known rid.block))
         (BreaksExpected P.Pages ext.now pages.old def.now (HasRowAt P.Pages ext.now pages.old def.now rid)) pages.old pages.new (fault_of result) }
 {
     let _rooms = rooms;
     if rid.block >= ext.cap || u32::from(rid.slot) >= block_slots(def, ext) {
         return Err(unmapped(def));
+    }
+    if known == Some(rid.block) {
+        return overwrite_row_of_used(def, ext, pages, rid, row);
     }
     table_blocks::overwrite_row(alloc, def, ext, pages, rid, row)
 }

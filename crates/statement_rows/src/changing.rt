@@ -57,17 +57,21 @@ pub fn change_rows<P: Pages>(
         (BreaksReady P.Pages ext.old (room_of rooms.old) pages.old def.now (HasTheseRows P.Pages ext.old pages.old def.now (map (λ turned. (turned_row turned).0) turned.now)))
         pages.old pages.new (store_fault_in store_part_of result) }
 {
+    // The rows of a block mostly come one after the other, and the block map is asked of it once.
+    let mut known = None;
     for one in turned {
-        change_row(
+        let to = change_row(
             alloc,
             def,
             ext,
             rooms,
             pages,
+            known,
             one.hit.rid,
             &one.hit.row,
             &one.row,
         )?;
+        known = Some(to.block);
     }
     Ok(())
 }

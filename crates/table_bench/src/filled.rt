@@ -105,6 +105,7 @@ impl Filled {
             &mut self.ext,
             &mut self.rooms,
             store,
+            None,
             rid,
             &was,
             &is,

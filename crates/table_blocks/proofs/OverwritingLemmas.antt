@@ -1,5 +1,5 @@
 -- A row written over another of its cell, and the run that does so.
-use Rattle.std.proofs.Common.{◌≡◌, ◌<◌, ℕ, List, ap, arith, sym, ◌∙◌, subst, length, set, get_or, ◌⊎◌, inl, inr}
+use Rattle.std.proofs.Common.{◌≡◌, ◌<◌, ℕ, List, ap, arith, refl, sym, ◌∙◌, subst, length, set, get_or, ◌⊎◌, inl, inr}
 use Rattle.std.specs.Prelude.{Contains, Option, Some, None, cond, is_some, slice_index_or}
 use Rattle.std.proofs.lemmas.Bool.{cases_eq}
 use Rattle.std.proofs.lemmas.List.{get_or_default, get_or-set_other, get_or-set_same, length-set}
@@ -13,7 +13,7 @@ use Rattle.store_api.specs.declared.fault.Damage.{Damage}
 use Rattle.store_api.specs.declared.fault.StoreFault.{StoreFault}
 use Rattle.store_api.specs.declared.pages.Pages.{Ghosts}
 use Rattle.store_api.proofs.FrameLemmas.{touches_same, touches_then}
-use Rattle.store_api.proofs.RunsOverPagesLemmas.{runs_then}
+use Rattle.store_api.proofs.RunsOverPagesLemmas.{runs_then, runs_wider}
 use Rattle.extent_map.specs.declared.extents.Extents.{Extents}
 use Rattle.extent_map.specs.declared.kind.Kind.{Kind}
 use Rattle.table_page.specs.TableLimits.{IsTableDef}
@@ -132,3 +132,10 @@ module _ {S : Type 0} {g : Ghosts S} where
         let changes = rows_step same_change ext old new def rid.block owners forests (around_block ext old def owners forests defined st rid.block) now.own
         (touches_then (touches_same told same) run.touches) (run.works.steady.is_told ∙ told) (count ∙ ap length same) in
         turns_used same_change ext ext old new def rid.block owners owners forests forests defined changes found.0 (set slots rid.slot (Some row)) after
+
+  -- ---- the call alone, which asks the block map nothing
+
+  pub run_unasked : (ext : Extents) (s new : S) (def : TableDef) (rid : Rid) → IsTableDef def.number def → rid.block < ext.cap → {fault : Option StoreFault}
+      → RunsOverPages g (IsPageOfBlock ext rid.block) (IsPageOfBlock ext rid.block) (BreaksRows g ext s def rid.block) s new fault
+      → RunsOverPages g (IsPageOfBlock ext rid.block) (IsPageOfBlock ext rid.block) (BreaksExpected g ext s def (HasRowAt g ext s def rid)) s new fault
+  run_unasked ext s new def rid defined low run = runs_wider run (λ p there is. is) (λ p is. is) (λ damage b. row_breaks ext s s new def rid defined low refl refl damage b)

@@ -10,7 +10,7 @@ ghost use Rattle.table_trees.specs.SpaceChanges.{IsSameSpace};
 ghost use Rattle.mdc_sound.specs.FittingRows.{RowFits};
 ghost use Rattle.mdc_sound.specs.Placing.{IsRowAt, block_slot_count};
 ghost use Rattle.mdc_sound.specs.Placing.Spot.{UsedBlock};
-ghost use Rattle.mdc_sound.specs.StandingTable.{BreaksExpected, HasRowAt, IsBlockOrMapPage, StandsTable, TableForests, pages_of, spots_of};
+ghost use Rattle.mdc_sound.specs.StandingTable.{BreaksExpected, HasRowAt, IsBlockOrMapPage, IsPageOfBlock, StandsTable, TableForests, pages_of, spots_of};
 ghost use Rattle.table_blocks.specs.BlockChanges.{SameSpot, TurnsSpot};
 
 use crate::lines::line_of_used;
@@ -48,5 +48,30 @@ pub fn overwrite_row<P: Pages>(
 {
     let map = BlockMap::at(alloc, def.roots.map);
     line_of_used(def, &map, pages, rid.block)?;
+    put_slot(def, ext, pages, rid, row)
+}
+
+/// The same where the block is known to be a Used one of the table: the block map isn't asked. It touches pages of the block alone.
+pub fn overwrite_row_of_used<P: Pages>(
+    def: &TableDef,
+    ext: &Extents,
+    pages: &mut P,
+    rid: Rid,
+    row: &Row,
+) -> Result<(), StoreFault>
+    requires defined { IsTableDef def.now.number def.now }
+    requires fits { RowFits def.now row.now }
+    requires within { rid.block < ext.now.cap }
+    requires slot { rid.slot < block_slot_count ext.now def.now }
+    requires going { (P.state pages.old).ended ≡ false }
+    ensures overwrites { OnOk result ((owners : List Kind) (forests : TableForests) (was : Row) (slots : List (Option Row)) → StandsTable P.Pages ext.now pages.old def.now owners forests
+        → IsRowAt (spots_of P.Pages ext.now pages.old def.now owners forests) rid was slots → AreOfOneCell def.now was.values row.now.values
+        → TurnsSpot P.Pages SameSpot ext.now ext.now pages.old pages.new def.now rid.block (UsedBlock (slice_set slots rid.slot (Some row.now))) owners forests owners forests) }
+    ensures makes { OnOk result ((owners : List Kind) (forests : TableForests) → StandsTable P.Pages ext.now pages.old def.now owners forests → HasRowAt P.Pages ext.now pages.old def.now rid owners forests
+        → IsSameSpace ext.now (pages_of P.Pages pages.old) (pages_of P.Pages pages.new)) }
+    ensures count { length (P.state pages.new).work ≡ length (P.state pages.old).work }
+    ensures runs { RunsOverPages P.Pages (IsPageOfBlock ext.now rid.block) (IsPageOfBlock ext.now rid.block)
+        (BreaksExpected P.Pages ext.now pages.old def.now (HasRowAt P.Pages ext.now pages.old def.now rid)) pages.old pages.new (fault_of result) }
+{
     put_slot(def, ext, pages, rid, row)
 }

@@ -5,19 +5,20 @@ use Rattle.store_api.proofs.FrameLemmas.{touches_wider}
 use Rattle.store_api.proofs.RunsOverPagesLemmas.{runs_exit_as}
 use Rattle.extent_map.specs.Damages.{store_part_of}
 use Rattle.table_trees.specs.RowCells.{AreOfOneCell}
-use Rattle.cell_change.proofs.ChangeRunsLemmas.{in_space, runs_left, runs_within}
+use Rattle.mdc_table.specs.KnownBlocks.{IsUsedIfKnown}
+use Rattle.cell_change.proofs.ChangeRunsLemmas.{in_space, runs_expecting, runs_left, runs_whatever, runs_within, touches_of_row}
 use Rattle.cell_change.proofs.ChangedRowLemmas.{full_as, moves, ready_then, sound_moved, stays}
 use Rattle.cell_change.proofs.ChangedSpaceLemmas.{if_ok_both, moves_makes, stays_makes, update_full}
 use Rattle.cell_change.proofs.KeptOthersLemmas.{keeps_moved}
 use Rattle.cell_change.proofs.RowChangesLemmas.{has_row, sound_overwritten, took_this}
-use Rattle.cell_change.proofs.SameValuesLemmas.{fits_length, read_length}
+use Rattle.cell_change.proofs.ReadValuesLemmas.{fits_length, read_length}
 use Rattle.cell_change.proofs.StandsForRowLemmas.{database_changed}
 use Rattle.cell_change.proofs.changing.change_row.Goals as goal
 
 pub returns-in_err-overwrite_row-clause-runs : goal.returns-in_err-overwrite_row-clause-runs
 returns-in_err-overwrite_row-clause-runs g c =
     runs_exit_as store_part_of c.from_residual.result c.from_residual.ensures.1
-    (runs_within g.P.Pages c.args.ext.now c.args.pages.now c.overwrite_row.new.pages c.args.def.now c.args.rid c.args.was.now (Some c.in_err-overwrite_row.field-0.0) c.in_err-overwrite_row.ensures.runs)
+    (runs_expecting g.P.Pages c.args.ext.now c.args.pages.now c.overwrite_row.new.pages c.args.def.now (IsUsedIfKnown c.args.known c.args.rid.block) c.args.rid c.args.was.now (Some c.in_err-overwrite_row.field-0.0) c.in_err-overwrite_row.ensures.runs)
 
 pub are_of_one_cell-requires-clause-a : goal.are_of_one_cell-requires-clause-a
 are_of_one_cell-requires-clause-a g c = read_length c.args.def.now.columns c.args.was.now c.requires.was
@@ -37,22 +38,23 @@ returns-then-are_of_one_cell-clause-changes g c owners forests ready has =
     (stays_makes g.P.Pages ext _ old new def c.args.was.now c.args.is.now c.args.rid owners forests c.requires.no_indexes cell over
     (c.in_ok-overwrite_row.ensures.makes owners forests ready (has_row g.P.Pages ext old def c.args.rid c.args.was.now owners forests has)))
 
+pub returns-then-are_of_one_cell-clause-runs : goal.returns-then-are_of_one_cell-clause-runs
+returns-then-are_of_one_cell-clause-runs g c =
+    runs_expecting g.P.Pages c.args.ext.now c.args.pages.now c.overwrite_row.new.pages c.args.def.now (IsUsedIfKnown c.args.known c.args.rid.block) c.args.rid c.args.was.now None c.in_ok-overwrite_row.ensures.runs
+
 pub returns-then-are_of_one_cell-clause-sound : goal.returns-then-are_of_one_cell-clause-sound
 returns-then-are_of_one_cell-clause-sound g c owners forests ready has between =
     let cell = c.are_of_one_cell.ensures.0 c.if-are_of_one_cell.true in
-    let runs = c.in_ok-overwrite_row.ensures.runs in
+    let runs = returns-then-are_of_one_cell-clause-runs g c in
     sound_overwritten g.P.Pages c.args.ext.now c.args.ext.now c.args.pages.now c.overwrite_row.new.pages c.args.def.now owners forests ready.stands _ c.args.was.now c.args.is.now c.args.rid
     (c.in_ok-overwrite_row.ensures.overwrites owners forests c.args.was.now ready (record { slots = has.slots; lies = has.lies; one_cell = cell }))
-    c.requires.no_indexes c.requires.number (touches_wider runs.touches (λ p mine. in_space g.P.Pages c.args.ext.now c.args.pages.now c.args.def.now p mine)) runs.works.no_shorter between
-
-pub returns-then-are_of_one_cell-clause-runs : goal.returns-then-are_of_one_cell-clause-runs
-returns-then-are_of_one_cell-clause-runs g c =
-    runs_within g.P.Pages c.args.ext.now c.args.pages.now c.overwrite_row.new.pages c.args.def.now c.args.rid c.args.was.now None c.in_ok-overwrite_row.ensures.runs
+    c.requires.no_indexes c.requires.number (touches_of_row g.P.Pages c.args.ext.now c.args.pages.now c.overwrite_row.new.pages c.args.def.now owners forests ready.stands c.args.known c.args.rid c.args.was.now has runs.touches) runs.works.no_shorter between
 
 pub returns-in_err-take_row-clause-runs : goal.returns-in_err-take_row-clause-runs
 returns-in_err-take_row-clause-runs g c =
     runs_exit_as store_part_of c.from_residual-in_err-take_row.result c.from_residual-in_err-take_row.ensures.1
-    (runs_within g.P.Pages c.args.ext.now c.args.pages.now c.take_row.new.pages c.args.def.now c.args.rid c.args.was.now (Some c.in_err-take_row.field-0.0) c.in_err-take_row.ensures.runs)
+    (runs_whatever g.P.Pages c.args.ext.now c.args.pages.now c.take_row.new.pages c.args.def.now (IsUsedIfKnown c.args.known c.args.rid.block) (Some c.in_err-take_row.field-0.0)
+    (runs_within g.P.Pages c.args.ext.now c.args.pages.now c.take_row.new.pages c.args.def.now c.args.rid c.args.was.now (Some c.in_err-take_row.field-0.0) c.in_err-take_row.ensures.runs))
 
 pub returns-clause-changes : goal.returns-clause-changes
 returns-clause-changes g c =
@@ -126,24 +128,26 @@ returns-clause-full g c =
 
 pub returns-clause-runs : goal.returns-clause-runs
 returns-clause-runs g c =
-    runs_left g.P.Pages c.args.ext.now c.take_row.new.ext c.args.pages.now c.take_row.new.pages c.place_row.new.pages c.args.def.now c.args.rid c.args.was.now _ (store_fault_in store_part_of c.place_row.result)
+    runs_whatever g.P.Pages c.args.ext.now c.args.pages.now c.place_row.new.pages c.args.def.now (IsUsedIfKnown c.args.known c.args.rid.block) (store_fault_in store_part_of c.place_row.result)
+    (runs_left g.P.Pages c.args.ext.now c.take_row.new.ext c.args.pages.now c.take_row.new.pages c.place_row.new.pages c.args.def.now c.args.rid c.args.was.now _ (store_fault_in store_part_of c.place_row.result)
     c.take_row.ensures.shape
     (λ owners forests st. let left = c.in_ok-take_row.ensures.leaves owners forests st in record { owners_now = left.0; forests_now = left.1; changes = left.2 })
-    c.in_ok-take_row.ensures.runs c.place_row.ensures.runs
+    c.in_ok-take_row.ensures.runs c.place_row.ensures.runs)
 
 pub returns-then-are_of_one_cell-clause-stands_for : goal.returns-then-are_of_one_cell-clause-stands_for
 returns-then-are_of_one_cell-clause-stands_for g c owners forests ready has between db stands =
     let ext = c.args.ext.now in
     let old = c.args.pages.now in
     let def = c.args.def.now in
-    let runs = c.in_ok-overwrite_row.ensures.runs in
-    database_changed g.P.Pages ext ext _ old c.overwrite_row.new.pages def owners forests ready.stands (touches_wider runs.touches (λ p mine. in_space g.P.Pages ext old def p mine)) runs.works.no_shorter between db stands
+    let runs = returns-then-are_of_one_cell-clause-runs g c in
+    database_changed g.P.Pages ext ext _ old c.overwrite_row.new.pages def owners forests ready.stands (touches_of_row g.P.Pages ext old c.overwrite_row.new.pages def owners forests ready.stands c.args.known c.args.rid c.args.was.now has runs.touches) runs.works.no_shorter between db stands
     c.args.was.now c.args.is.now c.args.rid c.args.rid (returns-then-are_of_one_cell-clause-changes g c owners forests ready has) c.requires.number
 
 pub returns-clause-stands_for : goal.returns-clause-stands_for
 returns-clause-stands_for g c =
     IfOk-weaker c.place_row.result _ _ (λ to changes owners forests ready has between db stands.
     let runs = returns-clause-runs g c in
-    database_changed g.P.Pages c.args.ext.now c.place_row.new.ext _ c.args.pages.now c.place_row.new.pages c.args.def.now owners forests ready.stands runs.touches runs.works.no_shorter between db stands
+    database_changed g.P.Pages c.args.ext.now c.place_row.new.ext _ c.args.pages.now c.place_row.new.pages c.args.def.now owners forests ready.stands
+    (touches_of_row g.P.Pages c.args.ext.now c.args.pages.now c.place_row.new.pages c.args.def.now owners forests ready.stands c.args.known c.args.rid c.args.was.now has runs.touches) runs.works.no_shorter between db stands
     c.args.was.now c.args.is.now c.args.rid to (changes owners forests ready has) c.requires.number)
     (returns-clause-changes g c)

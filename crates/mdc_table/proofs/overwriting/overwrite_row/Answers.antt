@@ -1,9 +1,10 @@
-use Rattle.std.proofs.Common.{arith, inl, inr, refl}
+use Rattle.std.proofs.Common.{◌∙◌, arith, inl, inr, refl, sym}
 use Rattle.std.proofs.lemmas.Result.{IfOk-weaker}
 use Rattle.store_api.proofs.RunsOverPagesLemmas.{runs_none}
 use Rattle.cell_rooms.specs.RoomNotes.{room_of}
 use Rattle.cell_rooms.proofs.TableRunsLemmas.{runs_broken}
-use Rattle.mdc_table.proofs.KeptBlocksLemmas.{keeps_in_block, runs_of_block}
+use Rattle.mdc_table.proofs.KeptBlocksLemmas.{keeps_but_one, keeps_in_block, runs_of_block}
+use Rattle.mdc_table.proofs.KnownBlocksLemmas.{is_known, runs_of_asked, runs_of_known}
 use Rattle.mdc_table.proofs.TakingRowsLemmas.{no_row_there, row_overwritten}
 use Rattle.mdc_table.proofs.overwriting.overwrite_row.Goals.{then-rid-ext-via-then-rid-ext, then-rid-ext-via-else-rid-ext+then-from-block_slots}
 use Rattle.mdc_table.proofs.overwriting.overwrite_row.Goals as goal
@@ -30,4 +31,21 @@ returns-clause-stay g c owners forests ready =
 
 pub returns-clause-runs : goal.returns-clause-runs
 returns-clause-runs g c =
-    runs_of_block c.args.ext.now c.args.def.now c.args.rid.block c.overwrite_row.ensures.runs
+    runs_of_asked c.args.ext.now c.args.pages.now c.args.def.now c.args.known c.args.rid.block (runs_of_block c.args.ext.now c.args.def.now c.args.rid.block c.overwrite_row.ensures.runs)
+
+pub returns-then-eq-clause-overwrites : goal.returns-then-eq-clause-overwrites
+returns-then-eq-clause-overwrites g c =
+    row_overwritten g.P.Pages c.args.ext.now c.args.pages.now c.overwrite_row_of_used.new.pages c.args.def.now c.args.rid c.args.row.now (room_of c.args.rooms.now) c.overwrite_row_of_used.result
+    c.overwrite_row_of_used.ensures.overwrites
+
+pub returns-then-eq-clause-makes : goal.returns-then-eq-clause-makes
+returns-then-eq-clause-makes g c =
+    IfOk-weaker c.overwrite_row_of_used.result _ _ (λ done makes owners forests ready has. makes owners forests ready.stands has) c.overwrite_row_of_used.ensures.makes
+
+pub returns-then-eq-clause-stay : goal.returns-then-eq-clause-stay
+returns-then-eq-clause-stay g c owners forests ready =
+    keeps_but_one c.args.ext.now c.args.pages.now c.args.pages.now c.overwrite_row_of_used.new.pages c.args.def.now owners forests refl refl ready.stands c.args.rid.block c.overwrite_row_of_used.ensures.runs.touches
+
+pub returns-then-eq-clause-runs : goal.returns-then-eq-clause-runs
+returns-then-eq-clause-runs g c =
+    runs_of_known c.args.ext.now c.args.pages.now c.args.def.now c.args.known c.args.rid.block (is_known c.args.known c.args.rid.block (sym c.eq.ensures ∙ c.if-eq.true)) c.overwrite_row_of_used.ensures.runs

@@ -2,7 +2,6 @@
 use Rattle.std.proofs.Common.{inl, inr, ◌≡◌, ◌<◌, ◌≤◌, ◌+◌, ℕ, Bool, true, false, zero, suc, List, [], ◌∷◌, ◌++◌, Some, length, map, drop, get_or, refl, ap, arith, sym, ◌∙◌, subst, add-one, drop-cons}
 use Rattle.std.specs.Prelude.{IsTrue, ◌&&◌, nat_le, nat_lt, slice_get, unwrap_or}
 use Rattle.std.specs.List.{AllByRecursion, list_all}
-use Rattle.std.proofs.lemmas.Bool.{cases_lt}
 use Rattle.std.proofs.lemmas.Bool.Decides.{nat_tests}
 use Rattle.std.proofs.Math.ListN.{drop_of_length-le}
 use Rattle.std.proofs.lemmas.List.{map-append}
@@ -11,13 +10,9 @@ use Rattle.mdc_values.specs.declared.value.Value.TheVariants.{Null}
 use Rattle.mdc_ast.specs.Truth.{value_at}
 use Rattle.mdc_ast.specs.declared.definition.ColumnDef.{ColumnDef}
 use Rattle.mdc_ast.specs.declared.definition.TableDef.{TableDef}
-use Rattle.mdc_ast.specs.declared.row.Row.{Row}
-use Rattle.mdc_ast.specs.meaning.Database.{fits, fits_all}
 use Rattle.mdc_ast.specs.meaning.Definitions.{are_there, is_short_key}
-use Rattle.block_rows.specs.HeldRows.{HasReadValues}
 use Rattle.table_page.specs.TableLimits.{IsTableDef, is_good_dimension}
 use Rattle.table_trees.proofs.TableTreesLemmas.{places_in}
-use Rattle.block_index.proofs.CellsLemmas.{keys_of_fitting}
 
 second : (a b : Bool) → IsTrue (a && b) → IsTrue b
 second true b h = h
@@ -28,12 +23,6 @@ first true b h = refl
 first false b h = absurd cc
 
 -- ---- places that are there
-
-pub fits_length : (columns : List ColumnDef) (values : List Value) → IsTrue (fits_all columns values) → length values ≡ length columns
-fits_length [] [] h = refl
-fits_length [] (value ∷ values) h = cc
-fits_length (column ∷ columns) [] h = cc
-fits_length (column ∷ columns) (value ∷ values) h = ap suc (fits_length columns values (second (fits column value) (fits_all columns values) h))
 
 places_there : (columns : List ColumnDef) (values : List Value) (places : List ℕ) → length columns ≤ length values → IsTrue (are_there columns places) → AllByRecursion (λ place. place < length values) places
 places_there columns values [] many there = tt
@@ -49,21 +38,6 @@ good_at columns (d ∷ dims) zero dim all low at =
     (first (nat_lt 0 (length d) && nat_le (length d) 16 && are_there columns d) (is_short_key columns d) good) in
     subst (λ ps. IsTrue (are_there columns ps)) (sym at) there
 good_at columns (d ∷ dims) (suc i) dim all low at = good_at columns dims i dim (second (is_good_dimension columns d) (list_all (is_good_dimension columns) dims) all) (omega (arith, low)) at
-
--- a row that was read has a value for each column
-pub read_length : (columns : List ColumnDef) (row : Row) → HasReadValues columns row → length columns ≤ length row.values
-read_length columns row read = elim (cases_lt (length row.values) (length columns)) [
-  | inl fewer ↦ let within = (read.each (length row.values) fewer).0 in absurd (omega (arith, within))
-  | inr many ↦ many
-]
-
--- and so has one that fits, with a key in it
-pub read_of_fitting : (columns : List ColumnDef) (row : Row) → IsTrue (fits_all columns row.values) → HasReadValues columns row
-read_of_fitting columns row fitted = record {
-  each = λ place low.
-      let there : IsTrue (are_there columns (place ∷ [])) = grind (arith, nat_tests, low) in
-      (keys_of_fitting columns (place ∷ []) row.values there fitted).0;
-}
 
 -- the places of each dimension are there in a row with so many values
 pub dimension_there : (def : TableDef) (values : List Value) (items : List (List ℕ)) (i : ℕ) (dim : List ℕ) → IsTableDef def.number def → length def.columns ≤ length values

@@ -9,7 +9,7 @@ use mdc_ast::TableDef;
 use mdc_values::{List, Value};
 
 /// Whether rows of these values, one for each column at least, are of one cell.
-pub(crate) fn are_of_one_cell(def: &TableDef, a: &List<Value>, b: &List<Value>) -> bool
+pub fn are_of_one_cell(def: &TableDef, a: &List<Value>, b: &List<Value>) -> bool
     requires defined { IsTableDef def.now.number def.now }
     requires a { length def.now.columns ≤ length a.now }
     requires b { length def.now.columns ≤ length b.now }

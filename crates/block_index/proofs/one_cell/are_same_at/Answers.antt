@@ -1,6 +1,6 @@
 use Rattle.std.proofs.Common.{◌∙◌, refl, subst, sym}
-use Rattle.cell_change.proofs.SameValuesLemmas.{AreSameBut, other_here, same_all, same_next, same_none, value_found}
-use Rattle.cell_change.proofs.cells.are_same_at.Goals as goal
+use Rattle.block_index.proofs.SameValuesLemmas.{AreSameBut, other_here, same_all, same_next, same_none, value_found}
+use Rattle.block_index.proofs.one_cell.are_same_at.Goals as goal
 
 pub loop-place-init : goal.loop-place-init
 loop-place-init c = subst (AreSameBut c.args.a.now c.args.b.now c.args.places.now) (sym c.as_slice-place-items.ensures) (same_none c.args.a.now c.args.b.now c.args.places.now)

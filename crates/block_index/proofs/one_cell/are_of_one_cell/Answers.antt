@@ -1,6 +1,6 @@
 use Rattle.table_trees.specs.RowCells.{cell_places}
-use Rattle.cell_change.proofs.SameValuesLemmas.{dimension_there, other_dim, same_next_dim}
-use Rattle.cell_change.proofs.cells.are_of_one_cell.Goals as goal
+use Rattle.block_index.proofs.SameValuesLemmas.{dimension_there, other_dim, same_next_dim}
+use Rattle.block_index.proofs.one_cell.are_of_one_cell.Goals as goal
 
 pub are_same_at-requires-clause-a : goal.are_same_at-requires-clause-a
 are_same_at-requires-clause-a c =

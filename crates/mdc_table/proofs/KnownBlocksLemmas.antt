@@ -1,0 +1,64 @@
+-- What a call on a row touches whose block may be known to be Used.
+use Rattle.std.proofs.Common.{◌≡◌, ℕ, List, ap, subst, ◌∙◌, inl, inr}
+use Rattle.std.specs.Option.{option_eq}
+use Rattle.std.specs.Prelude.{Contains, Option, None, Some, true}
+use Rattle.std.proofs.Math.Dec.{eqb}
+use Rattle.std.proofs.lemmas.Bool.{eqb-true}
+use Rattle.mdc_ast.specs.declared.definition.TableDef.{TableDef}
+use Rattle.mdc_values.specs.declared.rid.Rid.{Rid}
+use Rattle.store_api.specs.Frame.{Touches}
+use Rattle.store_api.specs.RunsOverPages.{RunsOverPages}
+use Rattle.store_api.specs.declared.fault.Damage.{Damage}
+use Rattle.store_api.specs.declared.fault.StoreFault.{StoreFault}
+use Rattle.store_api.specs.declared.pages.Pages.{Ghosts}
+use Rattle.store_api.proofs.FrameLemmas.{touches_wider}
+use Rattle.store_api.proofs.RunsOverPagesLemmas.{runs_wider}
+use Rattle.extent_map.specs.Owners.{owner_of}
+use Rattle.extent_map.specs.declared.extents.Extents.{Extents}
+use Rattle.extent_map.specs.declared.kind.Kind.{Kind}
+use Rattle.entry_tree.specs.Forest.{Forest}
+use Rattle.block_map.specs.MapLines.{used_blocks}
+use Rattle.mdc_sound.specs.Placing.Spot.{OtherBlock}
+use Rattle.mdc_sound.specs.StandingTable.{HasRowAt, IsPageOfBlock, IsTableOrMapPage, IsTableSpace, StandsTable, TableForests, forests_in_order, pages_of}
+use Rattle.mdc_sound.proofs.BlockRulesLemmas.{named_owned}
+use Rattle.mdc_sound.proofs.StandingTableLemmas.{one_standing}
+use Rattle.mdc_sound.proofs.TableSpotsLemmas.{used_of_spot}
+use Rattle.mdc_table.specs.KnownBlocks.{IsExpectedPlace, IsExpectedSpace, IsUsedIfKnown}
+use Rattle.mdc_table.specs.TableReading.{HasUsedBlock}
+
+-- a block that was found to be the known one is it
+pub is_known : (known : Option ℕ) (block : ℕ) → option_eq eqb known (Some block) ≡ true → known ≡ Some block
+is_known None block same = absurd (cc)
+is_known (Some other) block same = ap Some (eqb-true other block same)
+
+module _ {S : Type 0} {g : Ghosts S} (ext : Extents) (s : S) (def : TableDef) where
+  -- the block of a row is a Used one
+  pub used_with_row : (rid : Rid) (owners : List Kind) (forests : TableForests) → StandsTable g ext s def owners forests → HasRowAt g ext s def rid owners forests → HasUsedBlock rid.block owners forests
+  used_with_row rid owners forests st has = record { used = (used_of_spot ext (pages_of g s) def owners forests.map st.map rid.block has.slots (has.lies.block OtherBlock)).0 }
+
+  module _ {Breaks : Damage → Type 0} {new : S} {fault : Option StoreFault} (known : Option ℕ) (block : ℕ) where
+    -- it isn't asked of the block map
+    pub runs_of_known : known ≡ Some block → RunsOverPages g (IsPageOfBlock ext block) (IsPageOfBlock ext block) Breaks s new fault
+        → RunsOverPages g (IsExpectedPlace g ext s def (IsUsedIfKnown known block)) (IsExpectedPlace g ext s def (IsUsedIfKnown known block)) Breaks s new fault
+    runs_of_known is run = runs_wider run (λ p there of. wider p of) wider (λ damage b. b)
+      where
+        wider : (p : ℕ) → IsPageOfBlock ext block p → IsExpectedPlace g ext s def (IsUsedIfKnown known block) p
+        wider p of owners forests st used = inr (inl (record { page = of.0; block = ap (owner_of owners) of.1 ∙ (named_owned ext owners def forests.map 1 block st.map (used is).used).1 }))
+
+    -- or it is
+    pub runs_of_asked : RunsOverPages g (IsTableOrMapPage g ext s def) (IsTableOrMapPage g ext s def) Breaks s new fault
+        → RunsOverPages g (IsExpectedPlace g ext s def (IsUsedIfKnown known block)) (IsExpectedPlace g ext s def (IsUsedIfKnown known block)) Breaks s new fault
+    runs_of_asked run = runs_wider run (λ p there is owners forests st used. is owners forests st) (λ p is owners forests st used. is owners forests st) (λ damage b. b)
+
+  -- ---- a table that stands is one, so a block that one view has as a Used one is so in each
+
+  module _ (owners : List Kind) (forests : TableForests) (st : StandsTable g ext s def owners forests) (known : Option ℕ) (block : ℕ) (has : HasUsedBlock block owners forests) where
+    used_in_each : (others : List Kind) (trees : TableForests) → StandsTable g ext s def others trees → HasUsedBlock block others trees
+    used_in_each others trees other =
+        let same : forests_in_order forests ≡ forests_in_order trees = (one_standing g ext s def owners others forests trees st other).1 in
+        let map : forests.map ≡ trees.map = cc in
+        record { used = subst (λ (t : Forest). Contains (used_blocks t) block) map has.used }
+
+    -- so the pages that are touched are the table's
+    pub touches_known : {new : S} → Touches g (IsExpectedSpace g ext s def (IsUsedIfKnown known block)) s new → Touches g (IsTableSpace g ext s def) s new
+    touches_known touched = touches_wider touched (λ p is others trees other. is others trees other (λ same. used_in_each others trees other))
