@@ -1,2 +1,5 @@
+mod BlocksThatMayLemmas
+mod ChoosingLemmas
+mod RisingNumbersLemmas
 pub mod ScannedRowsLemmas
 pub mod ScanningLemmas

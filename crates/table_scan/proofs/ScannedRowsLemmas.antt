@@ -35,6 +35,12 @@ use Rattle.table_scan.proofs.ScanningLemmas.{filter_first, filter_past, map_kept
 
 -- ---- elements that pass a test, in another order
 
+-- a part in front goes behind another one
+pub front_behind : {X : Type 0} (xs ys zs : List X) → IsPermutation (xs ++ (ys ++ zs)) (ys ++ (xs ++ zs))
+front_behind xs ys zs =
+    subst (λ l. IsPermutation l (ys ++ (xs ++ zs))) (append_assoc xs ys zs)
+    (subst (λ r. IsPermutation ((xs ++ ys) ++ zs) r) (append_assoc ys xs zs) (IsPermutation-append_left zs (xs ++ ys) (ys ++ xs) (IsPermutation-append_comm xs ys)))
+
 module _ {X : Type 0} (p : X → Bool) where
   -- the element, if it passes
   if_kept : X → List X
@@ -43,12 +49,6 @@ module _ {X : Type 0} (p : X → Bool) where
   kept-cons : (x : X) (xs : List X) → filter p (x ∷ xs) ≡ if_kept x ++ filter p xs
   unfolding if_kept
   kept-cons x xs = filter-append p (x ∷ []) xs
-
-  -- a part in front goes behind another one
-  front_behind : (xs ys zs : List X) → IsPermutation (xs ++ (ys ++ zs)) (ys ++ (xs ++ zs))
-  front_behind xs ys zs =
-      subst (λ l. IsPermutation l (ys ++ (xs ++ zs))) (append_assoc xs ys zs)
-      (subst (λ r. IsPermutation ((xs ++ ys) ++ zs) r) (append_assoc ys xs zs) (IsPermutation-append_left zs (xs ++ ys) (ys ++ xs) (IsPermutation-append_comm xs ys)))
 
   -- an element in the place of one behind it
   kept_changed : (x : X) (xs : List X) (j : ℕ) (d : X) → j < length xs → IsPermutation (if_kept x ++ filter p xs) (if_kept (get_or xs j d) ++ filter p (set xs j x))

@@ -1,11 +1,11 @@
 -- What a scan has found and brought to hand so far.
 use Rattle.std.proofs.Common.{◌≡◌, ◌<◌, ◌≤◌, ◌+◌, ℕ, zero, suc, List, [], ◌∷◌, ◌++◌, Bool, true, false, length, get_or, take, refl, inl, inr, ap, arith, sym, ◌∙◌, subst}
-use Rattle.std.specs.Prelude.{Contains, IsPermutation, Option, None, filter, flat_map, map}
+use Rattle.std.specs.Prelude.{Contains, Err, IfOk, IsPermutation, Ok, Option, None, Result, filter, flat_map, map}
 use Rattle.std.specs.List.Sorted.{IsNonDecreasingBy}
 use Rattle.std.proofs.lemmas.Bool.{cases_Bool}
 use Rattle.std.proofs.lemmas.List.{flat_map_more, take_all, take_more}
 use Rattle.std.proofs.lemmas.List.Elements.{Contains-get_or, filter-append}
-use Rattle.std.proofs.lemmas.List.Sorted.{IsPermutation-map}
+use Rattle.std.proofs.lemmas.List.Sorted.{IsPermutation-map, IsPermutation-refl, IsPermutation-trans}
 use Rattle.mdc_values.specs.Rising.{IsLower, IsRising}
 use Rattle.store_api.specs.Fetching.{BringsOnce, BringsOnly}
 use Rattle.store_api.specs.declared.pages.Pages.{Ghosts}
@@ -23,12 +23,15 @@ use Rattle.block_map.specs.MapLines.{used_blocks}
 use Rattle.block_rows.specs.HeldRows.{placed_row, qualifying}
 use Rattle.block_rows.specs.declared.hit.Hit.{Hit}
 use Rattle.mdc_sound.specs.StandingTable.{BreaksExpected, BreaksTable, IsPageOfBlock, StandsTable, TableForests, pages_of}
-use Rattle.mdc_sound.specs.TableRows.{rows_in_block}
+use Rattle.mdc_sound.specs.StandingTable.NamesTablePart.{tree}
+use Rattle.mdc_sound.specs.TableRows.{PlacedRow, rows_in_block, rows_in_table}
+use Rattle.mdc_sound.proofs.BlockRulesLemmas.{each_of}
+use Rattle.mdc_sound.proofs.ElementsLemmas.{each_in}
 use Rattle.mdc_sound.proofs.StandingTableLemmas.{stands_same}
-use Rattle.table_trees.specs.TableTrees.{map_place}
-use Rattle.table_trees.specs.TreesBeside.{IsTreePageAt}
+use Rattle.table_trees.specs.TableTrees.{composite_place, map_place}
+use Rattle.table_trees.specs.TreesBeside.{BreaksTreeAt, IsTreePageAt}
 use Rattle.mdc_table.specs.TableReading.{HasUsedBlock}
-use Rattle.table_scan.specs.FoundRows.{FindsRows, IsScannedPage, IsUsedRowPage, ScansOnce}
+use Rattle.table_scan.specs.FoundRows.{FindsRows, HaveQualifying, IsChoicePage, IsChosenBlock, IsChosenRowPage, IsScannedPage, ScansOnce}
 
 -- ---- the elements of a list that pass a test, one after the other
 
@@ -55,9 +58,10 @@ filter_flat_more p rows_at items i low =
     sym (filter-append p (flat_map rows_at (take i items)) (rows_at (get_or items i 0)))
     ∙ ap (filter p) (flat_map_more rows_at [] (take i items) (get_or items i 0) ∙ ap (flat_map rows_at) (sym (take_more items i 0 low)))
 
--- a block that a list names at a place
-pub is_listed : (items used : List ℕ) (i : ℕ) → items ≡ used → i < length items → Contains used (get_or items i 0)
-is_listed items used i e low = subst (λ xs. Contains xs (get_or items i 0)) e (Contains-get_or items i 0 low)
+-- a block that was chosen, at its place
+pub is_chosen : {S : Type 0} {g : Ghosts S} (ext : Extents) (s : S) (def : TableDef) (pred : Option Pred) (items : List ℕ) (forests : TableForests) (i : ℕ)
+    → HaveQualifying g ext s def pred items forests → i < length items → IsChosenBlock g ext s def pred forests (get_or items i 0)
+is_chosen {S} {g} ext s def pred items forests i have low = each_of (IsChosenBlock g ext s def pred forests) items (get_or items i 0) have.chosen (Contains-get_or items i 0 low)
 
 -- ---- the pages that came to hand
 
@@ -100,59 +104,85 @@ module _ {S : Type 0} {g : Ghosts S} where
     reads = once_then run.reads more (λ p early late. page_apart ext blocks n p rising within early late) (λ p early. (early.0, omega (arith, early.1), early.2)) (λ p late. (n, omega arith, late));
   }
 
-  -- where they are those of Used blocks
-  pub scans_used : {Early : ℕ → Type 0} {old new s : S} (ext : Extents) (def : TableDef) (blocks : List ℕ) (n : ℕ) → n ≤ length blocks
-      → ((owners : List Kind) (forests : TableForests) → StandsTable g ext s def owners forests → blocks ≡ used_blocks forests.map)
-      → ScansOnce g Early (IsPageBefore ext blocks n) old new → ScansOnce g Early (IsUsedRowPage g ext s def) old new
-  scans_used ext def blocks n within are run = record {
+  -- where they are those of blocks that were chosen
+  pub scans_chosen : {Early : ℕ → Type 0} {old new s : S} (ext : Extents) (def : TableDef) (pred : Option Pred) (blocks : List ℕ) (n : ℕ) → n ≤ length blocks
+      → ((owners : List Kind) (forests : TableForests) → StandsTable g ext s def owners forests → HaveQualifying g ext s def pred blocks forests)
+      → ScansOnce g Early (IsPageBefore ext blocks n) old new → ScansOnce g Early (IsChosenRowPage g ext s def pred) old new
+  scans_chosen {s = s} ext def pred blocks n within are run = record {
     between = run.between;
     looks = run.looks;
-    reads = once_wider run.reads (λ p (i, below, is) owners forests st. (get_or blocks i 0, is_listed blocks (used_blocks forests.map) i (are owners forests st) (omega (arith, below, within)), is));
+    reads = once_wider run.reads (λ p (i, below, is) owners forests st. (get_or blocks i 0, is_chosen ext s def pred blocks forests i (are owners forests st) (omega (arith, below, within)), is));
   }
 
 -- ---- the rows that were found so far
 
 module _ {S : Type 0} {g : Ghosts S} (ext : Extents) (def : TableDef) where
   -- a table that stands is the same one where the work stayed
-  module _ (old now : S) (items : List ℕ) (i : ℕ) (told : (g.state now).is_told ≡ (g.state old).is_told) (same : (g.state now).work ≡ (g.state old).work)
-      (listed : (owners : List Kind) (forests : TableForests) → StandsTable g ext old def owners forests → items ≡ used_blocks forests.map) (low : i < length items) where
+  module _ (old now : S) (pred : Option Pred) (items : List ℕ) (i : ℕ) (told : (g.state now).is_told ≡ (g.state old).is_told) (same : (g.state now).work ≡ (g.state old).work)
+      (chosen : (owners : List Kind) (forests : TableForests) → StandsTable g ext old def owners forests → HaveQualifying g ext old def pred items forests) (low : i < length items) where
     -- the rows of one block more
-    pub rows_more : (pred : Option Pred) (hits new : List Hit)
+    pub rows_more : (hits new : List Hit)
         → ((owners : List Kind) (forests : TableForests) → StandsTable g ext old def owners forests
         → map placed_row hits ≡ qualifying pred (flat_map (rows_in_block ext (pages_of g old) def) (take i items)))
         → ((owners : List Kind) (forests : TableForests) → StandsTable g ext now def owners forests → Contains (used_blocks forests.map) (get_or items i 0)
         → map placed_row new ≡ map placed_row hits ++ qualifying pred (rows_in_block ext (pages_of g now) def (get_or items i 0)))
         → (owners : List Kind) (forests : TableForests) → StandsTable g ext old def owners forests
         → map placed_row new ≡ qualifying pred (flat_map (rows_in_block ext (pages_of g old) def) (take (i + 1) items))
-    rows_more pred hits new so_far pushed owners forests st =
-        pushed owners forests (stands_same ext old now def owners forests told same st) (is_listed items (used_blocks forests.map) i (listed owners forests st) low)
+    rows_more hits new so_far pushed owners forests st =
+        pushed owners forests (stands_same ext old now def owners forests told same st) (is_chosen ext old def pred items forests i (chosen owners forests st) low).used
         ∙ (ap (λ pages. map placed_row hits ++ qualifying pred (rows_in_block ext pages def (get_or items i 0))) same
         ∙ (ap (λ front. front ++ qualifying pred (rows_in_block ext (pages_of g old) def (get_or items i 0))) (so_far owners forests st)
         ∙ filter_flat_more (λ placed. qualifies pred placed.row.values) (rows_in_block ext (pages_of g old) def) items i low))
 
     -- the run on its pages, one of which may be damaged only where the table doesn't stand
-    pub runs_block : {new : S} {fault : Option StoreFault} → RunsOverPages g NoPage (IsScannedPage g ext old def) (BreaksTable g ext old def) old now None
+    pub runs_block : {new : S} {fault : Option StoreFault} → RunsOverPages g NoPage (IsScannedPage g ext old def pred) (BreaksTable g ext old def) old now None
         → RunsOverPages g NoPage (IsPageOfBlock ext (get_or items i 0)) (BreaksExpected g ext now def (HasUsedBlock (get_or items i 0))) now new fault
-        → RunsOverPages g NoPage (IsScannedPage g ext old def) (BreaksTable g ext old def) old new fault
+        → RunsOverPages g NoPage (IsScannedPage g ext old def pred) (BreaksTable g ext old def) old new fault
     runs_block first second =
-        let used : (owners : List Kind) (forests : TableForests) → StandsTable g ext old def owners forests → Contains (used_blocks forests.map) (get_or items i 0) =
-        λ owners forests st. is_listed items (used_blocks forests.map) i (listed owners forests st) low in
-        runs_then first second (λ p there none. absurd none) (λ p is owners forests st. inr (get_or items i 0, used owners forests st, is))
-        (λ damage b. record { names = b.names; broken = λ owners forests st. b.broken owners forests (stands_same ext old now def owners forests told same st) (record { used = used owners forests st }) })
+        let here : (owners : List Kind) (forests : TableForests) → StandsTable g ext old def owners forests → IsChosenBlock g ext old def pred forests (get_or items i 0) =
+        λ owners forests st. is_chosen ext old def pred items forests i (chosen owners forests st) low in
+        runs_then first second (λ p there none. absurd none) (λ p is. inr (λ owners forests st. (get_or items i 0, here owners forests st, is)))
+        (λ damage b. record { names = b.names; broken = λ owners forests st. b.broken owners forests (stands_same ext old now def owners forests told same st) (record { used = (here owners forests st).used }) })
 
-  -- the run that lists the Used blocks
-  pub runs_listing : {old new : S} {fault : Option StoreFault} → RunsOverPages g NoPage (IsTreePageAt g old (map_place def)) (BreaksTable g ext old def) old new fault
-      → RunsOverPages g NoPage (IsScannedPage g ext old def) (BreaksTable g ext old def) old new fault
-  runs_listing run = runs_wider run (λ p there none. absurd none) (λ p is owners forests st. inl (is forests.map st.trees.held.0)) (λ damage b. b)
+  -- the run that chooses the blocks
+  pub runs_choice : {pred : Option Pred} {old new : S} {fault : Option StoreFault} → RunsOverPages g NoPage (IsChoicePage g ext old def) (BreaksTable g ext old def) old new fault
+      → RunsOverPages g NoPage (IsScannedPage g ext old def pred) (BreaksTable g ext old def) old new fault
+  runs_choice run = runs_wider run (λ p there none. absurd none) (λ p is. inl is) (λ damage b. b)
+
+  -- the runs that list the Used blocks, and the cells
+  pub runs_used : {old new : S} {fault : Option StoreFault} → RunsOverPages g NoPage (IsTreePageAt g old (map_place def)) (BreaksTable g ext old def) old new fault
+      → RunsOverPages g NoPage (IsChoicePage g ext old def) (BreaksTable g ext old def) old new fault
+  runs_used run = runs_wider run (λ p there none. absurd none) (λ p is owners forests st. inl (is forests.map st.trees.held.0)) (λ damage b. b)
+
+  pub runs_cells : {old new : S} {fault : Option StoreFault} → RunsOverPages g NoPage (IsTreePageAt g old (composite_place def)) (BreaksTreeAt g old (composite_place def)) old new fault
+      → RunsOverPages g NoPage (IsChoicePage g ext old def) (BreaksTable g ext old def) old new fault
+  runs_cells {old} run = runs_wider run (λ p there none. absurd none) (λ p is owners forests st. inr (is forests.composite st.trees.held.1.0))
+      (λ damage b. record { names = tree b.rule (1, omega arith, sym b.page); broken = λ owners forests st. b.broken forests.composite st.trees.held.1.0 })
 
   -- all blocks were gone over, and what was found was brought in order
-  pub found_all : (s : S) (pred : Option Pred) (items : List ℕ) (n : ℕ) (hits sorted : List Hit) (owners : List Kind) (forests : TableForests)
-      → items ≡ used_blocks forests.map → length items ≤ n
+  pub found_all : (s : S) (pred : Option Pred) (items : List ℕ) (n : ℕ) (hits sorted : List Hit) (forests : TableForests)
+      → HaveQualifying g ext s def pred items forests → length items ≤ n
       → map placed_row hits ≡ qualifying pred (flat_map (rows_in_block ext (pages_of g s) def) (take n items))
       → IsPermutation hits sorted → IsNonDecreasingBy (λ (hit : Hit). hit.row.number) sorted → FindsRows g ext s def pred sorted forests
-  found_all s pred items n hits sorted owners forests listed all found moved rising = record {
-    found = subst (λ rows. IsPermutation rows (map placed_row sorted))
-        (found ∙ ap (λ blocks. qualifying pred (flat_map (rows_in_block ext (pages_of g s) def) blocks)) (take_all n items all ∙ listed))
-        (IsPermutation-map placed_row hits sorted moved);
-    in_order = λ i j d below within. rising i j d (omega (arith, below)) within;
+  found_all s pred items n hits sorted forests have all found moved rising =
+      let those : List PlacedRow = qualifying pred (flat_map (rows_in_block ext (pages_of g s) def) items) in
+      let found_those : map placed_row hits ≡ those = found ∙ ap (λ blocks. qualifying pred (flat_map (rows_in_block ext (pages_of g s) def) blocks)) (take_all n items all) in
+      record {
+        found = IsPermutation-trans (qualifying pred (rows_in_table ext (pages_of g s) def forests.map)) those (map placed_row sorted) have.whole
+            (subst (λ rows. IsPermutation rows (map placed_row sorted)) found_those (IsPermutation-map placed_row hits sorted moved));
+        in_order = λ i j d below within. rising i j d (omega (arith, below)) within;
+      }
+
+  -- without a predicate all Used blocks are chosen
+  all_chosen : (s : S) (blocks : List ℕ) (forests : TableForests) → blocks ≡ used_blocks forests.map → HaveQualifying g ext s def None blocks forests
+  all_chosen s blocks forests are = record {
+    chosen = each_in (IsChosenBlock g ext s def None forests) blocks (λ block is_in. record { used = subst (λ l. Contains l block) are is_in; may = tt });
+    whole = subst (λ l. IsPermutation (qualifying None (rows_in_table ext (pages_of g s) def forests.map)) (qualifying None (flat_map (rows_in_block ext (pages_of g s) def) l))) (sym are)
+        (IsPermutation-refl (qualifying None (rows_in_table ext (pages_of g s) def forests.map)));
   }
+
+pub all_if_ok : {S E : Type 0} (g : Ghosts S) (ext : Extents) (def : TableDef) (s : S) (pred : Option Pred) (result : Result (List ℕ) E) → pred ≡ None
+    → IfOk result (λ blocks. (owners : List Kind) (forests : TableForests) → StandsTable g ext s def owners forests → blocks ≡ used_blocks forests.map)
+    → IfOk result (λ blocks. (owners : List Kind) (forests : TableForests) → StandsTable g ext s def owners forests → HaveQualifying g ext s def pred blocks forests)
+all_if_ok g ext def s pred (Ok blocks) none listed = λ owners forests st. subst (λ p. HaveQualifying g ext s def p blocks forests) (sym none) (all_chosen ext def s blocks forests (listed owners forests st))
+all_if_ok g ext def s pred (Err e) none listed = tt

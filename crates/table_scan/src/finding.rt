@@ -8,20 +8,19 @@ ghost use Rattle.extent_map.specs.declared.kind.Kind.{Kind};
 ghost use Rattle.table_page.specs.TableLimits.{IsTableDef};
 ghost use Rattle.block_rows.specs.HeldRows.{HasReadValues, HaveReadValues};
 ghost use Rattle.mdc_sound.specs.StandingTable.{BreaksTable, StandsTable, TableForests};
-ghost use Rattle.table_trees.specs.TableTrees.{map_place};
-ghost use Rattle.table_trees.specs.TreesBeside.{IsTreePageAt};
 ghost use Rattle.row_filter.specs.Filtering.{may_filter};
-ghost use Rattle.table_scan.specs.FoundRows.{FindsRows, IsScannedPage, IsUsedRowPage, ScansOnce};
+ghost use Rattle.table_scan.specs.FoundRows.{FindsRows, IsChoicePage, IsChosenRowPage, IsScannedPage, ScansOnce};
 
+use crate::choosing::chosen_blocks;
 use extent_map::Extents;
 use mdc_ast::{Pred, TableDef};
-use mdc_table::{Hit, push_rows_of_used_block, used_blocks};
+use mdc_table::{Hit, push_rows_of_used_block};
 use row_filter::RowFilter;
 use std::alloc::Global;
 use store_api::{Pages, StoreFault};
 
-/// Copies of the rows of a table that qualify, each with its place, by rising row number. It needs a predicate that may be judged
-/// on each row that was read.
+/// Copies of the rows of a table that qualify, each with its place, by rising row number. Of row pages only those of blocks come to
+/// hand in whose cells a row may qualify, each once. It needs a predicate that may be judged on each row that was read.
 pub fn find_rows<P: Pages>(
     alloc: Global,
     def: &TableDef,
@@ -36,14 +35,14 @@ pub fn find_rows<P: Pages>(
         → FindsRows P.Pages ext.now pages.old def.now pred.now hits.items forests) }
     ensures keyed { IfOk result (λ hits. HaveReadValues def.now.columns hits.items) }
     ensures same { (P.state pages.new).work ≡ (P.state pages.old).work }
-    ensures once { ScansOnce P.Pages (IsTreePageAt P.Pages pages.old (map_place def.now)) (IsUsedRowPage P.Pages ext.now pages.old def.now) pages.old pages.new }
-    ensures runs { RunsOverPages P.Pages NoPage (IsScannedPage P.Pages ext.now pages.old def.now) (BreaksTable P.Pages ext.now pages.old def.now) pages.old pages.new (fault_of result) }
+    ensures once { ScansOnce P.Pages (IsChoicePage P.Pages ext.now pages.old def.now) (IsChosenRowPage P.Pages ext.now pages.old def.now pred.now) pages.old pages.new }
+    ensures runs { RunsOverPages P.Pages NoPage (IsScannedPage P.Pages ext.now pages.old def.now pred.now) (BreaksTable P.Pages ext.now pages.old def.now) pages.old pages.new (fault_of result) }
 {
     let Ok(mut filter) = RowFilter::new(alloc, pred, def.columns.len()) else {
         return Err(StoreFault::Memory);
     };
     let mut hits = Vec::new(alloc);
-    let blocks = used_blocks(alloc, def, ext, pages)?;
+    let blocks = chosen_blocks(alloc, def, ext, pages, pred)?;
     for block in blocks.as_slice() {
         push_rows_of_used_block(alloc, def, ext, pages, *block, &mut filter, &mut hits)?;
     }

@@ -6,9 +6,7 @@ use Rattle.extent_map.specs.declared.kind.Kind.{Kind}
 use Rattle.block_rows.specs.HeldRows.{HaveReadValues, placed_row, qualifying}
 use Rattle.mdc_sound.specs.StandingTable.{BreaksTable, StandsTable, TableForests, pages_of}
 use Rattle.mdc_sound.specs.TableRows.{rows_in_block}
-use Rattle.table_trees.specs.TableTrees.{map_place}
-use Rattle.table_trees.specs.TreesBeside.{IsTreePageAt}
-use Rattle.table_scan.specs.FoundRows.{IsScannedPage, ScansOnce}
+use Rattle.table_scan.specs.FoundRows.{IsChoicePage, IsScannedPage, ScansOnce}
 use Rattle.table_scan.proofs.ScanningLemmas.{IsPageBefore}
 use Rattle.table_scan.proofs.finding.find_rows.Given as goal
 
@@ -22,6 +20,6 @@ invariant-loop-block g l = record {
   width : length l.filter.values ≡ length l.def.columns;
   same : (g.P.Pages.state l.pages).work ≡ (g.P.Pages.state l.fn.pages).work;
   going : (g.P.Pages.state l.pages).ended ≡ false;
-  once : ScansOnce g.P.Pages (IsTreePageAt g.P.Pages l.fn.pages (map_place l.def)) (IsPageBefore l.ext l.block-items l.block-index) l.fn.pages l.pages;
-  runs : RunsOverPages g.P.Pages NoPage (IsScannedPage g.P.Pages l.ext l.fn.pages l.def) (BreaksTable g.P.Pages l.ext l.fn.pages l.def) l.fn.pages l.pages None;
+  once : ScansOnce g.P.Pages (IsChoicePage g.P.Pages l.ext l.fn.pages l.def) (IsPageBefore l.ext l.block-items l.block-index) l.fn.pages l.pages;
+  runs : RunsOverPages g.P.Pages NoPage (IsScannedPage g.P.Pages l.ext l.fn.pages l.def l.pred) (BreaksTable g.P.Pages l.ext l.fn.pages l.def) l.fn.pages l.pages None;
 }
