@@ -1,0 +1,76 @@
+-- The rows of a block whose pages are row pages, as calls on blocks read them.
+use Rattle.std.proofs.Common.{◌≡◌, ◌<◌, ◌≤◌, ◌+◌, ◌-◌, ℕ, List, [], ◌∷◌, Option, None, refl, ap, sym, subst, ◌∙◌, arith, inl, inr, length}
+use Rattle.std.specs.Prelude.{IsTrue}
+use Rattle.std.proofs.lemmas.Bool.{cases_lt}
+use Rattle.std.proofs.lemmas.List.{get_or_past}
+use Rattle.mdc_ast.specs.declared.definition.ColumnDef.{ColumnDef}
+use Rattle.mdc_ast.specs.declared.definition.TableDef.{TableDef}
+use Rattle.mdc_ast.specs.declared.predicate.Pred.{Pred}
+use Rattle.mdc_ast.specs.declared.row.Row.{Row}
+use Rattle.store_api.specs.Extents.{first_page_of}
+use Rattle.store_api.specs.StoreState.{page_at}
+use Rattle.store_api.specs.declared.fault.Damage.{Damage}
+use Rattle.store_api.specs.declared.pages.Pages.{Ghosts}
+use Rattle.extent_map.specs.Owners.{place_in_extent}
+use Rattle.extent_map.specs.declared.extents.Extents.{Extents}
+use Rattle.extent_map.proofs.ExtentsLemmas.{extent_limits, page_of-parts, place_below}
+use Rattle.row_page.specs.RowPage.{IsRowPage, row_page_head, rows_of}
+use Rattle.table_trees.specs.ToldPages.{PageList}
+use Rattle.block_rows.specs.HeldRows.{BreaksRows, HoldsRows, qualifying}
+use Rattle.mdc_sound.specs.TableRows.{PlacedRow, block_slots}
+use Rattle.file_check.specs.Known.{HasRowPages}
+use Rattle.file_check.specs.Looking.{Unless}
+
+-- a filter without a predicate takes all rows
+qualifying-none : (rows : List PlacedRow) → qualifying None rows ≡ rows
+qualifying-none [] = refl
+qualifying-none (row ∷ rows) = ap (λ more. row ∷ more) (qualifying-none rows)
+
+pub qualifying-all : (pred : Option Pred) (rows : List PlacedRow) → pred ≡ None → qualifying pred rows ≡ rows
+qualifying-all pred rows none = ap (λ (p : Option Pred). qualifying p rows) none ∙ qualifying-none rows
+
+-- no bytes are no row page
+pub no_bytes_no_rows : (columns : List ColumnDef) (slots : List (Option Row)) → IsRowPage columns [] slots → ⊥
+unfolding row_page_head
+no_bytes_no_rows columns slots is = let e = is.head in cc
+
+-- a row page is there
+pub row_page_there : (pages : PageList) (columns : List ColumnDef) (p : ℕ) → IsRowPage columns (page_at pages p) (rows_of columns (page_at pages p)) → p < length pages
+row_page_there pages columns p is = elim (cases_lt p (length pages)) [
+  | inl low ↦ low
+  | inr past ↦ absurd (no_bytes_no_rows columns (rows_of columns [])
+      (subst (λ (bytes : List ℕ). IsRowPage columns bytes (rows_of columns bytes)) (get_or_past pages p [] past) is))
+]
+
+-- so is the last page of a block of row pages
+pub block_there : (ext : Extents) (pages : PageList) (def : TableDef) (block : ℕ) → HasRowPages ext pages def block → first_page_of ext.cap ext.extent_pages (block + 1) ≤ length pages
+block_there ext pages def block has =
+    let n = ext.extent_pages in
+    let some = (extent_limits ext).0 in
+    let last : first_page_of ext.cap n block + (n - 1) < length pages = row_page_there pages def.columns (first_page_of ext.cap n block + (n - 1)) (has (n - 1) (omega (arith, some))) in
+    omega (arith, some, last)
+
+module _ {S : Type 0} {g : Ghosts S} where
+  -- where pages are told, a block of row pages holds its rows
+  pub holds_rows : (ext : Extents) (s : S) (def : TableDef) (block : ℕ) → IsTrue (g.state s).is_told → HasRowPages ext (g.state s).work def block
+      → HoldsRows g ext s def block (block_slots ext (g.state s).work def block)
+  holds_rows ext s def block told has = record {
+    told = told;
+    there = block_there ext (g.state s).work def block has;
+    forms = has;
+    slots_are = refl;
+  }
+
+  -- and no call finds it broken
+  pub reading_breaks_none : (ext : Extents) (s : S) (def : TableDef) (block : ℕ) (damage : Damage) → BreaksRows g ext s def block damage → Unless g s (λ pages. HasRowPages ext pages def block) damage
+  reading_breaks_none ext s def block damage (inl b) told has =
+      let there = block_there ext (g.state s).work def block has in
+      omega (arith, there, b.past)
+  reading_breaks_none ext s def block damage (inr b) told has =
+      let p = damage.page in
+      let at : first_page_of ext.cap ext.extent_pages block + place_in_extent ext p ≡ p =
+      ap (λ e. first_page_of ext.cap ext.extent_pages e + place_in_extent ext p) (sym b.page.1) ∙ page_of-parts ext p b.page.0 in
+      let is : IsRowPage def.columns (page_at (g.state s).work p) (rows_of def.columns (page_at (g.state s).work p)) =
+      subst (λ (q : ℕ). IsRowPage def.columns (page_at (g.state s).work q) (rows_of def.columns (page_at (g.state s).work q))) at
+      (has (place_in_extent ext p) (place_below ext p)) in
+      b.no_rows (page_at (g.state s).work p) (record { is_told = told; within = row_page_there (g.state s).work def.columns p is; bytes_are = refl }) is

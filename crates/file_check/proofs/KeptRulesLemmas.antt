@@ -1,0 +1,317 @@
+-- What is known after each rule that holds, and the first rule that doesn't.
+use Rattle.std.specs.Prelude.{◌≡◌, ◌≢◌, ◌+◌, ℕ, List, [], ◌∷◌, map, flat_map, Option, Some, None, option_map, AllPairs}
+use Rattle.std.specs.List.{AllZip, range_with_len}
+use Rattle.std.proofs.Common.{Global, Vec, zero, suc, refl, sym, ap, subst, ◌∙◌}
+use Rattle.mdc_ast.specs.declared.definition.TableDef.{TableDef}
+use Rattle.mdc_ast.specs.meaning.Definitions.{Definitions}
+use Rattle.extent_map.specs.declared.extents.Extents.{Extents}
+use Rattle.extent_map.specs.declared.kind.Kind.{Kind}
+use Rattle.table_trees.specs.ToldPages.{PageList}
+use Rattle.mdc_sound.specs.BlockRules.{AreBlockIndexesSound, AreCellsSound, AreRowPagesSound, AreSoundIndexes}
+use Rattle.mdc_sound.specs.Breaks.{BreaksRule, IsFirstBreak}
+use Rattle.mdc_sound.specs.SoundDatabase.{AreCountsSound, AreKeysSound, KeepAllRules}
+use Rattle.mdc_sound.specs.SpaceRules.{AreBlockMapsSound, AreTablePagesSound, AreTreePagesSound, DatabaseView, IsMapSound, IsRootSound, IsTablePlaceSound, definitions_in, tables_there}
+use Rattle.mdc_sound.specs.TableViews.{TableView}
+use Rattle.file_check.specs.Judging.{JudgesRule}
+use Rattle.file_check.specs.Kept.{KeepsCells, KeepsTables, KeepsTrees, NoneBreaksBefore}
+use Rattle.file_check.specs.Known.{AreDefinitionsSound, AreTimesInTrees, HasBlocks, HasCells, HasDefinitions, HasRows, HasTheirTrees, HasTrees, IsDefinitionSound, defs_of, defs_there}
+use Rattle.file_check.specs.TablePagesJudged.{JudgesTablePages}
+use Rattle.file_check.specs.TreesJudged.{StandAsCounted}
+use Rattle.file_check.specs.declared.definitions.TablePages.{TablePages}
+use Rattle.file_check.specs.declared.definitions.TablePages.TheVariants.{Sound, Broken}
+use Rattle.file_check.specs.Verdicts.{AreSoundUnbroken}
+use Rattle.file_check.proofs.VerdictsLemmas.{first_break, first_lowest, holds_unbroken, none_at_all, none_next, none_yet}
+
+-- no page was found
+abbrev pub FindsNone : Option ℕ → Type 0
+FindsNone found = (page : ℕ) → found ≡ Some page → ⊥
+
+-- ---- what each judge says of pages
+
+abbrev pub SaysRoot : Extents → Option ℕ → PageList → Type 0
+SaysRoot ext found pages = JudgesRule ext pages 1 (IsRootSound ext pages) found
+
+abbrev pub SaysExtents : Extents → Option ℕ → PageList → Type 0
+SaysExtents ext found pages = IsRootSound ext pages → JudgesRule ext pages 2 ((owners : List Kind) × IsMapSound ext pages owners) found
+
+abbrev pub SaysTables : Extents → TablePages → PageList → Type 0
+SaysTables ext answer pages = (owners : List Kind) → IsRootSound ext pages → IsMapSound ext pages owners → JudgesTablePages ext pages owners answer
+
+abbrev pub SaysTrees : Definitions → List ℕ → Option ℕ → PageList → Type 0
+SaysTrees defs times found pages =
+    (ext : Extents) (owners : List Kind) → HasDefinitions ext pages owners defs → JudgesRule ext pages 4 (StandAsCounted pages owners defs times) found
+
+abbrev pub SaysTreePages : Extents → List ℕ → Option ℕ → PageList → Type 0
+SaysTreePages ext times found pages =
+    (defs : Definitions) (view : DatabaseView) → HasTrees ext pages defs view → AreTimesInTrees pages view times → JudgesRule ext pages 5 (AreTreePagesSound ext view) found
+
+abbrev pub SaysBlockMaps : Extents → Definitions → Option ℕ → PageList → Type 0
+SaysBlockMaps ext defs found pages = (view : DatabaseView) → HasTrees ext pages defs view → JudgesRule ext pages 6 (AreBlockMapsSound ext view) found
+
+abbrev pub SaysRowPages : Extents → Definitions → Option ℕ → PageList → Type 0
+SaysRowPages ext defs found pages = (view : DatabaseView) → HasBlocks ext pages defs view → JudgesRule ext pages 7 (AreRowPagesSound ext pages view) found
+
+abbrev pub SaysCounts : Extents → Definitions → Option ℕ → PageList → Type 0
+SaysCounts ext defs found pages = (view : DatabaseView) → HasRows ext pages defs view → JudgesRule ext pages 8 (AreCountsSound ext pages view) found
+
+abbrev pub SaysCells : Extents → Definitions → Option ℕ → PageList → Type 0
+SaysCells ext defs found pages = (view : DatabaseView) → HasRows ext pages defs view → JudgesRule ext pages 9 (AreCellsSound ext pages view) found
+
+abbrev pub SaysBlockIndexes : Extents → Definitions → Option ℕ → PageList → Type 0
+SaysBlockIndexes ext defs found pages = (view : DatabaseView) → HasCells ext pages defs view → JudgesRule ext pages 10 (AreBlockIndexesSound ext pages view) found
+
+abbrev pub SaysRecordIndexes : Extents → Definitions → Option ℕ → PageList → Type 0
+SaysRecordIndexes ext defs found pages = (view : DatabaseView) → HasCells ext pages defs view → JudgesRule ext pages 11 (AreSoundIndexes ext pages view) found
+
+abbrev pub SaysKeys : Extents → Definitions → Option ℕ → PageList → Type 0
+SaysKeys ext defs found pages = (view : DatabaseView) → HasCells ext pages defs view → JudgesRule ext pages 12 (AreKeysSound ext pages view) found
+
+-- ---- what they rest on
+
+abbrev pub SomeOwners : Extents → PageList → Type 0
+SomeOwners ext pages = IsRootSound ext pages × (owners : List Kind) × IsMapSound ext pages owners
+
+abbrev pub SomeTrees : Extents → PageList → Type 0
+SomeTrees ext pages = (defs : Definitions) × (view : DatabaseView) × HasTrees ext pages defs view
+
+abbrev pub SomeTreesOf : Extents → Definitions → PageList → Type 0
+SomeTreesOf ext defs pages = (view : DatabaseView) × HasTrees ext pages defs view
+
+abbrev pub SomeBlocks : Extents → Definitions → PageList → Type 0
+SomeBlocks ext defs pages = (view : DatabaseView) × HasBlocks ext pages defs view
+
+abbrev pub SomeRows : Extents → Definitions → PageList → Type 0
+SomeRows ext defs pages = (view : DatabaseView) × HasRows ext pages defs view
+
+abbrev pub SomeCells : Extents → Definitions → PageList → Type 0
+SomeCells ext defs pages = (view : DatabaseView) × HasCells ext pages defs view
+
+-- ---- what is known behind the others
+
+-- the first rule is kept
+pub record KeepsRoot (ext : Extents) (pages : PageList) : Type 0 where
+  pub root : IsRootSound ext pages
+  pub before : NoneBreaksBefore ext pages 2
+
+-- the first two
+pub record KeepsExtents (ext : Extents) (pages : PageList) : Type 0 where
+  pub root : IsRootSound ext pages
+  pub owners : List Kind
+  pub map : IsMapSound ext pages owners
+  pub before : NoneBreaksBefore ext pages 3
+
+-- the first four, and the trees are counted
+pub record KeepsCounted (ext : Extents) (defs : Definitions) (times : List ℕ) (pages : PageList) : Type 0 where
+  pub view : DatabaseView
+  pub known : HasTrees ext pages defs view
+  pub counted : AreTimesInTrees pages view times
+  pub before : NoneBreaksBefore ext pages 5
+
+-- the first six
+pub record KeepsBlocks (ext : Extents) (defs : Definitions) (pages : PageList) : Type 0 where
+  pub view : DatabaseView
+  pub known : HasBlocks ext pages defs view
+  pub before : NoneBreaksBefore ext pages 7
+
+-- the first seven
+pub record KeepsRows (ext : Extents) (defs : Definitions) (pages : PageList) : Type 0 where
+  pub view : DatabaseView
+  pub known : HasRows ext pages defs view
+  pub before : NoneBreaksBefore ext pages 8
+
+-- the first eight
+pub record KeepsCounts (ext : Extents) (defs : Definitions) (pages : PageList) : Type 0 where
+  pub view : DatabaseView
+  pub known : HasRows ext pages defs view
+  pub rule8 : AreCountsSound ext pages view
+  pub before : NoneBreaksBefore ext pages 9
+
+-- the first ten
+pub record KeepsBlockIndexes (ext : Extents) (defs : Definitions) (pages : PageList) : Type 0 where
+  pub view : DatabaseView
+  pub known : HasCells ext pages defs view
+  pub rule10 : AreBlockIndexesSound ext pages view
+  pub before : NoneBreaksBefore ext pages 11
+
+-- the first eleven
+pub record KeepsIndexes (ext : Extents) (defs : Definitions) (pages : PageList) : Type 0 where
+  pub view : DatabaseView
+  pub known : HasCells ext pages defs view
+  pub rule10 : AreBlockIndexesSound ext pages view
+  pub rule11 : AreSoundIndexes ext pages view
+  pub before : NoneBreaksBefore ext pages 12
+
+-- ---- the table pages of a view
+
+places_of_defs : (ext : Extents) (pages : PageList) (owners : List Kind) (a n : ℕ) (places : List (Option TableView))
+    → AllZip (IsDefinitionSound ext pages owners) (range_with_len a n) (map (option_map (λ table. table.def)) places) → AllZip (IsTablePlaceSound ext pages owners) (range_with_len a n) places
+places_of_defs ext pages owners a zero [] all = tt
+places_of_defs ext pages owners a zero (place ∷ places) all = absurd all
+places_of_defs ext pages owners a (suc n) [] all = absurd all
+places_of_defs ext pages owners a (suc n) (None ∷ places) all = (all.0, places_of_defs ext pages owners (a + 1) n places all.1)
+places_of_defs ext pages owners a (suc n) (Some table ∷ places) all = (all.0, places_of_defs ext pages owners (a + 1) n places all.1)
+
+defs_of_places : (places : List (Option TableView)) → defs_there (map (option_map (λ table. table.def)) places) ≡ map (λ (table : TableView). table.def) (tables_there places)
+defs_of_places [] = refl
+defs_of_places (None ∷ places) = defs_of_places places
+defs_of_places (Some table ∷ places) = ap (λ defs. table.def ∷ defs) (defs_of_places places)
+
+pub table_pages_of_defs : (ext : Extents) (pages : PageList) (defs : Definitions) (view : DatabaseView) → defs_of view ≡ defs → AreDefinitionsSound ext pages view.owners defs → AreTablePagesSound ext pages view
+table_pages_of_defs ext pages defs view is sound =
+    let there : defs_there defs ≡ definitions_in view = ap defs_there (sym is) ∙ defs_of_places view.places in
+    record {
+      each = places_of_defs ext pages view.owners 0 16 view.places (subst (λ ds. AllZip (IsDefinitionSound ext pages view.owners) (range_with_len 0 16) ds) (sym is) sound.each);
+      tables_differ = subst (λ ds. AllPairs (λ a b. a.name ≢ b.name) ds) there sound.tables_differ;
+      indexes_differ = subst (λ (ds : List TableDef). AllPairs (λ a b. a.name ≢ b.name) (flat_map (λ def. def.indexes) ds)) there sound.indexes_differ;
+    }
+
+-- the trees of the tables that are defined
+trees_of_defs : (ext : Extents) (pages : PageList) (owners : List Kind) (defs : Definitions) (view : DatabaseView) → HasDefinitions ext pages owners defs → HasTheirTrees pages owners defs view → HasTrees ext pages defs view
+trees_of_defs ext pages owners defs view has trees = record {
+  defined = trees.defined;
+  rule1 = has.rule1;
+  rule2 = subst (IsMapSound ext pages) (sym trees.owned) has.rule2;
+  rule3 = table_pages_of_defs ext pages defs view trees.defined (subst (λ owned. AreDefinitionsSound ext pages owned defs) (sym trees.owned) has.rule3);
+  rule4 = trees.rule4;
+  split = trees.split;
+}
+
+-- ---- one rule after another
+
+pub tables_kept : (ext : Extents) (pages : PageList) (answer : TablePages) (defs : Vec (Option TableDef) Global) → answer ≡ Sound defs → KeepsExtents ext pages → SaysTables ext answer pages → KeepsTables ext defs.items pages
+tables_kept ext pages answer defs is kept says =
+    let sound : JudgesTablePages ext pages kept.owners (Sound defs) = subst (JudgesTablePages ext pages kept.owners) is (says kept.owners kept.root kept.map) in
+    record {
+      owners = kept.owners;
+      known = record { rule1 = kept.root; rule2 = kept.map; rule3 = sound.holds };
+      before = none_next ext pages 3 kept.before sound.unbroken;
+    }
+
+module _ (ext : Extents) (pages : PageList) (found : Option ℕ) (none : FindsNone found) where
+  pub root_kept : SaysRoot ext found pages → KeepsRoot ext pages
+  root_kept says =
+      let sound = holds_unbroken (IsRootSound ext pages) (BreaksRule ext pages 1) found none says in
+      record { root = sound.holds; before = none_next ext pages 1 (none_yet ext pages) sound.unbroken }
+
+  pub extents_kept : KeepsRoot ext pages → SaysExtents ext found pages → KeepsExtents ext pages
+  extents_kept kept says =
+      let sound = holds_unbroken ((owners : List Kind) × IsMapSound ext pages owners) (BreaksRule ext pages 2) found none (says kept.root) in
+      record { root = kept.root; owners = sound.holds.0; map = sound.holds.1; before = none_next ext pages 2 kept.before sound.unbroken }
+
+  pub trees_kept : (defs : Definitions) (times : List ℕ) → KeepsTables ext defs pages → SaysTrees defs times found pages → KeepsCounted ext defs times pages
+  trees_kept defs times kept says =
+      let sound = holds_unbroken (StandAsCounted pages kept.owners defs times) (BreaksRule ext pages 4) found none (says ext kept.owners kept.known) in
+      record {
+        view = sound.holds.view;
+        known = trees_of_defs ext pages kept.owners defs sound.holds.view kept.known sound.holds.trees;
+        counted = sound.holds.counted;
+        before = none_next ext pages 4 kept.before sound.unbroken;
+      }
+
+  pub tree_pages_kept : (defs : Definitions) (times : List ℕ) → KeepsCounted ext defs times pages → SaysTreePages ext times found pages → KeepsTrees ext defs pages
+  tree_pages_kept defs times kept says =
+      let sound = holds_unbroken (AreTreePagesSound ext kept.view) (BreaksRule ext pages 5) found none (says defs kept.view kept.known kept.counted) in
+      record { view = kept.view; known = kept.known; rule5 = sound.holds; before = none_next ext pages 5 kept.before sound.unbroken }
+
+  module _ (defs : Definitions) where
+    pub block_maps_kept : KeepsTrees ext defs pages → SaysBlockMaps ext defs found pages → KeepsBlocks ext defs pages
+    block_maps_kept kept says =
+        let sound = holds_unbroken (AreBlockMapsSound ext kept.view) (BreaksRule ext pages 6) found none (says kept.view kept.known) in
+        record {
+          view = kept.view;
+          known = record { trees = kept.known; rule5 = kept.rule5; rule6 = sound.holds };
+          before = none_next ext pages 6 kept.before sound.unbroken;
+        }
+
+    pub row_pages_kept : KeepsBlocks ext defs pages → SaysRowPages ext defs found pages → KeepsRows ext defs pages
+    row_pages_kept kept says =
+        let sound = holds_unbroken (AreRowPagesSound ext pages kept.view) (BreaksRule ext pages 7) found none (says kept.view kept.known) in
+        record { view = kept.view; known = record { blocks = kept.known; rule7 = sound.holds }; before = none_next ext pages 7 kept.before sound.unbroken }
+
+    pub counts_kept : KeepsRows ext defs pages → SaysCounts ext defs found pages → KeepsCounts ext defs pages
+    counts_kept kept says =
+        let sound = holds_unbroken (AreCountsSound ext pages kept.view) (BreaksRule ext pages 8) found none (says kept.view kept.known) in
+        record { view = kept.view; known = kept.known; rule8 = sound.holds; before = none_next ext pages 8 kept.before sound.unbroken }
+
+    pub cells_kept : KeepsCounts ext defs pages → SaysCells ext defs found pages → KeepsCells ext defs pages
+    cells_kept kept says =
+        let sound = holds_unbroken (AreCellsSound ext pages kept.view) (BreaksRule ext pages 9) found none (says kept.view kept.known) in
+        record {
+          view = kept.view;
+          known = record { rows = kept.known; rule8 = kept.rule8; rule9 = sound.holds };
+          before = none_next ext pages 9 kept.before sound.unbroken;
+        }
+
+    pub block_indexes_kept : KeepsCells ext defs pages → SaysBlockIndexes ext defs found pages → KeepsBlockIndexes ext defs pages
+    block_indexes_kept kept says =
+        let sound = holds_unbroken (AreBlockIndexesSound ext pages kept.view) (BreaksRule ext pages 10) found none (says kept.view kept.known) in
+        record { view = kept.view; known = kept.known; rule10 = sound.holds; before = none_next ext pages 10 kept.before sound.unbroken }
+
+    pub indexes_kept : KeepsBlockIndexes ext defs pages → SaysRecordIndexes ext defs found pages → KeepsIndexes ext defs pages
+    indexes_kept kept says =
+        let sound = holds_unbroken (AreSoundIndexes ext pages kept.view) (BreaksRule ext pages 11) found none (says kept.view kept.known) in
+        record { view = kept.view; known = kept.known; rule10 = kept.rule10; rule11 = sound.holds; before = none_next ext pages 11 kept.before sound.unbroken }
+
+    pub all_kept : KeepsIndexes ext defs pages → SaysKeys ext defs found pages → AreSoundUnbroken ext pages
+    all_kept kept says =
+        let sound = holds_unbroken (AreKeysSound ext pages kept.view) (BreaksRule ext pages 12) found none (says kept.view kept.known) in
+        let cells = kept.known in
+        let blocks = cells.rows.blocks in
+        let first : KeepAllRules ext pages kept.view = record {
+          first = record {
+            rule1 = blocks.trees.rule1;
+            rule2 = blocks.trees.rule2;
+            rule3 = blocks.trees.rule3;
+            rule4 = blocks.trees.rule4;
+            rule5 = blocks.rule5;
+            rule6 = blocks.rule6;
+            rule7 = cells.rows.rule7;
+            rule8 = cells.rule8;
+            rule9 = cells.rule9;
+            rule10 = kept.rule10;
+          };
+          rule11 = kept.rule11;
+          rule12 = sound.holds;
+        } in
+        record { sound = (kept.view, first); unbroken = none_at_all ext pages (none_next ext pages 12 kept.before sound.unbroken) }
+
+-- ---- the first that is broken
+
+pub tables_broken : (ext : Extents) (pages : PageList) (answer : TablePages) (page : ℕ) → answer ≡ Broken page → KeepsExtents ext pages → SaysTables ext answer pages → IsFirstBreak ext pages 3 page
+tables_broken ext pages answer page is kept says =
+    first_lowest ext pages 3 page kept.before (subst (JudgesTablePages ext pages kept.owners) is (says kept.owners kept.root kept.map))
+
+module _ (ext : Extents) (pages : PageList) (found : Option ℕ) (page : ℕ) (is : found ≡ Some page) where
+  pub root_broken : SaysRoot ext found pages → IsFirstBreak ext pages 1 page
+  root_broken says = first_break ext pages 1 (IsRootSound ext pages) found page is (none_yet ext pages) says
+
+  pub extents_broken : KeepsRoot ext pages → SaysExtents ext found pages → IsFirstBreak ext pages 2 page
+  extents_broken kept says = first_break ext pages 2 ((owners : List Kind) × IsMapSound ext pages owners) found page is kept.before (says kept.root)
+
+  pub trees_broken : (defs : Definitions) (times : List ℕ) → KeepsTables ext defs pages → SaysTrees defs times found pages → IsFirstBreak ext pages 4 page
+  trees_broken defs times kept says = first_break ext pages 4 (StandAsCounted pages kept.owners defs times) found page is kept.before (says ext kept.owners kept.known)
+
+  pub tree_pages_broken : (defs : Definitions) (times : List ℕ) → KeepsCounted ext defs times pages → SaysTreePages ext times found pages → IsFirstBreak ext pages 5 page
+  tree_pages_broken defs times kept says = first_break ext pages 5 (AreTreePagesSound ext kept.view) found page is kept.before (says defs kept.view kept.known kept.counted)
+
+  module _ (defs : Definitions) where
+    pub block_maps_broken : KeepsTrees ext defs pages → SaysBlockMaps ext defs found pages → IsFirstBreak ext pages 6 page
+    block_maps_broken kept says = first_break ext pages 6 (AreBlockMapsSound ext kept.view) found page is kept.before (says kept.view kept.known)
+
+    pub row_pages_broken : KeepsBlocks ext defs pages → SaysRowPages ext defs found pages → IsFirstBreak ext pages 7 page
+    row_pages_broken kept says = first_break ext pages 7 (AreRowPagesSound ext pages kept.view) found page is kept.before (says kept.view kept.known)
+
+    pub counts_broken : KeepsRows ext defs pages → SaysCounts ext defs found pages → IsFirstBreak ext pages 8 page
+    counts_broken kept says = first_break ext pages 8 (AreCountsSound ext pages kept.view) found page is kept.before (says kept.view kept.known)
+
+    pub cells_broken : KeepsCounts ext defs pages → SaysCells ext defs found pages → IsFirstBreak ext pages 9 page
+    cells_broken kept says = first_break ext pages 9 (AreCellsSound ext pages kept.view) found page is kept.before (says kept.view kept.known)
+
+    pub block_indexes_broken : KeepsCells ext defs pages → SaysBlockIndexes ext defs found pages → IsFirstBreak ext pages 10 page
+    block_indexes_broken kept says = first_break ext pages 10 (AreBlockIndexesSound ext pages kept.view) found page is kept.before (says kept.view kept.known)
+
+    pub record_indexes_broken : KeepsBlockIndexes ext defs pages → SaysRecordIndexes ext defs found pages → IsFirstBreak ext pages 11 page
+    record_indexes_broken kept says = first_break ext pages 11 (AreSoundIndexes ext pages kept.view) found page is kept.before (says kept.view kept.known)
+
+    pub keys_broken : KeepsIndexes ext defs pages → SaysKeys ext defs found pages → IsFirstBreak ext pages 12 page
+    keys_broken kept says = first_break ext pages 12 (AreKeysSound ext pages kept.view) found page is kept.before (says kept.view kept.known)

@@ -1,0 +1,183 @@
+-- The indexes of a table are judged one after the other, and those of all tables.
+use Rattle.std.proofs.Common.{◌≡◌, ◌+◌, ◌<◌, ◌⊎◌, Bool, ℕ, zero, suc, List, [], ◌∷◌, ◌++◌, refl, sym, ap, subst, ◌∙◌, arith, length, get_or, take, inl, inr}
+use Rattle.std.specs.Prelude.{IsTrue, Contains, ◌↔◌, Option, Some, None, map, option_map, slice_get, zip}
+use Rattle.std.specs.List.{AllByRecursion, AllZip}
+use Rattle.std.proofs.lemmas.List.{take_more}
+use Rattle.std.proofs.lemmas.List.Elements.{Contains-append_left, Contains-append_right}
+use Rattle.std.proofs.lemmas.Option.{get_or_from_slice_get, same_Some, slice_get_within}
+use Rattle.mdc_ast.specs.declared.definition.TableDef.{TableDef}
+use Rattle.mdc_ast.specs.meaning.Definitions.{Definitions}
+use Rattle.extent_map.specs.declared.extents.Extents.{Extents}
+use Rattle.key_codec.specs.Keys.{width_of_parts}
+use Rattle.entry_tree.specs.Forest.{Forest, leaf_entries}
+use Rattle.block_map.specs.MapLines.{map_line, map_lines, used_blocks}
+use Rattle.block_map.proofs.MapLinesLemmas.{contains_cases, contains_more}
+use Rattle.table_trees.specs.TableTrees.{TreePlace, cell_parts, composite_place, dimension_place, dimension_places, map_place, place_of_tree, record_place, record_places, tree_places}
+use Rattle.table_trees.specs.ToldPages.{HasTree, PageList}
+use Rattle.mdc_sound.specs.BlockRules.{AreBlockRowsSound}
+use Rattle.mdc_sound.specs.SpaceRules.{DatabaseView, IsBlockMapSound, IsMapLineSound}
+use Rattle.mdc_sound.specs.TableViews.{TableView, trees_of_table}
+use Rattle.mdc_sound.proofs.ElementsLemmas.{contains_entry, from_map, in_map}
+use Rattle.mdc_sound.proofs.MappedBlocksLemmas.{map_form, used_line}
+use Rattle.mdc_sound.proofs.SpaceRulesLemmas.{range_at, there_at}
+use Rattle.mdc_sound.proofs.StandsForLemmas.{one_tree_at}
+use Rattle.stored_catalog.specs.StoredDefinitions.{AreWithinLimits, IsWithinLimits}
+use Rattle.table_page.specs.TableLimits.{IsTableDef}
+use Rattle.file_check.specs.Judging.{Judges, JudgesEach, lower}
+use Rattle.file_check.specs.Known.{HasCells}
+use Rattle.file_check.proofs.JudgingLemmas.{judges_next}
+use Rattle.file_check.specs.declared.table_index.IndexKind.{IndexKind}
+use Rattle.file_check.specs.declared.table_index.IndexKind.TheVariants.{Blocks, Rows}
+use Rattle.file_check.specs.declared.table_index.TableIndex.{TableIndex}
+use Rattle.file_check.specs.TableIndexes.{AreReadable, AreSoundEntries, BreaksAnyIndex, BreaksPlace, HasIndexes, HasSoundIndexes, IsPlaceSound, IsSoundTree, JudgesIndexes, PlacedIndex, entries_of_blocks, index_of_dimension, indexes_of_kind, place_of_index, spare_blocks}
+
+-- ---- one index
+
+module _ (kind : IndexKind) (ext : Extents) (pages : PageList) (def : TableDef) (map_tree : Forest) (index : PlacedIndex) (tree : Forest) (here : HasTree pages index.place tree) where
+  pub judged_sound : IsSoundTree kind ext pages def map_tree index tree → Judges (IsPlaceSound kind ext pages def map_tree index) (BreaksPlace kind ext pages def map_tree index) None
+  judged_sound sound = record {
+    holds = λ other has. subst (IsSoundTree kind ext pages def map_tree index) (one_tree_at pages index.place tree other here has) sound;
+    unbroken = λ p breaks. breaks.1 tree here sound;
+  }
+
+  pub judged_broken : (IsSoundTree kind ext pages def map_tree index tree → ⊥) → Judges (IsPlaceSound kind ext pages def map_tree index) (BreaksPlace kind ext pages def map_tree index) (Some index.place.root)
+  judged_broken broken = record {
+    breaks = (refl, λ other has sound. broken (subst (IsSoundTree kind ext pages def map_tree index) (one_tree_at pages index.place other tree has here) sound));
+    lowest = λ p breaks. omega (arith, breaks.0);
+  }
+
+-- what was found of the index in hand is said of the one in its place
+pub found_in_place : (kind : IndexKind) (ext : Extents) (pages work : PageList) (def : TableDef) (map_tree : Forest) (index : TableIndex) (used spare : List ℕ) (sound : Bool)
+    → index.kind ≡ kind → work ≡ pages → used ≡ used_blocks map_tree → spare ≡ spare_blocks kind map_tree
+    → (AreReadable ext work def used → (tree : Forest) → HasTree work (place_of_tree index.tree) tree
+    → IsTrue sound ↔ AreSoundEntries (entries_of_blocks index.kind ext work def index.parts used) spare (width_of_parts def.columns index.parts) (leaf_entries tree))
+    → AreReadable ext pages def (used_blocks map_tree) → (tree : Forest) → HasTree pages (place_of_tree index.tree) tree → IsTrue sound ↔ IsSoundTree kind ext pages def map_tree (place_of_index index) tree
+found_in_place kind ext pages work def map_tree index used spare sound kind_is same used_is spare_is found readable tree has =
+    let width = width_of_parts def.columns index.parts in
+    let first = found (subst (λ (blocks : List ℕ). AreReadable ext work def blocks) (sym used_is) (subst (λ (told : PageList). AreReadable ext told def (used_blocks map_tree)) (sym same) readable)) tree
+    (subst (λ (told : PageList). HasTree told (place_of_tree index.tree) tree) (sym same) has) in
+    subst (λ (k : IndexKind). IsTrue sound ↔ AreSoundEntries (entries_of_blocks k ext pages def index.parts (used_blocks map_tree)) (spare_blocks kind map_tree) width (leaf_entries tree)) kind_is
+    (subst (λ (told : PageList). IsTrue sound ↔ AreSoundEntries (entries_of_blocks index.kind ext told def index.parts (used_blocks map_tree)) (spare_blocks kind map_tree) width (leaf_entries tree)) same
+    (subst (λ (blocks : List ℕ). IsTrue sound ↔ AreSoundEntries (entries_of_blocks index.kind ext work def index.parts blocks) (spare_blocks kind map_tree) width (leaf_entries tree)) used_is
+    (subst (λ (blocks : List ℕ). IsTrue sound ↔ AreSoundEntries (entries_of_blocks index.kind ext work def index.parts used) blocks width (leaf_entries tree)) spare_is first)))
+
+-- ---- one of a list after the other
+
+pub lower-none : (found : Option ℕ) → lower found None ≡ found
+lower-none None = refl
+lower-none (Some page) = refl
+
+pub place_next : {X : Type 0} (P : X → Type 0) (B : X → ℕ → Type 0) (xs : List X) (i : ℕ) (x : X) (found here : Option ℕ) → slice_get xs i ≡ Some x
+    → JudgesEach P B (take i xs) found → Judges (P x) (B x) here → JudgesEach P B (take (i + 1) xs) (lower found here)
+place_next {X} P B xs i x found here at before this =
+    let low = slice_get_within xs i x at in
+    let more : take (i + 1) xs ≡ take i xs ++ x ∷ [] = take_more xs i x low ∙ ap (λ y. take i xs ++ y ∷ []) (get_or_from_slice_get xs i x x at) in
+    subst (λ (ys : List X). JudgesEach P B ys (lower found here)) (sym more) (judges_next P B (take i xs) x found here before this)
+
+pub member_at : {X : Type 0} (xs : List X) (i : ℕ) (x : X) → slice_get xs i ≡ Some x → Contains xs x
+member_at xs i x at = (i, slice_get_within xs i x at, get_or_from_slice_get xs i x x at)
+
+-- ---- what is known of a table
+
+tree_in : (pages : PageList) (places : List TreePlace) (trees : List Forest) (place : TreePlace) → AllZip (HasTree pages) places trees → Contains places place → (tree : Forest) × HasTree pages place tree
+tree_in pages [] trees place all (k, low, at) = absurd (omega (arith, low))
+tree_in pages (first ∷ places) [] place all there = absurd all
+tree_in pages (first ∷ places) (t ∷ trees) place all there = go (contains_cases place first places there) (tree_in pages places trees place all.1)
+  where
+    go : (first ≡ place) ⊎ Contains places place → (Contains places place → (tree : Forest) × HasTree pages place tree) → (tree : Forest) × HasTree pages place tree
+    go (inl e) more = (t, subst (λ (p : TreePlace). HasTree pages p t) e all.0)
+    go (inr c) more = more c
+
+later_place : (def : TableDef) (place : TreePlace) → Contains (dimension_places def ++ record_places def) place → Contains (tree_places def) place
+later_place def place there =
+    contains_more place (map_place def) (composite_place def ∷ dimension_places def ++ record_places def) (contains_more place (composite_place def) (dimension_places def ++ record_places def) there)
+
+-- each index is one of the trees of its table
+pub is_tree_place : (kind : IndexKind) (def : TableDef) (index : PlacedIndex) → Contains (indexes_of_kind kind def) index → Contains (tree_places def) index.place
+is_tree_place Blocks def index there = go (contains_cases index (record { place = composite_place def; parts = cell_parts def }) (map (index_of_dimension def) (zip def.dims def.roots.dims)) there)
+  where
+    go : (record { place = composite_place def; parts = cell_parts def } ≡ index) ⊎ Contains (map (index_of_dimension def) (zip def.dims def.roots.dims)) index → Contains (tree_places def) index.place
+    go (inl e) = contains_more index.place (map_place def) (composite_place def ∷ dimension_places def ++ record_places def) (0, omega arith, ap (λ (i : PlacedIndex). i.place) e)
+    go (inr c) =
+        let found = from_map (index_of_dimension def) (zip def.dims def.roots.dims) index c in
+        later_place def index.place (Contains-append_left (dimension_places def) (record_places def) index.place
+        (subst (Contains (dimension_places def)) (ap (λ (i : PlacedIndex). i.place) found.2) (in_map (λ pair. dimension_place def pair.0 pair.1) (zip def.dims def.roots.dims) found.0 found.1)))
+is_tree_place Rows def index there =
+    let found = from_map (λ i. record { place = record_place def i; parts = i.parts }) def.indexes index there in
+    later_place def index.place (Contains-append_right (dimension_places def) (record_places def) index.place
+    (subst (Contains (record_places def)) (ap (λ (i : PlacedIndex). i.place) found.2) (in_map (record_place def) def.indexes found.0 found.1)))
+
+pub each_of : {X : Type 0} (P : X → Type 0) (xs : List X) (x : X) → AllByRecursion P xs → Contains xs x → P x
+each_of P [] x all (k, low, at) = absurd (omega (arith, low))
+each_of {X} P (y ∷ ys) x all there = go (contains_cases x y ys there) (each_of P ys x all.1)
+  where
+    go : (y ≡ x) ⊎ Contains ys x → (Contains ys x → P x) → P x
+    go (inl e) more = subst P e all.0
+    go (inr c) more = more c
+
+-- a Used block is an extent
+block_within : (ext : Extents) (view : DatabaseView) (table : TableView) (block : ℕ) → IsBlockMapSound ext view.owners table.def table.map → Contains (used_blocks table.map) block → block < ext.cap
+block_within ext view table block sound there =
+    let line = used_line table.map block there in
+    subst (λ n. n < ext.cap) line.block_is
+    (each_of (IsMapLineSound ext view.owners table.def) (map_lines table.map) (map_line line.entry) sound.lines (in_map map_line (leaf_entries table.map) line.entry (contains_entry (leaf_entries table.map) line.entry line.there))).within
+
+pub has_indexes : (kind : IndexKind) (ext : Extents) (pages : PageList) (defs : Definitions) (view : DatabaseView) (t : ℕ) (table : TableView) → HasCells ext pages defs view → slice_get view.places t ≡ Some (Some table)
+    → HasIndexes kind ext pages table.def table.map
+has_indexes kind ext pages defs view t table known at =
+    let trees = there_at (λ table. AllZip (HasTree pages) (tree_places table.def) (trees_of_table table)) view.places t table at known.rows.blocks.trees.rule4 in
+    let block_map = there_at (λ table. IsBlockMapSound ext view.owners table.def table.map) view.places t table at known.rows.blocks.rule6 in
+    let rows = there_at (λ table. AllByRecursion (AreBlockRowsSound ext pages table.def) (used_blocks table.map)) view.places t table at known.rows.rule7 in
+    record {
+      map = trees.0;
+      form = map_form ext view.owners table.def table.map block_map;
+      used = λ block there. (
+        block_within ext view table block block_map there,
+        (each_of (AreBlockRowsSound ext pages table.def) (used_blocks table.map) block rows there).forms,
+      );
+      trees = λ index there. tree_in pages (tree_places table.def) (trees_of_table table) index.place trees (is_tree_place kind table.def index there);
+    }
+
+-- ---- the table of a definition
+
+-- the table that a view has in the place of a definition
+pub record IsTableAt (view : DatabaseView) (t : ℕ) (def : TableDef) : Type 0 where
+  pub table : TableView
+  pub stands : slice_get view.places t ≡ Some (Some table)
+  pub same : table.def ≡ def
+
+table_in : (places : List (Option TableView)) (t : ℕ) (def : TableDef) → slice_get (map (option_map (λ (table : TableView). table.def)) places) t ≡ Some (Some def)
+    → (table : TableView) × (slice_get places t ≡ Some (Some table)) × (table.def ≡ def)
+table_in [] t def at = absurd (cc)
+table_in (None ∷ places) zero def at = absurd (cc)
+table_in (Some table ∷ places) zero def at = (table, refl, same_Some table.def def (same_Some (Some table.def) (Some def) at))
+table_in (place ∷ places) (suc t) def at = table_in places t def at
+
+pub table_at : (ext : Extents) (pages : PageList) (defs : Definitions) (view : DatabaseView) (t : ℕ) (def : TableDef) → HasCells ext pages defs view → slice_get defs t ≡ Some (Some def) → IsTableAt view t def
+table_at ext pages defs view t def known at =
+    let (table, stands, same) = table_in view.places t def (ap (λ (ds : Definitions). slice_get ds t) known.rows.blocks.trees.defined ∙ at) in
+    record { table = table; stands = stands; same = same }
+
+-- what was judged of its definition is judged of the table
+pub table_judged : (kind : IndexKind) (ext : Extents) (pages work : PageList) (defs : Definitions) (view : DatabaseView) (t : ℕ) (table : TableView) (def : TableDef) (here : Option ℕ) → work ≡ pages
+    → HasCells ext pages defs view → slice_get view.places t ≡ Some (Some table) → table.def ≡ def
+    → ((map_tree : Forest) → HasIndexes kind ext work def map_tree → JudgesIndexes kind ext work def map_tree here) → Judges (HasSoundIndexes kind ext pages table) (BreaksAnyIndex kind ext pages table) here
+table_judged kind ext pages work defs view t table def here same known at is judged =
+    let has = has_indexes kind ext pages defs view t table known at in
+    let found = judged table.map (subst (λ (told : PageList). HasIndexes kind ext told def table.map) (sym same) (subst (λ (d : TableDef). HasIndexes kind ext pages d table.map) is has)) in
+    subst (λ (d : TableDef). JudgesIndexes kind ext pages d table.map here) (sym is) (subst (λ (told : PageList). JudgesIndexes kind ext told def table.map here) same found)
+
+-- what stands in a place of a list
+pub item_at : {X : Type 0} (xs : List X) (i : ℕ) (x : X) → i < length xs → x ≡ get_or xs i x → slice_get xs i ≡ Some x
+item_at [] i x low is = absurd (omega (arith, low))
+item_at (y ∷ xs) zero x low is = ap Some (sym is)
+item_at (y ∷ xs) (suc i) x low is = item_at xs i x (omega (arith, low)) is
+
+pub no_item : {X : Type 0} (place : Option X) → ((x : X) → place ≡ Some x → ⊥) → place ≡ None
+no_item None none = refl
+no_item (Some x) none = absurd (none x refl)
+
+pub limits_in_place : (defs : Definitions) (t : ℕ) (def : TableDef) → AreWithinLimits defs → slice_get defs t ≡ Some (Some def) → IsTableDef def.number def
+limits_in_place defs t def within at =
+    let is = (range_at IsWithinLimits 0 16 defs t (Some def) within at).1 in
+    subst (λ n. IsTableDef n def) (sym is.stands) is

@@ -1,0 +1,23 @@
+use Rattle.std.proofs.Common.{◌≡◌, ◌++◌, None, false}
+use Rattle.entry_tree.specs.Entries.{AreOfWidth}
+use Rattle.entry_tree.specs.Forest.{Forest, leaf_entries}
+use Rattle.entry_tree.specs.HeldTrees.{HoldsTree}
+use Rattle.entry_tree.specs.Reading.{BoundFits}
+use Rattle.block_index.specs.Reading.{entries_left, room_above}
+use Rattle.block_index.proofs.ReadingRunsLemmas.{ReadsTree}
+use Rattle.file_check.proofs.entries.entries_of.Given as goal
+
+-- what was taken so far, and what is left from the bound on, are all entries
+abbrev pub invariant-leaves : goal.invariant-leaves
+invariant-leaves g l = record {
+  same : (g.P.Pages.state l.pages).work ≡ (g.P.Pages.state l.fn.pages).work;
+  going : (g.P.Pages.state l.pages).ended ≡ false;
+  runs : ReadsTree g.P.Pages l.tree l.fn.pages l.pages None;
+  fits : BoundFits l.tree.width l.bound;
+  width : AreOfWidth l.tree.width l.entries;
+  taken : (t : Forest) → HoldsTree g.P.Pages l.fn.pages l.tree t → leaf_entries t ≡ l.entries ++ entries_left (leaf_entries t) l.bound;
+}
+
+-- how much room there is above the bound
+abbrev pub decreases-leaves : goal.decreases-leaves
+decreases-leaves g l = room_above l.tree.width l.bound

@@ -1,0 +1,42 @@
+use Rattle.std.proofs.Common.{◌≡◌, ◌-◌, ◌∙◌, List, ℕ, arith, refl, subst}
+use Rattle.std.specs.Prelude.{Contains}
+use Rattle.store_api.proofs.RunsOverPagesLemmas.{runs_exit, runs_then}
+use Rattle.key_codec.specs.Keys.{width_of_parts}
+use Rattle.entry_tree.specs.Forest.{leaf_entries}
+use Rattle.table_trees.specs.TableTrees.{place_of_tree}
+use Rattle.file_check.specs.TableIndexes.{NotesEntries, bytes_behind_key, entries_of_blocks, noted_entries}
+use Rattle.file_check.proofs.IndexJudgingLemmas.{noted_as_sound, sound_as_noted, unless_later_tree, when_true}
+use Rattle.file_check.proofs.RowEntriesLemmas.{holds_told, unless_tree}
+use Rattle.file_check.proofs.index_judging.is_sound.Goals as goal
+
+pub returns-in_err-entries-clause-runs : goal.returns-in_err-entries-clause-runs
+returns-in_err-entries-clause-runs g c =
+    runs_exit c.from_residual-in_err-entries.result c.from_residual-in_err-entries.ensures.1
+    (runs_then c.in_ok-note_rows.ensures.runs c.in_err-entries.ensures.runs (λ p there mine. mine) (λ p is. tt)
+    (λ damage b. unless_later_tree g.P.Pages c.args.ext.now c.args.pages.now c.note_rows.new.pages c.args.def.now c.args.used.now (place_of_tree c.args.index.now.tree) damage
+    c.in_ok-note_rows.ensures.runs.works.steady.is_told c.in_ok-note_rows.ensures.same (unless_tree c.note_rows.new.pages c.note_rows.new.pages c.args.index.now.tree damage refl refl b)))
+
+pub returns-clause-sound : goal.returns-clause-sound
+returns-clause-sound g c told readable tree has =
+    let index = c.args.index.now in
+    let wanted = entries_of_blocks index.kind c.args.ext.now (g.P.Pages.state c.args.pages.now).work c.args.def.now index.parts c.args.used.now in
+    let fresh : (entry : List ℕ) → Contains (noted_entries c.new-noted.result) entry → Contains (leaf_entries tree) entry =
+    λ entry there. (let (k, low, at) = subst (λ (entries : List (List ℕ)). Contains entries entry) c.new-noted.ensures there in absurd (omega (arith, low))) in
+    let notes = when_true c.in_ok-note_rows.field-0 (NotesEntries wanted (leaf_entries tree) c.new-noted.result c.note_rows.new.noted) _ c.if-not-branch.false (c.in_ok-note_rows.ensures.notes told readable tree has fresh) in
+    let held = holds_told c.note_rows.new.pages (g.P.Pages.state c.args.pages.now).work index.tree tree (c.in_ok-note_rows.ensures.runs.works.steady.is_told ∙ told) c.in_ok-note_rows.ensures.same has in
+    let read = c.in_ok-entries.ensures.all tree held in
+    let key = width_of_parts c.args.def.now.columns index.parts in
+    let key_is : index.tree.width - bytes_behind_key index.kind ≡ key = omega (arith, c.requires.index.width) in (
+      λ yes.
+          sound_as_noted wanted (leaf_entries tree) _ c.args.spare.now c.new-noted.result c.note_rows.new.noted key (index.tree.width - bytes_behind_key index.kind) notes c.new-noted.ensures read key_is
+          (c.has_no_others.ensures.0 yes),
+      λ sound.
+          c.has_no_others.ensures.1
+          (noted_as_sound wanted (leaf_entries tree) _ c.args.spare.now c.new-noted.result c.note_rows.new.noted key (index.tree.width - bytes_behind_key index.kind) notes read key_is sound),
+    )
+
+pub returns-clause-runs : goal.returns-clause-runs
+returns-clause-runs g c =
+    runs_then c.in_ok-note_rows.ensures.runs c.in_ok-entries.ensures.runs (λ p there mine. mine) (λ p is. tt)
+    (λ damage b. unless_later_tree g.P.Pages c.args.ext.now c.args.pages.now c.note_rows.new.pages c.args.def.now c.args.used.now (place_of_tree c.args.index.now.tree) damage
+    c.in_ok-note_rows.ensures.runs.works.steady.is_told c.in_ok-note_rows.ensures.same (unless_tree c.note_rows.new.pages c.note_rows.new.pages c.args.index.now.tree damage refl refl b))

@@ -1,0 +1,32 @@
+-- What is known between the parts of a check: the rules before hold, and no page breaks one of them.
+use Rattle.std.specs.Prelude.{◌<◌, ℕ, List}
+use Rattle.mdc_ast.specs.meaning.Definitions.{Definitions}
+use Rattle.extent_map.specs.declared.extents.Extents.{Extents}
+use Rattle.extent_map.specs.declared.kind.Kind.{Kind}
+use Rattle.table_trees.specs.ToldPages.{PageList}
+use Rattle.mdc_sound.specs.Breaks.{BreaksRule}
+use Rattle.mdc_sound.specs.SpaceRules.{AreTreePagesSound, DatabaseView}
+use Rattle.file_check.specs.Known.{HasCells, HasDefinitions, HasTrees}
+
+-- no page breaks a rule before this one
+pub record NoneBreaksBefore (ext : Extents) (pages : PageList) (rule : ℕ) : Type 0 where
+  pub none : (other p : ℕ) → other < rule → BreaksRule ext pages other p → ⊥
+
+-- the first three rules are kept
+pub record KeepsTables (ext : Extents) (defs : Definitions) (pages : PageList) : Type 0 where
+  pub owners : List Kind
+  pub known : HasDefinitions ext pages owners defs
+  pub before : NoneBreaksBefore ext pages 4
+
+-- the first five
+pub record KeepsTrees (ext : Extents) (defs : Definitions) (pages : PageList) : Type 0 where
+  pub view : DatabaseView
+  pub known : HasTrees ext pages defs view
+  pub rule5 : AreTreePagesSound ext view
+  pub before : NoneBreaksBefore ext pages 6
+
+-- the first nine
+pub record KeepsCells (ext : Extents) (defs : Definitions) (pages : PageList) : Type 0 where
+  pub view : DatabaseView
+  pub known : HasCells ext pages defs view
+  pub before : NoneBreaksBefore ext pages 10

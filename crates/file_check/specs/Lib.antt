@@ -1,0 +1,16 @@
+pub mod BlockMapsJudged
+pub mod BlocksJudged
+pub mod Branches
+pub mod Divisors
+pub mod Judging
+pub mod Kept
+pub mod KeysJudged
+pub mod Known
+pub mod Looking
+pub mod MapPagesJudged
+pub mod TableIndexes
+pub mod TablePagesJudged
+pub mod TakingEntries
+pub mod TreeMarks
+pub mod TreesJudged
+pub mod Verdicts

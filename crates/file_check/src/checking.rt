@@ -1,0 +1,172 @@
+// All rules, one after the other.
+ghost use Rattle.std.specs.Prelude.{◌≡◌, false, IfOk, IsTrue};
+ghost use Rattle.store_api.specs.Causes.{NoDamage, fault_of, fault_of_pages};
+ghost use Rattle.store_api.specs.Frame.{NoPage};
+ghost use Rattle.store_api.specs.RunsOverPages.{RunsOverPages};
+ghost use Rattle.stored_catalog.specs.StoredDefinitions.{AreWithinLimits};
+ghost use Rattle.file_check.specs.Kept.{KeepsCells, KeepsTables, KeepsTrees};
+ghost use Rattle.file_check.specs.Looking.{AnyPage, Unless, UnlessTold};
+ghost use Rattle.file_check.specs.Verdicts.{IsVerdictOf};
+ghost use Rattle.file_check.specs.declared.verdict.Verdict.TheVariants.{Broken};
+
+use crate::block_indexes::judge_block_indexes;
+use crate::block_maps::judge_block_maps;
+use crate::cells::judge_cells;
+use crate::counts::judge_counts;
+use crate::definitions::{TablePages, judge_table_pages};
+use crate::extents::judge_extents;
+use crate::keys::judge_keys;
+use crate::record_indexes::judge_record_indexes;
+use crate::root::judge_root;
+use crate::row_pages::judge_row_pages;
+use crate::tree_pages::judge_tree_pages;
+use crate::trees::judge_trees;
+use crate::verdict::Verdict;
+use extent_map::Extents;
+use mdc_ast::TableDef;
+use std::alloc::Global;
+use store_api::{Damage, PageFault, Pages, StoreFault};
+
+/// The numbers of the rules.
+const ROOT_RULE: u16 = 1;
+
+const EXTENTS_RULE: u16 = 2;
+
+const TABLE_PAGES_RULE: u16 = 3;
+
+const TREES_RULE: u16 = 4;
+
+const TREE_PAGES_RULE: u16 = 5;
+
+const BLOCK_MAPS_RULE: u16 = 6;
+
+const ROW_PAGES_RULE: u16 = 7;
+
+const COUNTS_RULE: u16 = 8;
+
+const CELLS_RULE: u16 = 9;
+
+const BLOCK_INDEXES_RULE: u16 = 10;
+
+const RECORD_INDEXES_RULE: u16 = 11;
+
+const KEYS_RULE: u16 = 12;
+
+/// Judges all pages of a database by the twelve rules. Where they aren't sound, the first rule that is broken is named, with the
+/// lowest page that breaks it.
+pub fn check<P: Pages>(alloc: Global, ext: &Extents, pages: &mut P) -> Result<Verdict, PageFault>
+    requires going { (P.state pages.old).ended ≡ false }
+    ensures verdict { IfOk result (λ verdict. IsTrue (P.state pages.old).is_told → IsVerdictOf ext.now (P.state pages.old).work verdict) }
+    ensures same { (P.state pages.new).work ≡ (P.state pages.old).work }
+    ensures runs { RunsOverPages P.Pages NoPage AnyPage NoDamage pages.old pages.new (fault_of_pages result) }
+{
+    match judge_rules(alloc, ext, pages) {
+        Ok(verdict) => Ok(verdict),
+        // where pages are told, no call below meets damage that the rules before don't name
+        Err(StoreFault::Damaged(damage)) => Ok(Verdict::Broken(damage)),
+        Err(StoreFault::Device) => Err(PageFault::Device),
+        Err(StoreFault::Memory) => Err(PageFault::Memory),
+    }
+}
+
+/// Judges rules 1 to 3, of the root page, the extent map and the table pages, and then the others.
+fn judge_rules<P: Pages>(alloc: Global, ext: &Extents, pages: &mut P) -> Result<Verdict, StoreFault>
+    requires going { (P.state pages.old).ended ≡ false }
+    ensures verdict { IfOk result (λ verdict. IsTrue (P.state pages.old).is_told → IsVerdictOf ext.now (P.state pages.old).work verdict) }
+    ensures same { (P.state pages.new).work ≡ (P.state pages.old).work }
+    ensures runs { RunsOverPages P.Pages NoPage AnyPage (UnlessTold P.Pages pages.old) pages.old pages.new (fault_of result) }
+{
+    if let Some(page) = judge_root(ext, pages)? {
+        return Ok(broken(ROOT_RULE, page));
+    }
+    if let Some(page) = judge_extents(ext, pages)? {
+        return Ok(broken(EXTENTS_RULE, page));
+    }
+    match judge_table_pages(alloc, ext, pages)? {
+        TablePages::Broken(page) => Ok(broken(TABLE_PAGES_RULE, page)),
+        TablePages::Sound(defs) => judge_tables(alloc, ext, pages, &defs),
+    }
+}
+
+/// Judges rules 4 and 5, of the trees of these tables and their pages, and then the others.
+fn judge_tables<P: Pages>(
+    alloc: Global,
+    ext: &Extents,
+    pages: &mut P,
+    defs: &[Option<TableDef>],
+) -> Result<Verdict, StoreFault>
+    requires limits { AreWithinLimits defs.now }
+    requires going { (P.state pages.old).ended ≡ false }
+    ensures verdict { IfOk result (λ verdict. IsTrue (P.state pages.old).is_told → KeepsTables ext.now defs.now (P.state pages.old).work → IsVerdictOf ext.now (P.state pages.old).work verdict) }
+    ensures same { (P.state pages.new).work ≡ (P.state pages.old).work }
+    ensures runs { RunsOverPages P.Pages NoPage AnyPage (Unless P.Pages pages.old (KeepsTables ext.now defs.now)) pages.old pages.new (fault_of result) }
+{
+    let trees = judge_trees(alloc, pages, defs)?;
+    if let Some(page) = trees.broken {
+        return Ok(broken(TREES_RULE, page));
+    }
+    if let Some(page) = judge_tree_pages(ext, pages, &trees.times)? {
+        return Ok(broken(TREE_PAGES_RULE, page));
+    }
+    judge_blocks(alloc, ext, pages, defs)
+}
+
+/// Judges rules 6 to 9, of the blocks of these tables and what lies in them, and then the others.
+fn judge_blocks<P: Pages>(
+    alloc: Global,
+    ext: &Extents,
+    pages: &mut P,
+    defs: &[Option<TableDef>],
+) -> Result<Verdict, StoreFault>
+    requires limits { AreWithinLimits defs.now }
+    requires going { (P.state pages.old).ended ≡ false }
+    ensures verdict { IfOk result (λ verdict. IsTrue (P.state pages.old).is_told → KeepsTrees ext.now defs.now (P.state pages.old).work → IsVerdictOf ext.now (P.state pages.old).work verdict) }
+    ensures same { (P.state pages.new).work ≡ (P.state pages.old).work }
+    ensures runs { RunsOverPages P.Pages NoPage AnyPage (Unless P.Pages pages.old (KeepsTrees ext.now defs.now)) pages.old pages.new (fault_of result) }
+{
+    if let Some(page) = judge_block_maps(alloc, ext, pages, defs)? {
+        return Ok(broken(BLOCK_MAPS_RULE, page));
+    }
+    if let Some(page) = judge_row_pages(alloc, ext, pages, defs)? {
+        return Ok(broken(ROW_PAGES_RULE, page));
+    }
+    if let Some(page) = judge_counts(alloc, ext, pages, defs)? {
+        return Ok(broken(COUNTS_RULE, page));
+    }
+    if let Some(page) = judge_cells(alloc, ext, pages, defs)? {
+        return Ok(broken(CELLS_RULE, page));
+    }
+    judge_indexes(alloc, ext, pages, defs)
+}
+
+/// Judges rules 10 to 12, of the indexes of these tables and of their keys.
+fn judge_indexes<P: Pages>(
+    alloc: Global,
+    ext: &Extents,
+    pages: &mut P,
+    defs: &[Option<TableDef>],
+) -> Result<Verdict, StoreFault>
+    requires limits { AreWithinLimits defs.now }
+    requires going { (P.state pages.old).ended ≡ false }
+    ensures verdict { IfOk result (λ verdict. IsTrue (P.state pages.old).is_told → KeepsCells ext.now defs.now (P.state pages.old).work → IsVerdictOf ext.now (P.state pages.old).work verdict) }
+    ensures same { (P.state pages.new).work ≡ (P.state pages.old).work }
+    ensures runs { RunsOverPages P.Pages NoPage AnyPage (Unless P.Pages pages.old (KeepsCells ext.now defs.now)) pages.old pages.new (fault_of result) }
+{
+    if let Some(page) = judge_block_indexes(alloc, ext, pages, defs)? {
+        return Ok(broken(BLOCK_INDEXES_RULE, page));
+    }
+    if let Some(page) = judge_record_indexes(alloc, ext, pages, defs)? {
+        return Ok(broken(RECORD_INDEXES_RULE, page));
+    }
+    if let Some(page) = judge_keys(alloc, ext, pages, defs)? {
+        return Ok(broken(KEYS_RULE, page));
+    }
+    Ok(Verdict::Sound)
+}
+
+/// A rule is broken at a page.
+fn broken(rule: u16, page: u32) -> Verdict
+    ensures { result ≡ Broken (record { page = page; rule = rule }) }
+{
+    Verdict::Broken(Damage { page, rule })
+}

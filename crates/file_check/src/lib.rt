@@ -1,0 +1,54 @@
+//! Whether the pages of a database are sound, and which page breaks which rule where they aren't.
+//!
+//! `check` judges the twelve rules in their order, each over all pages, and trusts none. It promises that its verdict is exact on
+//! any pages that are told: `Sound` where they are sound, and else the first rule that is broken, with the lowest page that breaks
+//! it. It changes no page. Each rule has a file of its own here, whose function rests on the rules before it alone; what is known
+//! of pages by then is said in `specs/Known.antt`. The laws say that no page of a sound database breaks a rule, and so that a
+//! verdict is `Sound` exactly where the pages are.
+//!
+//! It stands on the words of `mdc_sound` for the rules, on `stored_catalog` for which definitions are within the limits, on
+//! `table_page` for definitions, on `node_page` and `entry_tree` for trees, on `block_map` for the blocks of a table, on `block_rows`
+//! and `row_page` for rows, on `row_judging` for whether values fit, on `key_codec` for the keys of rows, and on `block_index` for
+//! walks over entries and for whether rows are of one cell.
+#![tactic(auto)]
+
+mod block_indexes;
+mod block_maps;
+mod blocks;
+mod branches;
+mod cells;
+mod checking;
+mod counts;
+mod definitions;
+mod differing;
+mod entries;
+mod entry_set;
+mod extents;
+mod fitting;
+mod index_judging;
+mod keys;
+mod kinds;
+mod laws;
+mod lowest;
+mod map_lines;
+mod map_pages;
+mod named_blocks;
+mod names;
+mod record_indexes;
+mod root;
+mod roots;
+mod row_entries;
+mod row_keys;
+mod row_pages;
+mod rows;
+mod table_index;
+mod table_keys;
+mod tree_marks;
+mod tree_pages;
+mod tree_walk;
+mod trees;
+mod verdict;
+
+pub use checking::check;
+pub use laws::{sound_pages_break_no_rule, verdict_is_sound_exactly};
+pub use verdict::Verdict;

@@ -1,0 +1,37 @@
+// Rule 11: the record indexes.
+ghost use Rattle.std.specs.Prelude.{◌≡◌, false, IfOk, IsTrue};
+ghost use Rattle.store_api.specs.Causes.{fault_of};
+ghost use Rattle.store_api.specs.Frame.{NoPage};
+ghost use Rattle.store_api.specs.RunsOverPages.{RunsOverPages};
+ghost use Rattle.stored_catalog.specs.StoredDefinitions.{AreWithinLimits};
+ghost use Rattle.mdc_sound.specs.BlockRules.{AreSoundIndexes};
+ghost use Rattle.mdc_sound.specs.SpaceRules.{DatabaseView};
+ghost use Rattle.file_check.specs.Judging.{JudgesRule};
+ghost use Rattle.file_check.specs.Known.{HasCells};
+ghost use Rattle.file_check.specs.Looking.{AnyPage, Unless};
+
+use crate::index_judging::judge_indexes;
+use crate::table_index::IndexKind;
+use extent_map::Extents;
+use mdc_ast::TableDef;
+use std::alloc::Global;
+use store_api::{Pages, StoreFault};
+
+/// Judges the record indexes: each has the entry of each row, and any other of its entries names a Pending block. Else the lowest root
+/// of one that isn't so.
+pub(crate) fn judge_record_indexes<P: Pages>(
+    alloc: Global,
+    ext: &Extents,
+    pages: &mut P,
+    defs: &[Option<TableDef>],
+) -> Result<Option<u32>, StoreFault>
+    requires limits { AreWithinLimits defs.now }
+    requires going { (P.state pages.old).ended ≡ false }
+    ensures judged { IfOk result (λ found. IsTrue (P.state pages.old).is_told → (view : DatabaseView) → HasCells ext.now (P.state pages.old).work defs.now view
+        → JudgesRule ext.now (P.state pages.old).work 11 (AreSoundIndexes ext.now (P.state pages.old).work view) found) }
+    ensures same { (P.state pages.new).work ≡ (P.state pages.old).work }
+    ensures runs { RunsOverPages P.Pages NoPage AnyPage
+        (Unless P.Pages pages.old (λ told. (view : DatabaseView) × HasCells ext.now told defs.now view)) pages.old pages.new (fault_of result) }
+{
+    judge_indexes(alloc, ext, pages, defs, IndexKind::Rows)
+}
