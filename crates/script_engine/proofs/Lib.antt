@@ -1,10 +1,14 @@
+pub mod AnsweringAnewLemmas
 pub mod BetweenChangesLemmas
+pub mod BreaksAlongLemmas
+pub mod BreakingLemmas
 pub mod CatalogLemmas
 pub mod ComingTablesLemmas
 pub mod CommittingLemmas
 pub mod DefinedTablesLemmas
 pub mod DoneRowsLemmas
 pub mod ExecutingLemmas
+pub mod FetchesForQueryLemmas
 pub mod InsertedLemmas
 pub mod KeptWordsLemmas
 pub mod LeavingLemmas
@@ -18,6 +22,7 @@ pub mod PuttingTuplesLemmas
 pub mod ReadRowsLemmas
 pub mod ReadyTablesLemmas
 pub mod ReloadingLemmas
+pub mod RetryingLemmas
 pub mod RootLemmas
 pub mod SameWorkLemmas
 pub mod ScannedTablesLemmas

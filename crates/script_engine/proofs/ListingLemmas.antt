@@ -1,7 +1,7 @@
 -- LIST BLOCKS on an engine: what it says of a table of ready pages, and that nothing changes.
 use Rattle.std.proofs.Common.{◌≡◌, ℕ, List, Option, Some, None, Result, Ok, Err, IsErrAnd, refl, sym, ap, subst, ◌∙◌}
 use Rattle.std.specs.Prelude.{false, true, is_some, length, option_and_then}
-use Rattle.mdc_words.proofs.FaultsLemmas.{counts_fault_as}
+use Rattle.mdc_words.proofs.FaultsLemmas.{counts_fault_as, counts_fault_then}
 use Rattle.mdc_ast.specs.declared.definition.TableDef.{TableDef}
 use Rattle.mdc_ast.specs.declared.name.Name.{Name}
 use Rattle.mdc_ast.specs.declared.reply.Outcome.{Outcome}
@@ -11,9 +11,13 @@ use Rattle.mdc_ast.specs.meaning.Cause.{NoTable, refusal_of}
 use Rattle.mdc_ast.specs.meaning.Definitions.{Definitions, def_at, def_named, place_of}
 use Rattle.store_api.specs.Frame.{NoPage}
 use Rattle.store_api.specs.RunsOverPages.{RunsOverPages}
+use Rattle.store_api.specs.Works.{Steady}
+use Rattle.store_api.specs.declared.fault.Damage.{Damage}
 use Rattle.store_api.specs.declared.fault.StoreFault.{StoreFault}
+use Rattle.store_api.specs.declared.fault.StoreFault.TheVariants as store_fault
 use Rattle.store_api.specs.declared.pages.Pages.{Ghosts}
 use Rattle.store_api.proofs.RunsOverPagesLemmas.{runs_wider}
+use Rattle.store_api.proofs.WorksLemmas.{steady_then}
 use Rattle.extent_map.specs.declared.kind.Kind.{Kind}
 use Rattle.entry_tree.proofs.ClaimsLemmas.{shape_none}
 use Rattle.block_map.specs.MapLines.{free_blocks, used_blocks}
@@ -25,6 +29,7 @@ use Rattle.mdc_table.specs.TableReading.{CountsBlocks}
 use Rattle.mdc_table.specs.declared.account.Account.{Account}
 use Rattle.row_judging.specs.Executing.{answer_of}
 use Rattle.statement_rows.specs.RowsOfStatement.{AnyPage}
+use Rattle.script_engine.specs.Breaking.{HoldsAtDamage, NamesExactly}
 use Rattle.script_engine.specs.Held.{HeldPages, KeepsBase, StandsForSession, StepsOnPages}
 use Rattle.script_engine.specs.Held.StepsOnPages.{lists, turns}
 use Rattle.script_engine.specs.Leaving.{IsAllCommitted}
@@ -32,7 +37,8 @@ use Rattle.script_engine.specs.Listing.{TellsBlocks, blocks_told}
 use Rattle.script_engine.specs.Ready.{AreServed, BreaksDatabase, IsReady}
 use Rattle.script_engine.specs.Serving.{IsReadyEngine, MayCall, held_by}
 use Rattle.script_engine.specs.Stops.{stop_of}
-use Rattle.script_engine.specs.Turns.{Executes}
+use Rattle.script_engine.specs.Trying.{ListsAnew}
+use Rattle.script_engine.specs.Turns.{Executes, LeavesOutside}
 use Rattle.script_engine.specs.declared.engine.Engine.{Engine}
 use Rattle.script_engine.specs.declared.stop.EngineStop.{EngineStop}
 use Rattle.script_engine.specs.declared.tables.Tables.{Tables}
@@ -122,17 +128,79 @@ module _ {S : Type 0} (g : Ghosts S) (old : Engine S) (store : S) (name : Name) 
         may = record { going = steady.ended ∙ may.going; unmarked = runs.works.marked ∙ may.unmarked; served = may.served };
         keeps = λ all. base_still runs all;
         leaves = λ ready. leaves_steady g (ListBlocks name) old new steady;
+        fetches = λ ready. tt;
         refused = λ refusal is. still runs;
         unserved = λ unserved other outcome is. let wrong : true ≡ false = sym served ∙ unserved in absurd (cc);
         damaged = λ damage e ready. absurd (cc);
+        opens = refl;
+        exact = λ damage e. absurd (cc);
+        stays = λ damage e. absurd (cc);
         shape = shape_none old.tables.ext;
         outside = outside_steady g (Ok outcome) old new steady (counts_fault_as (λ r. absurd (cc)) (λ r. absurd (cc)) runs.cause.device) (λ r. absurd (cc));
       }
 
   -- the pages couldn't be read
-  pub list_stops : (result : Result Outcome EngineStop) (fault : StoreFault) → IsErrAnd result (λ e. e ≡ stop_of fault)
+  pub list_stops : (result : Result Outcome EngineStop) (fault : StoreFault) → IsErrAnd result (λ e. e ≡ stop_of fault) → ((damage : Damage) → fault ≡ store_fault.Damaged damage → ⊥)
       → RunsOverPages g NoPage AnyPage (BreaksDatabase g old.store old.tables) old.store store (Some fault) → Executes g (ListBlocks name) result old new
-  list_stops result fault is runs =
-      executes_stop g {X = Outcome} (ListBlocks name) result (stop_of fault) old new is (λ damage e ready. runs.cause.damaged damage (ap Some (stop_names fault damage e)) ready.work)
+  list_stops result fault is whole runs =
+      executes_stop g {X = Outcome} {Y = Outcome} (ListBlocks name) result (stop_of fault) old new is (λ damage e ready. absurd (whole damage (stop_names fault damage e)))
+      (λ damage e. absurd (whole damage (stop_names fault damage (cc)))) (λ damage e. absurd (whole damage (stop_names fault damage e)))
       (λ ready. leaves_steady g (ListBlocks name) old new runs.works.steady) (shape_none old.tables.ext)
       (outside_steady g (Err (stop_of fault)) old new runs.works.steady (stop_counts fault runs.cause.device) (λ r. stop_output fault (cc)))
+
+-- damage was met, and it was judged or tried once more
+module _ {S : Type 0} (g : Ghosts S) (old : Engine S) (mid store : S) (tables : Tables) (name : Name) (met : Damage) (fault : StoreFault) (is_met : fault ≡ store_fault.Damaged met)
+    (runs : RunsOverPages g NoPage AnyPage (BreaksDatabase g old.store old.tables) old.store mid (Some fault)) (same : (g.state mid).work ≡ (g.state old.store).work) where
+  abbrev anew : Engine S
+  anew = record old { store = store; tables = tables }
+
+  unready : IsReadyEngine g old → ⊥
+  unready ready = runs.cause.damaged met (ap Some is_met) ready.work
+
+  module _ (result : Result Outcome EngineStop) (tried : ListsAnew g result mid store old.tables tables) where
+    steady_anew : Steady g old.store store
+    steady_anew = steady_then runs.works.steady tried.reads.steady
+
+    work_anew : (g.state store).work ≡ (g.state old.store).work
+    work_anew = tried.reads.work ∙ same
+
+    held_anew : held_by g anew ≡ held_by g old
+    held_anew = same_held (held_by g old) (held_by g anew) steady_anew.base work_anew tried.catalog refl
+
+    outside_anew : LeavesOutside g result old anew
+    outside_anew = outside_steady g result old anew steady_anew (counts_fault_then (runs.cause.device.still (λ is. absurd (cc))) tried.device) tried.output
+
+  pub list_anew : (result : Result Outcome EngineStop) → MayCall g old → old.served ≡ true → ListsAnew g result mid store old.tables tables → NamesExactly g old.tables.ext result store
+      → Executes g (ListBlocks name) result old anew
+  list_anew (Ok outcome) may served tried exact =
+      let steady = steady_anew (Ok outcome) tried in
+      record {
+        steps = λ ready. absurd (unready ready);
+        may = record {
+          going = steady.ended ∙ may.going;
+          unmarked = tried.reads.marked ∙ (runs.works.marked ∙ may.unmarked);
+          served = λ is. subst AreServed (sym tried.catalog) (may.served is);
+        };
+        keeps = λ all. record { closed = λ shut. steady.base ∙ (all shut ∙ sym (work_anew (Ok outcome) tried)); is_open = λ opened. steady.base };
+        leaves = λ ready. absurd (unready ready);
+        fetches = λ ready. tt;
+        refused = λ refusal is. held_anew (Ok outcome) tried;
+        unserved = λ unserved other outcome is. let wrong : true ≡ false = sym served ∙ unserved in absurd (cc);
+        damaged = λ damage e ready. absurd (cc);
+        opens = refl;
+        exact = exact;
+        stays = λ damage e. absurd (cc);
+        shape = tried.shape;
+        outside = outside_anew (Ok outcome) tried;
+      }
+  list_anew (Err stop) may served tried exact =
+      let steady = steady_anew (Err stop) tried in
+      executes_stop g {X = Outcome} {Y = Outcome} (ListBlocks name) (Err stop) stop old anew refl (λ damage e ready. unready ready) exact
+      (λ damage e. record {
+        base = steady.base;
+        going = steady.ended ∙ may.going;
+        unmarked = tried.reads.marked ∙ (runs.works.marked ∙ may.unmarked);
+        is_open = refl;
+        holds = HoldsAtDamage.before (work_anew (Err stop) tried);
+      })
+      (λ ready. absurd (unready ready)) tried.shape (outside_anew (Err stop) tried)

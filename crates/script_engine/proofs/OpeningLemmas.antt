@@ -1,5 +1,5 @@
 -- An engine that was just opened.
-use Rattle.std.proofs.Common.{◌≡◌, true, false, List, Option, Some, None, sym, ap, subst, ◌∙◌}
+use Rattle.std.proofs.Common.{◌≡◌, true, false, List, Some, None, Result, Err, sym, ap, subst, ◌∙◌}
 use Rattle.std.specs.Prelude.{IsTrue}
 use Rattle.mdc_words.specs.Time.{ReachesBack}
 use Rattle.mdc_ast.specs.meaning.Definitions.{AllDefsDiffer, Definitions}
@@ -14,9 +14,11 @@ use Rattle.extent_map.specs.Owners.{AreRightNotes, IsSameShape}
 use Rattle.extent_map.specs.declared.extents.Extents.{Extents}
 use Rattle.extent_map.specs.declared.kind.Kind.{Kind}
 use Rattle.table_trees.specs.ToldPages.{PageList}
+use Rattle.mdc_sound.specs.Breaks.{IsFirstBreak}
 use Rattle.mdc_sound.specs.SoundDatabase.{IsSoundDatabase, KeepAllRules}
 use Rattle.cell_rooms.specs.RoomNotes.{IsForgotten}
 use Rattle.stored_catalog.specs.StoredDefinitions.{AreStored, AreWithinLimits, BreaksTablePages, IsAnyTablePage}
+use Rattle.script_engine.specs.Breaking.{NamesExactly, OnlyReads}
 use Rattle.script_engine.specs.Opening.{IsSoundStore, KeepsPages, are_built}
 use Rattle.script_engine.specs.Serving.{IsReadyEngine, MayCall}
 use Rattle.script_engine.specs.Stops.{stop_of}
@@ -31,33 +33,39 @@ use Rattle.script_engine.proofs.TryingLemmas.{stop_names}
 
 module _ {S : Type 0} (g : Ghosts S) where
   -- a run that only reads
-  keeps_read : {fault : Option StoreFault} (old new : S) → RunsOverPages g NoPage IsAnyTablePage (BreaksTablePages g old) old new fault → (g.state new).work ≡ (g.state old).work → KeepsPages g old new
-  keeps_read old new runs same = record {
-    is_told = runs.works.steady.is_told;
-    base = runs.works.steady.base;
-    work = same;
-    told = runs.works.steady.told;
-    attached = runs.works.steady.attached;
-    say_faults = runs.works.steady.say_faults;
-    time = runs.works.steady.time;
+  pub keeps_read : (old new : S) → OnlyReads g old new → KeepsPages g old new
+  keeps_read old new reads = record {
+    is_told = reads.steady.is_told;
+    base = reads.steady.base;
+    work = reads.work;
+    told = reads.steady.told;
+    attached = reads.steady.attached;
+    say_faults = reads.steady.say_faults;
+    time = reads.steady.time;
   }
 
+  -- exact damage of pages that were only read
+  pub exact_read : {X : Type 0} (ext : Extents) (result : Result X EngineStop) (old new : S) → OnlyReads g old new → NamesExactly g ext result new
+      → (damage : Damage) → result ≡ Err (Damaged damage) → IsTrue (g.state old).is_told → IsFirstBreak ext (g.state old).work damage.rule damage.page
+  exact_read ext result old new reads exact damage is told =
+      subst (λ (pages : PageList). IsFirstBreak ext pages damage.rule damage.page) reads.work (exact damage is (subst IsTrue (sym reads.steady.is_told) told))
+
   -- the catalog was read into an engine
-  module _ (ext : Extents) (old read : S) (engine : Engine S) (catalog : Definitions) (runs : RunsOverPages g NoPage IsAnyTablePage (BreaksTablePages g old) old read None) (same : (g.state read).work ≡ (g.state old).work)
+  module _ (ext : Extents) (old read : S) (engine : Engine S) (catalog : Definitions) (reads : OnlyReads g old read)
       (is : engine ≡ record { store = read; tables = engine.tables; served = are_built catalog; is_open = false }) (has : engine.tables.catalog ≡ catalog) (limits : AreWithinLimits catalog) (differ : AllDefsDiffer catalog) where
     store_is : engine.store ≡ read
     store_is = ap (λ (e : Engine S). e.store) is
 
     opened_pages : KeepsPages g old engine.store
-    opened_pages = subst (λ (s : S). KeepsPages g old s) (sym store_is) (keeps_read old read runs same)
+    opened_pages = subst (λ (s : S). KeepsPages g old s) (sym store_is) (keeps_read old read reads)
 
     pub opened_rests : ReachesBack g.clock g.left read → (g.state old).ended ≡ false → Rests g old → Rests g engine.store
-    opened_rests back going was = subst (λ (s : S). Rests g s) (sym store_is) (rests_steady back going runs.works.steady was)
+    opened_rests back going was = subst (λ (s : S). Rests g s) (sym store_is) (rests_steady back going reads.steady was)
 
     pub opened_may : (g.state old).ended ≡ false → (g.state old).marked ≡ None → MayCall g engine
     opened_may going unmarked = record {
-      going = ap (λ (s : S). (g.state s).ended) store_is ∙ (runs.works.steady.ended ∙ going);
-      unmarked = ap (λ (s : S). (g.state s).marked) store_is ∙ (runs.works.marked ∙ unmarked);
+      going = ap (λ (s : S). (g.state s).ended) store_is ∙ (reads.steady.ended ∙ going);
+      unmarked = ap (λ (s : S). (g.state s).marked) store_is ∙ (reads.marked ∙ unmarked);
       served = λ served.
           served_of engine.tables.catalog (subst AreWithinLimits (sym has) limits) (subst AllDefsDiffer (sym has) differ)
           (ap are_built has ∙ (sym (ap (λ (e : Engine S). e.served) is) ∙ served));

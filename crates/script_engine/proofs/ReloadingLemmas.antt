@@ -1,16 +1,12 @@
 -- Going back to the pages of the last commit, and the catalog that is read there.
-use Rattle.std.proofs.Common.{◌≡◌, Bool, List, Some, None, Result, Ok, Err, IsErrAnd, sym, ap, subst, ◌∙◌}
+use Rattle.std.proofs.Common.{◌≡◌, Bool, List, Result, Ok, Err, IsErrAnd, sym, ap, subst, ◌∙◌}
 use Rattle.std.specs.Prelude.{IsTrue}
 use Rattle.mdc_words.specs.Time.{OverTime}
 use Rattle.mdc_words.proofs.FaultsLemmas.{counts_fault_as, counts_fault_then}
-use Rattle.mdc_ast.specs.meaning.Definitions.{AllDefsDiffer}
 use Rattle.store_api.specs.Calls.{RollsBack}
-use Rattle.store_api.specs.Frame.{NoPage}
 use Rattle.store_api.specs.Moments.{OnlyBase}
-use Rattle.store_api.specs.RunsOverPages.{RunsOverPages}
 use Rattle.store_api.specs.Works.{Steady}
 use Rattle.store_api.specs.declared.fault.Damage.{Damage}
-use Rattle.store_api.specs.declared.fault.StoreFault.{StoreFault}
 use Rattle.store_api.specs.declared.pages.Pages.{Ghosts}
 use Rattle.store_api.proofs.WorksLemmas.{steady_rollback, steady_then}
 use Rattle.extent_map.specs.Owners.{AreRightNotes, IsSameShape}
@@ -20,14 +16,13 @@ use Rattle.table_trees.specs.ToldPages.{PageList}
 use Rattle.mdc_sound.specs.SoundDatabase.{IsSoundDatabase}
 use Rattle.mdc_sound.specs.StandingTable.{pages_of}
 use Rattle.cell_rooms.specs.RoomNotes.{IsForgotten}
-use Rattle.stored_catalog.specs.StoredDefinitions.{AreStored, AreWithinLimits, BreaksTablePages, IsAnyTablePage}
+use Rattle.stored_catalog.specs.StoredDefinitions.{AreStored, BreaksTablePages}
+use Rattle.script_engine.specs.Breaking.{LoadsExactly}
 use Rattle.script_engine.specs.Opening.{are_built}
 use Rattle.script_engine.specs.Reloading.{Reloads}
-use Rattle.script_engine.specs.Stops.{stop_of}
 use Rattle.script_engine.specs.declared.stop.EngineStop.{EngineStop}
 use Rattle.script_engine.specs.declared.tables.Tables.{Tables}
 use Rattle.script_engine.proofs.CatalogLemmas.{no_broken_pages}
-use Rattle.script_engine.proofs.TryingLemmas.{stop_counts, stop_names, stop_output}
 
 module _ {S : Type 0} (g : Ghosts S) where
   -- pages of a sound database name no damage
@@ -35,8 +30,7 @@ module _ {S : Type 0} (g : Ghosts S) where
   no_damage s ext damage told sound broken = no_broken_pages g s ext sound.0 told sound.1 damage broken
 
   module _ (old back new : S) (before now : Tables) (rolls : RollsBack (g.state old) (g.state back)) (count : g.disk_faults back ≡ g.disk_faults old) (say : g.say_faults back ≡ g.say_faults old)
-      (time : OverTime g.clock g.left (OnlyBase (g.state old)) old back) (shape : IsSameShape before.ext now.ext) (notes : (owners : List Kind) → AreRightNotes now.ext owners) (rooms : IsForgotten now.rooms)
-      (same : (g.state new).work ≡ (g.state back).work) where
+      (time : OverTime g.clock g.left (OnlyBase (g.state old)) old back) (shape : IsSameShape before.ext now.ext) (notes : (owners : List Kind) → AreRightNotes now.ext owners) (rooms : IsForgotten now.rooms) where
     went_back : Steady g old back
     went_back = steady_rollback rolls count say time
 
@@ -44,13 +38,12 @@ module _ {S : Type 0} (g : Ghosts S) where
     base_again = ap (λ s. s.work) rolls
 
     -- the catalog couldn't be read
-    pub reload_stops : (result : Result Bool EngineStop) (fault : StoreFault) → IsErrAnd result (λ e. e ≡ stop_of fault)
-        → RunsOverPages g NoPage IsAnyTablePage (BreaksTablePages g back) back new (Some fault) → Reloads g result old new before now
-    reload_stops (Ok served) fault is runs = absurd is
-    reload_stops (Err e) fault is runs = subst (λ (x : EngineStop). Reloads g (Err x) old new before now) (sym is) (record {
-      steady = steady_then went_back runs.works.steady;
-      work = same ∙ base_again;
-      unmarked = runs.works.marked ∙ ap (λ s. s.marked) rolls;
+    pub reload_stops : (ext : Extents) (result : Result Bool EngineStop) (stop : EngineStop) → IsErrAnd result (λ e. e ≡ stop) → LoadsExactly g ext (Err stop) back new → Reloads g result old new before now
+    reload_stops ext (Ok served) stop is loads = absurd is
+    reload_stops ext (Err e) stop is loads = subst (λ (x : EngineStop). Reloads g (Err x) old new before now) (sym is) (record {
+      steady = steady_then went_back loads.reads.steady;
+      work = loads.reads.work ∙ base_again;
+      unmarked = loads.reads.marked ∙ ap (λ s. s.marked) rolls;
       shape = shape;
       notes = notes;
       rooms = rooms;
@@ -58,28 +51,26 @@ module _ {S : Type 0} (g : Ghosts S) where
       limits = tt;
       names = tt;
       built = tt;
-      device = stop_counts fault (counts_fault_then count runs.cause.device);
-      damaged = λ damage r told ext sound.
-          no_damage back ext damage (subst IsTrue (sym went_back.is_told) told) (subst (λ (pages : PageList). IsSoundDatabase ext pages) (sym base_again) sound)
-          (runs.cause.damaged damage (ap Some (stop_names fault damage (cc))));
-      output = λ r. stop_output fault (cc);
+      device = counts_fault_as (λ r. cc) (λ r. cc) (counts_fault_then count loads.device);
+      damaged = λ damage r told given sound.
+          loads.damaged damage (cc) (subst IsTrue (sym went_back.is_told) told) given (subst (λ (pages : PageList). IsSoundDatabase given pages) (sym base_again) sound);
+      output = λ r. loads.output (cc);
     })
 
     -- it was read
-    pub reload_done : (served : Bool) → RunsOverPages g NoPage IsAnyTablePage (BreaksTablePages g back) back new None → (IsTrue (g.state back).is_told → AreStored (g.state back).work now.catalog)
-        → AreWithinLimits now.catalog → AllDefsDiffer now.catalog → served ≡ are_built now.catalog → Reloads g (Ok served) old new before now
-    reload_done served runs stored limits names built = record {
-      steady = steady_then went_back runs.works.steady;
-      work = same ∙ base_again;
-      unmarked = runs.works.marked ∙ ap (λ s. s.marked) rolls;
+    pub reload_done : (ext : Extents) (served : Bool) → LoadsExactly g ext (Ok now.catalog) back new → served ≡ are_built now.catalog → Reloads g (Ok served) old new before now
+    reload_done ext served loads built = record {
+      steady = steady_then went_back loads.reads.steady;
+      work = loads.reads.work ∙ base_again;
+      unmarked = loads.reads.marked ∙ ap (λ s. s.marked) rolls;
       shape = shape;
       notes = notes;
       rooms = rooms;
-      stored = λ told. subst (λ (pages : PageList). AreStored pages now.catalog) base_again (stored (subst IsTrue (sym went_back.is_told) told));
-      limits = limits;
-      names = names;
+      stored = λ told. subst (λ (pages : PageList). AreStored pages now.catalog) base_again (loads.stored (subst IsTrue (sym went_back.is_told) told));
+      limits = loads.limits;
+      names = loads.names;
       built = built;
-      device = counts_fault_as (λ r. absurd (cc)) (λ r. absurd (cc)) (counts_fault_then count runs.cause.device);
+      device = counts_fault_as (λ r. absurd (cc)) (λ r. absurd (cc)) (counts_fault_then count loads.device);
       damaged = λ damage r. absurd (cc);
       output = λ r. absurd (cc);
     }

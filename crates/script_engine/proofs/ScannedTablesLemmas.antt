@@ -236,7 +236,7 @@ stands_ready g s tables place def served ready at =
     }
 
 -- a scan of it meets damage where they weren't
-pub runs_scan : {S : Type 0} (g : Ghosts S) (old new : S) (tables : Tables) (place : ℕ) (def : TableDef) {fault : Option StoreFault} → AreServed tables.catalog → def_at tables.catalog place ≡ Some def
-    → RunsOverPages g NoPage (IsScannedPage g tables.ext old def) (BreaksTable g tables.ext old def) old new fault → RunsOverPages g NoPage AnyPage (BreaksDatabase g old tables) old new fault
+pub runs_scan : {S : Type 0} (g : Ghosts S) (old new : S) (tables : Tables) (place : ℕ) (def : TableDef) {pred : Option Pred} {fault : Option StoreFault} → AreServed tables.catalog
+    → def_at tables.catalog place ≡ Some def → RunsOverPages g NoPage (IsScannedPage g tables.ext old def pred) (BreaksTable g tables.ext old def) old new fault → RunsOverPages g NoPage AnyPage (BreaksDatabase g old tables) old new fault
 runs_scan g old new tables place def served at run =
     runs_wider run (λ p there none. none) (λ p of. tt) (λ damage breaks ready. let st = stands_ready g old tables place def served ready at in breaks.broken st.owners st.forests st.stands)

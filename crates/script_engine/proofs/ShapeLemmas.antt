@@ -33,7 +33,7 @@ zip_as P Q so (x ∷ xs) (y ∷ ys) all = (so x y all.0, zip_as P Q so xs ys all
 abbrev pub extents_with : (cap n free unused : ℕ) → IsTrue (is_shape cap n) → Extents
 extents_with cap n free unused within = record { cap = cap; extent_pages = n; free_from = free; unused_from = unused; within = within }
 
-used_along : (c n f u h v : ℕ) (w x : IsTrue (is_shape c n)) (owners : List Kind) (p : ℕ) → IsUsedPage (extents_with c n f u w) owners p → IsUsedPage (extents_with c n h v x) owners p
+pub used_along : (c n f u h v : ℕ) (w x : IsTrue (is_shape c n)) (owners : List Kind) (p : ℕ) → IsUsedPage (extents_with c n f u w) owners p → IsUsedPage (extents_with c n h v x) owners p
 used_along c n f u h v w x owners p is = record { page = record { behind = is.page.behind; within = is.page.within }; used = is.used }
 
 module _ (c n f u h v : ℕ) (w x : IsTrue (is_shape c n)) (pages : PageList) where
@@ -134,7 +134,7 @@ module _ (c n f u h v : ℕ) (w x : IsTrue (is_shape c n)) (pages : PageList) wh
   }
 
 -- what holds of extents whatever their notes are holds of all of one shape
-along : (P : Extents → Type 0) → ((c n f u h v : ℕ) (w x : IsTrue (is_shape c n)) → P (extents_with c n f u w) → P (extents_with c n h v x)) → (before now : Extents) → IsSameShape before now → P before → P now
+pub along : (P : Extents → Type 0) → ((c n f u h v : ℕ) (w x : IsTrue (is_shape c n)) → P (extents_with c n f u w) → P (extents_with c n h v x)) → (before now : Extents) → IsSameShape before now → P before → P now
 along P turn before now shape is =
     subst (λ cap. (x : IsTrue (is_shape cap now.extent_pages)) → P (extents_with cap now.extent_pages now.free_from now.unused_from x)) (sym shape.cap)
     (subst (λ n. (x : IsTrue (is_shape before.cap n)) → P (extents_with before.cap n now.free_from now.unused_from x)) (sym shape.extent_pages)

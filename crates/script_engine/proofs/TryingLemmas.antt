@@ -36,6 +36,7 @@ use Rattle.cell_rooms.specs.RoomNotes.{IsForgotten}
 use Rattle.stored_catalog.specs.StoredDefinitions.{AreStored}
 use Rattle.statement_rows.specs.RowsOfStatement.{AnyPage}
 use Rattle.script_engine.specs.Doing.{DoesStep, LeavesAll, PlacesOnPages, StandsAfter, StepRunsFull, changed_place, is_reading}
+use Rattle.script_engine.specs.Fetching.{FetchesForQuery}
 use Rattle.script_engine.specs.Others.{KeepsOthers, touched_place}
 use Rattle.script_engine.specs.Ready.{AreServed, BreaksDatabase, IsReady, KeepsServed}
 use Rattle.script_engine.specs.Stops.{stop_of}
@@ -43,6 +44,7 @@ use Rattle.script_engine.specs.Trying.{TriesStep}
 use Rattle.script_engine.specs.declared.stop.EngineStop.{EngineStop}
 use Rattle.script_engine.specs.declared.stop.EngineStop.TheVariants.{Damaged, Device, Output}
 use Rattle.script_engine.specs.declared.tables.Tables.{Tables}
+use Rattle.script_engine.proofs.FetchesForQueryLemmas.{fetches_marked}
 use Rattle.script_engine.proofs.ReadyTablesLemmas.{ready_of_sound}
 use Rattle.script_engine.proofs.SameWorkLemmas.{ready_same}
 use Rattle.script_engine.proofs.ShapeLemmas.{keeps_along}
@@ -69,7 +71,7 @@ stop_counts e counts = counts_fault_as (λ is. ap Some (stop_device e (cc))) (λ
 
 module _ {S : Type 0} (g : Ghosts S) where
   -- what a call did to a marked store it did to the one that was marked
-  does_marked : (old marked new : S) (before now : Tables) (stmt : Stmt) (outcome : Outcome) → pages_of g marked ≡ pages_of g old → DoesStep g marked new before now stmt outcome → DoesStep g old new before now stmt outcome
+  pub does_marked : (old marked new : S) (before now : Tables) (stmt : Stmt) (outcome : Outcome) → pages_of g marked ≡ pages_of g old → DoesStep g marked new before now stmt outcome → DoesStep g old new before now stmt outcome
   does_marked old marked new before now stmt outcome same does = record {
     ready = does.ready;
     stands = subst (λ (pages : PageList). (db : _) → PagesStandFor before.ext pages db → StandsAfter now.ext (pages_of g new) (step db stmt) outcome) same does.stands;
@@ -106,19 +108,31 @@ module _ {S : Type 0} (g : Ghosts S) where
       run_so_far : Steady g old mid
       run_so_far = steady_then begun runs.works.steady
 
-      -- a fault of the store
-      pub try_stops : (e : StoreFault) (stop : EngineStop) → result ≡ Err (space.Store e) → stop ≡ stop_of e → TriesStep g stmt (Err stop) old mid before now
-      try_stops e stop is names =
+      fetched_so_far : (new : S) → (g.state new).fetched ≡ (g.state mid).fetched → FetchesForQuery g before.ext marked mid before.catalog (bound_of before.catalog stmt)
+          → FetchesForQuery g before.ext old new before.catalog (bound_of before.catalog stmt)
+      fetched_so_far new same fetches =
+          fetches_marked g before.ext before.catalog old marked begun.is_told same_work mid new (bound_of before.catalog stmt) (ap (λ s. s.fetched) marks) same fetches
+
+      -- a fault of the store: all is as it was
+      pub try_stops : (e : StoreFault) (stop : EngineStop) (new : S) (last : Tables) → result ≡ Err (space.Store e) → stop ≡ stop_of e → Undoes (g.state mid) (g.state new)
+          → g.disk_faults new ≡ g.disk_faults mid → g.say_faults new ≡ g.say_faults mid → OverTime g.clock g.left (OnlyBase (g.state mid)) mid new
+          → now.catalog ≡ before.catalog → last.catalog ≡ now.catalog → IsSameShape now.ext last.ext → TriesStep g stmt (Err stop) old new before last
+      try_stops e stop new last is names undone count_undone say_undone time_undone catalog forgot shape =
           let fault : store_fault_in store_part_of result ≡ Some e = ap (store_fault_in store_part_of) is in
-          subst (λ (x : EngineStop). TriesStep g stmt (Err x) old mid before now) (sym names) (record {
-            steady = run_so_far;
+          let ending : Steady g mid new = steady_undo undone count_undone say_undone time_undone in
+          let work : pages_of g new ≡ pages_of g old = ap (λ s. s.work) undone ∙ ap (λ o. unwrap_or o (g.state mid).work) (runs.works.marked ∙ ap (λ s. s.marked) marks) in
+          subst (λ (x : EngineStop). TriesStep g stmt (Err x) old new before last) (sym names) (record {
+            steady = steady_then run_so_far ending;
             unmarked = tt;
             served = tt;
-            shape = keeps.shape;
+            shape = record { cap = shape.cap ∙ keeps.shape.cap; extent_pages = shape.extent_pages ∙ keeps.shape.extent_pages };
+            back = λ damage r. record { leaves = record { pages = work; catalog = forgot ∙ catalog }; unmarked = ap (λ s. s.marked) undone };
             does = tt;
             refused = λ refusal r. absurd (cc);
             reads = tt;
-            device = stop_counts e (counts_fault_then count (subst (λ (f : Option StoreFault). CountsFault (f ≡ Some store.Device) (g.disk_faults marked) (g.disk_faults mid)) fault runs.cause.device));
+            fetches = tt;
+            device = subst (λ n. CountsFault (IsErrOf {T = Outcome} (Err (stop_of e)) Device) (g.disk_faults old) n) (sym count_undone)
+                (stop_counts e (counts_fault_then count (subst (λ (f : Option StoreFault). CountsFault (f ≡ Some store.Device) (g.disk_faults marked) (g.disk_faults mid)) fault runs.cause.device)));
             damaged = λ damage r ready. runs.cause.damaged damage (fault ∙ ap Some (stop_names e damage (cc))) (ready_marked ready);
             output = λ r. stop_output e (cc);
           })
@@ -126,8 +140,9 @@ module _ {S : Type 0} (g : Ghosts S) where
       -- it was done or refused, and the mark is dropped
       pub try_kept : (outcome : Outcome) (new : S) → result ≡ Ok outcome → Keeps (g.state mid) (g.state new) → g.disk_faults new ≡ g.disk_faults mid → g.say_faults new ≡ g.say_faults mid
           → OverTime g.clock g.left (OnlyBase (g.state mid)) mid new → (IsReady g marked before → DoesStep g marked mid before now stmt outcome)
-          → ((refusal : Refusal) → outcome ≡ said.Refused refusal → LeavesAll g marked mid before now) → (is_reading stmt ≡ true → pages_of g mid ≡ pages_of g marked) → TriesStep g stmt (Ok outcome) old new before now
-      try_kept outcome new is kept count_kept say_kept time_kept does leaves reads =
+          → ((refusal : Refusal) → outcome ≡ said.Refused refusal → LeavesAll g marked mid before now) → (is_reading stmt ≡ true → pages_of g mid ≡ pages_of g marked)
+          → FetchesForQuery g before.ext marked mid before.catalog (bound_of before.catalog stmt) → TriesStep g stmt (Ok outcome) old new before now
+      try_kept outcome new is kept count_kept say_kept time_kept does leaves reads fetches =
           let ending : Steady g mid new = steady_keep (Ok tt) kept tt (omega (arith, count_kept)) say_kept time_kept in
           let work : pages_of g new ≡ pages_of g mid = ap (λ s. s.work) kept in
           let none : store_fault_in store_part_of result ≡ None = ap (store_fault_in store_part_of) is in
@@ -137,11 +152,13 @@ module _ {S : Type 0} (g : Ghosts S) where
             unmarked = ap (λ s. s.marked) kept;
             served = keeps.served;
             shape = keeps.shape;
+            back = λ damage r. absurd (cc);
             does = λ ready. inl (does_kept old mid new before now stmt outcome ending.is_told work (does_marked old marked mid before now stmt outcome same_work (does (ready_marked ready))));
             refused = λ refusal r.
                 let left = leaves refusal (cc) in
                 record { pages = work ∙ (left.pages ∙ same_work); catalog = left.catalog };
             reads = λ is. work ∙ (reads is ∙ same_work);
+            fetches = λ ready. fetched_so_far new (ap (λ s. s.fetched) kept) fetches;
             device = subst (λ n. CountsFault (IsErrOf {T = Outcome} (Ok outcome) Device) (g.disk_faults old) n) (sym count_kept) (counts_fault_as (λ r. absurd (cc)) (λ r. absurd (cc)) quiet);
             damaged = λ damage r. absurd (cc);
             output = λ r. absurd (cc);
@@ -153,8 +170,8 @@ module _ {S : Type 0} (g : Ghosts S) where
           → IfFull fault (λ n. (n ≡ before.ext.cap) × (IsReady g marked before → StepRunsFull before.ext (pages_of g marked) before.catalog stmt))
           → now.catalog ≡ before.catalog → AreServed before.catalog
           → last.catalog ≡ now.catalog → IsSameShape now.ext last.ext → ((owners : List Kind) → AreRightNotes last.ext owners) → IsForgotten last.rooms
-          → TriesStep g stmt (Ok (said.Refused refusal)) old new before last
-      try_full cap fault refusal new last is is_full refuses undone count_undone say_undone time_undone full catalog served forgot shape notes rooms =
+          → FetchesForQuery g before.ext marked mid before.catalog (bound_of before.catalog stmt) → TriesStep g stmt (Ok (said.Refused refusal)) old new before last
+      try_full cap fault refusal new last is is_full refuses undone count_undone say_undone time_undone full catalog served forgot shape notes rooms fetches =
           let filled : (cap ≡ before.ext.cap) × (IsReady g marked before → StepRunsFull before.ext (pages_of g marked) before.catalog stmt) =
           subst (λ (f : SpaceFault). IfFull f (λ n. (n ≡ before.ext.cap) × (IsReady g marked before → StepRunsFull before.ext (pages_of g marked) before.catalog stmt))) is_full full in
           let ending : Steady g mid new = steady_undo undone count_undone say_undone time_undone in
@@ -171,6 +188,7 @@ module _ {S : Type 0} (g : Ghosts S) where
             unmarked = ap (λ s. s.marked) undone;
             served = valid;
             shape = whole;
+            back = λ damage r. absurd (cc);
             does = λ ready. inr (record {
               says = ap said.Refused (refuses ∙ ap (λ n. refusal_of (FileFull n)) filled.0);
               leaves = leaves;
@@ -182,6 +200,7 @@ module _ {S : Type 0} (g : Ghosts S) where
             });
             refused = λ other r. leaves;
             reads = λ is. work;
+            fetches = λ r. fetched_so_far new (ap (λ s. s.fetched) undone) fetches;
             device = subst (λ n. CountsFault (IsErrOf {T = Outcome} (Ok (said.Refused refusal)) Device) (g.disk_faults old) n) (sym count_undone) (counts_fault_as (λ r. absurd (cc)) (λ r. absurd (cc)) quiet);
             damaged = λ damage r. absurd (cc);
             output = λ r. absurd (cc);

@@ -1,5 +1,5 @@
 -- What statements do to an engine: a step on pages that is committed, or isn't yet.
-use Rattle.std.proofs.Common.{◌≡◌, ◌⊎◌, Bool, true, false, Some, Result, Ok, Err, IsErrAnd, IfSome, refl, sym, ap, subst, inl, inr, ◌∙◌, cond}
+use Rattle.std.proofs.Common.{◌≡◌, ◌⊎◌, Bool, true, false, Some, None, Result, Ok, Err, IsErrAnd, IfSome, refl, sym, ap, subst, inl, inr, ◌∙◌, cond}
 use Rattle.std.specs.Prelude.{IsErrOf, IsTrue, ◌||◌}
 use Rattle.mdc_words.specs.Faults.{CountsFault}
 use Rattle.mdc_words.proofs.FaultsLemmas.{counts_fault_as, counts_fault_then}
@@ -19,7 +19,7 @@ use Rattle.store_api.specs.Works.{Rests, Steady}
 use Rattle.store_api.specs.declared.fault.Damage.{Damage}
 use Rattle.store_api.specs.declared.pages.Pages.{Ghosts}
 use Rattle.store_api.proofs.MomentsLemmas.{base_or_now-steady}
-use Rattle.store_api.proofs.WorksLemmas.{rests_steady, steady_none}
+use Rattle.store_api.proofs.WorksLemmas.{rests_steady, steady_none, steady_then}
 use Rattle.extent_map.specs.Owners.{IsSameShape}
 use Rattle.extent_map.specs.declared.extents.Extents.{Extents}
 use Rattle.table_trees.specs.ToldPages.{PageList}
@@ -27,7 +27,8 @@ use Rattle.mdc_sound.specs.SoundDatabase.{KeepAllRules}
 use Rattle.mdc_sound.specs.StandingTable.{pages_of}
 use Rattle.mdc_sound.specs.StandsForDatabase.{PagesStandFor}
 use Rattle.stored_catalog.specs.StoredDefinitions.{AreStored}
-use Rattle.script_engine.specs.Committing.{CommitsWork, HasSoundRoot}
+use Rattle.script_engine.specs.Breaking.{HoldsAtDamage, NamesExactly, StaysAtDamage}
+use Rattle.script_engine.specs.Committing.{CommitsWork, HasSoundRoot, IsUncounted, LeavesUncounted}
 use Rattle.script_engine.specs.Doing.{DoesStep, LeavesAll, PlacesOnPages, StandsAfter, is_reading}
 use Rattle.script_engine.specs.Held.{HeldPages, KeepsBase, KeepsWork, StandsForSession, StandsForTurn, StepsOnPages, committed, rolled_back, turn_over}
 use Rattle.script_engine.specs.Held.StepsOnPages.{full, turns}
@@ -38,13 +39,15 @@ use Rattle.script_engine.specs.Ready.{AreServed, IsReady}
 use Rattle.script_engine.specs.Reloading.{Reloads}
 use Rattle.script_engine.specs.Serving.{IsReadyEngine, MayCall, held_by}
 use Rattle.script_engine.specs.Trying.{IsRefusedFull, TriesStep}
-use Rattle.script_engine.specs.Turns.{Executes, LeavesCommitted, LeavesOutside, control_of}
+use Rattle.script_engine.specs.Turns.{Executes, LeavesCommitted, LeavesOutside, control_of, opened_by}
 use Rattle.script_engine.specs.declared.engine.Engine.{Engine}
 use Rattle.script_engine.specs.declared.stop.EngineStop.{EngineStop}
 use Rattle.script_engine.specs.declared.stop.EngineStop.TheVariants.{Damaged, Device, Output}
 use Rattle.script_engine.specs.declared.tables.Tables.{Tables}
 use Rattle.script_engine.specs.declared.transactions.Control.TheVariants as control
+use Rattle.script_engine.proofs.BreakingLemmas.{exact_along}
 use Rattle.script_engine.proofs.CatalogLemmas.{built_of, one_catalog, served_of}
+use Rattle.script_engine.proofs.FetchesForQueryLemmas.{fetches_counted}
 use Rattle.script_engine.proofs.LeavingLemmas.{leaves_steady, leaves_then}
 use Rattle.script_engine.proofs.LeavingOthersLemmas.{leaves_others_done, leaves_others_still}
 use Rattle.script_engine.proofs.ReadyTablesLemmas.{ready_of_sound}
@@ -68,6 +71,10 @@ neither false b is = (refl, is)
 
 same_outcome : (result : Result Outcome EngineStop) (a b : Outcome) → result ≡ Ok a → result ≡ Ok b → a ≡ b
 same_outcome result a b first second = cc
+
+-- any statement but BEGIN, COMMIT and ROLLBACK leaves a transaction open or none
+pub opened_other : (was : Bool) (stmt : Stmt) → control_of stmt ≡ control.Other → was ≡ opened_by (control_of stmt) was
+opened_other was stmt other = sym (ap (λ control. opened_by control was) other)
 
 -- any statement but BEGIN, COMMIT, ROLLBACK and LIST BLOCKS turns a session as it does without transactions
 turn_other : (session : Session) (stmt : Stmt) → control_of stmt ≡ control.Other → is_listing stmt ≡ false → turn_over session stmt ≡ turn session stmt
@@ -278,18 +285,23 @@ module _ {S : Type 0} (g : Ghosts S) where
 
   -- ---- a stop
 
-  pub executes_stop : {X : Type 0} (stmt : Stmt) (result : Result Outcome EngineStop) (stop : EngineStop) (old new : Engine S) → IsErrAnd result (λ e. e ≡ stop)
-      → ((damage : Damage) → stop ≡ Damaged damage → IsReadyEngine g old → ⊥) → (IsReadyEngine g old → LeavesCommitted g stmt old new) → IsSameShape old.tables.ext new.tables.ext
+  pub executes_stop : {X Y : Type 0} (stmt : Stmt) (result : Result Outcome EngineStop) (stop : EngineStop) (old new : Engine S) → IsErrAnd result (λ e. e ≡ stop)
+      → ((damage : Damage) → stop ≡ Damaged damage → IsReadyEngine g old → ⊥) → NamesExactly {X = Y} g old.tables.ext (Err stop) new.store → ((damage : Damage) → stop ≡ Damaged damage → StaysAtDamage g old new)
+      → (IsReadyEngine g old → LeavesCommitted g stmt old new) → IsSameShape old.tables.ext new.tables.ext
       → LeavesOutside {X = X} g (Err stop) old new → Executes g stmt result old new
-  executes_stop stmt (Ok outcome) stop old new is damaged leaves shape left = absurd is
-  executes_stop stmt (Err e) stop old new is damaged leaves shape left = subst (λ (x : EngineStop). Executes g stmt (Err x) old new) (sym is) (record {
+  executes_stop stmt (Ok outcome) stop old new is damaged exact stays leaves shape left = absurd is
+  executes_stop stmt (Err e) stop old new is damaged exact stays leaves shape left = subst (λ (x : EngineStop). Executes g stmt (Err x) old new) (sym is) (record {
     steps = tt;
     may = tt;
     keeps = tt;
     leaves = leaves;
+    fetches = tt;
     refused = λ refusal e. absurd (cc);
     unserved = λ served other outcome e. absurd (cc);
     damaged = λ damage e ready. damaged damage (cc) ready;
+    opens = tt;
+    exact = λ damage e. exact damage (cc);
+    stays = λ damage e. stays damage (cc);
     shape = shape;
     outside = outside_as stop old new left;
   })
@@ -325,11 +337,26 @@ module _ {S : Type 0} (g : Ghosts S) where
       MayBeLeft.after (said.Done reply.Done) (held_with work work old.tables.catalog false) (commit_steps old.tables.ext (held_by g old) (held_with work work old.tables.catalog false) is_open refl refl refl refl) refl refl
       (ready.work.view, ready.work.sound) ready.work.stored (may.served ready.served).valid
 
+  -- a commit that found another count of pages committed nothing
+  stays_uncounted : (old new : Engine S) (mid : S) → Steady g old.store mid → (g.state mid).marked ≡ None → (g.state old.store).ended ≡ false → new.is_open ≡ old.is_open → LeavesUncounted g mid new.store
+      → (g.state new.store).work ≡ (g.state mid).work → StaysAtDamage g old new
+  stays_uncounted old new mid steady unmarked going is_open left work =
+      let all = steady_then steady left.steady in
+      record {
+        base = all.base;
+        going = all.ended ∙ going;
+        unmarked = left.marked ∙ unmarked;
+        is_open = is_open;
+        holds = HoldsAtDamage.uncounted (λ told. subst IsUncounted (sym work) (left.differs (subst IsTrue left.steady.is_told told)));
+      }
+
   pub commit_stops : (result : Result Outcome EngineStop) (stop : EngineStop) (old : Engine S) (store : S) → MayCall g old → old.is_open ≡ true → IsErrAnd result (λ e. e ≡ stop)
-      → CommitsWork {X = Unit {0}} g (Err stop) old.store store → (Rests g old.store → Rests g store) → Executes g statement.Commit result old (record old { store = store })
-  commit_stops result stop old store may is_open is commits rests =
+      → CommitsWork {X = Unit {0}} g (Err stop) old.store store → (Rests g old.store → Rests g store) → NamesExactly {X = Unit {0}} g old.tables.ext (Err stop) store
+      → Executes g statement.Commit result old (record old { store = store })
+  commit_stops result stop old store may is_open is commits rests exact =
       let new : Engine S = record old { store = store } in
-      executes_stop statement.Commit result stop old new is (λ damage e ready. commits.damaged damage (ap Err e) (sound_root old.store old.tables ready.work))
+      executes_stop {Y = Unit {0}} statement.Commit result stop old new is (λ damage e ready. commits.damaged damage (ap Err e) (sound_root old.store old.tables ready.work)) exact
+      (λ damage e. record (stays_uncounted old new old.store steady_none may.unmarked may.going refl (commits.uncounted damage (ap Err e)) commits.work) { holds = HoldsAtDamage.before commits.work })
       (λ ready. leaves_then g (Err stop) statement.Commit old new old.store steady_none commits (work_left old may is_open ready)) (no_shape old.tables.ext) (outside_commit (Err stop) old new commits rests)
 
   pub commit_done : (old : Engine S) (store : S) → MayCall g old → old.is_open ≡ true → CommitsWork {X = Unit {0}} g (Ok tt) old.store store
@@ -341,21 +368,33 @@ module _ {S : Type 0} (g : Ghosts S) where
         may = record { going = commits.going; unmarked = commits.unmarked; served = may.served };
         keeps = λ all. record { closed = λ shut. commits.base ∙ sym commits.work; is_open = λ opened. absurd (cc) };
         leaves = λ ready. leaves_then g (Ok tt) statement.Commit old new old.store steady_none commits (work_left old may is_open ready);
+        fetches = λ ready. tt;
         refused = λ refusal e. absurd (cc);
         unserved = λ served other outcome e. absurd (cc);
         damaged = λ damage e ready. absurd (cc);
+        opens = refl;
+        exact = λ damage e. absurd (cc);
+        stays = λ damage e. absurd (cc);
         shape = no_shape old.tables.ext;
         outside = outside_done old new commits rests;
       }
 
   -- ---- ROLLBACK
 
-  pub roll_back_stops : (result : Result Outcome EngineStop) (stop : EngineStop) (old : Engine S) (store : S) (tables : Tables) → IsErrAnd result (λ e. e ≡ stop)
-      → Reloads g (Err stop) old.store store old.tables tables → Executes g statement.Rollback result old (record old { store = store; tables = tables })
-  roll_back_stops result stop old store tables is reloads =
+  pub roll_back_stops : (result : Result Outcome EngineStop) (stop : EngineStop) (old : Engine S) (store : S) (tables : Tables) → MayCall g old → IsErrAnd result (λ e. e ≡ stop)
+      → Reloads g (Err stop) old.store store old.tables tables → NamesExactly {X = Bool} g old.tables.ext (Err stop) store
+      → Executes g statement.Rollback result old (record old { store = store; tables = tables })
+  roll_back_stops result stop old store tables may is reloads exact =
       let new : Engine S = record old { store = store; tables = tables } in
-      executes_stop {X = Bool} statement.Rollback result stop old new is
-      (λ damage e ready. reloads.damaged damage (ap Err e) ready.work.told old.tables.ext (ready.base_view, ready.base_sound))
+      executes_stop {X = Bool} {Y = Bool} statement.Rollback result stop old new is
+      (λ damage e ready. reloads.damaged damage (ap Err e) ready.work.told old.tables.ext (ready.base_view, ready.base_sound)) exact
+      (λ damage e. record {
+        base = reloads.steady.base;
+        going = reloads.steady.ended ∙ may.going;
+        unmarked = reloads.unmarked;
+        is_open = refl;
+        holds = HoldsAtDamage.base reloads.work;
+      })
       (λ ready. leaves_steady g statement.Rollback old new reloads.steady) reloads.shape (outside_steady (Err stop) old new reloads.steady reloads.device reloads.output)
 
   roll_back_steps : (old : Engine S) (store : S) (tables : Tables) (served : Bool) → old.is_open ≡ true → Reloads g (Ok served) old.store store old.tables tables
@@ -409,9 +448,13 @@ module _ {S : Type 0} (g : Ghosts S) where
         };
         keeps = λ all. record { closed = λ shut. reloads.steady.base ∙ sym reloads.work; is_open = λ opened. absurd (cc) };
         leaves = λ ready. leaves_steady g statement.Rollback old new reloads.steady;
+        fetches = λ ready. tt;
         refused = λ refusal e. absurd (cc);
         unserved = λ served other outcome e. absurd (cc);
         damaged = λ damage e ready. absurd (cc);
+        opens = refl;
+        exact = λ damage e. absurd (cc);
+        stays = λ damage e. absurd (cc);
         shape = reloads.shape;
         outside = outside_steady (Ok (said.Done reply.Done)) old new reloads.steady (counts_fault_as (λ is. absurd (cc)) (λ is. absurd (cc)) reloads.device) (λ is. absurd (cc));
       }
@@ -469,9 +512,13 @@ module _ {S : Type 0} (g : Ghosts S) where
         may = record { going = tries.steady.ended ∙ may.going; unmarked = tries.unmarked; served = λ is. tries.served };
         keeps = λ all. base_tried old store tables stmt outcome all tries kept;
         leaves = λ ready. leaves_steady g stmt old new tries.steady;
+        fetches = λ ready. tries.fetches ready.work;
         refused = λ refusal is. held_left old store tables tries.steady (tries.refused refusal is);
         unserved = λ unserved other outcome is. let wrong : true ≡ false = sym served ∙ unserved in absurd (cc);
         damaged = λ damage e ready. absurd (cc);
+        opens = opened_other old.is_open stmt other;
+        exact = λ damage e. absurd (cc);
+        stays = λ damage e. absurd (cc);
         shape = tries.shape;
         outside = outside_steady (Ok outcome) old new tries.steady tries.device tries.output;
       }
@@ -516,31 +563,48 @@ module _ {S : Type 0} (g : Ghosts S) where
         may = record { going = commits.going; unmarked = commits.unmarked; served = λ is. tries.served };
         keeps = λ all. record { closed = λ still. commits.base ∙ sym commits.work; is_open = λ opened. let wrong : true ≡ false = sym opened ∙ shut in absurd (cc) };
         leaves = λ ready. leaves_then g (Ok tt) stmt old new mid tries.steady commits (made_left old mid tables stmt outcome other changing done shut tries ready);
+        fetches = λ ready. fetches_counted g old.tables.ext old.tables.catalog old.store mid store (bound_of old.tables.catalog stmt) (tries.fetches ready.work) commits.brings;
         refused = λ refusal is. absurd (not_done outcome refusal done (same_outcome (Ok outcome) outcome (said.Refused refusal) refl is));
         unserved = λ unserved other outcome is. let wrong : true ≡ false = sym served ∙ unserved in absurd (cc);
         damaged = λ damage e ready. absurd (cc);
+        opens = opened_other old.is_open stmt other;
+        exact = λ damage e. absurd (cc);
+        stays = λ damage e. absurd (cc);
         shape = tries.shape;
         outside = outside_value old new (outside_then (Ok tt) old new mid tries.steady still commits rests);
       }
 
-  pub change_stops : (result : Result Outcome EngineStop) (stop : EngineStop) (old : Engine S) (mid store : S) (tables : Tables) (stmt : Stmt) (outcome : Outcome) → IsErrAnd result (λ e. e ≡ stop) → control_of stmt ≡ control.Other → is_listing stmt ≡ false
+  pub change_stops : (result : Result Outcome EngineStop) (stop : EngineStop) (old : Engine S) (mid store : S) (tables : Tables) (stmt : Stmt) (outcome : Outcome) → MayCall g old → IsErrAnd result (λ e. e ≡ stop) → control_of stmt ≡ control.Other → is_listing stmt ≡ false
       → TriesStep g stmt (Ok outcome) old.store mid old.tables tables → (old.is_open || is_refusal outcome) ≡ false → CommitsWork {X = Unit {0}} g (Err stop) mid store
-      → (Rests g mid → Rests g store) → Executes g stmt result old (record old { store = store; tables = tables })
-  change_stops result stop old mid store tables stmt outcome is other changing tries kept commits rests =
+      → (Rests g mid → Rests g store) → NamesExactly {X = Unit {0}} g tables.ext (Err stop) store → Executes g stmt result old (record old { store = store; tables = tables })
+  change_stops result stop old mid store tables stmt outcome may is other changing tries kept commits rests exact =
       let new : Engine S = record old { store = store; tables = tables } in
       let both = neither old.is_open (is_refusal outcome) kept in
       let still : g.disk_faults mid ≡ g.disk_faults old.store = tries.device.still (λ is. absurd (cc)) in
-      executes_stop stmt result stop old new is
+      executes_stop {Y = Unit {0}} stmt result stop old new is
       (λ damage e ready. commits.damaged damage (ap Err e) (sound_root mid tables (ready_tried old.store mid old.tables tables stmt outcome (tries.does ready.work))))
+      (exact_along g old.tables.ext tables.ext (Err stop) store tries.shape exact)
+      (λ damage e. stays_uncounted old new mid tries.steady tries.unmarked may.going refl (commits.uncounted damage (ap Err e)) commits.work)
       (λ ready. leaves_then g (Err stop) stmt old new mid tries.steady commits (made_left old mid tables stmt outcome other changing both.1 both.0 tries ready)) tries.shape
       (outside_then (Err stop) old new mid tries.steady still commits rests)
 
   -- the execution stopped
-  pub change_untried : (result : Result Outcome EngineStop) (stop : EngineStop) (old : Engine S) (store : S) (tables : Tables) (stmt : Stmt) → IsErrAnd result (λ e. e ≡ stop)
-      → TriesStep g stmt (Err stop) old.store store old.tables tables → Executes g stmt result old (record old { store = store; tables = tables })
-  change_untried result stop old store tables stmt is tries =
+  pub change_untried : (result : Result Outcome EngineStop) (stop : EngineStop) (old : Engine S) (store : S) (tables : Tables) (stmt : Stmt) → MayCall g old → IsErrAnd result (λ e. e ≡ stop)
+      → TriesStep g stmt (Err stop) old.store store old.tables tables → NamesExactly {X = Outcome} g old.tables.ext (Err stop) store
+      → Executes g stmt result old (record old { store = store; tables = tables })
+  change_untried result stop old store tables stmt may is tries exact =
       let new : Engine S = record old { store = store; tables = tables } in
-      executes_stop {X = Outcome} stmt result stop old new is (λ damage e ready. tries.damaged damage (ap Err e) ready.work) (λ ready. leaves_steady g stmt old new tries.steady) tries.shape
+      executes_stop {X = Outcome} {Y = Outcome} stmt result stop old new is (λ damage e ready. tries.damaged damage (ap Err e) ready.work) exact
+      (λ damage e.
+      let back = tries.back damage (ap Err e) in
+      record {
+        base = tries.steady.base;
+        going = tries.steady.ended ∙ may.going;
+        unmarked = back.unmarked;
+        is_open = refl;
+        holds = HoldsAtDamage.before back.leaves.pages;
+      })
+      (λ ready. leaves_steady g stmt old new tries.steady) tries.shape
       (outside_steady (Err stop) old new tries.steady tries.device tries.output)
 
   -- ---- another store with the same pages

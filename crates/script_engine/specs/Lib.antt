@@ -1,6 +1,8 @@
+pub mod Breaking
 pub mod Committing
 pub mod Defining
 pub mod Doing
+pub mod Fetching
 pub mod Held
 pub mod Inserting
 pub mod Leaving

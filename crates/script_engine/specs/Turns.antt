@@ -1,5 +1,5 @@
 -- What each call on an engine does: to what it holds, to its store, and to what is outside.
-use Rattle.std.specs.Prelude.{◌≡◌, false, IfOk, OnOk, IsErrOf, Result, Ok, Err}
+use Rattle.std.specs.Prelude.{◌≡◌, Bool, true, false, IfOk, OnOk, IsErrOf, Result, Ok, Err}
 use Rattle.mdc_words.specs.Faults.{CountsFault}
 use Rattle.mdc_words.specs.Time.{OverTime, ReachesBack}
 use Rattle.mdc_ast.specs.declared.refusal.Refusal.{Refusal}
@@ -7,12 +7,15 @@ use Rattle.mdc_ast.specs.declared.reply.Outcome.{Outcome}
 use Rattle.mdc_ast.specs.declared.reply.Outcome.TheVariants as said
 use Rattle.mdc_ast.specs.declared.statement.Stmt.{Stmt}
 use Rattle.mdc_ast.specs.declared.statement.Stmt.TheVariants as statement
+use Rattle.mdc_ast.specs.meaning.Binding.{bound_of}
 use Rattle.mdc_ast.specs.meaning.Cause.{NotBuilt, refusal_of}
 use Rattle.store_api.specs.Moments.{BaseOrNow}
 use Rattle.store_api.specs.Works.{Rests}
 use Rattle.store_api.specs.declared.fault.Damage.{Damage}
 use Rattle.store_api.specs.declared.pages.Pages.{Ghosts}
 use Rattle.extent_map.specs.Owners.{IsSameShape}
+use Rattle.script_engine.specs.Breaking.{NamesExactly, StaysAtDamage}
+use Rattle.script_engine.specs.Fetching.{FetchesForQuery}
 use Rattle.script_engine.specs.Held.{KeepsBase, StepsOnPages}
 use Rattle.script_engine.specs.Leaving.{IsAllCommitted, LeftWithin, MayBeLeft}
 use Rattle.script_engine.specs.Serving.{IsReadyEngine, MayCall, held_by}
@@ -28,6 +31,13 @@ control_of statement.Begin = control.Begin
 control_of statement.Commit = control.Commit
 control_of statement.Rollback = control.Rollback
 control_of stmt = control.Other
+
+-- whether a transaction is open behind such a statement that was answered, by whether one was open before it
+abbrev pub opened_by : Control → Bool → Bool
+opened_by control.Begin was = true
+opened_by control.Commit was = false
+opened_by control.Rollback was = false
+opened_by control.Other was = was
 
 -- the law of a store: what may be left since a time may be left since an earlier one
 abbrev pub KeepsTime : {S : Type 0} → Ghosts S → Type 0
@@ -50,14 +60,19 @@ pub record LeavesCommitted {S : Type 0} (g : Ghosts S) (stmt : Stmt) (old new : 
   pub time : OverTime g.clock g.left (LeftWithin old.tables.ext (held_by g old) stmt (g.state old.store)) old.store new.store
   pub base : MayBeLeft old.tables.ext (held_by g old) stmt (g.state new.store).base
 
--- What a statement did to an engine: it steps on sound pages, a refusal changes nothing, and no damage is named of sound pages.
+-- What a statement did to an engine: it steps on sound pages, a refusal changes nothing, no damage is named of sound pages, and
+-- damage that is named is exact.
 pub record Executes {S : Type 0} (g : Ghosts S) (stmt : Stmt) (result : Result Outcome EngineStop) (old new : Engine S) : Type 0 where
   pub steps : IfOk result (λ outcome. IsReadyEngine g old → StepsOnPages old.tables.ext (held_by g old) stmt outcome (held_by g new) × IsReadyEngine g new)
   pub may : OnOk result (MayCall g new)
   pub keeps : OnOk result (IsAllCommitted (held_by g old) → KeepsBase (held_by g old) (held_by g new))
   pub leaves : IsReadyEngine g old → LeavesCommitted g stmt old new
+  pub fetches : OnOk result (IsReadyEngine g old → FetchesForQuery g old.tables.ext old.store new.store old.tables.catalog (bound_of old.tables.catalog stmt))
   pub refused : (refusal : Refusal) → result ≡ Ok (said.Refused refusal) → held_by g new ≡ held_by g old
   pub unserved : old.served ≡ false → control_of stmt ≡ control.Other → (outcome : Outcome) → result ≡ Ok outcome → outcome ≡ said.Refused (refusal_of NotBuilt)
   pub damaged : (damage : Damage) → result ≡ Err (Damaged damage) → IsReadyEngine g old → ⊥
+  pub opens : OnOk result (new.is_open ≡ opened_by (control_of stmt) old.is_open)
+  pub exact : NamesExactly g old.tables.ext result new.store
+  pub stays : (damage : Damage) → result ≡ Err (Damaged damage) → StaysAtDamage g old new
   pub shape : IsSameShape old.tables.ext new.tables.ext
   pub outside : LeavesOutside g result old new

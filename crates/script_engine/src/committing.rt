@@ -1,39 +1,46 @@
 // The commit of all pages as they are now.
 ghost use Rattle.std.specs.Prelude.{◌≡◌, false, None};
 ghost use Rattle.store_api.specs.Works.{Rests};
+ghost use Rattle.script_engine.specs.Breaking.{NamesExactly};
 ghost use Rattle.script_engine.specs.Committing.{CommitsWork, CountsPages};
 
+use crate::damage::stop_at;
 use crate::stop::EngineStop;
+use crate::tables::Tables;
 use store_api::{Damage, Store, stated_count};
 
 /// The damage of a page 0 that doesn't state how many pages there are.
 const WRONG_COUNT: Damage = Damage { page: 0, rule: 1 };
 
-/// Makes the work the base. `Damaged` names page 0 where that doesn't state how many pages there are; nothing is committed then.
-pub(crate) fn commit_work<S: Store>(store: &mut S) -> Result<(), EngineStop>
+/// Makes the work the base. `Damaged` names the damage of the work, where page 0 doesn't state how many pages there are; nothing is
+/// committed then.
+#[tactic(auto, using(crate::proofs::CommittingLemmas::brings_committed))]
+pub(crate) fn commit_work<S: Store>(tables: &Tables, store: &mut S) -> Result<(), EngineStop>
     requires going { (S.state store.old).ended ≡ false }
     requires unmarked { (S.state store.old).marked ≡ None }
     ensures commits { CommitsWork S.Pages result store.old store.new }
     ensures rests { Rests S.Pages store.old → Rests S.Pages store.new }
+    ensures exact { NamesExactly S.Pages tables.now.ext result store.new }
 {
-    check_count(store)?;
+    check_count(tables, store)?;
     store.prepare()?;
     store.commit()?;
     Ok(())
 }
 
 /// Looks whether page 0 states how many pages there are.
-fn check_count<S: Store>(store: &mut S) -> Result<(), EngineStop>
+fn check_count<S: Store>(tables: &Tables, store: &mut S) -> Result<(), EngineStop>
     requires going { (S.state store.old).ended ≡ false }
     ensures counts { CountsPages S.Pages result store.old store.new }
+    ensures exact { NamesExactly S.Pages tables.now.ext result store.new }
 {
     let count = store.count();
     if count == 0 {
-        return Err(EngineStop::Damaged(WRONG_COUNT));
+        return Err(stop_at(tables.alloc, &tables.ext, store, WRONG_COUNT));
     }
     store.fetch(0)?;
     if stated_count(store.page()) != count {
-        return Err(EngineStop::Damaged(WRONG_COUNT));
+        return Err(stop_at(tables.alloc, &tables.ext, store, WRONG_COUNT));
     }
     Ok(())
 }

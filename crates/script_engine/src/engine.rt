@@ -1,18 +1,22 @@
 // The engine: tables over a store, in transactions.
-ghost use Rattle.std.specs.Prelude.{◌≡◌, false, IfErr, IfOk, IsErrOf, OnErr, OnOk, Ok, Err};
+ghost use Rattle.std.specs.Prelude.{◌≡◌, false, IfErr, IfOk, IsErrOf, IsTrue, OnErr, OnOk, Ok, Err};
 ghost use Rattle.mdc_words.specs.Faults.{CountsFault};
 ghost use Rattle.mdc_words.specs.Time.{OverTime};
 ghost use Rattle.mdc_ast.specs.declared.refusal.Refusal.{Refusal};
+ghost use Rattle.mdc_ast.specs.meaning.Binding.{bound_of};
 ghost use Rattle.mdc_ast.specs.meaning.Cause.{NotBuilt, refusal_of};
 ghost use Rattle.store_api.specs.Calls.{Tells, TellsPart};
 ghost use Rattle.store_api.specs.Moments.{BaseOrNow, BaseWithFront};
 ghost use Rattle.store_api.specs.Works.{Rests};
 ghost use Rattle.store_api.specs.declared.fault.Damage.{Damage};
 ghost use Rattle.extent_map.specs.Owners.{IsSameShape};
+ghost use Rattle.mdc_sound.specs.Breaks.{IsFirstBreak};
+ghost use Rattle.script_engine.specs.Breaking.{StaysAtDamage};
+ghost use Rattle.script_engine.specs.Fetching.{FetchesForQuery};
 ghost use Rattle.script_engine.specs.Held.{IsWritten, KeepsBase, StepsOnPages};
 ghost use Rattle.script_engine.specs.Leaving.{IsAllCommitted, LeftWithin, MayBeLeft};
 ghost use Rattle.script_engine.specs.Serving.{IsReadyEngine, MayCall, held_by};
-ghost use Rattle.script_engine.specs.Turns.{control_of};
+ghost use Rattle.script_engine.specs.Turns.{control_of, opened_by};
 ghost use Rattle.script_engine.specs.declared.transactions.Control.{Control};
 
 use crate::stop::EngineStop;
@@ -41,7 +45,8 @@ impl<S: Store> Engine<S> {
 
     /// Executes a statement. Outside a transaction its change is committed before the answer; where it is refused, nothing has
     /// changed. A crash within it leaves the pages of the last commit before it, or those that it commits, and so does a stop, after
-    /// which the engine takes no further call but `close`.
+    /// which the engine takes no further call but `close`. Damage is exact: of the pages as they are then, the first rule that they
+    /// break, and the lowest page that breaks it. A query brings pages of rows to hand only of blocks in whose cells a row may qualify.
     pub fn execute(&mut self, stmt: &Stmt) -> Result<Outcome, EngineStop>
         requires may { MayCall S.Pages self.old }
         requires written { IsWritten stmt.now }
@@ -50,10 +55,14 @@ impl<S: Store> Engine<S> {
         ensures commits { OnOk result (IsAllCommitted (held_by S.Pages self.old) → KeepsBase (held_by S.Pages self.old) (held_by S.Pages self.new)) }
         ensures left { IsReadyEngine S.Pages self.old → OverTime S.clock S.left (LeftWithin self.old.tables.ext (held_by S.Pages self.old) stmt.now (S.state self.old.store)) self.old.store self.new.store }
         ensures base { IsReadyEngine S.Pages self.old → MayBeLeft self.old.tables.ext (held_by S.Pages self.old) stmt.now (S.state self.new.store).base }
+        ensures fetches { OnOk result (IsReadyEngine S.Pages self.old → FetchesForQuery S.Pages self.old.tables.ext self.old.store self.new.store self.old.tables.catalog (bound_of self.old.tables.catalog stmt.now)) }
         ensures unserved { self.old.served ≡ false → control_of stmt.now ≡ Control.Other → (outcome : Outcome) → result ≡ Ok outcome → outcome ≡ Outcome.Refused (refusal_of NotBuilt) }
         ensures refused { (refusal : Refusal) → result ≡ Ok (Outcome.Refused refusal) → held_by S.Pages self.new ≡ held_by S.Pages self.old }
+        ensures opens { OnOk result (self.new.is_open ≡ opened_by (control_of stmt.now) self.old.is_open) }
         ensures device { CountsFault (IsErrOf result EngineStop.Device) (S.disk_faults self.old.store) (S.disk_faults self.new.store) }
         ensures damaged { (damage : Damage) → result ≡ Err (EngineStop.Damaged damage) → IsReadyEngine S.Pages self.old → ⊥ }
+        ensures breaks { (damage : Damage) → result ≡ Err (EngineStop.Damaged damage) → IsTrue (S.state self.old.store).is_told → IsFirstBreak self.old.tables.ext (S.state self.new.store).work damage.rule damage.page }
+        ensures stays { (damage : Damage) → result ≡ Err (EngineStop.Damaged damage) → StaysAtDamage S.Pages self.old self.new }
         ensures output { IsErrOf result EngineStop.Output → ⊥ }
         ensures say_faults { S.say_faults self.new.store ≡ S.say_faults self.old.store }
         ensures is_told { (S.state self.new.store).is_told ≡ (S.state self.old.store).is_told }

@@ -2,6 +2,7 @@
 ghost use Rattle.std.specs.Prelude.{◌≡◌, false, true, IfOk, IfErr, IfSome, Ok};
 ghost use Rattle.mdc_ast.specs.declared.bound.Bound.TheVariants as bound;
 ghost use Rattle.mdc_ast.specs.declared.refusal.Refusal.{Refusal};
+ghost use Rattle.mdc_ast.specs.meaning.Binding.{bound_of};
 ghost use Rattle.store_api.specs.Causes.{store_fault_in};
 ghost use Rattle.store_api.specs.RunsOverPages.{RunsOverPages};
 ghost use Rattle.store_api.specs.declared.fault.StoreFault.TheVariants as store_fault;
@@ -11,6 +12,7 @@ ghost use Rattle.mdc_sound.specs.StandingTable.{pages_of};
 ghost use Rattle.statement_rows.specs.RowsOfStatement.{AnyPage};
 ghost use Rattle.script_engine.specs.Defining.{IsBoundOn, MayBeExecuted};
 ghost use Rattle.script_engine.specs.Doing.{DoesStatement, DoesStep, LeavesAll, RunsFullAlone, StepRunsFull, is_query, is_reading};
+ghost use Rattle.script_engine.specs.Fetching.{FetchesForQuery};
 ghost use Rattle.script_engine.specs.Held.{IsWritten};
 ghost use Rattle.script_engine.specs.Ready.{AreServed, BreaksDatabase, IsReady, KeepsServed};
 
@@ -42,6 +44,7 @@ pub fn execute<P: Pages>(
     ensures full { IfErr result (λ fault. IfFull fault (λ cap. (cap ≡ tables.old.ext.cap)
         × (IsReady P.Pages pages.old tables.old → StepRunsFull tables.old.ext (pages_of P.Pages pages.old) tables.old.catalog stmt.now))) }
     ensures reads { is_reading stmt.now ≡ true → (P.state pages.new).work ≡ (P.state pages.old).work }
+    ensures fetches { FetchesForQuery P.Pages tables.old.ext pages.old pages.new tables.old.catalog (bound_of tables.old.catalog stmt.now) }
     ensures keeps { KeepsServed result tables.old tables.new }
     ensures runs { RunsOverPages P.Pages AnyPage AnyPage (BreaksDatabase P.Pages pages.old tables.old) pages.old pages.new (store_fault_in store_part_of result) }
 {
@@ -89,6 +92,7 @@ fn execute_any<P: Pages>(
     ensures full { IfErr result (λ fault. IfFull fault (λ cap. (cap ≡ tables.old.ext.cap)
         × (IsReady P.Pages pages.old tables.old → StepRunsFull tables.old.ext (pages_of P.Pages pages.old) tables.old.catalog stmt.now))) }
     ensures reads { is_reading stmt.now ≡ true → (P.state pages.new).work ≡ (P.state pages.old).work }
+    ensures fetches { FetchesForQuery P.Pages tables.old.ext pages.old pages.new tables.old.catalog (bound_of tables.old.catalog stmt.now) }
     ensures keeps { KeepsServed result tables.old tables.new }
     ensures runs { RunsOverPages P.Pages AnyPage AnyPage (BreaksDatabase P.Pages pages.old tables.old) pages.old pages.new (store_fault_in store_part_of result) }
 {
@@ -116,6 +120,7 @@ fn carry_out<P: Pages>(
     ensures full { IfErr result (λ fault. IfFull fault (λ cap. (cap ≡ tables.old.ext.cap)
         × (IsReady P.Pages pages.old tables.old → RunsFullAlone tables.old.ext (pages_of P.Pages pages.old) tables.old.catalog bound))) }
     ensures reads { is_query bound ≡ true → (P.state pages.new).work ≡ (P.state pages.old).work }
+    ensures fetches { FetchesForQuery P.Pages tables.old.ext pages.old pages.new tables.old.catalog bound }
     ensures keeps { KeepsServed result tables.old tables.new }
     ensures runs { RunsOverPages P.Pages AnyPage AnyPage (BreaksDatabase P.Pages pages.old tables.old) pages.old pages.new (store_fault_in store_part_of result) }
 {

@@ -4,15 +4,18 @@
 //! for those lists, with rows where placing says, in trees that took no more space than these rows ask for, and the blocks of other
 //! tables as they were, that LIST BLOCKS tells how many blocks a table has in each state, and that a statement which is refused
 //! changes nothing. Outside a transaction its change is committed before the answer; a crash at any moment of a call leaves the
-//! pages of the last commit before it or those that it commits. 70 is answered only where the statement runs full. Sound pages stand
-//! for such lists, by the law here, and for no others, by one of `mdc_sound`: what is promised for each database that pages stand
-//! for is promised for just one.
+//! pages of the last commit before it or those that it commits. 70 is answered only where the statement runs full. Damage that is
+//! answered is exact: of the pages as they are then, the first rule that they break, and the lowest page that breaks it. Sound pages
+//! stand for such lists, by the law here, and for no others, by one of `mdc_sound`: what is promised for each database that pages
+//! stand for is promised for just one.
 //!
 //! It stands on `binder` for what a statement means, on `table_scan`, `statement_rows` and `stored_catalog` for what it does to
-//! pages, on `mdc_table` for the count of a table's blocks, and on `row_judging` for what is said against its rows.
+//! pages, on `mdc_table` for the count of a table's blocks, on `row_judging` for what is said against its rows, and on `file_check` for
+//! which rule pages break.
 #![tactic(auto)]
 
 mod committing;
+mod damage;
 mod defining;
 mod deleting;
 mod engine;

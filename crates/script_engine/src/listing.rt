@@ -1,28 +1,37 @@
 // The blocks of a table, which LIST BLOCKS tells.
-ghost use Rattle.std.specs.Prelude.{◌≡◌, false, IfOk, MatchOption, None, Some};
+ghost use Rattle.std.specs.Prelude.{◌≡◌, false, IfOk, IsTrue, MatchOption, None, Some, Err};
 ghost use Rattle.mdc_ast.specs.declared.definition.TableDef.{TableDef};
 ghost use Rattle.mdc_ast.specs.meaning.Cause.{NoTable, refusal_of};
 ghost use Rattle.mdc_ast.specs.meaning.Definitions.{def_named};
 ghost use Rattle.store_api.specs.Causes.{fault_of};
 ghost use Rattle.store_api.specs.Frame.{NoPage};
 ghost use Rattle.store_api.specs.RunsOverPages.{RunsOverPages};
+ghost use Rattle.store_api.specs.declared.fault.Damage.{Damage};
+ghost use Rattle.mdc_sound.specs.SoundDatabase.{IsSoundDatabase};
 ghost use Rattle.mdc_sound.specs.StandingTable.{pages_of};
 ghost use Rattle.statement_rows.specs.RowsOfStatement.{AnyPage};
+ghost use Rattle.script_engine.specs.Breaking.{NamesExactly};
 ghost use Rattle.script_engine.specs.Listing.{TellsBlocks, blocks_told, is_listing};
 ghost use Rattle.script_engine.specs.Ready.{AreServed, BreaksDatabase, IsReady};
 ghost use Rattle.script_engine.specs.Serving.{MayCall};
+ghost use Rattle.script_engine.specs.Trying.{ListsAnew, ListsByPages};
 ghost use Rattle.script_engine.specs.Turns.{Executes};
+ghost use Rattle.script_engine.specs.declared.stop.EngineStop.TheVariants as stop;
 
 use crate::engine::Engine;
+use crate::opening::are_served;
 use crate::stop::EngineStop;
 use crate::tables::Tables;
 use answer_text::blocks_line;
+use file_check::{Verdict, check};
 use mdc_ast::{Name, Outcome, Reply, Stmt};
 use mdc_table::{Account, account_of};
 use mdc_values::Memory;
 use row_judging::{no_table, not_built};
 use std::alloc::Global;
+use std::mem;
 use store_api::{Pages, Store, StoreFault};
+use stored_catalog::load_catalog;
 
 /// The name in a LIST BLOCKS.
 pub(crate) fn listed(stmt: &Stmt) -> Option<&Name>
@@ -61,9 +70,53 @@ impl<S: Store> Engine<S> {
         if !self.served {
             return Ok(Outcome::Refused(not_built(self.tables.alloc)));
         }
-        let outcome = list(&self.tables, &mut self.store, name)?;
-        Ok(outcome)
+        match list(&self.tables, &mut self.store, name) {
+            Ok(outcome) => Ok(outcome),
+            Err(StoreFault::Damaged(_)) => list_again(&mut self.tables, &mut self.store, name),
+            Err(StoreFault::Device) => Err(EngineStop::Device),
+            Err(StoreFault::Memory) => Err(EngineStop::Memory),
+        }
     }
+}
+
+/// Judges the pages, on which damage was met, and lists again where they are sound.
+fn list_again<P: Pages>(
+    tables: &mut Tables,
+    pages: &mut P,
+    name: &Name,
+) -> Result<Outcome, EngineStop>
+    requires going { (P.state pages.old).ended ≡ false }
+    ensures lists { ListsAnew P.Pages result pages.old pages.new tables.old tables.new }
+    ensures answers { IfOk result (λ outcome. IsTrue (P.state pages.old).is_told → IsSoundDatabase tables.old.ext (pages_of P.Pages pages.old) → ListsByPages (pages_of P.Pages pages.old) name.now outcome) }
+    ensures exact { NamesExactly P.Pages tables.old.ext result pages.new }
+{
+    match check(tables.alloc, &tables.ext, pages)? {
+        Verdict::Broken(damage) => Err(EngineStop::Damaged(damage)),
+        Verdict::Sound => list_reloaded(tables, pages, name),
+    }
+}
+
+/// Lists by the catalog of the table pages, and puts that back which there was.
+fn list_reloaded<P: Pages>(
+    tables: &mut Tables,
+    pages: &mut P,
+    name: &Name,
+) -> Result<Outcome, EngineStop>
+    requires going { (P.state pages.old).ended ≡ false }
+    ensures lists { ListsAnew P.Pages result pages.old pages.new tables.old tables.new }
+    ensures answers { IfOk result (λ outcome. IsTrue (P.state pages.old).is_told → IsSoundDatabase tables.old.ext (pages_of P.Pages pages.old) → ListsByPages (pages_of P.Pages pages.old) name.now outcome) }
+    ensures unbroken { (damage : Damage) → result ≡ Err (stop.Damaged damage) → IsTrue (P.state pages.old).is_told → IsSoundDatabase tables.old.ext (P.state pages.old).work → ⊥ }
+{
+    let catalog = load_catalog(tables.alloc, pages)?;
+    if !are_served(&catalog) {
+        return Ok(Outcome::Refused(not_built(tables.alloc)));
+    }
+    tables.forget();
+    let kept = mem::replace(&mut tables.catalog, catalog);
+    let answer = list(tables, pages, name);
+    tables.catalog = kept;
+    let outcome = answer?;
+    Ok(outcome)
 }
 
 /// Tells how many blocks the table of that name has in each state, if there is one.

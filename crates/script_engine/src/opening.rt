@@ -8,10 +8,12 @@ ghost use Rattle.cell_rooms.specs.RoomNotes.{IsForgotten};
 ghost use Rattle.extent_map.specs.Owners.{AreRightNotes, IsSameShape};
 ghost use Rattle.extent_map.specs.declared.kind.Kind.{Kind};
 ghost use Rattle.mdc_sound.specs.SoundDatabase.{IsSoundDatabase};
-ghost use Rattle.stored_catalog.specs.StoredDefinitions.{AreWithinLimits, BreaksTablePages};
+ghost use Rattle.stored_catalog.specs.StoredDefinitions.{AreStored, AreWithinLimits};
+ghost use Rattle.script_engine.specs.Breaking.{IsExactDamage};
 ghost use Rattle.script_engine.specs.Opening.{IsSoundStore, KeepsPages, are_built, is_built_place};
 ghost use Rattle.script_engine.specs.Serving.{IsReadyEngine, MayCall};
 
+use crate::damage::load_exactly;
 use crate::engine::Engine;
 use crate::stop::EngineStop;
 use crate::tables::Tables;
@@ -21,7 +23,6 @@ use mdc_ast::{ColumnDef, TableDef};
 use mdc_table::Rooms;
 use std::alloc::Global;
 use store_api::Store;
-use stored_catalog::load_catalog;
 
 /// How many places for tables there are.
 const PLACES: u8 = 16;
@@ -34,30 +35,29 @@ pub struct Stopped<S: Store> {
 }
 
 impl<S: Store> Engine<S> {
-    /// An engine on a store, whose extents are of this shape. No page is changed. `Damaged` names a table page that is neither
-    /// zeros alone nor that of a definition, or the lower one of two of one name.
+    /// An engine on a store, whose extents are of this shape, with the definitions of its table pages. No page is changed. `Damaged`
+    /// names the first rule that the pages break, with the lowest page that breaks it.
     pub fn open(alloc: Global, store: S, ext: Extents) -> Result<Engine<S>, Stopped<S>>
         requires going { (S.state store).ended ≡ false }
         requires unmarked { (S.state store).marked ≡ None }
         ensures may { IfOk result (λ engine. MayCall S.Pages engine) }
         ensures ready { IfOk result (λ engine. IsSoundStore S.Pages ext store → IsReadyEngine S.Pages engine) }
+        ensures stored { IfOk result (λ engine. IsTrue (S.state store).is_told → AreStored (S.state store).work engine.tables.catalog) }
         ensures closed { IfOk result (λ engine. engine.is_open ≡ false) }
         ensures shape { IfOk result (λ engine. IsSameShape ext engine.tables.ext) }
         ensures pages { MatchResult result (λ engine. KeepsPages S.Pages store engine.store) (λ stopped. KeepsPages S.Pages store stopped.store) }
+        ensures ended { IfErr result (λ stopped. (S.state stopped.store).ended ≡ (S.state store).ended) }
         ensures disk_faults { IfOk result (λ engine. S.disk_faults engine.store ≡ S.disk_faults store) }
         ensures device { IfErr result (λ stopped. CountsFault (stopped.stop ≡ EngineStop.Device) (S.disk_faults store) (S.disk_faults stopped.store)) }
         ensures damaged { IfErr result (λ stopped. (damage : Damage) → stopped.stop ≡ EngineStop.Damaged damage → IsTrue (S.state store).is_told → IsSoundDatabase ext (S.state store).work → ⊥) }
-        ensures names { IfErr result (λ stopped. (damage : Damage) → stopped.stop ≡ EngineStop.Damaged damage → BreaksTablePages S.Pages store damage) }
+        ensures breaks { IfErr result (λ stopped. (damage : Damage) → stopped.stop ≡ EngineStop.Damaged damage → IsExactDamage S.Pages ext store damage) }
         ensures rests { MatchResult result (λ engine. Rests S.Pages store → Rests S.Pages engine.store) (λ stopped. Rests S.Pages store → Rests S.Pages stopped.store) }
         ensures output { IfErr result (λ stopped. stopped.stop ≡ EngineStop.Output → ⊥) }
     {
         let mut store = store;
-        match load_catalog(alloc, &mut store) {
+        match load_exactly(alloc, &ext, &mut store) {
             Ok(catalog) => Ok(engine_on(alloc, store, ext, catalog)),
-            Err(fault) => Err(Stopped {
-                stop: EngineStop::from(fault),
-                store,
-            }),
+            Err(stop) => Err(Stopped { stop, store }),
         }
     }
 }

@@ -12,6 +12,7 @@ ghost use Rattle.answer_text.specs.Lines.{are_outs_within};
 ghost use Rattle.row_judging.specs.Served.{IsDefined, MayShowRows};
 ghost use Rattle.statement_rows.specs.RowsOfStatement.{AnyPage};
 ghost use Rattle.script_engine.specs.Doing.{DoesStatement};
+ghost use Rattle.script_engine.specs.Fetching.{FetchesForQuery};
 ghost use Rattle.script_engine.specs.Ready.{AreServed, BreaksDatabase, IsReady};
 
 use crate::tables::Tables;
@@ -23,7 +24,7 @@ use std::alloc::Global;
 use store_api::{Pages, StoreFault};
 use table_scan::find_rows;
 
-/// A query over the rows of a table that qualify.
+/// A query over the rows of a table that qualify. Only pages come to hand that a scan of that table by its predicate looks at.
 pub fn query<P: Pages>(
     tables: &Tables,
     pages: &mut P,
@@ -35,6 +36,7 @@ pub fn query<P: Pages>(
     ensures does { IfOk result (λ outcome. IsReady P.Pages pages.old tables.now → DoesStatement P.Pages pages.old pages.new tables.now tables.now (bound.Query select.now) outcome) }
     ensures same { (P.state pages.new).work ≡ (P.state pages.old).work }
     ensures done { (refusal : Refusal) → result ≡ Ok (Outcome.Refused refusal) → ⊥ }
+    ensures fetches { FetchesForQuery P.Pages tables.now.ext pages.old pages.new tables.now.catalog (bound.Query select.now) }
     ensures runs { RunsOverPages P.Pages NoPage AnyPage (BreaksDatabase P.Pages pages.old tables.now) pages.old pages.new (fault_of result) }
 {
     let Some(def) = tables.catalog.def(select.table) else {

@@ -1,6 +1,7 @@
 // Statements in transactions.
 ghost use Rattle.std.specs.Prelude.{◌≡◌, false, None, Ok};
 ghost use Rattle.mdc_ast.specs.meaning.Session.{is_refusal};
+ghost use Rattle.script_engine.specs.Breaking.{NamesExactly};
 ghost use Rattle.script_engine.specs.Held.{IsWritten};
 ghost use Rattle.script_engine.specs.Listing.{is_listing};
 ghost use Rattle.script_engine.specs.Ready.{AreServed};
@@ -11,6 +12,7 @@ ghost use Rattle.script_engine.specs.Turns as turns;
 ghost use Rattle.script_engine.specs.Turns.{Executes};
 
 use crate::committing::commit_work;
+use crate::damage::{load_exactly, try_exactly};
 use crate::engine::Engine;
 use crate::executing::execute;
 use crate::listing::listed;
@@ -21,7 +23,6 @@ use extent_map::SpaceFault;
 use mdc_ast::{Outcome, Reply, Stmt};
 use row_judging::{file_full, not_built, not_in_state};
 use store_api::{Pages, Store};
-use stored_catalog::load_catalog;
 
 /// What a statement is to a transaction.
 #[derive(Clone, Copy, Debug, PartialEq, Eq)]
@@ -109,7 +110,7 @@ impl<S: Store> Engine<S> {
         if !self.is_open {
             return Ok(Outcome::Refused(not_in_state(self.tables.alloc)));
         }
-        commit_work(&mut self.store)?;
+        commit_work(&self.tables, &mut self.store)?;
         self.is_open = false;
         Ok(Outcome::Done(Reply::Done))
     }
@@ -129,7 +130,7 @@ impl<S: Store> Engine<S> {
     }
 
     /// Any other statement. Its change is committed where no transaction is open.
-    #[tactic(auto, using(crate::proofs::LeavingLemmas::leaves_still))]
+    #[tactic(auto, using(crate::proofs::LeavingLemmas::leaves_still, crate::proofs::TurnsLemmas::opened_other, crate::proofs::FetchesForQueryLemmas::fetches_none))]
     fn change(&mut self, stmt: &Stmt) -> Result<Outcome, EngineStop>
         requires may { MayCall S.Pages self.old }
         requires written { IsWritten stmt.now }
@@ -140,14 +141,14 @@ impl<S: Store> Engine<S> {
         if !self.served {
             return Ok(Outcome::Refused(not_built(self.tables.alloc)));
         }
-        let outcome = try_statement(&mut self.tables, &mut self.store, stmt)?;
+        let outcome = try_exactly(&mut self.tables, &mut self.store, stmt)?;
         if self.is_open {
             return Ok(outcome);
         }
         if is_refused(&outcome) {
             return Ok(outcome);
         }
-        commit_work(&mut self.store)?;
+        commit_work(&self.tables, &mut self.store)?;
         Ok(outcome)
     }
 }
@@ -156,17 +157,18 @@ impl<S: Store> Engine<S> {
 fn go_back<S: Store>(tables: &mut Tables, store: &mut S) -> Result<bool, EngineStop>
     requires going { (S.state store.old).ended ≡ false }
     ensures reloads { Reloads S.Pages result store.old store.new tables.old tables.new }
+    ensures exact { NamesExactly S.Pages tables.old.ext result store.new }
 {
     store.rollback();
     tables.forget();
-    let catalog = load_catalog(tables.alloc, store)?;
+    let catalog = load_exactly(tables.alloc, &tables.ext, store)?;
     let served = are_served(&catalog);
     tables.catalog = catalog;
     Ok(served)
 }
 
-/// Executes a statement, without a commit. One that runs full is refused, and all is as it was.
-fn try_statement<P: Pages>(
+/// Executes a statement, without a commit. One that runs full is refused, and all is as it was, as it is after a fault.
+pub(crate) fn try_statement<P: Pages>(
     tables: &mut Tables,
     pages: &mut P,
     stmt: &Stmt,
@@ -188,6 +190,10 @@ fn try_statement<P: Pages>(
             tables.forget();
             Ok(Outcome::Refused(file_full(tables.alloc, extents)))
         }
-        Err(SpaceFault::Store(fault)) => Err(EngineStop::from(fault)),
+        Err(SpaceFault::Store(fault)) => {
+            pages.undo();
+            tables.forget();
+            Err(EngineStop::from(fault))
+        }
     }
 }

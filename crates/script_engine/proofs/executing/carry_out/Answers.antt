@@ -3,6 +3,7 @@ use Rattle.mdc_ast.specs.declared.bound.Bound.TheVariants as bound
 use Rattle.store_api.proofs.RunsOverPagesLemmas.{runs_none}
 use Rattle.entry_tree.proofs.ClaimsLemmas.{shape_none}
 use Rattle.script_engine.proofs.ExecutingLemmas.{IsIdle, does_nothing, idle_as}
+use Rattle.script_engine.proofs.FetchesForQueryLemmas.{fetches_none}
 use Rattle.script_engine.proofs.executing.carry_out.Goals as goal
 
 pub returns : goal.returns
@@ -49,6 +50,7 @@ returns g c =
       refused = λ refusal e. cc;
       full = tt;
       reads = λ e. refl;
+      fetches = fetches_none g.P.Pages c.args.tables.now.ext c.args.tables.now.catalog c.args.pages.now c.args.bound;
       keeps = record { shape = shape_none c.args.tables.now.ext; served = c.requires.served; kept = tt };
       runs = runs_none;
     }

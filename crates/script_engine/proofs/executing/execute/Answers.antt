@@ -1,7 +1,10 @@
+use Rattle.std.proofs.Common.{subst}
 use Rattle.mdc_ast.specs.declared.bound.Bound.TheVariants as bound
 use Rattle.store_api.proofs.RunsOverPagesLemmas.{runs_exit_as}
 use Rattle.extent_map.specs.Damages.{store_part_of}
 use Rattle.script_engine.proofs.ExecutingLemmas.{full_as_bound, may_execute, reads_as_bound, runs_wanting, steps_as_bound}
+use Rattle.script_engine.specs.Fetching.{FetchesForQuery}
+use Rattle.script_engine.proofs.FetchesForQueryLemmas.{fetches_none}
 use Rattle.script_engine.proofs.executing.execute.Goals as goal
 
 pub returns-in_err-whole-clause-runs : goal.returns-in_err-whole-clause-runs
@@ -27,3 +30,11 @@ pub returns-in-Some-clause-reads : goal.returns-in-Some-clause-reads
 returns-in-Some-clause-reads g c =
     let whole = rw c.in-Some.is at c.in_ok-whole.ensures.bound in
     reads_as_bound c.args.tables.now.catalog c.args.stmt.now (bound.Insert c.in-Some.whole.table c.in-Some.whole.rows) whole (λ e. absurd cc)
+
+pub returns-in_err-whole-clause-fetches : goal.returns-in_err-whole-clause-fetches
+returns-in_err-whole-clause-fetches g c = fetches_none g.P.Pages c.args.tables.now.ext c.args.tables.now.catalog c.args.pages.now _
+
+pub returns-in-Some-clause-fetches : goal.returns-in-Some-clause-fetches
+returns-in-Some-clause-fetches g c =
+    let whole = rw c.in-Some.is at c.in_ok-whole.ensures.bound in
+    subst (FetchesForQuery g.P.Pages c.args.tables.now.ext c.args.pages.now c.insert.new.pages c.args.tables.now.catalog) whole.is tt

@@ -1,6 +1,8 @@
-use Rattle.std.proofs.Common.{◌∙◌, sym}
+use Rattle.std.proofs.Common.{◌∙◌, subst, sym}
 use Rattle.store_api.proofs.RunsOverPagesLemmas.{runs_memory, runs_none}
 use Rattle.script_engine.proofs.ExecutingLemmas.{full_as_bound, is_bound_on, may_execute, reads_as_bound, steps_as_bound, steps_not_built, steps_refused}
+use Rattle.script_engine.specs.Fetching.{FetchesForQuery}
+use Rattle.script_engine.proofs.FetchesForQueryLemmas.{fetches_none}
 use Rattle.script_engine.proofs.executing.execute_any.Goals as goal
 
 pub returns-then-not-built-clause-does : goal.returns-then-not-built-clause-does
@@ -39,3 +41,16 @@ returns-in-Err-Refused-clause-runs g c = runs_none
 
 pub returns-in-Err-Memory-clause-runs : goal.returns-in-Err-Memory-clause-runs
 returns-in-Err-Memory-clause-runs g c = runs_memory runs_none
+
+pub returns-then-not-built-clause-fetches : goal.returns-then-not-built-clause-fetches
+returns-then-not-built-clause-fetches g c = fetches_none g.P.Pages c.args.tables.now.ext c.args.tables.now.catalog c.args.pages.now _
+
+pub returns-in-Err-Refused-clause-fetches : goal.returns-in-Err-Refused-clause-fetches
+returns-in-Err-Refused-clause-fetches g c = fetches_none g.P.Pages c.args.tables.now.ext c.args.tables.now.catalog c.args.pages.now _
+
+pub returns-in-Err-Memory-clause-fetches : goal.returns-in-Err-Memory-clause-fetches
+returns-in-Err-Memory-clause-fetches g c = fetches_none g.P.Pages c.args.tables.now.ext c.args.tables.now.catalog c.args.pages.now _
+
+pub returns-in-Ok-clause-fetches : goal.returns-in-Ok-clause-fetches
+returns-in-Ok-clause-fetches g c =
+    subst (FetchesForQuery g.P.Pages c.args.tables.now.ext c.args.pages.now c.carry_out.new.pages c.args.tables.now.catalog) c.in-Ok.ensures.bound.1 c.carry_out.ensures.fetches

@@ -4,6 +4,7 @@ use Rattle.block_rows.specs.declared.hit.Hit.{Hit}
 use Rattle.store_api.proofs.RunsOverPagesLemmas.{runs_exit, runs_memory}
 use Rattle.row_judging.specs.Served.{MayShowRows}
 use Rattle.script_engine.proofs.DoneRowsLemmas.{query_does}
+use Rattle.script_engine.proofs.FetchesForQueryLemmas.{fetches_scan}
 use Rattle.script_engine.proofs.ReadRowsLemmas.{may_judge_read}
 use Rattle.script_engine.proofs.ReadyTablesLemmas.{served_def}
 use Rattle.script_engine.proofs.ScannedTablesLemmas.{is_defined, runs_scan}
@@ -35,3 +36,15 @@ returns-in-Ok-clause-runs g c =
 pub returns-clause-runs : goal.returns-clause-runs
 returns-clause-runs g c =
     runs_memory (runs_scan g.P.Pages c.args.pages.now c.find_rows.new.pages c.args.tables.now c.args.select.now.table c.in-Some.def.now c.requires.served c.in-Some.ensures c.in_ok-hits.ensures.runs)
+
+pub returns-in_err-hits-clause-fetches : goal.returns-in_err-hits-clause-fetches
+returns-in_err-hits-clause-fetches g c =
+    fetches_scan g.P.Pages c.args.tables.now.ext c.args.tables.now.catalog c.args.pages.now c.find_rows.new.pages c.args.select.now c.in-Some.def.now c.in-Some.ensures c.in_err-hits.ensures.runs.brings
+
+pub returns-in-Ok-clause-fetches : goal.returns-in-Ok-clause-fetches
+returns-in-Ok-clause-fetches g c =
+    fetches_scan g.P.Pages c.args.tables.now.ext c.args.tables.now.catalog c.args.pages.now c.find_rows.new.pages c.args.select.now c.in-Some.def.now c.in-Some.ensures c.in_ok-hits.ensures.runs.brings
+
+pub returns-clause-fetches : goal.returns-clause-fetches
+returns-clause-fetches g c =
+    fetches_scan g.P.Pages c.args.tables.now.ext c.args.tables.now.catalog c.args.pages.now c.find_rows.new.pages c.args.select.now c.in-Some.def.now c.in-Some.ensures c.in_ok-hits.ensures.runs.brings

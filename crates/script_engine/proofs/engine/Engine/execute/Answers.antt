@@ -1,3 +1,5 @@
+use Rattle.std.proofs.Common.{sym, subst}
+use Rattle.std.specs.Prelude.{IsTrue}
 use Rattle.script_engine.proofs.engine.Engine.execute.Goals as goal
 
 pub returns-clause-rests : goal.returns-clause-rests
@@ -8,3 +10,6 @@ returns-clause-left g c ready = (c.turn.ensures.executes.leaves ready).time
 
 pub returns-clause-base : goal.returns-clause-base
 returns-clause-base g c ready = (c.turn.ensures.executes.leaves ready).base
+
+pub returns-clause-breaks : goal.returns-clause-breaks
+returns-clause-breaks g c damage is told = c.turn.ensures.executes.exact damage is (subst IsTrue (sym c.turn.ensures.executes.outside.is_told) told)

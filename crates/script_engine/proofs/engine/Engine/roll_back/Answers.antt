@@ -3,7 +3,7 @@ use Rattle.script_engine.proofs.engine.Engine.roll_back.Goals as goal
 
 pub returns-in_err-self : goal.returns-in_err-self
 returns-in_err-self g c = record {
-  executes = roll_back_stops g.S.Pages c.from_residual.result c.in_err-self.field-0.0 c.args.self.now c.go_back.new.store c.go_back.new.tables c.from_residual.ensures.1 c.in_err-self.ensures.reloads;
+  executes = roll_back_stops g.S.Pages c.from_residual.result c.in_err-self.field-0.0 c.args.self.now c.go_back.new.store c.go_back.new.tables c.requires.may c.from_residual.ensures.1 c.in_err-self.ensures.reloads c.in_err-self.ensures.exact;
 }
 
 pub returns : goal.returns

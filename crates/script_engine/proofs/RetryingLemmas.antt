@@ -1,0 +1,96 @@
+-- Calls that are tried once more, by the catalog of the pages themselves.
+use Rattle.std.proofs.Common.{◌≡◌, ◌⊎◌, List, Some, None, Result, Ok, Err, IsErrAnd, IfOk, OnOk, sym, ap, subst, ◌∙◌}
+use Rattle.std.specs.Prelude.{true, IsTrue}
+use Rattle.mdc_words.proofs.FaultsLemmas.{counts_fault_then}
+use Rattle.mdc_ast.specs.declared.reply.Outcome.{Outcome}
+use Rattle.mdc_ast.specs.declared.statement.Stmt.{Stmt}
+use Rattle.mdc_ast.specs.meaning.Binding.{bound_of}
+use Rattle.mdc_ast.specs.meaning.Definitions.{AllDefsDiffer, Definitions}
+use Rattle.store_api.specs.Frame.{NoPage}
+use Rattle.store_api.specs.RunsOverPages.{RunsOverPages}
+use Rattle.store_api.specs.declared.fault.Damage.{Damage}
+use Rattle.store_api.specs.declared.fault.StoreFault.{StoreFault}
+use Rattle.store_api.specs.declared.pages.Pages.{Ghosts}
+use Rattle.store_api.proofs.WorksLemmas.{steady_then}
+use Rattle.extent_map.specs.Owners.{AreRightNotes, IsSameShape}
+use Rattle.extent_map.specs.declared.kind.Kind.{Kind}
+use Rattle.table_trees.specs.ToldPages.{PageList}
+use Rattle.mdc_sound.specs.SoundDatabase.{IsSoundDatabase, KeepAllRules}
+use Rattle.mdc_sound.specs.StandingTable.{pages_of}
+use Rattle.cell_rooms.specs.RoomNotes.{IsForgotten}
+use Rattle.stored_catalog.specs.StoredDefinitions.{AreStored, AreWithinLimits, BreaksTablePages, IsAnyTablePage}
+use Rattle.statement_rows.specs.RowsOfStatement.{AnyPage}
+use Rattle.script_engine.specs.Doing.{DoesStep, LeavesAll, is_reading}
+use Rattle.script_engine.specs.Fetching.{FetchesForQuery}
+use Rattle.script_engine.specs.Opening.{are_built}
+use Rattle.script_engine.specs.Ready.{AreServed, BreaksDatabase, IsReady}
+use Rattle.script_engine.specs.Stops.{stop_of}
+use Rattle.script_engine.specs.Trying.{IsRefusedFull, TriesAnew, TriesStep}
+use Rattle.script_engine.specs.declared.stop.EngineStop.{EngineStop}
+use Rattle.script_engine.specs.declared.stop.EngineStop.TheVariants.{Damaged}
+use Rattle.script_engine.specs.declared.tables.Tables.{Tables}
+use Rattle.script_engine.proofs.CatalogLemmas.{served_of}
+use Rattle.script_engine.proofs.OpeningLemmas.{unopened_names}
+use Rattle.script_engine.proofs.ReadyTablesLemmas.{ready_of_sound}
+use Rattle.script_engine.proofs.ShapeLemmas.{keeps_along}
+use Rattle.script_engine.proofs.TryingLemmas.{stop_names}
+
+-- a catalog that was read, and put into the place of another
+pub served_read : (catalog now : Definitions) → now ≡ catalog → AreWithinLimits catalog → AllDefsDiffer catalog → are_built catalog ≡ true → AreServed now
+served_read catalog now is limits differ built = subst AreServed (sym is) (served_of catalog limits differ built)
+
+module _ {S : Type 0} (g : Ghosts S) (old read : S) (before tables : Tables) where
+  -- sound pages have a catalog that can be read
+  pub unbroken_read : {X : Type 0} (result : Result X EngineStop) (fault : StoreFault) → IsErrAnd result (λ e. e ≡ stop_of fault) → RunsOverPages g NoPage IsAnyTablePage (BreaksTablePages g old) old read (Some fault)
+      → (damage : Damage) → result ≡ Err (Damaged damage) → IsTrue (g.state old).is_told → IsSoundDatabase before.ext (g.state old).work → ⊥
+  unbroken_read (Ok x) fault is runs damage r = absurd is
+  unbroken_read (Err e) fault is runs damage r = unopened_names g before.ext fault e old read is runs damage (cc)
+
+  -- by which sound pages are ready
+  pub ready_read : (catalog : Definitions) → RunsOverPages g NoPage IsAnyTablePage (BreaksTablePages g old) old read None → (g.state read).work ≡ (g.state old).work → tables.catalog ≡ catalog
+      → (IsTrue (g.state old).is_told → AreStored (g.state old).work catalog) → AreWithinLimits catalog → AllDefsDiffer catalog → are_built catalog ≡ true → IsSameShape before.ext tables.ext
+      → ((owners : List Kind) → AreRightNotes tables.ext owners) → IsForgotten tables.rooms → IsTrue (g.state old).is_told → IsSoundDatabase before.ext (g.state old).work → IsReady g read tables
+  ready_read catalog runs same is stored limits differ built shape notes rooms told sound =
+      ready_of_sound g read tables sound.0 (served_read catalog tables.catalog is limits differ built) (subst IsTrue (sym runs.works.steady.is_told) told)
+      (subst (λ (pages : PageList). KeepAllRules tables.ext pages sound.0) (sym same) (keeps_along before.ext tables.ext (g.state old).work sound.0 shape sound.1))
+      (subst (λ (pages : PageList). AreStored pages tables.catalog) (sym same) (subst (λ (defs : Definitions). AreStored (g.state old).work defs) (sym is) (stored told)))
+      (notes sound.0.owners) rooms
+
+-- a statement that met damage, as none does on ready pages, was judged or tried once more
+pub tries_again : {S : Type 0} (g : Ghosts S) (stmt : Stmt) (first second : Result Outcome EngineStop) (met : Damage) (old mid new : S) (before tables now : Tables) → first ≡ Err (Damaged met)
+    → TriesStep g stmt first old mid before tables → TriesAnew g stmt second mid new tables now → TriesStep g stmt second old new before now
+tries_again g stmt first second met old mid new before tables now is tries anew =
+    let was = tries.back met is in
+    let unready : IsReady g old before → ⊥ = tries.damaged met is in
+    let ends = by_result was.leaves.pages unready second anew in
+    record {
+      steady = steady_then tries.steady anew.steady;
+      unmarked = anew.unmarked;
+      served = anew.served;
+      shape = record { cap = anew.shape.cap ∙ tries.shape.cap; extent_pages = anew.shape.extent_pages ∙ tries.shape.extent_pages };
+      back = λ damage r.
+          let back = anew.back damage r in
+          record { leaves = left_twice was.leaves back.leaves; unmarked = back.unmarked };
+      does = ends.0;
+      refused = λ refusal r. left_twice was.leaves (anew.refused refusal r);
+      reads = ends.2;
+      fetches = ends.1;
+      device = counts_fault_then (tries.device.still (λ r. absurd (cc))) anew.device;
+      damaged = λ damage r ready. unready ready;
+      output = anew.output;
+    }
+  where
+    left_twice : LeavesAll g old mid before tables → LeavesAll g mid new tables now → LeavesAll g old new before now
+    left_twice one two = record { pages = two.pages ∙ one.pages; catalog = two.catalog ∙ one.catalog }
+
+    by_result : pages_of g mid ≡ pages_of g old → (IsReady g old before → ⊥) → (result : Result Outcome EngineStop) → TriesAnew g stmt result mid new tables now
+        → IfOk result (λ outcome. IsReady g old before → DoesStep g old new before now stmt outcome ⊎ IsRefusedFull g old new before now stmt outcome)
+        × OnOk result (IsReady g old before → FetchesForQuery g before.ext old new before.catalog (bound_of before.catalog stmt)) × OnOk result (is_reading stmt ≡ true → pages_of g new ≡ pages_of g old)
+    by_result pages unready (Ok outcome) again = (λ ready. absurd (unready ready), (λ ready. absurd (unready ready)), λ reads. again.reads reads ∙ pages)
+    by_result pages unready (Err stop) again = (tt, tt, tt)
+
+-- a call on ready pages meets no damage
+pub unready_stop : {S X : Type 0} (g : Ghosts S) (read new : S) (tables : Tables) (result : Result X EngineStop) (fault : StoreFault) → IsErrAnd result (λ e. e ≡ stop_of fault)
+    → RunsOverPages g NoPage AnyPage (BreaksDatabase g read tables) read new (Some fault) → (damage : Damage) → result ≡ Err (Damaged damage) → IsReady g read tables → ⊥
+unready_stop g read new tables (Ok x) fault is runs damage r = absurd is
+unready_stop g read new tables (Err e) fault is runs damage r = runs.cause.damaged damage (ap Some (stop_names fault damage (cc)))

@@ -1,0 +1,131 @@
+// Damage that is met, and what it is exactly: the first rule that the pages break, and the lowest page that breaks it.
+ghost use Rattle.std.specs.Prelude.{◌≡◌, false, IsTrue, None, Err};
+ghost use Rattle.store_api.specs.declared.fault.Damage.{Damage};
+ghost use Rattle.mdc_sound.specs.SoundDatabase.{IsSoundDatabase};
+ghost use Rattle.script_engine.specs.Breaking.{JudgesDamage, LoadsExactly, NamesExactly};
+ghost use Rattle.script_engine.specs.Held.{IsWritten};
+ghost use Rattle.script_engine.specs.Ready.{AreServed};
+ghost use Rattle.script_engine.specs.Trying.{AnswersBySoundPages, TriesAnew, TriesStep};
+ghost use Rattle.script_engine.specs.declared.stop.EngineStop.TheVariants as stop;
+
+use crate::opening::are_served;
+use crate::stop::EngineStop;
+use crate::tables::Tables;
+use crate::transactions::try_statement;
+use catalog::Catalog;
+use extent_map::Extents;
+use file_check::{Verdict, check};
+use mdc_ast::{Outcome, Stmt};
+use row_judging::not_built;
+use std::alloc::Global;
+use std::mem;
+use store_api::{Damage, Pages, StoreFault};
+use stored_catalog::load_catalog;
+
+/// The stop at damage that was met: the first rule that the pages break, with the lowest page that breaks it. Where they break none,
+/// which of told pages is known otherwise, it is the damage that was met.
+pub(crate) fn stop_at<P: Pages>(
+    alloc: Global,
+    ext: &Extents,
+    pages: &mut P,
+    met: Damage,
+) -> EngineStop
+    requires going { (P.state pages.old).ended ≡ false }
+    ensures judges { JudgesDamage P.Pages ext.now result pages.old pages.new }
+{
+    match check(alloc, ext, pages) {
+        Ok(Verdict::Broken(damage)) => EngineStop::Damaged(damage),
+        Ok(Verdict::Sound) => EngineStop::Damaged(met),
+        Err(fault) => EngineStop::from(fault),
+    }
+}
+
+/// The catalog of the table pages.
+pub(crate) fn load_exactly<P: Pages>(
+    alloc: Global,
+    ext: &Extents,
+    pages: &mut P,
+) -> Result<Catalog, EngineStop>
+    requires going { (P.state pages.old).ended ≡ false }
+    ensures loads { LoadsExactly P.Pages ext.now result pages.old pages.new }
+{
+    match load_catalog(alloc, pages) {
+        Ok(catalog) => Ok(catalog),
+        Err(StoreFault::Damaged(met)) => Err(stop_at(alloc, ext, pages, met)),
+        Err(StoreFault::Device) => Err(EngineStop::Device),
+        Err(StoreFault::Memory) => Err(EngineStop::Memory),
+    }
+}
+
+/// Executes a statement, without a commit. Where damage is met on sound pages, what is kept of them in memory wasn't theirs: it is
+/// read from them again, and the statement is tried once more.
+pub(crate) fn try_exactly<P: Pages>(
+    tables: &mut Tables,
+    pages: &mut P,
+    stmt: &Stmt,
+) -> Result<Outcome, EngineStop>
+    requires served { AreServed tables.old.catalog }
+    requires written { IsWritten stmt.now }
+    requires going { (P.state pages.old).ended ≡ false }
+    requires unmarked { (P.state pages.old).marked ≡ None }
+    ensures tries { TriesStep P.Pages stmt.now result pages.old pages.new tables.old tables.new }
+    ensures exact { NamesExactly P.Pages tables.old.ext result pages.new }
+{
+    match try_statement(tables, pages, stmt) {
+        Err(EngineStop::Damaged(_)) => try_again(tables, pages, stmt),
+        answer => answer,
+    }
+}
+
+/// Judges the pages, and tries a statement again where they are sound.
+fn try_again<P: Pages>(
+    tables: &mut Tables,
+    pages: &mut P,
+    stmt: &Stmt,
+) -> Result<Outcome, EngineStop>
+    requires served { AreServed tables.old.catalog }
+    requires written { IsWritten stmt.now }
+    requires going { (P.state pages.old).ended ≡ false }
+    requires unmarked { (P.state pages.old).marked ≡ None }
+    ensures tries { TriesAnew P.Pages stmt.now result pages.old pages.new tables.old tables.new }
+    ensures answers { AnswersBySoundPages P.Pages stmt.now result pages.old pages.new tables.old tables.new }
+    ensures exact { NamesExactly P.Pages tables.old.ext result pages.new }
+{
+    match check(tables.alloc, &tables.ext, pages)? {
+        Verdict::Broken(damage) => Err(EngineStop::Damaged(damage)),
+        Verdict::Sound => try_reloaded(tables, pages, stmt),
+    }
+}
+
+/// Tries a statement by the catalog of the table pages. Where it isn't done, the catalog is put back that there was.
+fn try_reloaded<P: Pages>(
+    tables: &mut Tables,
+    pages: &mut P,
+    stmt: &Stmt,
+) -> Result<Outcome, EngineStop>
+    requires served { AreServed tables.old.catalog }
+    requires written { IsWritten stmt.now }
+    requires going { (P.state pages.old).ended ≡ false }
+    requires unmarked { (P.state pages.old).marked ≡ None }
+    ensures tries { TriesAnew P.Pages stmt.now result pages.old pages.new tables.old tables.new }
+    ensures answers { AnswersBySoundPages P.Pages stmt.now result pages.old pages.new tables.old tables.new }
+    ensures unbroken { (damage : Damage) → result ≡ Err (stop.Damaged damage) → IsTrue (P.state pages.old).is_told → IsSoundDatabase tables.old.ext (P.state pages.old).work → ⊥ }
+{
+    let catalog = load_catalog(tables.alloc, pages)?;
+    tables.forget();
+    if !are_served(&catalog) {
+        return Ok(Outcome::Refused(not_built(tables.alloc)));
+    }
+    let kept = mem::replace(&mut tables.catalog, catalog);
+    match try_statement(tables, pages, stmt) {
+        Ok(Outcome::Done(reply)) => Ok(Outcome::Done(reply)),
+        Ok(Outcome::Refused(refusal)) => {
+            tables.catalog = kept;
+            Ok(Outcome::Refused(refusal))
+        }
+        Err(stop) => {
+            tables.catalog = kept;
+            Err(stop)
+        }
+    }
+}
