@@ -1,3 +1,4 @@
+pub mod BreaksLemmas
 pub mod CausesLemmas
 pub mod EndOfSessionLemmas
 pub mod FileRunsLemmas

@@ -1,3 +1,4 @@
+pub mod Breaking
 pub mod Ending
 pub mod Leaving
 pub mod Running

@@ -15,6 +15,7 @@ ghost use Rattle.script_session.specs.Leaving.{ReopensAlways};
 ghost use Rattle.script_session.specs.Replying.{RepliesTo};
 ghost use Rattle.script_session.specs.Serving.{TakesScript};
 ghost use Rattle.script_session.specs.Told.{StaysTold, TellsMore};
+ghost use Rattle.file_session.specs.Breaking.{BreaksAtEnd, BreaksOnStore, IsDamageOf};
 ghost use Rattle.file_session.specs.Ending.{IsCauseIn, IsRefused, IsUnopened, StopsOpening, end_of_session};
 ghost use Rattle.file_session.specs.Leaving.{AreFormed, LeavesSince, StaysFormed};
 ghost use Rattle.file_session.specs.Running.{LeavesFormed, RunsOnStore, ServesStore};
@@ -52,6 +53,9 @@ pub fn serve_file<I: Source, H: Host>(alloc: Global, input: &mut I, host: H) -> 
     ensures stays_well { (before : File) (said : List ℕ) → H.file host ≡ Some before → (H.beside host).tape ≡ Some said → AreWell before
         → (after : File) × (H.file result.host ≡ Some after) × AreWell after }
     ensures cause { ForSome (H.file host) (λ file. IsCauseIn file.bytes result.end) }
+    // Damage is exact: it is that of the file that can't be opened, or of the pages that were held at the stop.
+    ensures breaks { (damage : Damage) → result.end ≡ Err (FileStop.Damaged damage) → (before : File) → H.file host ≡ Some before
+        → IsDamageOf before.bytes (I.left input.old) (I.left input.new) (H.beside host).tape (H.beside result.host).tape damage result.end (H.file result.host) }
     ensures unopened { ForSome (H.file host) (λ file. (IsServed file.bytes → ⊥) → IsUnopened result.end × (input.new ≡ input.old) × ((H.beside result.host).tape ≡ (H.beside host).tape)) }
     // Nothing is written to a file that isn't served, unless the disk failed: a crash leaves what it could leave before.
     ensures left_alone { ForSome (H.file host) (λ file. (IsServed file.bytes → ⊥) → (result.end ≡ Err FileStop.Device → ⊥)
@@ -101,6 +105,9 @@ fn serve_store<I: Source, H: Host>(alloc: Global, input: &mut I, store: FileStor
         → ServesStore ⟦<FileStore<H> as Pages>⟧ H.Disk ext said (I.left input.old) (I.left input.new) store result.host result.end }
     ensures damaged { (damage : Damage) → result.end ≡ Err (FileStop.Damaged damage) → (file : File) → H.file store.host ≡ Some file
         → (ext : Extents) → StatesExtents file.bytes ext → IsSoundStore ⟦<FileStore<H> as Pages>⟧ ext store → ⊥ }
+    ensures breaks { (damage : Damage) → result.end ≡ Err (FileStop.Damaged damage) → (⟦<FileStore<H> as Pages>⟧.state store).base ≡ (⟦<FileStore<H> as Pages>⟧.state store).work
+        → (file : File) → H.file store.host ≡ Some file → (ext : Extents) → StatesExtents file.bytes ext
+        → BreaksAtEnd ext (I.left input.old) (I.left input.new) (H.beside store.host).tape (H.beside result.host).tape damage result.end (H.file result.host) }
     ensures takes { TakesBySession (I.left input.old) (I.left input.new) result.end }
     ensures replies { RepliesBySession (I.left input.old) (I.left input.new) (H.beside store.host).tape (H.beside result.host).tape result.end }
     ensures reopens { (file : File) (said : List ℕ) → H.file store.host ≡ Some file → (H.beside store.host).tape ≡ Some said
@@ -137,6 +144,9 @@ fn serve_pages<I: Source, S: Store>(
     requires unmarked { (S.state store).marked ≡ None }
     ensures runs { IsSoundStore S.Pages ext store → RunsOnStore S.Pages ext (I.left input.old) (I.left input.new) store result.store result.end }
     ensures damaged { (damage : Damage) → result.end ≡ Err (SessionStop.Damaged damage) → IsSoundStore S.Pages ext store → ⊥ }
+    // Damage is that of the pages that are held behind the items that were answered.
+    ensures breaks { (damage : Damage) → result.end ≡ Err (SessionStop.Damaged damage) → (replies : RepliesTo (I.left input.old) (I.left input.new) (S.state store).told (S.state result.store).told result.end)
+        × BreaksOnStore S.Pages ext replies.items store result.store damage }
     ensures reads { CountsFault (result.end ≡ Err SessionStop.Unread) (I.read_faults input.old) (I.read_faults input.new) }
     ensures unsaid { CountsFault (result.end ≡ Err SessionStop.Unsaid) (S.say_faults store) (S.say_faults result.store) }
     ensures device { CountsFault (result.end ≡ Err SessionStop.Device) (S.disk_faults store) (S.disk_faults result.store) }

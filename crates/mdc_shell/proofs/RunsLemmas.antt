@@ -21,6 +21,9 @@ use Rattle.script_session.specs.declared.stop.Served.{Served}
 use Rattle.script_session.specs.declared.stop.Served.TheVariants.{AllDone, SomeRefused}
 use Rattle.script_session.specs.declared.stop.SessionStop.{SessionStop}
 use Rattle.script_session.specs.declared.stop.SessionStop.TheVariants as session
+use Rattle.std.specs.Option.{option_map}
+use Rattle.script_session.specs.Told.{TellsMore}
+use Rattle.file_session.specs.Breaking.{IsDamageOf}
 use Rattle.file_session.specs.Ending.{IsCauseIn, IsUnopened, end_of_session, IsRefused}
 use Rattle.file_session.specs.Serving.{RunsItems, RunsOnFile, TakesBySession}
 use Rattle.file_session.specs.Leaving.{WasTold}
@@ -147,13 +150,32 @@ unopened-before TooLong before = absurd before
 unopened-before Unsaid before = absurd before
 unopened-before (Damaged damage) before = tt
 
-pub serves_path-before : (file : Option File) (tape new : Option (List ℕ)) (stop : FileStop) → IsStopBefore stop → new ≡ tape → ServesPath file tape new (status_of_stop stop)
-serves_path-before file tape new stop before same = record {
+-- nor do these name damage
+undamaged-before : (stop : FileStop) (damage : Damage) → IsStopBefore stop → stop ≡ Damaged damage → ⊥
+undamaged-before stop damage before is = subst IsStopBefore is before
+
+pub serves_path-before : (file new_file : Option File) (script left tape new : Option (List ℕ)) (stop : FileStop) → IsStopBefore stop → new ≡ tape
+    → ServesPath file new_file script left tape new (status_of_stop stop)
+serves_path-before file new_file script left tape new stop before same = record {
+  breaks = λ f is damage ends. let named : stop ≡ Damaged damage = cc in absurd (undamaged-before stop damage before named);
   end_ = Err stop;
   cause = λ f is. cause-before f.bytes stop before;
   before_line = tape;
   kept = same-tells_more tape tape refl;
   ends = says_end-quiet tape new stop before same;
+}
+
+-- a run on a file that an attach opened is one on the file as it was
+pub serves_path-opened : (file mid new_file : Option File) (script left tape mid_tape new : Option (List ℕ)) (status : ℕ) → mid ≡ option_map opened file → mid_tape ≡ tape
+    → ServesPath mid new_file script left mid_tape new status → ServesPath file new_file script left tape new status
+serves_path-opened file mid new_file script left tape mid_tape new status is same serves = record {
+  end_ = serves.end_;
+  cause = λ f told. serves.cause (opened f) (is ∙ ap (option_map opened) told);
+  before_line = serves.before_line;
+  kept = subst (λ (t : Option (List ℕ)). TellsMore t serves.before_line) same serves.kept;
+  breaks = λ f told damage ends.
+      subst (λ (t : Option (List ℕ)). IsDamageOf f.bytes script left t serves.before_line damage serves.end_ new_file) same (serves.breaks (opened f) (is ∙ ap (option_map opened) told) damage ends);
+  ends = serves.ends;
 }
 
 pub refuses_file-before : {D : Type 0} (g : Ghosts D) (before : File) (said : List ℕ) (new_tape : Option (List ℕ)) (old new : D) (stop : FileStop) → IsStopBefore stop → new_tape ≡ Some said

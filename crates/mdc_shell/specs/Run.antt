@@ -1,5 +1,5 @@
 -- What the runs of scripts do to their source, their file and their tape, for each end (docs/PROGRAM.md).
-use Rattle.std.specs.Prelude.{◌≡◌, ◌⊎◌, ◌≤◌, ◌+◌, ◌++◌, ℕ, Bool, List, [], Option, Some, None, Result, length}
+use Rattle.std.specs.Prelude.{◌≡◌, ◌⊎◌, ◌≤◌, ◌+◌, ◌++◌, ℕ, Bool, List, [], Option, Some, None, Result, Err, length}
 use Rattle.std.specs.Option.{ForSome}
 use Rattle.mdc_ast.specs.meaning.Database.{empty_database}
 use Rattle.mdc_outside.specs.Disk.{File}
@@ -7,6 +7,7 @@ use Rattle.mdc_words.specs.Time.{OverTime}
 use Rattle.mdc_outside.specs.Moments.{Adds, IsMoment}
 use Rattle.mdc_outside.specs.Outside.{Takes, TakesPart}
 use Rattle.mdc_outside.specs.declared.disk.Disk.{Ghosts}
+use Rattle.store_api.specs.declared.fault.Damage.{Damage}
 use Rattle.extent_map.specs.declared.extents.Extents.{Extents}
 use Rattle.mdc_sound.specs.StandsForDatabase.{PagesStandFor}
 use Rattle.page_store.specs.Standing.{pages_of}
@@ -14,11 +15,12 @@ use Rattle.made_database.specs.MadePages.{made_pages}
 use Rattle.script_session.specs.Ending.{script_limit}
 use Rattle.script_session.specs.Told.{TellsMore}
 use Rattle.script_session.specs.declared.stop.Served.{Served}
+use Rattle.file_session.specs.Breaking.{IsDamageOf}
 use Rattle.file_session.specs.Ending.{IsCauseIn, IsUnopened}
 use Rattle.file_session.specs.Serving.{RunsItems, RunsOnFile}
 use Rattle.file_session.specs.Well.{StatesExtents}
 use Rattle.file_session.specs.declared.stop.FileStop.{FileStop}
-use Rattle.file_session.specs.declared.stop.FileStop.TheVariants.{Device, Memory}
+use Rattle.file_session.specs.declared.stop.FileStop.TheVariants.{Damaged, Device, Memory}
 use Rattle.mdc_shell.specs.Create.{exists_line}
 use Rattle.mdc_shell.specs.Status.{SaysEnd, line_of_end, status_of}
 
@@ -27,12 +29,14 @@ abbrev pub IsWithinLimit : Option (List ℕ) → Type 0
 IsWithinLimit None = ⊥
 IsWithinLimit (Some script) = length script ≤ script_limit
 
--- `run FILE` on any file: the end has its cause in it where it is told, and its line is said behind the replies.
-pub record ServesPath (file : Option File) (tape new_tape : Option (List ℕ)) (status : ℕ) : Type 0 where
+-- `run FILE` on any file: the end has its cause in it where it is told, and its line is said behind the replies. Damage that is named is
+-- that of the file.
+pub record ServesPath (file new_file : Option File) (script left tape new_tape : Option (List ℕ)) (status : ℕ) : Type 0 where
   pub end_ : Result Served FileStop
   pub cause : ForSome file (λ file. IsCauseIn file.bytes end_)
   pub before_line : Option (List ℕ)
   pub kept : TellsMore tape before_line
+  pub breaks : ForSome file (λ file. (damage : Damage) → end_ ≡ Err (Damaged damage) → IsDamageOf file.bytes script left tape before_line damage end_ new_file)
   pub ends : SaysEnd before_line new_tape status end_
 
 -- `run FILE` on a file that is well: a run of the script's items on what it stands for

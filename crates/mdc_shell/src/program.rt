@@ -48,7 +48,7 @@ pub fn run<I: Source, H: Host>(
 
     // `run FILE`, on any file: the end has its cause in the file, and its line is said behind all else.
     ensures served { (path : List ℕ) → SpellsLine (map string_bytes words.now.items) (RunFile path)
-        → ServesPath (H.file host) (H.tape host) (H.tape result.host) result.status.0
+        → ServesPath (H.file host) (H.file result.host) (I.left input.old) (I.left input.new) (H.tape host) (H.tape result.host) result.status.0
         × MayAttach (H.attaches host) path false (H.attaches result.host) × IsScriptStatus result.status.0 }
 
     // On a file that is well: one run of the script's items, whose replies are those of plain lists of rows, and what a crash

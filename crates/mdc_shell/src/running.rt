@@ -31,7 +31,7 @@ const SCRATCH_PAGES: u32 = 4;
 
 /// Runs the script of the input on the database in the file at the path. A file that isn't served is named by a line.
 pub fn run_path<I: Source, H: Host>(alloc: Global, path: &str, input: &mut I, host: H) -> Ended<H>
-    ensures served { ServesPath (H.file host) (H.tape host) (H.tape result.host) result.status.0 }
+    ensures served { ServesPath (H.file host) (H.file result.host) (I.left input.old) (I.left input.new) (H.tape host) (H.tape result.host) result.status.0 }
     ensures statuses { IsScriptStatus result.status.0 }
     ensures runs { (before : File) (said : List ℕ) → H.file host ≡ Some before → H.tape host ≡ Some said → IsWell before.bytes
         → RunsPath H.Disk before said (I.left input.old) (I.left input.new) host result.host result.status.0 }
@@ -111,7 +111,7 @@ fn refuse_scratch<H: Host>(host: H) -> Ended<H>
 // Runs the script of the input on the database in the attached file.
 fn run_attached<I: Source, H: Host>(alloc: Global, input: &mut I, host: H) -> Ended<H>
     requires attached { IsTrue (H.is_attached host) }
-    ensures served { ServesPath (H.file host) (H.tape host) (H.tape result.host) result.status.0 }
+    ensures served { ServesPath (H.file host) (H.file result.host) (I.left input.old) (I.left input.new) (H.tape host) (H.tape result.host) result.status.0 }
     ensures statuses { IsScriptStatus result.status.0 }
     ensures runs { (before : File) (said : List ℕ) → H.file host ≡ Some before → H.tape host ≡ Some said → IsWell before.bytes
         → RunsPath H.Disk before said (I.left input.old) (I.left input.new) host result.host result.status.0 }

@@ -1,5 +1,6 @@
 -- What the answer to one item does to an engine.
-use Rattle.std.proofs.Common.{◌≡◌, ◌⊎◌, ◌≤◌, ℕ, List, [], Bool, true, false, Option, Some, None, IfSome, Result, Ok, Err, refl, sym, ap, inl, inr, ◌∙◌, append-nil}
+use Rattle.std.proofs.Common.{◌≡◌, ◌⊎◌, ◌≤◌, ℕ, List, [], Bool, true, false, Option, Some, None, IfSome, Result, Ok, Err, refl, sym, ap, subst, inl, inr, ◌∙◌, append-nil}
+use Rattle.std.specs.Prelude.{IsTrue}
 use Rattle.mdc_words.specs.Time.{OverTime}
 use Rattle.mdc_words.proofs.FaultsLemmas.{counts_fault_none}
 use Rattle.mdc_words.proofs.TimeLemmas.{over_time_none}
@@ -30,6 +31,7 @@ use Rattle.script_engine.specs.declared.engine.Engine.{Engine}
 use Rattle.script_engine.specs.declared.stop.EngineStop.{EngineStop}
 use Rattle.sql_reader.specs.declared.statements.Read.TheVariants as read
 use Rattle.script_session.specs.Answering.{AnswersItem, BaseBeforeOrAfter}
+use Rattle.script_session.proofs.DamagedLemmas.{breaks_at}
 
 -- ---- whether a transaction is open after a step
 
@@ -125,6 +127,9 @@ module _ {S : Type 0} (g : Ghosts S) where
     stopped = tt;
     refused = executes.refused;
     damaged = executes.damaged;
+    breaks = λ damage is. absurd (cc);
+    keeps = λ all. (executes.keeps all).closed;
+    opens = executes.opens;
     shape = executes.shape;
     outside = executes.outside;
   }
@@ -136,6 +141,9 @@ module _ {S : Type 0} (g : Ghosts S) where
     stopped = λ ready. record { stmt = stmt; hand = refl; leaves = executes.leaves ready };
     refused = executes.refused;
     damaged = executes.damaged;
+    breaks = λ damage is. breaks_at g old new damage (λ told. executes.exact damage is (subst IsTrue (sym executes.outside.is_told) told)) (executes.stays damage is);
+    keeps = tt;
+    opens = tt;
     shape = executes.shape;
     outside = executes.outside;
   }
@@ -163,6 +171,9 @@ module _ {S : Type 0} (g : Ghosts S) where
     stopped = tt;
     refused = λ other is. refl;
     damaged = λ damage is. absurd (cc);
+    breaks = λ damage is. absurd (cc);
+    keeps = λ all. all;
+    opens = refl;
     shape = record { cap = refl; extent_pages = refl };
     outside = leaves_outside_none (said.Refused refusal) engine;
   }

@@ -1,6 +1,7 @@
 pub mod AnsweringLemmas
 pub mod AskedEndsLemmas
 pub mod AskingLemmas
+pub mod DamagedLemmas
 pub mod EndingLemmas
 pub mod GoingLemmas
 pub mod LeftLemmas

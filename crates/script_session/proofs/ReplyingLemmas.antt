@@ -80,6 +80,23 @@ replies_reading laws script left reader items stop old new asked was = record {
   ends = ends_asked_reading laws script left reader items stop was.outcomes (length-outcomes items was.outcomes was.own) asked;
 }
 
+-- the turn of an item stops before it has an outcome: the items are those before it
+pub replies_before : (laws : ScriptLaws) (script left : Option (List ℕ)) (reader : Holding) (items : List Item) (read : Read) (stop : SessionStop) {refused : Bool} (old mid new : Option (List ℕ))
+    → IsAsked script left reader items (Ok (Some read)) → HasReplied items refused old mid → IsTurnStop stop → new ≡ mid
+    → (replies : RepliesTo script left old new (Err stop)) × (items ≡ replies.items)
+replies_before laws script left reader items read stop old mid new asked was is_stop same = (
+  record {
+    items = items;
+    outcomes = was.outcomes;
+    own = was.own;
+    in_hand = item_of read ∷ [];
+    said = texts was.outcomes;
+    told = subst (Takes old (texts was.outcomes)) (sym same) was.told;
+    ends = ends_asked_in_hand laws script left reader items read stop was.outcomes (length-outcomes items was.outcomes was.own) asked is_stop;
+  },
+  refl,
+)
+
 -- the turn of an item stops: behind its outcome, or before it has one
 pub replies_turning : (laws : ScriptLaws) (script left : Option (List ℕ)) (reader : Holding) (items : List Item) (read : Read) (stop : SessionStop) {refused : Bool} (old mid new : Option (List ℕ))
     → IsAsked script left reader items (Ok (Some read)) → HasReplied items refused old mid → IsTurnStop stop → StopsReplying (item_of read) mid new → RepliesTo script left old new (Err stop)
@@ -92,15 +109,7 @@ replies_turning laws script left reader items read stop old mid new asked was is
   told = takes_more old mid new (texts was.outcomes) turn.part was.told turn.told;
   ends = ends_asked_untold laws script left reader items read stop was.outcomes turn.outcome turn.part turn.unsaid (length-outcomes items was.outcomes was.own) turn.text asked is_stop;
 }
-replies_turning laws script left reader items read stop old mid new asked was is_stop (inr same) = record {
-  items = items;
-  outcomes = was.outcomes;
-  own = was.own;
-  in_hand = item_of read ∷ [];
-  said = texts was.outcomes;
-  told = subst (Takes old (texts was.outcomes)) (sym same) was.told;
-  ends = ends_asked_in_hand laws script left reader items read stop was.outcomes (length-outcomes items was.outcomes was.own) asked is_stop;
-}
+replies_turning laws script left reader items read stop old mid new asked was is_stop (inr same) = (replies_before laws script left reader items read stop old mid new asked was is_stop same).0
 
 -- the script ends
 pub replies_done : (script left : Option (List ℕ)) (reader : Holding) (items : List Item) (refused : Bool) (old new : Option (List ℕ))

@@ -1,5 +1,5 @@
 -- What the answer to one item does to an engine.
-use Rattle.std.specs.Prelude.{◌≡◌, ◌⊎◌, IfOk, OnErr, OnOk, Some, IfSome, Result, Ok, Err}
+use Rattle.std.specs.Prelude.{◌≡◌, ◌⊎◌, [], IfOk, OnErr, OnOk, Some, IfSome, Result, Ok, Err}
 use Rattle.mdc_words.specs.Time.{OverTime}
 use Rattle.mdc_ast.specs.declared.reply.Outcome.{Outcome}
 use Rattle.mdc_ast.specs.declared.reply.Outcome.TheVariants as said
@@ -11,6 +11,7 @@ use Rattle.store_api.specs.StoreState.{StoreState}
 use Rattle.store_api.specs.declared.fault.Damage.{Damage}
 use Rattle.store_api.specs.declared.pages.Pages.{Ghosts}
 use Rattle.extent_map.specs.Owners.{IsSameShape}
+use Rattle.script_engine.specs.Leaving.{IsAllCommitted}
 use Rattle.script_engine.specs.Serving.{IsReadyEngine, MayCall, held_by}
 use Rattle.script_engine.specs.Turns.{LeavesCommitted, LeavesOutside}
 use Rattle.script_engine.specs.declared.engine.Engine.{Engine}
@@ -18,6 +19,7 @@ use Rattle.script_engine.specs.declared.stop.EngineStop.{EngineStop}
 use Rattle.script_engine.specs.declared.stop.EngineStop.TheVariants.{Damaged}
 use Rattle.sql_reader.specs.Item.{item_of}
 use Rattle.sql_reader.specs.declared.statements.Read.{Read}
+use Rattle.script_session.specs.Damaged.{BreaksAtStop, opened_by_item}
 use Rattle.script_session.specs.Going.{MeetsOnPages}
 use Rattle.script_session.specs.Replying.{IsOutcomeOf}
 
@@ -32,7 +34,8 @@ pub record StopsAt {S : Type 0} (g : Ghosts S) (read : Read) (old new : Engine S
   pub leaves : LeavesCommitted g stmt old new
 
 -- What the answer to an item does: on a sound engine the item does what it may, and leaves the pages of the last commit before or
--- after it, or the engine stops at its statement. No damage is named of sound pages, and nothing is told.
+-- after it, or the engine stops at its statement. No damage is named of sound pages, none that
+-- isn't exact, and nothing is told.
 pub record AnswersItem {S : Type 0} (g : Ghosts S) (read : Read) (result : Result Outcome EngineStop) (old new : Engine S) : Type 0 where
   pub meets : IfOk result (λ outcome. IsReadyEngine g old → MeetsOnPages old.tables.ext (held_by g old) (item_of read) outcome (held_by g new) × IsReadyEngine g new)
   pub own : IfOk result (IsOutcomeOf (item_of read))
@@ -41,5 +44,8 @@ pub record AnswersItem {S : Type 0} (g : Ghosts S) (read : Read) (result : Resul
   pub stopped : OnErr result (IsReadyEngine g old → StopsAt g read old new)
   pub refused : (refusal : Refusal) → result ≡ Ok (said.Refused refusal) → held_by g new ≡ held_by g old
   pub damaged : (damage : Damage) → result ≡ Err (Damaged damage) → IsReadyEngine g old → ⊥
+  pub breaks : (damage : Damage) → result ≡ Err (Damaged damage) → BreaksAtStop g [] old new damage
+  pub keeps : OnOk result (IsAllCommitted (held_by g old) → IsAllCommitted (held_by g new))
+  pub opens : OnOk result (new.is_open ≡ opened_by_item (item_of read) old.is_open)
   pub shape : IsSameShape old.tables.ext new.tables.ext
   pub outside : LeavesOutside g result old new

@@ -1,4 +1,5 @@
 pub mod Answering
+pub mod Damaged
 pub mod Ending
 pub mod Going
 pub mod Leaving

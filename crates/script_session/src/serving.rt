@@ -1,12 +1,14 @@
 // The statements of a script, answered one after another as they close.
-ghost use Rattle.std.specs.Prelude.{◌≡◌, ◌≤◌, IfErr, IfSome, IfOk, IsErrOf, Err, OnErr, OnOk};
+ghost use Rattle.std.specs.Prelude.{◌≡◌, ◌≤◌, [], IfErr, IfSome, IfOk, IsErrOf, Err, OnErr, OnOk};
 ghost use Rattle.mdc_words.specs.Faults.{CountsFault};
 ghost use Rattle.mdc_words.specs.Time.{OverTime};
 ghost use Rattle.mdc_ast.specs.meaning.Session.{is_refusal};
 ghost use Rattle.extent_map.specs.Owners.{IsSameShape};
 ghost use Rattle.script_session.specs.Told.{TellsMore};
 ghost use Rattle.store_api.specs.declared.fault.Damage.{Damage};
-ghost use Rattle.script_engine.specs.Serving.{IsReadyEngine, MayCall};
+ghost use Rattle.script_engine.specs.Leaving.{IsAllCommitted};
+ghost use Rattle.script_engine.specs.Serving.{IsReadyEngine, MayCall, held_by};
+ghost use Rattle.script_session.specs.Damaged.{BreaksAtStop, opened_by_item};
 ghost use Rattle.script_session.specs.Replying.{HasReply, RepliesTo, StopsReplying};
 ghost use Rattle.script_session.specs.ScriptLaws.{ScriptLaws};
 ghost use Rattle.script_session.specs.Leaving.{ReopensAlways};
@@ -37,6 +39,9 @@ pub fn serve<I: Source, S: Store>(
     ensures unsaid { CountsFault (IsErrOf result SessionStop.Unsaid) (S.say_faults engine.old.store) (S.say_faults engine.new.store) }
     ensures device { CountsFault (IsErrOf result SessionStop.Device) (S.disk_faults engine.old.store) (S.disk_faults engine.new.store) }
     ensures damaged { (damage : Damage) → result ≡ Err (SessionStop.Damaged damage) → IsReadyEngine S.Pages engine.old → ⊥ }
+    // Damage is that of the pages that are held behind the items that were answered.
+    ensures breaks { (damage : Damage) → result ≡ Err (SessionStop.Damaged damage) → (replies : RepliesTo (I.left input.old) (I.left input.new) (S.state engine.old.store).told (S.state engine.new.store).told result)
+        × BreaksAtStop S.Pages replies.items engine.old engine.new damage }
     ensures attached { (S.state engine.new.store).attached ≡ (S.state engine.old.store).attached }
     ensures is_told { (S.state engine.new.store).is_told ≡ (S.state engine.old.store).is_told }
     ensures takes { IfSome (I.left input.old) (λ script. TakesScript script (I.left input.new) result) }
@@ -80,6 +85,9 @@ fn answer<S: Store>(
     ensures unsaid { CountsFault (IsErrOf result SessionStop.Unsaid) (S.say_faults engine.old.store) (S.say_faults engine.new.store) }
     ensures device { CountsFault (IsErrOf result SessionStop.Device) (S.disk_faults engine.old.store) (S.disk_faults engine.new.store) }
     ensures damaged { (damage : Damage) → result ≡ Err (SessionStop.Damaged damage) → IsReadyEngine S.Pages engine.old → ⊥ }
+    ensures breaks { (damage : Damage) → result ≡ Err (SessionStop.Damaged damage) → BreaksAtStop S.Pages [] engine.old engine.new damage × ((S.state engine.new.store).told ≡ (S.state engine.old.store).told) }
+    ensures opens { OnOk result (engine.new.is_open ≡ opened_by_item (item_of read) engine.old.is_open) }
+    ensures keeps { OnOk result (IsAllCommitted (held_by S.Pages engine.old) → IsAllCommitted (held_by S.Pages engine.new)) }
     ensures attached { (S.state engine.new.store).attached ≡ (S.state engine.old.store).attached }
     ensures is_told { (S.state engine.new.store).is_told ≡ (S.state engine.old.store).is_told }
     ensures tells { TellsMore (S.state engine.old.store).told (S.state engine.new.store).told }

@@ -1,13 +1,17 @@
 -- A run on the store that was opened, or a refusal.
-use Rattle.std.proofs.Common.{◌++◌, Err, List, Option, ap, inr, refl, subst, sym, ℕ, ◌∙◌}
+use Rattle.std.proofs.Common.{◌≡◌, ◌++◌, Err, List, Option, ap, inl, inr, refl, subst, sym, ℕ, ◌∙◌}
 use Rattle.mdc_words.proofs.FaultsLemmas.{counts_fault_then}
 use Rattle.page_file.proofs.LeavesLemmas.{sound_image}
+use Rattle.page_store.proofs.Judged.{served_formed}
 use Rattle.page_store.specs.Faults.{MayComeFirst}
 use Rattle.page_store.specs.FileStore.{attached_of}
 use Rattle.page_store.specs.Standing.{pages_of}
 use Rattle.script_session.specs.Told.{TellsMore}
 use Rattle.script_session.proofs.ToldLemmas.{same-tells_more, told_behind}
+use Rattle.file_session.specs.Breaking.{BreaksAtEnd}
 use Rattle.file_session.specs.Serving.{RepliesBySession}
+use Rattle.file_session.specs.declared.stop.FileStop.TheVariants as file
+use Rattle.file_session.proofs.BreaksLemmas.{damage_of_opening}
 use Rattle.file_session.proofs.CausesLemmas.{cause_of_opening, cause_of_session, not_device}
 use Rattle.file_session.proofs.FirstEndsLemmas.{replies_unopened, takes_unopened}
 use Rattle.file_session.proofs.FileRunsLemmas.{kept_beside, refused_on_file, run_on_file, stays_file, stays_well}
@@ -159,3 +163,20 @@ returns-in-Err-clause-stays_formed g c = λ before said is told formed.
       formed_after g.H.Disk before after.0 said (said ++ tells.1.0) c.args.host new (g.met.H.Disk.only_now c.args.host) (g.met.H.Disk.only_now new) (g.met.H.Disk.earlier new) is told after.1
           (told_behind (g.H.Disk.beside c.args.host).tape (g.H.Disk.beside new).tape tells.1.0 said told tells.1.1) formed (returns-in-Err-clause-reopens g c before said is told first),
     )
+
+-- ---- damage is exact
+
+pub returns-in-Ok-clause-breaks : goal.returns-in-Ok-clause-breaks
+returns-in-Ok-clause-breaks g c = λ damage ends before is. inr (λ ext states.
+    let opened = c.in-Ok.ensures in
+    let after = opened.opens.told before is in
+    let formed = served_formed before.bytes (opened.served before is).0 in
+    let From : Option (List ℕ) → Type 0 =
+    λ tape. BreaksAtEnd ext (g.I.Source.left c.args.input.now) (g.I.Source.left c.serve_store.new.input) tape (g.H.Disk.beside c.serve_store.result.host).tape damage c.serve_store.result.end (g.H.Disk.file c.serve_store.result.host) in
+    subst From (ap (λ b. b.tape) opened.opens.beside)
+    (c.serve_store.ensures.breaks damage ends (sym (ap (λ state. state.work) opened.just_opened)) after.0 after.1 ext (states_standing before.bytes after.0.bytes (pages_of before.bytes) ext (after.2.1 formed) states)))
+
+pub returns-in-Err-clause-breaks : goal.returns-in-Err-clause-breaks
+returns-in-Err-clause-breaks g c = λ damage ends before is.
+    let named : c.stop_of_opening.result ≡ file.Damaged damage = cc in
+    inl (damage_of_opening before.bytes c.in-Err.field-0.fault c.stop_of_opening.result damage (c.in-Err.ensures.refused before is) c.stop_of_opening.ensures named)

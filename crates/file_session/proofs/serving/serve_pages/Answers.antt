@@ -1,11 +1,17 @@
 -- A session on an engine that was opened, or none where it wasn't.
 use Rattle.mdc_words.specs.Time.{OverTime}
 use Rattle.script_session.specs.Leaving.{ReopensAlways}
-use Rattle.std.proofs.Common.{Err, List, Option, subst, sym, ℕ}
+use Rattle.std.proofs.Common.{◌≡◌, Err, List, Option, ap, subst, sym, ℕ, ◌∙◌}
+use Rattle.store_api.specs.declared.fault.Damage.{Damage}
+use Rattle.script_engine.specs.declared.stop.EngineStop.{EngineStop}
+use Rattle.script_engine.specs.declared.stop.EngineStop.TheVariants as engine
+use Rattle.script_session.specs.Stops.{stop_of_engine}
 use Rattle.script_session.specs.Replying.{RepliesTo}
 use Rattle.script_session.specs.declared.stop.SessionStop.{SessionStop}
+use Rattle.script_session.specs.declared.stop.SessionStop.TheVariants as session
 use Rattle.script_session.proofs.ToldLemmas.{same-tells_more}
 use Rattle.file_session.specs.Running.{RunsOnStore}
+use Rattle.file_session.proofs.BreaksLemmas.{breaks_served, breaks_unopened}
 use Rattle.file_session.proofs.StoreRunsLemmas.{reopens_opening, reopens_served, replies_stopped, served_on_store, stopped_on_store, takes_stopped}
 use Rattle.file_session.proofs.serving.serve_pages.Goals as goal
 
@@ -53,3 +59,29 @@ returns-in-Ok-clause-reopens g c =
 
 pub returns-in-Err-clause-reopens : goal.returns-in-Err-clause-reopens
 returns-in-Err-clause-reopens g c = reopens_opening g.S.Pages c.args.store c.in-Err.field-0.store c.in-Err.ensures.pages
+
+-- ---- damage is exact
+
+pub returns-in-Ok-clause-breaks : goal.returns-in-Ok-clause-breaks
+returns-in-Ok-clause-breaks g c = λ damage is.
+    let script = g.I.Source.left c.args.input.now in
+    let left = g.I.Source.left c.serve-end.new.input in
+    let breaks = c.serve-end.ensures.breaks damage is in
+    breaks_served g.S.Pages script left c.serve-end.result c.args.ext c.args.store c.close.result c.in-Ok.engine c.serve-end.new.engine damage c.close.ensures c.in-Ok.ensures.pages c.in-Ok.ensures.closed c.in-Ok.ensures.shape
+    breaks.0 breaks.1
+
+-- a stop that names damage is one of the engine that does
+names_damage : (stop : EngineStop) (damage : Damage) → stop_of_engine stop ≡ session.Damaged damage → stop ≡ engine.Damaged damage
+names_damage engine.Device damage e = absurd (cc)
+names_damage engine.Output damage e = absurd (cc)
+names_damage (engine.Damaged named) damage e = let same : named ≡ damage = cc in ap engine.Damaged same
+names_damage engine.Memory damage e = absurd (cc)
+
+pub returns-in-Err-clause-breaks : goal.returns-in-Err-clause-breaks
+returns-in-Err-clause-breaks g c = λ damage is.
+    let named : c.from.result ≡ session.Damaged damage = cc in
+    let stop = names_damage c.in-Err.field-0.stop damage (sym c.from.ensures ∙ named) in
+    let replies = returns-in-Err-clause-replies g c in (
+      replies,
+      breaks_unopened g.S.Pages c.args.ext replies.items c.args.store c.in-Err.field-0.store damage c.in-Err.ensures.pages (c.in-Err.ensures.ended ∙ c.requires.going) (c.in-Err.ensures.breaks damage stop),
+    )

@@ -7,6 +7,8 @@ use Rattle.script_session.specs.declared.stop.SessionStop.TheVariants as session
 use Rattle.extent_map.specs.Owners.{IsSameShape}
 use Rattle.page_store.specs.FileStore.{left_of}
 use Rattle.page_store.proofs.AttachedLemmas.{attached_of-attaches, attached_of-shape}
+use Rattle.file_session.specs.Breaking.{BreaksInFile}
+use Rattle.file_session.proofs.BreaksLemmas.{breaks_closed}
 use Rattle.file_session.proofs.EndOfSessionLemmas.{end_counted, end_counted_as, stop_of_end}
 use Rattle.file_session.proofs.FormedRunsLemmas.{left_formed}
 use Rattle.file_session.proofs.HostRunsLemmas.{left_in_shape, run_on_host}
@@ -93,3 +95,25 @@ returns-clause-reopens g c = λ file said is told.
           left_formed last.desk.shape file.bytes now_told.0.bytes c.args.store last t image heard c.serve_pages-answered.ensures.reopens early same_cap same_size
           (c.close.ensures.left now_told.0 (said ++ tells.0) now_told.1 tape t image heard now);
     }
+
+-- ---- damage is exact
+
+pub returns-clause-breaks : goal.returns-clause-breaks
+returns-clause-breaks g c = λ damage ends committed file is ext states.
+    let last = c.serve_pages-answered.result.store in
+    let ended = c.serve_pages-answered.result.end in
+    let script = g.I.Source.left c.args.input.now in
+    let left = g.I.Source.left c.serve_pages-answered.new.input in
+    let old = (g.H.Disk.beside c.args.store.host).tape in
+    let stated = c.shape-extents.ensures.stated c.requires.going file is in
+    let along : IsSameShape c.in-Some.ext ext =
+    record { cap = sym (c.in-Some.ensures.shape.0 ∙ (sym stated.0 ∙ states.extents)); extent_pages = sym (c.in-Some.ensures.shape.1 ∙ (sym stated.1 ∙ states.extent_pages)) } in
+    let tells = ap is_some is in
+    let now_told = told_by_test (g.H.Disk.file last.host) (c.serve_pages-answered.ensures.is_told ∙ tells) in
+    let file_is = ap (λ host. g.H.Disk.file host) c.close.ensures.same ∙ now_told.1 in
+    let breaks = c.serve_pages-answered.ensures.breaks damage (stop_of_end ended (session.Damaged damage) (sym c.end_of.ensures ∙ ends)) in
+    let base = (c.close.ensures.base breaks.1.going now_told.0 file_is).1 in
+    let Behind : Option (List ℕ) → Type 0 = λ tape. (replies : RepliesTo script left old tape ended) × BreaksInFile ext replies.items damage now_told.0.bytes in
+    let behind = subst Behind (sym (ap (λ host. (g.H.Disk.beside host).tape) c.close.ensures.same))
+    (breaks.0, breaks_closed _ c.in-Some.ext ext breaks.0.items c.args.store last damage now_told.0.bytes along tells (c.serve_pages-answered.ensures.is_told ∙ tells) committed base breaks.1) in
+    record { end_ = ended; result_is = c.end_of.ensures; replies = behind.0; after = now_told.0; file_is = file_is; breaks = behind.1 }

@@ -96,7 +96,7 @@ returns-in-Ok-None-clause-complete g c = λ no_disk no_read no_say within before
     elim asks [ inl file ↦ absurd (asked (RunFile file.0) file.1) | inr scratch ↦ absurd (asked RunScratch scratch.0) ]
 
 pub returns-in-Err-clause-served : goal.returns-in-Err-clause-served
-returns-in-Err-clause-served g c = λ path line. (serves_path-before _ _ _ Memory tt refl, inr refl, inr (inr (inr (inr (inr (inr (inr (inl refl))))))))
+returns-in-Err-clause-served g c = λ path line. (serves_path-before _ _ _ _ _ _ Memory tt refl, inr refl, inr (inr (inr (inr (inr (inr (inr (inl refl))))))))
 
 pub returns-in-Err-clause-runs : goal.returns-in-Err-clause-runs
 returns-in-Err-clause-runs g c = λ path line before said is told well.

@@ -1,5 +1,8 @@
 use Rattle.std.proofs.Common.{◌≡◌, ℕ, List, Option, Err, sym, subst, ◌∙◌, ap}
+use Rattle.mdc_outside.specs.Disk.{File}
 use Rattle.page_store.specs.Opened.{file_bytes}
+use Rattle.script_session.specs.Told.{TellsMore}
+use Rattle.file_session.specs.Breaking.{IsDamageOf}
 use Rattle.file_session.specs.declared.stop.FileStop.TheVariants.{Device}
 use Rattle.mdc_shell.specs.Status.{SaysEnd, line_of_end, status_of}
 use Rattle.mdc_shell.proofs.RunsLemmas.{file_of_bytes, refused_time, runs_items-quiet, runs_path-ended, status_either, takes_by_status}
@@ -11,6 +14,27 @@ returns-clause-runs g c = λ before said is told well.
     let run = c.serve_file-ended.ensures.runs before said is ((g.met.H.Host.lies_beside c.args.host).0 ∙ told) well in
     let quiet = c.end_run.ensures.quiet (runs_items-quiet run.run) in
     runs_path-ended g.H.Disk before said _ _ c.args.host c.serve_file-ended.result.host c.end_run.result.host c.serve_file-ended.result.end c.end_run.result.status.0 run quiet.0 quiet.1
+
+pub returns-clause-served : goal.returns-clause-served
+returns-clause-served g c =
+    let lies = g.met.H.Host.lies_beside in
+    let mid = c.serve_file-ended.result.host in
+    let end_ = c.serve_file-ended.result.end in
+    let script = g.I.Source.left c.args.input.now in
+    let left = g.I.Source.left c.serve_file-ended.new.input in
+    let first = (g.H.Disk.beside c.args.host).tape in
+    let line_tape = g.H.Host.tape mid in
+    record {
+      end_ = end_;
+      cause = c.serve_file-ended.ensures.cause;
+      before_line = line_tape;
+      kept = subst (λ (t : Option (List ℕ)). TellsMore t line_tape) (lies c.args.host).0 (subst (λ (t : Option (List ℕ)). TellsMore first t) (lies mid).0 c.serve_file-ended.ensures.told.1);
+      breaks = λ before is damage ends.
+          subst (λ (t : Option (List ℕ)). IsDamageOf before.bytes script left t line_tape damage end_ (g.H.Disk.file c.end_run.result.host)) (lies c.args.host).0
+          (subst (λ (t : Option (List ℕ)). IsDamageOf before.bytes script left first t damage end_ (g.H.Disk.file c.end_run.result.host)) (lies mid).0
+          (subst (λ (f : Option File). IsDamageOf before.bytes script left first (g.H.Disk.beside mid).tape damage end_ f) (sym c.end_run.ensures.disk.same_file) (c.serve_file-ended.ensures.breaks damage ends before is)));
+      ends = c.end_run.ensures.ends;
+    }
 
 pub returns-clause-stays_well : goal.returns-clause-stays_well
 returns-clause-stays_well g c = λ before said is told well.

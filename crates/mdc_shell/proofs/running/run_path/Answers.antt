@@ -4,7 +4,7 @@ use Rattle.mdc_words.proofs.TimeLemmas.{over_time_wider}
 use Rattle.mdc_outside.specs.Disk.{opened}
 use Rattle.file_session.specs.declared.stop.FileStop.TheVariants.{Device}
 use Rattle.mdc_shell.proofs.CreateLemmas.{tape_stays}
-use Rattle.mdc_shell.proofs.RunsLemmas.{attach_failed, could_be_left-quiet, refuses_file-before, refuses_file-opened, runs_path-before, runs_path-opened, serves_path-before, takes_none}
+use Rattle.mdc_shell.proofs.RunsLemmas.{attach_failed, could_be_left-quiet, refuses_file-before, refuses_file-opened, runs_path-before, runs_path-opened, serves_path-before, serves_path-opened, takes_none}
 use Rattle.mdc_shell.proofs.running.run_path.Goals as goal
 
 pub returns-in-Ok-clause-runs : goal.returns-in-Ok-clause-runs
@@ -29,10 +29,15 @@ returns-in-Ok-clause-refuses g c = λ before said is told not_served.
     let refuses = c.run_attached.ensures.refuses (opened before) said (c.in-Ok.ensures.opened ∙ ap (option_map opened) is) tape not_served in
     (refuses_file-opened g.H.Disk before said _ c.args.host c.attach.new.self c.run_attached.result.host c.run_attached.result.status.0 meanwhile refuses.0, refuses.1)
 
+pub returns-in-Ok-clause-served : goal.returns-in-Ok-clause-served
+returns-in-Ok-clause-served g c =
+    let lies = g.met.H.Host.lies_beside in
+    serves_path-opened _ _ _ _ _ _ _ _ _ c.in-Ok.ensures.opened (tape_stays _ _ _ _ c.attach.ensures.beside (lies c.attach.new.self).0 (lies c.args.host).0) c.run_attached.ensures.served
+
 pub returns-in-Err-clause-served : goal.returns-in-Err-clause-served
 returns-in-Err-clause-served g c =
     let lies = g.met.H.Host.lies_beside in
-    serves_path-before _ _ _ Device tt (tape_stays _ _ _ _ c.attach.ensures.beside (lies c.attach.new.self).0 (lies c.args.host).0)
+    serves_path-before _ _ _ _ _ _ Device tt (tape_stays _ _ _ _ c.attach.ensures.beside (lies c.attach.new.self).0 (lies c.args.host).0)
 
 pub returns-in-Err-clause-runs : goal.returns-in-Err-clause-runs
 returns-in-Err-clause-runs g c = λ before said is told well.

@@ -1,4 +1,5 @@
 use Rattle.std.proofs.Common.{Ok, ap, subst, sym, ◌∙◌}
+use Rattle.std.specs.Prelude.{IsTrue}
 use Rattle.mdc_ast.specs.declared.reply.Outcome.TheVariants as said
 use Rattle.sql_reader.specs.declared.statements.Read.{Read}
 use Rattle.sql_reader.specs.declared.statements.Read.TheVariants as read
@@ -17,9 +18,13 @@ returns-in-Stmt g c =
             may = call.may;
             keeps = call.commits;
             leaves = λ ready. record { time = call.left ready; base = call.base ready };
+            fetches = call.fetches;
             refused = call.refused;
             unserved = call.unserved;
             damaged = call.damaged;
+            opens = call.opens;
+            exact = λ damage is told. call.breaks damage is (subst IsTrue call.is_told told);
+            stays = call.stays;
             shape = call.shape;
             outside = record {
               device = call.device;

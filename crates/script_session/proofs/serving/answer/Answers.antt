@@ -5,6 +5,7 @@ use Rattle.script_engine.specs.declared.stop.EngineStop.TheVariants as engine
 use Rattle.mdc_ast.specs.meaning.Texts.{outcome_text}
 use Rattle.mdc_outside.specs.Outside.{Takes}
 use Rattle.store_api.specs.declared.fault.Damage.{Damage}
+use Rattle.script_engine.specs.Leaving.{IsAllCommitted}
 use Rattle.script_session.specs.Stops.{stop_of_engine}
 use Rattle.script_session.specs.declared.stop.SessionStop.TheVariants.{Damaged}
 use Rattle.script_session.proofs.ToldLemmas.{same-tells_more, takes-tells, tells_more_then}
@@ -117,3 +118,25 @@ returns-clause-replies g c =
       noted = c.is_refused.ensures;
       told = subst (λ (tape : Option (List ℕ)). Takes tape (outcome_text c.in_ok-outcome.outcome) new.told) answers.outside.told tells;
     })
+
+-- ---- damage is exact
+
+pub returns-in_err-outcome-clause-breaks : goal.returns-in_err-outcome-clause-breaks
+returns-in_err-outcome-clause-breaks g c = λ damage e.
+    let p = err_from_is_err_and c.from_residual.result c.from_residual.ensures.1 in
+    let same : p.0 ≡ Damaged damage = cc in
+    let answers = c.in_err-outcome.ensures.answers in
+    (answers.breaks damage (ap Err (names_damage c.in_err-outcome.field-0.0 damage (sym p.2 ∙ same))), answers.outside.told)
+
+pub returns-in_err-tell_outcome-clause-breaks : goal.returns-in_err-tell_outcome-clause-breaks
+returns-in_err-tell_outcome-clause-breaks g c = λ damage e.
+    let p = err_from_is_err_and c.from_residual-in_err-tell_outcome.result c.from_residual-in_err-tell_outcome.ensures.1 in
+    elim c.in_err-tell_outcome.ensures.cause [ inl memory ↦ absurd (cc) | inr unsaid ↦ absurd (cc) ]
+
+pub returns-clause-keeps : goal.returns-clause-keeps
+returns-clause-keeps g c =
+    rw c.in_ok-settle.ensures.stays (λ all. subst IsAllCommitted (sym c.in_ok-tell_outcome.ensures.held) (c.in_ok-outcome.ensures.answers.keeps all))
+
+pub returns-clause-opens : goal.returns-clause-opens
+returns-clause-opens g c =
+    rw c.in_ok-settle.ensures.stays (ap (λ engine. engine.is_open) c.in_ok-tell_outcome.ensures.stays ∙ c.in_ok-outcome.ensures.answers.opens)

@@ -1,6 +1,7 @@
-use Rattle.std.proofs.Common.{◌≡◌, ℕ, IsErrOf, [], ◌∷◌, ◌++◌, Err, Ok, refl, sym, ap, inl, inr, arith, ◌∙◌}
+use Rattle.std.proofs.Common.{◌≡◌, ℕ, List, subst, IsErrOf, [], ◌∷◌, ◌++◌, Err, Ok, refl, sym, ap, inl, inr, arith, ◌∙◌}
 use Rattle.std.proofs.lemmas.Result.{err_from_is_err_and}
 use Rattle.mdc_words.specs.Faults.{CountsFault}
+use Rattle.mdc_ast.specs.Reading.{Item}
 use Rattle.mdc_words.proofs.FaultsLemmas.{counts_fault_as, counts_fault_then}
 use Rattle.sql_reader.specs.Holding.{Holding}
 use Rattle.sql_reader.specs.Item.{item_of}
@@ -8,12 +9,14 @@ use Rattle.sql_reader.specs.declared.statements.ReadStop.{ReadStop}
 use Rattle.sql_reader.specs.declared.statements.ReadStop.TheVariants as read
 use Rattle.store_api.specs.declared.fault.Damage.{Damage}
 use Rattle.mdc_words.proofs.TimeLemmas.{over_time_none, over_time_then}
+use Rattle.script_session.specs.Damaged.{BreaksAtStop, opened_by_item}
 use Rattle.script_session.specs.Stops.{served_by, stop_of_reader}
 use Rattle.script_session.specs.declared.stop.SessionStop.TheVariants.{Damaged, Device, Memory, Unsaid}
 use Rattle.script_session.proofs.AskingLemmas.{asked_next, given_first, given_next}
+use Rattle.script_session.proofs.DamagedLemmas.{breaks_then, opened_behind_more}
 use Rattle.script_session.proofs.EndingLemmas.{nothing_left, taken_by_reader, taken_by_turn, takes_script}
 use Rattle.script_session.proofs.GoingLemmas.{same_shape, shape_then}
-use Rattle.script_session.proofs.ReplyingLemmas.{replied_first, replied_more, replies_done, replies_reading, replies_turning, replies_unasked}
+use Rattle.script_session.proofs.ReplyingLemmas.{replied_first, replied_more, replies_before, replies_done, replies_reading, replies_turning, replies_unasked}
 use Rattle.script_session.proofs.ServingLemmas.{answered_first, answered_more, exit_done, exit_first, exit_reading, exit_turning}
 use Rattle.script_session.proofs.ToldLemmas.{same-tells_more, tells_more_then, took_nothing}
 use Rattle.script_session.proofs.serving.serve.Goals as goal
@@ -34,6 +37,8 @@ loop-reply-init g c =
       replied = replied_first (g.S.Pages.state c.args.engine.now.store).told;
       may = c.requires.may;
       fits = omega (arith, ap (λ (reader : Holding). reader.count) c.in_ok-statements.ensures.held);
+      opened = refl;
+      committed = λ all. all;
       shape = same_shape c.args.engine.now.tables.ext;
       reads = refl;
       unsaid = refl;
@@ -126,6 +131,8 @@ loop-reply-preserved g c =
       replied = replied_more (item_of read) _ _ _ was.replied turns.replies;
       may = turns.may;
       fits = elim asks.within [ inl fits ↦ fits | inr e ↦ absurd (cc) ];
+      opened = turns.opens ∙ (ap (λ was. opened_by_item (item_of read) was) was.opened ∙ sym (opened_behind_more was.items (item_of read) c.args.engine.now.is_open));
+      committed = λ all. turns.keeps (was.committed all);
       shape = shape_then was.shape turns.shape;
       reads = elim asks.no_fault [ inl e ↦ absurd (cc) | inr still ↦ still ∙ was.reads ];
       unsaid = turns.unsaid.still (λ e. cc) ∙ was.unsaid;
@@ -243,3 +250,27 @@ returns-clause-replies g c =
     let asked = rw c.in_default.is at (asked_next laws g.I.Source.left c.loop-reply.input c.next.new.source c.loop-reply.statements c.next.new.self (Ok c.in_ok-read.field-0)
     script was.items was.given asks.goes asks.finished asks.within) in
     rw c.by_refusal.ensures (replies_done script (g.I.Source.left c.next.new.source) c.next.new.self was.items c.loop-reply.refused _ _ asked was.replied)
+
+-- ---- damage is exact
+
+pub returns-in_err-read-clause-breaks : goal.returns-in_err-read-clause-breaks
+returns-in_err-read-clause-breaks g c = λ damage e.
+    let p = err_from_is_err_and c.from_residual-in_err-read.result c.from_residual-in_err-read.ensures.1 in
+    let same : p.0 ≡ Damaged damage = cc in
+    absurd (names_no_damage c.in_err-read.field-0.0 damage (sym p.2 ∙ same))
+
+pub returns-in_err-refused-clause-breaks : goal.returns-in_err-refused-clause-breaks
+returns-in_err-refused-clause-breaks g c = λ damage e.
+    let was = c.loop-reply.invariant in
+    let p = err_from_is_err_and c.from_residual-in_err-refused.result c.from_residual-in_err-refused.ensures.1 in
+    let named : p.0 ≡ Damaged damage = cc in
+    let laws = c.script_laws.ensures in
+    let script = g.I.Source.left c.args.input.now in
+    let asks = c.in_ok-read.ensures in
+    let asked = rw c.in-Some.is at (asked_next laws g.I.Source.left c.loop-reply.input c.next.new.source c.loop-reply.statements c.next.new.self (Ok c.in_ok-read.field-0)
+    script was.items was.given asks.goes asks.finished asks.within) in
+    let turns = c.in_err-refused.ensures in
+    let at = turns.breaks damage (ap Err (sym p.2 ∙ named)) in
+    let replies = replies_before laws script (g.I.Source.left c.next.new.source) c.next.new.self was.items c.in-Some.read c.in_err-refused.field-0.0 _ _ _ asked was.replied turns.stop at.1 in
+    let breaks = breaks_then g.S.Pages was.items c.args.engine.now c.loop-reply.engine c.answer.new.engine damage was.shape was.is_told was.committed was.opened at.0 in
+    rw (p.1, p.2) (replies.0, subst (λ (items : List Item). BreaksAtStop g.S.Pages items c.args.engine.now c.answer.new.engine damage) replies.1 breaks)

@@ -1,0 +1,42 @@
+-- Damage at which a session stops: that of the engine, at a statement of the run.
+use Rattle.std.proofs.Common.{◌≡◌, Bool, List, [], ◌∷◌, ◌++◌, refl, sym, subst, inl, inr, ◌∙◌}
+use Rattle.std.specs.Prelude.{IsTrue}
+use Rattle.mdc_ast.specs.Reading.{Item}
+use Rattle.store_api.specs.declared.fault.Damage.{Damage}
+use Rattle.store_api.specs.declared.pages.Pages.{Ghosts}
+use Rattle.extent_map.specs.Owners.{IsSameShape}
+use Rattle.mdc_sound.specs.Breaks.{IsFirstBreak}
+use Rattle.script_engine.specs.Breaking.{HoldsAtDamage, StaysAtDamage}
+use Rattle.script_engine.specs.Leaving.{IsAllCommitted}
+use Rattle.script_engine.specs.Serving.{held_by}
+use Rattle.script_engine.specs.declared.engine.Engine.{Engine}
+use Rattle.script_engine.proofs.BreaksAlongLemmas.{first_break_along}
+use Rattle.script_session.specs.Damaged.{BreaksAtStop, HoldsCommitted, opened_behind, opened_by_item}
+
+-- behind one item more
+pub opened_behind_more : (items : List Item) (item : Item) (was : Bool) → opened_behind (items ++ item ∷ []) was ≡ opened_by_item item (opened_behind items was)
+opened_behind_more [] item was = refl
+opened_behind_more (first ∷ items) item was = opened_behind_more items item (opened_by_item first was)
+
+module _ {S : Type 0} (g : Ghosts S) where
+  -- at a statement
+  committed_at : (old new : Engine S) → StaysAtDamage g old new → HoldsAtDamage g old.store new.store → IsAllCommitted (held_by g old) → HoldsCommitted g new
+  committed_at old new stays (HoldsAtDamage.before same) all shut = inl (stays.base ∙ (all (sym stays.is_open ∙ shut) ∙ sym same))
+  committed_at old new stays (HoldsAtDamage.base same) all shut = inl (stays.base ∙ sym same)
+  committed_at old new stays (HoldsAtDamage.uncounted counted) all shut = inr counted
+
+  pub breaks_at : (old new : Engine S) (damage : Damage) → (IsTrue (g.state old.store).is_told → IsFirstBreak old.tables.ext (g.state new.store).work damage.rule damage.page) → StaysAtDamage g old new
+      → BreaksAtStop g [] old new damage
+  breaks_at old new damage first stays = record { first = first; committed = committed_at old new stays stays.holds; opened = stays.is_open; going = stays.going }
+
+  -- behind a run
+  pub breaks_then : (items : List Item) (old mid new : Engine S) (damage : Damage) → IsSameShape old.tables.ext mid.tables.ext → (g.state mid.store).is_told ≡ (g.state old.store).is_told
+      → (IsAllCommitted (held_by g old) → IsAllCommitted (held_by g mid))
+      → mid.is_open ≡ opened_behind items old.is_open → BreaksAtStop g [] mid new damage → BreaksAtStop g items old new damage
+  breaks_then items old mid new damage shape told keeps opened breaks = record {
+    first = λ is. first_break_along mid.tables.ext old.tables.ext (g.state new.store).work damage.rule damage.page (record { cap = sym shape.cap; extent_pages = sym shape.extent_pages })
+        (breaks.first (subst IsTrue (sym told) is));
+    committed = λ all. breaks.committed (keeps all);
+    opened = breaks.opened ∙ opened;
+    going = breaks.going;
+  }
