@@ -43,9 +43,9 @@ pub(crate) fn kind_in(page: &Page, e: u32, extent_pages: u32) -> Option<Kind>
     stated_kind(&page[at..at + ENTRY_BYTES], extent_pages)
 }
 
-// What the bytes of an extent say.
-fn stated_kind(entry: &[u8], extent_pages: u32) -> Option<Kind>
-    requires whole { length entry.now ≡ ENTRY_BYTES }
+/// What an extent is by its eight bytes, or nothing where they have a wrong form.
+pub fn stated_kind(entry: &[u8], extent_pages: u32) -> Option<Kind>
+    requires whole { length entry.now ≡ 8 }
     requires few { extent_pages ≤ 32 }
     ensures { result ≡ kind_stated extent_pages entry.now }
 {

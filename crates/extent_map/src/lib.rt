@@ -17,6 +17,6 @@ mod layout;
 
 pub use extents::Extents;
 pub use fault::SpaceFault;
-pub use kind::Kind;
+pub use kind::{Kind, stated_kind};
 pub use laws::{fresh_map, one_map, worked_entries};
 pub use layout::unused_page;

@@ -2,13 +2,12 @@
 ghost use Rattle.std.specs.Prelude.{◌≡◌, ◌≤◌, ◌<◌, ◌+◌, ◌↔◌, length, false, IsTrue, IsFalse, List, slice_index_or};
 ghost use Rattle.store_api.specs.Extents.{first_page_of, map_pages};
 ghost use Rattle.store_api.specs.StoreState.{page_at};
-ghost use Rattle.extent_map.specs.Kinds.{block_stated, free_stated, index_stated, kind_stated};
 ghost use Rattle.extent_map.specs.declared.kind.Kind.{Kind};
 ghost use Rattle.table_trees.specs.ToldPages.{PageList};
 ghost use Rattle.mdc_sound.specs.SpaceRules.{IsMapPageSound, IsRootSound};
 ghost use Rattle.file_check.specs.MapPagesJudged.{AreEntriesSound, IsEntrySound, TellTables, kind_on, owners_on};
 
-use extent_map::{Extents, Kind};
+use extent_map::{Extents, Kind, stated_kind};
 use store_api::Page;
 
 /// How many extents stand on a page of the map.
@@ -54,7 +53,7 @@ fn is_entry_sound(ext: &Extents, page: &Page, e: u32, count: u32, tables: &[bool
     ensures { IsTrue result ↔ IsEntrySound ext.now count tables.now e (kind_on ext.now page.now e) }
 {
     let at = ENTRY_BYTES * (e % PAGE_EXTENTS) as usize;
-    let Some(kind) = kind_stated(&page[at..at + ENTRY_BYTES], ext.extent_pages) else {
+    let Some(kind) = stated_kind(&page[at..at + ENTRY_BYTES], ext.extent_pages) else {
         return false;
     };
     match kind {
@@ -78,56 +77,4 @@ fn end_of(ext: &Extents, e: u32) -> u32
     ensures { result ≡ first_page_of ext.now.cap ext.now.extent_pages (e + 1) }
 {
     ext.first_page(0) + (e + 1) * ext.extent_pages
-}
-
-/// What an extent is by its bytes, or nothing where they have another form.
-fn kind_stated(entry: &[u8], extent_pages: u32) -> Option<Kind>
-    requires whole { length entry.now ≡ ENTRY_BYTES }
-    requires few { extent_pages ≤ 32 }
-    ensures { result ≡ kind_stated extent_pages entry.now }
-{
-    if entry[2] != 0 || entry[3] != 0 {
-        return None;
-    }
-    let used = u32::from_be_bytes([entry[4], entry[5], entry[6], entry[7]]);
-    match entry[0] {
-        0 => free_stated(entry[1], used),
-        1 => block_stated(entry[1], used),
-        2 => index_stated(entry[1], used, extent_pages),
-        _ => None,
-    }
-}
-
-/// The same of an extent that is stated free.
-fn free_stated(owner: u8, used: u32) -> Option<Kind>
-    ensures { result ≡ free_stated owner used }
-{
-    if owner == 0 && used == 0 {
-        Some(Kind::Free)
-    } else {
-        None
-    }
-}
-
-/// The same of one that is stated to be a block.
-fn block_stated(owner: u8, used: u32) -> Option<Kind>
-    ensures { result ≡ block_stated owner used }
-{
-    if used == 0 {
-        Some(Kind::Block(owner))
-    } else {
-        None
-    }
-}
-
-/// The same of one that is stated to be an index extent.
-fn index_stated(owner: u8, used: u32, extent_pages: u32) -> Option<Kind>
-    requires { extent_pages ≤ 32 }
-    ensures { result ≡ index_stated extent_pages owner used }
-{
-    if owner == 0 && used > 0 && u64::from(used) < 1 << extent_pages {
-        Some(Kind::Index(used))
-    } else {
-        None
-    }
 }
