@@ -3,10 +3,10 @@ use crate::objection::refusal;
 use crate::{bind, built};
 use catalog::Catalog;
 use mdc_ast::{
-    AtomText, ColumnDef, ColumnText, GenExpr, GenKind, InsertItem, Name, Operand, PredText,
-    Refusal, Roots, Stmt, TableDef, TestText, TypeText,
+    ColumnDef, ColumnText, GenExpr, GenKind, InsertItem, Name, Refusal, Roots, Stmt, TableDef,
+    TypeText,
 };
-use mdc_values::{Chars, ColType, List, Literal, Memory, Op};
+use mdc_values::{Chars, ColType, List, Literal, Memory};
 use std::alloc::Global;
 use std::test::Fail;
 
@@ -87,10 +87,6 @@ fn names(alloc: Global, listed: &[u8]) -> Result<List<Name>, Memory> {
     Ok(names)
 }
 
-fn text(alloc: Global, text: &[u8]) -> Result<InsertItem, Memory> {
-    Ok(InsertItem::Literal(Literal::Text(Chars::of(alloc, text)?)))
-}
-
 fn number(size: u64) -> InsertItem {
     InsertItem::Literal(Literal::Number {
         negative: false,
@@ -118,19 +114,6 @@ fn insert(
         table: named(alloc, b"T")?,
         columns: Some(names(alloc, listed)?),
         rows,
-    })
-}
-
-/// `DELETE FROM table WHERE column = literal`
-fn delete(alloc: Global, table: &[u8], column: &[u8], literal: Literal) -> Result<Stmt, Memory> {
-    let atom = AtomText {
-        column: named(alloc, column)?,
-        negated: false,
-        test: TestText::Compare(Op::Equal, Operand::Literal(literal)),
-    };
-    Ok(Stmt::Delete {
-        table: named(alloc, table)?,
-        pred: Some(PredText::Atom(atom)),
     })
 }
 
@@ -163,144 +146,11 @@ fn char_column(alloc: Global, name: &[u8], n: u64) -> Result<ColumnText, Memory>
     })
 }
 
-fn literal(alloc: Global, text: &[u8]) -> Result<Literal, Memory> {
-    Ok(Literal::Text(Chars::of(alloc, text)?))
-}
-
 #[test]
-fn a_table_comes_before_its_columns(rt: HostRuntime) -> Result<(), Fail> {
+fn a_generated_column_takes_no_value(rt: HostRuntime) -> Result<(), Fail> {
     let alloc = rt.alloc();
-    assert!(rt; is_refused(alloc, delete(alloc, b"U", b"C", Literal::Null)?, 21, b"U")?);
-    assert!(rt; is_refused(alloc, delete(alloc, b"T", b"C", Literal::Null)?, 22, b"C")?);
-    Ok(())
-}
-
-#[test]
-fn the_first_name_of_a_list_is_refused(rt: HostRuntime) -> Result<(), Fail> {
-    let alloc = rt.alloc();
-    assert!(rt;
-        is_refused(
-            alloc,
-            insert(alloc, b"CAA", number(1), number(1))?,
-            22,
-            b"C"
-        )?
-    );
-    assert!(rt;
-        is_refused(
-            alloc,
-            insert(alloc, b"AAC", number(1), number(1))?,
-            23,
-            b"A"
-        )?
-    );
-    Ok(())
-}
-
-#[test]
-fn types_go_by_tuples(rt: HostRuntime) -> Result<(), Fail> {
-    let alloc = rt.alloc();
-    assert!(rt; is_refused(alloc, insert(alloc, b"AB", number(1), number(1))?, 35, b"")?);
-    assert!(rt;
-        is_refused(
-            alloc,
-            insert(alloc, b"B", number(1), InsertItem::Default)?,
-            30,
-            b"B"
-        )?
-    );
-    assert!(rt;
-        is_refused(
-            alloc,
-            insert(alloc, b"Y", InsertItem::Default, number(1))?,
-            36,
-            b"Y"
-        )?
-    );
-    Ok(())
-}
-
-#[test]
-fn types_come_before_values(rt: HostRuntime) -> Result<(), Fail> {
-    let alloc = rt.alloc();
-    assert!(rt;
-        is_refused(
-            alloc,
-            insert(alloc, b"A", number(1 << 31), text(alloc, b"x")?)?,
-            30,
-            b"A"
-        )?
-    );
-    assert!(rt;
-        is_refused(
-            alloc,
-            insert(alloc, b"A", number(1), number(1 << 31))?,
-            31,
-            b"A"
-        )?
-    );
-    Ok(())
-}
-
-#[test]
-fn blanks_at_the_end_of_a_text_do_not_count(rt: HostRuntime) -> Result<(), Fail> {
-    let alloc = rt.alloc();
-    assert!(rt;
-        is_refused(
-            alloc,
-            insert(alloc, b"B", text(alloc, b"abcd")?, number(1))?,
-            30,
-            b"B"
-        )?
-    );
-    assert!(rt;
-        is_refused(
-            alloc,
-            insert(alloc, b"B", text(alloc, b"abcd")?, InsertItem::Default)?,
-            33,
-            b"B"
-        )?
-    );
-    assert!(rt;
-        !is_refused(
-            alloc,
-            insert(alloc, b"B", text(alloc, b"abc ")?, InsertItem::Default)?,
-            33,
-            b"B"
-        )?
-    );
-    Ok(())
-}
-
-#[test]
-fn a_literal_that_is_compared_need_not_fit(rt: HostRuntime) -> Result<(), Fail> {
-    let alloc = rt.alloc();
-    assert!(rt;
-        !is_refused(
-            alloc,
-            delete(alloc, b"T", b"B", literal(alloc, b"abcd")?)?,
-            33,
-            b"B"
-        )?
-    );
-    assert!(rt;
-        is_refused(
-            alloc,
-            delete(alloc, b"T", b"D", literal(alloc, b"2003-02-29")?)?,
-            34,
-            b"D"
-        )?
-    );
-    Ok(())
-}
-
-#[test]
-fn names_of_a_new_table_come_before_its_limits(rt: HostRuntime) -> Result<(), Fail> {
-    let alloc = rt.alloc();
-    assert!(rt; is_refused(alloc, create(alloc, b"T", 255, b"A", b"C")?, 20, b"T")?);
-    assert!(rt; is_refused(alloc, create(alloc, b"U", 255, b"A", b"C")?, 23, b"A")?);
-    assert!(rt; is_refused(alloc, create(alloc, b"U", 255, b"B", b"C")?, 22, b"C")?);
-    assert!(rt; is_refused(alloc, create(alloc, b"U", 255, b"B", b"B")?, 26, b"")?);
+    let stmt = insert(alloc, b"Y", InsertItem::Default, number(1))?;
+    assert!(rt; is_refused(alloc, stmt, 36, b"Y")?);
     Ok(())
 }
 
