@@ -1,6 +1,6 @@
 -- The slots of a block by its pages: page j of it has part j of them.
-use Rattle.std.proofs.Common.{◌≡◌, ◌<◌, ◌≤◌, ◌+◌, ◌-◌, ◌*◌, ◌/◌, ◌%◌, ℕ, IsTrue, List, ◌++◌, length, get_or, set, take, drop, replicate, Option, Some, None, Result, Ok, Err, IfOk, OnOk, refl, ap, sym, ◌∙◌, inl, inr, arith, append_assoc, subst}
-use Rattle.std.specs.Prelude.{Contains}
+use Rattle.std.proofs.Common.{◌≡◌, ◌<◌, ◌≤◌, ◌+◌, ◌-◌, ◌*◌, ◌/◌, ◌%◌, ℕ, IsTrue, List, ◌++◌, length, get_or, set, take, drop, replicate, Option, Some, None, Bool, refl, ap, sym, ◌∙◌, inl, inr, arith, append_assoc, subst}
+use Rattle.std.specs.Prelude.{Contains, is_some}
 use Rattle.std.proofs.Math.Nat.{div-lt_iff_lt-mul, mul-le-mul_right}
 use Rattle.std.proofs.lemmas.Bool.{cases_eq}
 use Rattle.std.proofs.lemmas.Nat.{div-add-mod'}
@@ -29,7 +29,7 @@ use Rattle.row_page.specs.RowPage.{IsRowPage, rows_of, slot_count, slot_row}
 use Rattle.mdc_sound.specs.Placing.{HoldsNowhere, IsEmptySlot, IsLowestAt}
 use Rattle.mdc_sound.specs.StandingTable.{IsPageOfBlock, pages_of}
 use Rattle.mdc_sound.specs.TableRows.{PlacedRow, block_page, rows_from_slot}
-use Rattle.block_rows.specs.HeldRows.{BreaksExtent, BreaksRows, HoldsRows, PutsFirst, qualifying}
+use Rattle.block_rows.specs.HeldRows.{BreaksExtent, BreaksRows, HoldsRows, IsFilledSlot, PutsFirst, qualifying}
 use Rattle.block_rows.specs.PageRows.{HoldsRowPage, PutsInPage, RefusesPage}
 use Rattle.block_rows.proofs.PageRowsLemmas.{rows_along}
 use Rattle.block_rows.proofs.PartsLemmas.{get_or-part, length-parts, part, part-parts, part-replicate, part-set, part-set_other, parts-part, take-parts}
@@ -305,23 +305,27 @@ module _ {S : Type 0} (g : Ghosts S) (ext : Extents) (def : TableDef) (block : �
         subst (λ k. HoldsRowPage g k s page (part c (slot / c) slots)) (sym of)
         (subst (λ p. HoldsRowPage g def.columns s p (part c (slot / c) slots)) (sym its_number) (page_of_rows (slot / c) its_page holds))
 
-    pub found_in_block : (result : Result (Option Row) StoreFault) → IfOk result (λ row. (slots : List (Option Row)) → HoldsRowPage g columns s page slots → row ≡ get_or slots place None)
-        → IfOk result (λ row. (slots : List (Option Row)) → HoldsRows g ext s def block slots → row ≡ get_or slots slot None)
-    found_in_block (Ok row) found = λ slots holds.
-        found (part c (slot / c) slots) (page_of_slot slots holds) ∙ (get_or-part c (slot / c) place slots None place_below ∙ ap (λ k. get_or slots k None) in_its_page)
-    found_in_block (Err fault) found = tt
+    slot_of_part : (slots : List (Option Row)) → get_or (part c (slot / c) slots) place None ≡ get_or slots slot None
+    slot_of_part slots = get_or-part c (slot / c) place slots None place_below ∙ ap (λ k. get_or slots k None) in_its_page
 
-    pub changed_in_block : {Kind : ℕ → Type 0} {Breaks : Damage → Type 0} {fault : Option StoreFault} (new : S) (x : Option Row) (result : Result (Unit {0}) StoreFault)
+    pub found_in_block : (row : Option Row) → ((slots : List (Option Row)) → HoldsRowPage g columns s page slots → row ≡ get_or slots place None)
+        → (slots : List (Option Row)) → HoldsRows g ext s def block slots → row ≡ get_or slots slot None
+    found_in_block row found slots holds = found (part c (slot / c) slots) (page_of_slot slots holds) ∙ slot_of_part slots
+
+    pub changed_in_block : {Kind : ℕ → Type 0} {Breaks : Damage → Type 0} {fault : Option StoreFault} (new : S) (x : Option Row)
         → RunsOverPages g (OnlyPage page) Kind Breaks s new fault → length (g.state new).work ≡ length (g.state s).work
-        → OnOk result ((slots : List (Option Row)) → HoldsRowPage g columns s page slots → HoldsRowPage g columns new page (set slots place x))
-        → OnOk result ((slots : List (Option Row)) → HoldsRows g ext s def block slots → HoldsRows g ext new def block (set slots slot x))
-    changed_in_block {Kind} {Breaks} {fault} new x (Ok done) runs count changes = λ slots holds.
+        → ((slots : List (Option Row)) → HoldsRowPage g columns s page slots → HoldsRowPage g columns new page (set slots place x))
+        → (slots : List (Option Row)) → HoldsRows g ext s def block slots → HoldsRows g ext new def block (set slots slot x)
+    changed_in_block {Kind} {Breaks} {fault} new x runs count changes slots holds =
         let changed : HoldsRowPage g def.columns new page (set (part c (slot / c) slots) place x) =
         subst (λ k. HoldsRowPage g k new page (set (part c (slot / c) slots) place x)) of (changes (part c (slot / c) slots) (page_of_slot slots holds)) in
         subst (λ k. HoldsRows g ext new def block (set slots k x)) in_its_page
         (rows_changed (slot / c) place x its_page place_below (subst (λ p. RunsOverPages g (OnlyPage p) Kind Breaks s new fault) its_number runs) count holds
         (subst (λ p. HoldsRowPage g def.columns new p (set (part c (slot / c) slots) place x)) its_number changed))
-    changed_in_block new x (Err fault) runs count changes = tt
+
+    pub filled_in_block : (filled : Bool) → ((slots : List (Option Row)) → HoldsRowPage g columns s page slots → IsFilledSlot slots place filled)
+        → (slots : List (Option Row)) → HoldsRows g ext s def block slots → IsFilledSlot slots slot filled
+    filled_in_block filled was slots holds = was (part c (slot / c) slots) (page_of_slot slots holds) ∙ ap is_some (slot_of_part slots)
 
     pub page_of_slot_in_block : (p : ℕ) → block < ext.cap → p ≡ page → IsPageOfBlock ext block p
     page_of_slot_in_block p there same = only_page_of_block ext block p (slot / c) there its_page (same ∙ its_number)

@@ -1,14 +1,16 @@
 -- One page of a block: its slots by its bits, and what a call on its bytes makes of the page in the store.
-use Rattle.std.proofs.Common.{◌≡◌, ◌<◌, ◌≤◌, ◌+◌, ℕ, zero, suc, List, [], ◌∷◌, length, get_or, drop, Option, Some, None, Bool, IsTrue, true, false, cond, not, Result, Ok, Err, IfErr, refl, ap, sym, ◌∙◌, arith, subst}
-use Rattle.std.specs.Prelude.{is_some}
+use Rattle.std.proofs.Common.{◌≡◌, ◌<◌, ◌≤◌, ◌+◌, ℕ, zero, suc, List, [], ◌∷◌, length, get_or, set, drop, Option, Some, None, Bool, IsTrue, true, false, cond, not, Result, Ok, Err, IfErr, refl, ap, sym, ◌∙◌, arith, subst}
+use Rattle.std.specs.Prelude.{MatchOption, is_some}
+use Rattle.std.proofs.lemmas.List.{get_or-set_same, length-set}
 use Rattle.std.proofs.lemmas.List.Sums.{count_by-le-length, sum_by-cons}
 use Rattle.mdc_ast.specs.declared.definition.ColumnDef.{ColumnDef}
 use Rattle.mdc_ast.specs.declared.row.Row.{Row}
 use Rattle.mdc_words.proofs.ListedLemmas.{get_or-listed, length-listed}
+use Rattle.store_api.specs.Calls.{Edits}
 use Rattle.store_api.specs.Causes.{NoDamage, fault_of}
 use Rattle.store_api.specs.Frame.{HoldsPage, NoPage, OnlyPage}
 use Rattle.store_api.specs.RunsOverPages.{RunsOverPages}
-use Rattle.store_api.specs.StoreState.{page_at}
+use Rattle.store_api.specs.StoreState.{page_at, seen}
 use Rattle.store_api.specs.declared.fault.Damage.{Damage}
 use Rattle.store_api.specs.declared.fault.StoreFault.{StoreFault}
 use Rattle.store_api.specs.declared.fault.StoreFault.TheVariants.{Device, Damaged, Memory}
@@ -20,6 +22,7 @@ use Rattle.row_page.specs.Row.{row_in}
 use Rattle.mdc_sound.specs.Placing.{HoldsNowhere, IsEmptySlot}
 use Rattle.mdc_sound.specs.TableRows.{rows_from_slot}
 use Rattle.block_rows.proofs.PlacedRowsLemmas.{rows_from_slot-end, rows_from_slot-next}
+use Rattle.block_rows.specs.HeldRows.{IsFilledSlot}
 use Rattle.block_rows.specs.PageRows.{HoldsRowPage, IsFaultOfBytes, IsLowestEmpty, RefusesPage}
 
 -- ---- the slots of a page
@@ -72,6 +75,11 @@ all-filled (Some row ∷ slots) full zero d within empty = empty
 all-filled (Some row ∷ slots) full (suc k) d within empty =
     all-filled slots (omega (arith, full, sum_by-cons (λ slot. cond (is_some slot) 1 0) (Some row) slots)) k d (omega arith) empty
 
+-- a row is found where a bit says so
+pub some_as_bit : {X : Type 0} (found : Option X) (bit : Bool) (Said : X → Type 0) → MatchOption found (bit ≡ false) Said → ((x : X) → Said x → bit ≡ true) → is_some found ≡ bit
+some_as_bit None bit Said said filled = sym said
+some_as_bit (Some x) bit Said said filled = sym (filled x said)
+
 -- ---- a view of the page
 
 module _ (columns view_columns : List ColumnDef) (page view_page : List ℕ) (same : view_page ≡ page) (alike : view_columns ≡ columns) where
@@ -105,6 +113,15 @@ module _ (columns view_columns : List ColumnDef) (page view_page : List ℕ) (sa
       filled_is : (b : Bool) (row : Row) → b ≡ true → cond b (Some row) None ≡ Some row
       filled_is true row is = refl
       filled_is false row is = absurd cc
+
+  -- whether there is a row in a slot
+  pub taken-view : (slot : ℕ) → slot < slot_count columns → (slots : List (Option Row)) → IsRowPage columns page slots → IsFilledSlot slots slot (is_slot_filled view_page slot)
+  taken-view slot below slots is =
+      sym (ap is_some (slot-at columns page slots slot None is.has below) ∙ as_bit (is_slot_filled page slot) _ ∙ ap (λ b. is_slot_filled b slot) (sym same))
+    where
+      as_bit : (b : Bool) (row : Row) → is_some (cond b (Some row) None) ≡ b
+      as_bit true row = refl
+      as_bit false row = refl
 
   -- the next slot with a row, and the empty ones before it
   pub passed-view : (from end : ℕ) → end ≤ slot_count columns → ((k : ℕ) → from ≤ k → k < end → is_slot_filled view_page k ≡ false)
@@ -163,6 +180,22 @@ module _ {S : Type 0} {g : Ghosts S} {columns : List ColumnDef} {p : ℕ} where
   pub rows_of_told : {s : S} {page : List ℕ} → (IsTrue (g.state s).is_told → page ≡ page_at (g.state s).work p) → (slots : List (Option Row)) → HoldsRowPage g columns s p slots → IsRowPage columns page slots
   rows_of_told told slots holds =
       subst (λ bytes. IsRowPage columns bytes slots) (sym (told holds.page.is_told ∙ holds.page.bytes_are)) holds.has
+
+  -- the page that was lent, once it has been given back
+  pub rows_edited : {old new : S} {was now : List (Option Row)} (bytes : List ℕ) → Edits p bytes (g.state old) (g.state new) → HoldsRowPage g columns old p was → IsRowPage columns bytes now
+      → HoldsRowPage g columns new p now
+  rows_edited {old} {new} bytes edits holds is =
+      let same : (g.state new).work ≡ set (g.state old).work p bytes = ap (λ s. s.work) edits ∙ ap (λ b. seen b (set (g.state old).work p bytes)) holds.page.is_told in
+      let there : p < length (g.state old).work = holds.page.within in
+      record {
+        bytes = bytes;
+        page = record {
+          is_told = ap (λ s. s.is_told) edits ∙ holds.page.is_told;
+          within = omega (arith, there, ap length same, length-set (g.state old).work p bytes);
+          bytes_are = ap (λ pages. page_at pages p) same ∙ get_or-set_same (g.state old).work p bytes [] there;
+        };
+        has = is;
+      }
 
   -- what was said of the same page earlier
   pub refuses_before : {old new : S} → (g.state new).is_told ≡ (g.state old).is_told → (g.state new).work ≡ (g.state old).work

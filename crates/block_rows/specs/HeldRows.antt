@@ -1,6 +1,7 @@
 -- The rows that a block is told to hold: the slots of its pages, one page behind the other (docs/FORMAT.md, "Row pages").
-use Rattle.std.specs.Prelude.{◌≡◌, ◌⊎◌, ◌≤◌, ◌<◌, ◌+◌, ℕ, IsTrue, List, length, Option, Some, None, Contains, slice_set}
+use Rattle.std.specs.Prelude.{◌≡◌, ◌⊎◌, ◌≤◌, ◌<◌, ◌+◌, ℕ, Bool, IsTrue, List, length, Option, Some, None, Contains, is_some, slice_index_or, slice_set}
 use Rattle.std.specs.List.{All, filter}
+use Rattle.mdc_values.specs.declared.rid.Rid.{Rid}
 use Rattle.mdc_ast.specs.Truth.{value_at}
 use Rattle.mdc_ast.specs.declared.definition.ColumnDef.{ColumnDef}
 use Rattle.mdc_ast.specs.declared.definition.TableDef.{TableDef}
@@ -49,6 +50,15 @@ abbrev pub PutsFirst : {S : Type 0} → Ghosts S → Extents → S → S → Tab
 PutsFirst g ext old new def block row slots None = (Contains slots None → ⊥) × (pages_of g new ≡ pages_of g old)
 PutsFirst g ext old new def block row slots (Some slot) =
     IsLowestAt IsEmptySlot slots slot None × HoldsRows g ext new def block (slice_set slots slot (Some row))
+
+-- whether there is a row in a slot
+abbrev pub IsFilledSlot : List (Option Row) → ℕ → Bool → Type 0
+IsFilledSlot slots slot filled = filled ≡ is_some (slice_index_or slots slot None)
+
+-- the slot is empty, and whether there was a row in it
+pub record ClearsSlot {S : Type 0} (g : Ghosts S) (ext : Extents) (new : S) (def : TableDef) (rid : Rid) (slots : List (Option Row)) (filled : Bool) : Type 0 where
+  pub was : IsFilledSlot slots rid.slot filled
+  pub held : HoldsRows g ext new def rid.block (slice_set slots rid.slot None)
 
 -- rule 2: the extent lies past the pages that there are
 pub record BreaksExtent {S : Type 0} (g : Ghosts S) (ext : Extents) (s : S) (block : ℕ) (damage : Damage) : Type 0 where

@@ -8,7 +8,7 @@ ghost use Rattle.row_page.specs.Row.{AreRowColumns};
 ghost use Rattle.row_page.specs.RowPage.{slot_count};
 ghost use Rattle.mdc_sound.specs.Placing.{block_slot_count};
 ghost use Rattle.mdc_sound.specs.StandingTable.{IsPageOfBlock};
-ghost use Rattle.block_rows.specs.HeldRows.{BreaksExtent, BreaksRows, HoldsRows, PutsFirst};
+ghost use Rattle.block_rows.specs.HeldRows.{BreaksExtent, BreaksRows, ClearsSlot, HoldsRows, PutsFirst};
 
 use crate::page_changing::{clear_in_page, put_first_in_page, put_in_page};
 use crate::places::{first_page, first_slot, place_of_slot};
@@ -68,19 +68,19 @@ pub fn put_slot<P: Pages>(
     put_in_page(&shape, pages, place.page, place.slot, row)
 }
 
-/// Empties a slot.
+/// Empties a slot, and answers whether a row lay there.
 pub fn clear_slot<P: Pages>(
     def: &TableDef,
     ext: &Extents,
     pages: &mut P,
     rid: Rid,
-) -> Result<(), StoreFault>
+) -> Result<bool, StoreFault>
     requires columns { AreRowColumns def.now.columns }
     requires below { rid.block < ext.now.cap }
     requires slot { rid.slot < block_slot_count ext.now def.now }
     requires going { (P.state pages.old).ended ≡ false }
-    ensures clears { OnOk result ((slots : List (Option Row)) → HoldsRows P.Pages ext.now pages.old def.now rid.block slots
-        → HoldsRows P.Pages ext.now pages.new def.now rid.block (slice_set slots rid.slot None)) }
+    ensures clears { IfOk result (λ filled. (slots : List (Option Row)) → HoldsRows P.Pages ext.now pages.old def.now rid.block slots
+        → ClearsSlot P.Pages ext.now pages.new def.now rid slots filled) }
     ensures count { length (P.state pages.new).work ≡ length (P.state pages.old).work }
     ensures runs { RunsOverPages P.Pages (IsPageOfBlock ext.now rid.block) (IsPageOfBlock ext.now rid.block) (BreaksRows P.Pages ext.now pages.old def.now rid.block) pages.old pages.new (fault_of result) }
 {

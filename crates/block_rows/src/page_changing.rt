@@ -7,6 +7,7 @@ ghost use Rattle.store_api.specs.Frame.{OnlyPage};
 ghost use Rattle.store_api.specs.RunsOverPages.{RunsOverPages};
 ghost use Rattle.row_page.specs.RowPage.{slot_count, IsRowPage};
 ghost use Rattle.block_rows.specs.PageRows.{HoldsRowPage, IsFaultOfBytes, PutsInPage, RefusesPage};
+ghost use Rattle.block_rows.specs.HeldRows.{IsFilledSlot};
 
 use crate::page_reading::{first_empty_in_page, no_row_page};
 use mdc_ast::Row;
@@ -75,32 +76,35 @@ fn put_row(
     Ok(())
 }
 
-/// Empties a slot of page p.
+/// Empties a slot of page p, and answers whether a row lay there.
 pub(crate) fn clear_in_page<P: Pages>(
     shape: &RowShape<'_>,
     pages: &mut P,
     p: u32,
     slot: u16,
-) -> Result<(), StoreFault>
+) -> Result<bool, StoreFault>
     requires slot { slot < slot_count shape.now.columns.now }
     requires going { (P.state pages.old).ended ≡ false }
     requires within { p < length (P.state pages.old).work }
-    ensures clears { OnOk result ((slots : List (Option Row)) → HoldsRowPage P.Pages shape.now.columns.now pages.old p slots → HoldsRowPage P.Pages shape.now.columns.now pages.new p (slice_set slots slot None)) }
+    ensures clears { IfOk result (λ filled. (slots : List (Option Row)) → HoldsRowPage P.Pages shape.now.columns.now pages.old p slots
+        → IsFilledSlot slots slot filled × HoldsRowPage P.Pages shape.now.columns.now pages.new p (slice_set slots slot None)) }
     ensures count { length (P.state pages.new).work ≡ length (P.state pages.old).work }
     ensures runs { RunsOverPages P.Pages (OnlyPage p) (OnlyPage p) (RefusesPage P.Pages shape.now.columns.now pages.old p) pages.old pages.new (fault_of result) }
 {
     clear_row(shape, pages.edit(p)?, p, slot)
 }
 
-/// Empties a slot, in the bytes of page p.
-fn clear_row(shape: &RowShape<'_>, page: &mut Page, p: u32, slot: u16) -> Result<(), StoreFault>
+/// Empties a slot, in the bytes of page p, and answers whether a row lay there.
+fn clear_row(shape: &RowShape<'_>, page: &mut Page, p: u32, slot: u16) -> Result<bool, StoreFault>
     requires slot { slot < slot_count shape.now.columns.now }
-    ensures clears { OnOk result ((slots : List (Option Row)) → IsRowPage shape.now.columns.now page.old slots → IsRowPage shape.now.columns.now page.new (slice_set slots slot None)) }
+    ensures clears { IfOk result (λ filled. (slots : List (Option Row)) → IsRowPage shape.now.columns.now page.old slots
+        → IsFilledSlot slots slot filled × IsRowPage shape.now.columns.now page.new (slice_set slots slot None)) }
     ensures refuses { IfErr result (IsFaultOfBytes shape.now.columns.now page.old p) }
 {
-    if shape.look(page).is_none() {
+    let Some(view) = shape.look(page) else {
         return Err(no_row_page(p));
-    }
+    };
+    let filled = view.row(slot).is_some();
     shape.clear(page, slot);
-    Ok(())
+    Ok(filled)
 }

@@ -24,6 +24,8 @@ struct Seen {
     /// The numbers of the row on the second page, and of that in a slot which was emptied.
     on_second: Option<u64>,
     emptied: Option<u64>,
+    /// Whether a row lay in the slot as it was emptied, and as it was emptied again.
+    lay: [bool; 2],
 }
 
 /// A table without columns.
@@ -53,7 +55,7 @@ fn number_of(row: &Option<Row>) -> Option<u64> {
     }
 }
 
-/// Two rows put into a block, one put into the first slot of its second page, the first taken out, and one put again.
+/// Two rows put into a block, one put into the first slot of its second page, the first taken out twice, and one put again.
 fn fill_and_look<P: Pages>(
     alloc: Global,
     def: &TableDef,
@@ -71,7 +73,8 @@ fn fill_and_look<P: Pages>(
     let second = put_first(def, ext, pages, BLOCK, &row)?;
     let over = row_of(alloc, 8);
     put_slot(def, ext, pages, rid(402), &over)?;
-    clear_slot(def, ext, pages, rid(0))?;
+    let lay = clear_slot(def, ext, pages, rid(0))?;
+    let lay_again = clear_slot(def, ext, pages, rid(0))?;
     let in_second = row_in_slot(alloc, def, ext, pages, rid(402))?;
     let in_emptied = row_in_slot(alloc, def, ext, pages, rid(0))?;
     let third = put_first(def, ext, pages, BLOCK, &row)?;
@@ -87,6 +90,7 @@ fn fill_and_look<P: Pages>(
         },
         on_second: number_of(&in_second),
         emptied: number_of(&in_emptied),
+        lay: [lay, lay_again],
     })
 }
 
@@ -143,5 +147,6 @@ fn a_block_is_filled_changed_and_read(rt: HostRuntime) -> Result<(), Fail> {
     assert_eq!(rt; seen.last, Some(8));
     assert_eq!(rt; seen.on_second, Some(8));
     assert_eq!(rt; seen.emptied, None);
+    assert_eq!(rt; seen.lay, [true, false]);
     Ok(())
 }

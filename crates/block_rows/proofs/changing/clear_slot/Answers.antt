@@ -1,6 +1,7 @@
 use Rattle.std.proofs.Common.{None}
+use Rattle.std.proofs.lemmas.Result.{IfOk-weaker}
 use Rattle.store_api.proofs.RunsOverPagesLemmas.{runs_exit, runs_then}
-use Rattle.block_rows.proofs.HeldRowsLemmas.{breaks_at_slot, breaks_extent, changed_in_block, page_of_slot_in_block}
+use Rattle.block_rows.proofs.HeldRowsLemmas.{breaks_at_slot, breaks_extent, changed_in_block, filled_in_block, page_of_slot_in_block}
 use Rattle.block_rows.proofs.changing.clear_slot.Goals as goal
 
 pub returns-in_err-place-clause-runs : goal.returns-in_err-place-clause-runs
@@ -9,8 +10,16 @@ returns-in_err-place-clause-runs g c = runs_exit c.from_residual.result c.from_r
 pub returns-clause-clears : goal.returns-clause-clears
 returns-clause-clears g c =
     let place = c.in_ok-place.ensures in
-    changed_in_block g.P.Pages c.args.ext.now c.args.def.now c.args.rid.block c.args.pages.now c.args.rid.slot c.in_ok-place.place.page c.in_ok-place.place.slot
-    c.of-shape.ensures place.page place.slot place.below c.requires.slot c.clear_in_page.new.pages None c.clear_in_page.result c.clear_in_page.ensures.runs c.clear_in_page.ensures.count c.clear_in_page.ensures.clears
+    IfOk-weaker c.clear_in_page.result _ _
+    (λ filled clears slots holds. record {
+      was =
+          filled_in_block g.P.Pages c.args.ext.now c.args.def.now c.args.rid.block c.args.pages.now c.args.rid.slot c.in_ok-place.place.page c.in_ok-place.place.slot
+          c.of-shape.ensures place.page place.slot place.below c.requires.slot filled (λ here is. (clears here is).0) slots holds;
+      held =
+          changed_in_block g.P.Pages c.args.ext.now c.args.def.now c.args.rid.block c.args.pages.now c.args.rid.slot c.in_ok-place.place.page c.in_ok-place.place.slot
+          c.of-shape.ensures place.page place.slot place.below c.requires.slot c.clear_in_page.new.pages None c.clear_in_page.ensures.runs c.clear_in_page.ensures.count (λ here is. (clears here is).1) slots holds;
+    })
+    c.clear_in_page.ensures.clears
 
 pub returns-clause-runs : goal.returns-clause-runs
 returns-clause-runs g c =

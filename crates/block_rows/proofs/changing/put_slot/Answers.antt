@@ -1,4 +1,5 @@
 use Rattle.std.proofs.Common.{Some}
+use Rattle.std.proofs.lemmas.Result.{on_ok_weaker}
 use Rattle.store_api.proofs.RunsOverPagesLemmas.{runs_exit, runs_then}
 use Rattle.block_rows.proofs.HeldRowsLemmas.{breaks_at_slot, breaks_extent, changed_in_block, page_of_slot_in_block}
 use Rattle.block_rows.proofs.changing.put_slot.Goals as goal
@@ -9,8 +10,10 @@ returns-in_err-place-clause-runs g c = runs_exit c.from_residual.result c.from_r
 pub returns-clause-puts : goal.returns-clause-puts
 returns-clause-puts g c =
     let place = c.in_ok-place.ensures in
-    changed_in_block g.P.Pages c.args.ext.now c.args.def.now c.args.rid.block c.args.pages.now c.args.rid.slot c.in_ok-place.place.page c.in_ok-place.place.slot
-    c.of-shape.ensures place.page place.slot place.below c.requires.slot c.put_in_page.new.pages (Some c.args.row.now) c.put_in_page.result c.put_in_page.ensures.runs c.put_in_page.ensures.count c.put_in_page.ensures.puts
+    on_ok_weaker c.put_in_page.result
+    (λ puts. changed_in_block g.P.Pages c.args.ext.now c.args.def.now c.args.rid.block c.args.pages.now c.args.rid.slot c.in_ok-place.place.page c.in_ok-place.place.slot
+    c.of-shape.ensures place.page place.slot place.below c.requires.slot c.put_in_page.new.pages (Some c.args.row.now) c.put_in_page.ensures.runs c.put_in_page.ensures.count puts)
+    c.put_in_page.ensures.puts
 
 pub returns-clause-runs : goal.returns-clause-runs
 returns-clause-runs g c =

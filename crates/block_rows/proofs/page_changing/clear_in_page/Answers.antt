@@ -1,8 +1,18 @@
 use Rattle.std.proofs.Common.{ap}
 use Rattle.std.specs.Result.{is_ok}
+use Rattle.std.proofs.lemmas.Result.{IfOk-weaker}
 use Rattle.store_api.proofs.RunsOverPagesLemmas.{runs_edit}
-use Rattle.block_rows.proofs.PageRowsLemmas.{page_fault_runs, rows_of_told}
+use Rattle.block_rows.proofs.PageRowsLemmas.{page_fault_runs, rows_edited, rows_of_told}
 use Rattle.block_rows.proofs.page_changing.clear_in_page.Goals as goal
+
+pub returns-clause-clears : goal.returns-clause-clears
+returns-clause-clears g c =
+    let edited = (c.edit.follows.holds c.clear_row.new.page (ap is_ok c.in_ok-edit.was)).ok in
+    IfOk-weaker c.clear_row.result _ _
+    (λ filled clears slots holds.
+    let now = clears slots (rows_of_told c.in_ok-edit.ensures.page slots holds) in
+    (now.0, rows_edited c.clear_row.new.page edited holds now.1))
+    c.clear_row.ensures.clears
 
 pub returns-clause-runs : goal.returns-clause-runs
 returns-clause-runs g c =

@@ -1,3 +1,4 @@
+use Rattle.std.proofs.lemmas.Result.{IfOk-weaker}
 use Rattle.store_api.proofs.RunsOverPagesLemmas.{runs_exit, runs_then}
 use Rattle.block_rows.proofs.HeldRowsLemmas.{breaks_at_slot, breaks_extent, found_in_block, page_of_slot_in_block}
 use Rattle.block_rows.proofs.reading.row_in_slot.Goals as goal
@@ -8,8 +9,10 @@ returns-in_err-place-clause-runs g c = runs_exit c.from_residual.result c.from_r
 pub returns-clause-found : goal.returns-clause-found
 returns-clause-found g c =
     let place = c.in_ok-place.ensures in
-    found_in_block g.P.Pages c.args.ext.now c.args.def.now c.args.rid.block c.args.pages.now c.args.rid.slot c.in_ok-place.place.page c.in_ok-place.place.slot
-    c.of-shape.ensures place.page place.slot place.below c.requires.slot c.row_in_page.result c.row_in_page.ensures.found
+    IfOk-weaker c.row_in_page.result _ _
+    (λ row found. found_in_block g.P.Pages c.args.ext.now c.args.def.now c.args.rid.block c.args.pages.now c.args.rid.slot c.in_ok-place.place.page c.in_ok-place.place.slot
+    c.of-shape.ensures place.page place.slot place.below c.requires.slot row found)
+    c.row_in_page.ensures.found
 
 pub returns-clause-runs : goal.returns-clause-runs
 returns-clause-runs g c =
