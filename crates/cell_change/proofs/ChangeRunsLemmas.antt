@@ -1,5 +1,5 @@
 -- Which pages the calls that change one row touch, and what damage they name.
-use Rattle.std.proofs.Common.{◌≡◌, ℕ, List, None, refl, ◌∙◌, inl, inr}
+use Rattle.std.proofs.Common.{◌≡◌, ℕ, List, None, refl, ◌∙◌, inl, inr, subst}
 use Rattle.std.specs.Prelude.{Option}
 use Rattle.mdc_values.specs.declared.rid.Rid.{Rid}
 use Rattle.mdc_ast.specs.declared.definition.TableDef.{TableDef}
@@ -9,17 +9,21 @@ use Rattle.store_api.specs.RunsOverPages.{RunsOverPages}
 use Rattle.store_api.specs.declared.fault.Damage.{Damage}
 use Rattle.store_api.specs.declared.fault.StoreFault.{StoreFault}
 use Rattle.store_api.specs.declared.pages.Pages.{Ghosts}
+use Rattle.store_api.proofs.FrameLemmas.{touches_wider}
 use Rattle.store_api.proofs.RunsOverPagesLemmas.{runs_as, runs_wider}
 use Rattle.store_api.specs.Extents.{first_page_of}
 use Rattle.extent_map.specs.Owners.{IsSameShape, extent_of}
 use Rattle.extent_map.specs.declared.extents.Extents.{Extents}
 use Rattle.extent_map.specs.declared.kind.Kind.{Kind}
+use Rattle.entry_tree.specs.Forest.{Forest}
 use Rattle.entry_tree.proofs.ReturnedPagesLemmas.{map_page-shape}
 use Rattle.entry_tree.proofs.UsedPagesLemmas.{extent_page_same}
-use Rattle.mdc_sound.specs.StandingTable.{BreaksExpected, BreaksTable, ChangesTable, HasRowAt, IsTableOrMapPage, IsTableSpace, NamesTablePart, StandsTable, TableForests}
+use Rattle.mdc_sound.specs.Placing.{IsRowAt, table_spots}
+use Rattle.mdc_sound.specs.StandingTable.{BreaksExpected, BreaksTable, ChangesTable, HasRowAt, IsTableOrMapPage, IsTableSpace, NamesTablePart, StandsTable, TableForests, forests_in_order, pages_of}
+use Rattle.mdc_sound.proofs.StandingTableLemmas.{one_standing}
 use Rattle.mdc_table.specs.KnownBlocks.{IsExpectedPlace, IsExpectedSpace, IsUsedIfKnown}
-use Rattle.mdc_table.proofs.KnownBlocksLemmas.{touches_known, used_with_row}
-use Rattle.cell_change.specs.RowChanges.{HasThisRow}
+use Rattle.mdc_table.proofs.KnownBlocksLemmas.{used_with_row}
+use Rattle.table_blocks.specs.BlockSteps.{HasThisRow}
 use Rattle.cell_change.proofs.RowChangesLemmas.{has_row}
 use Rattle.cell_change.proofs.TableStepsLemmas.{space_before}
 
@@ -50,48 +54,49 @@ module _ {S : Type 0} (g : Ghosts S) where
     | inr more ↦ elim more [ inl of ↦ inr (inl of) | inr map ↦ inr (inr (inl (inr map))) ]
   ]
 
+  -- ---- calls that expect a row that is known
+
   -- where a row should lie, this one should
-  pub breaks_this : (ext : Extents) (s : S) (def : TableDef) (rid : Rid) (row : Row) (damage : Damage) → BreaksExpected g ext s def (HasRowAt g ext s def rid) damage → BreaksExpected g ext s def (HasThisRow g ext s def rid row) damage
+  breaks_this : (ext : Extents) (s : S) (def : TableDef) (rid : Rid) (row : Row) (damage : Damage) → BreaksExpected g ext s def (HasRowAt g ext s def rid) damage → BreaksExpected g ext s def (HasThisRow g ext s def rid row) damage
   breaks_this ext s def rid row damage breaks = record { names = breaks.names; broken = λ owners forests st has. breaks.broken owners forests st (has_row g ext s def rid row owners forests has) }
 
-  -- a call on a row that is known
-  pub runs_this : (ext : Extents) (old new : S) (def : TableDef) (rid : Rid) (row : Row) (fault : Option StoreFault)
-      → RunsOverPages g (IsTableOrMapPage g ext old def) (IsTableOrMapPage g ext old def) (BreaksExpected g ext old def (HasRowAt g ext old def rid)) old new fault
-      → RunsOverPages g (IsTableOrMapPage g ext old def) (IsTableOrMapPage g ext old def) (BreaksExpected g ext old def (HasThisRow g ext old def rid row)) old new fault
-  runs_this ext old new def rid row fault run = runs_wider run (λ p low mine. mine) (λ p mine. mine) (breaks_this ext old def rid row)
-
-  -- the same of a call that may claim pages
-  pub runs_within : (ext : Extents) (old new : S) (def : TableDef) (rid : Rid) (row : Row) (fault : Option StoreFault)
-      → RunsOverPages g (IsTableOrMapPage g ext old def) (IsTableOrMapPage g ext old def) (BreaksExpected g ext old def (HasRowAt g ext old def rid)) old new fault
-      → RunsOverPages g (IsTableSpace g ext old def) (IsTableSpace g ext old def) (BreaksExpected g ext old def (HasThisRow g ext old def rid row)) old new fault
-  runs_within ext old new def rid row fault run = runs_wider run (λ p low mine. in_space ext old def p mine) (λ p mine. in_space ext old def p mine) (breaks_this ext old def rid row)
-
-  -- ---- calls that may expect more of a table than that it stands
-
   -- one that claims nothing
-  pub runs_expecting : (ext : Extents) (old new : S) (def : TableDef) (Expected : List Kind → TableForests → Type 0) (rid : Rid) (row : Row) (fault : Option StoreFault)
-      → RunsOverPages g (IsExpectedPlace g ext old def Expected) (IsExpectedPlace g ext old def Expected) (BreaksExpected g ext old def (HasRowAt g ext old def rid)) old new fault
-      → RunsOverPages g (IsExpectedSpace g ext old def Expected) (IsExpectedSpace g ext old def Expected) (BreaksExpected g ext old def (HasThisRow g ext old def rid row)) old new fault
-  runs_expecting ext old new def Expected rid row fault run = runs_wider run (λ p low is. wider p is) wider (breaks_this ext old def rid row)
+  pub runs_within : {Breaks : Damage → Type 0} (ext : Extents) (old new : S) (def : TableDef) (Expected : List Kind → TableForests → Type 0) (fault : Option StoreFault)
+      → RunsOverPages g (IsTableOrMapPage g ext old def) (IsTableOrMapPage g ext old def) Breaks old new fault
+      → RunsOverPages g (IsExpectedSpace g ext old def Expected) (IsExpectedSpace g ext old def Expected) Breaks old new fault
+  runs_within ext old new def Expected fault run =
+      runs_wider run (λ p low mine owners forests st expected. in_space ext old def p mine owners forests st) (λ p mine owners forests st expected. in_space ext old def p mine owners forests st) (λ damage b. b)
+
+  -- one that may know that the row's block is a Used one, as it is where the row lies in it
+  pub runs_known : (ext : Extents) (old new : S) (def : TableDef) (known : Option ℕ) (rid : Rid) (row : Row) (fault : Option StoreFault)
+      → RunsOverPages g (IsExpectedPlace g ext old def (IsUsedIfKnown known rid.block)) (IsExpectedPlace g ext old def (IsUsedIfKnown known rid.block)) (BreaksExpected g ext old def (HasRowAt g ext old def rid)) old new fault
+      → RunsOverPages g (IsExpectedSpace g ext old def (HasThisRow g ext old def rid row)) (IsExpectedSpace g ext old def (HasThisRow g ext old def rid row)) (BreaksExpected g ext old def (HasThisRow g ext old def rid row)) old new fault
+  runs_known ext old new def known rid row fault run = runs_wider run (λ p low is. wider p is) wider (breaks_this ext old def rid row)
     where
-      wider : (p : ℕ) → IsExpectedPlace g ext old def Expected p → IsExpectedSpace g ext old def Expected p
-      wider p is owners forests st expected = elim (is owners forests st expected) [
+      wider : (p : ℕ) → IsExpectedPlace g ext old def (IsUsedIfKnown known rid.block) p → IsExpectedSpace g ext old def (HasThisRow g ext old def rid row) p
+      wider p is owners forests st has = elim (is owners forests st (λ same. used_with_row ext old def rid owners forests st (has_row g ext old def rid row owners forests has))) [
         | inl some ↦ inl some
         | inr more ↦ elim more [ inl of ↦ inr (inl of) | inr map ↦ inr (inr (inl (inr map))) ]
       ]
 
-  -- one that expects nothing
-  pub runs_whatever : {Breaks : Damage → Type 0} (ext : Extents) (old new : S) (def : TableDef) (Expected : List Kind → TableForests → Type 0) (fault : Option StoreFault)
-      → RunsOverPages g (IsTableSpace g ext old def) (IsTableSpace g ext old def) Breaks old new fault
-      → RunsOverPages g (IsExpectedSpace g ext old def Expected) (IsExpectedSpace g ext old def Expected) Breaks old new fault
-  runs_whatever ext old new def Expected fault run =
-      runs_wider run (λ p low is owners forests st expected. is owners forests st) (λ p is owners forests st expected. is owners forests st) (λ damage b. b)
+  -- ---- a table that stands is one, so a row that lies in a place in one view does so in each
 
-  -- where this row lies there, the pages that are touched are the table's
-  pub touches_of_row : (ext : Extents) (old new : S) (def : TableDef) (owners : List Kind) (forests : TableForests) → StandsTable g ext old def owners forests → (known : Option ℕ) (rid : Rid) (row : Row)
-      → HasThisRow g ext old def rid row owners forests → Touches g (IsExpectedSpace g ext old def (IsUsedIfKnown known rid.block)) old new → Touches g (IsTableSpace g ext old def) old new
-  touches_of_row ext old new def owners forests st known rid row has touched =
-      touches_known ext old def owners forests st known rid.block (used_with_row ext old def rid owners forests st (has_row g ext old def rid row owners forests has)) touched
+  module _ (ext : Extents) (old new : S) (def : TableDef) (owners : List Kind) (forests : TableForests) (st : StandsTable g ext old def owners forests) (rid : Rid) (row : Row)
+      (has : HasThisRow g ext old def rid row owners forests) where
+    this_in_each : (others : List Kind) (trees : TableForests) → StandsTable g ext old def others trees → HasThisRow g ext old def rid row others trees
+    this_in_each others trees other =
+        let one = one_standing g ext old def owners others forests trees st other in
+        let same : forests_in_order forests ≡ forests_in_order trees = one.1 in
+        let map : forests.map ≡ trees.map = cc in
+        record {
+          slots = has.slots;
+          lies = subst (λ (t : Forest). IsRowAt (table_spots ext (pages_of g old) def others t) rid row has.slots) map
+              (subst (λ (kinds : List Kind). IsRowAt (table_spots ext (pages_of g old) def kinds forests.map) rid row has.slots) one.0 has.lies);
+        }
+
+    -- so the pages that are touched are the table's
+    pub touches_of_row : Touches g (IsExpectedSpace g ext old def (HasThisRow g ext old def rid row)) old new → Touches g (IsTableSpace g ext old def) old new
+    touches_of_row touched = touches_wider touched (λ p is others trees other. is others trees other (this_in_each others trees other))
 
   -- ---- two calls, one behind the other
 
@@ -122,14 +127,3 @@ module _ {S : Type 0} (g : Ghosts S) where
         names = names_at before mid def damage shape is.names;
         broken = λ owners forests st expected. let on = leads owners forests st expected in is.broken on.owners_now on.forests_now on.changes.stands;
       }
-
-  -- the same where the first leaves the table standing wherever it stood, and damage that the second names was there before
-  pub runs_left : (before mid : Extents) (old middle new : S) (def : TableDef) (rid : Rid) (row : Row) (Any : Damage → Type 0) (fault : Option StoreFault) → IsSameShape before mid
-      → ((owners : List Kind) (forests : TableForests) → StandsTable g before old def owners forests → LeadsOn before mid old middle def owners forests)
-      → RunsOverPages g (IsTableOrMapPage g before old def) (IsTableOrMapPage g before old def) Any old middle None
-      → RunsOverPages g (IsTableSpace g mid middle def) (IsTableSpace g mid middle def) (BreaksTable g mid middle def) middle new fault
-      → RunsOverPages g (IsTableSpace g before old def) (IsTableSpace g before old def) (BreaksExpected g before old def (HasThisRow g before old def rid row)) old new fault
-  runs_left before mid old middle new def rid row Any fault shape leads first second =
-      runs_wider (runs_moved before mid old middle new def (λ owners forests. Unit {0}) Any fault shape (λ owners forests st any. leads owners forests st) first second)
-      (λ p low mine owners forests st. mine owners forests st tt) (λ p mine owners forests st. mine owners forests st tt)
-      (λ damage breaks. record { names = breaks.names; broken = λ owners forests st has. breaks.broken owners forests st tt })

@@ -1,5 +1,5 @@
 -- Rows that were read, or fit, have a value for each column.
-use Rattle.std.proofs.Common.{inl, inr, ◌≡◌, ◌<◌, ◌≤◌, Bool, true, false, suc, List, [], ◌∷◌, length, refl, ap, arith}
+use Rattle.std.proofs.Common.{inl, inr, ◌≡◌, ◌≤◌, Bool, true, false, suc, List, [], ◌∷◌, length, refl, ap, arith}
 use Rattle.std.specs.Prelude.{IsTrue, ◌&&◌}
 use Rattle.std.proofs.lemmas.Bool.{cases_lt}
 use Rattle.std.proofs.lemmas.Bool.Decides.{nat_tests}

@@ -1,7 +1,6 @@
 -- What one row more, one less and one that became another make of all rows of a table, and of pages that are sound between two
 -- changes of rows.
-use Rattle.std.proofs.Common.{◌≡◌, ◌<◌, ◌≤◌, ◌+◌, ℕ, List, [], ◌∷◌, length, arith, subst}
-use Rattle.std.specs.Prelude.{IsPermutation}
+use Rattle.std.proofs.Common.{◌≡◌, ◌<◌, ◌≤◌, ◌+◌, List, [], ◌∷◌, length, arith, subst}
 use Rattle.std.proofs.lemmas.List.Sorted.{IsPermutation-sym}
 use Rattle.mdc_words.specs.ByteOrder.{Entry}
 use Rattle.mdc_values.specs.declared.rid.Rid.{Rid}
@@ -15,7 +14,7 @@ use Rattle.entry_tree.specs.Forest.{Forest}
 use Rattle.table_page.specs.TableLimits.{IsTableDef}
 use Rattle.mdc_sound.specs.BlockRules.{AreRowNumbersSound}
 use Rattle.mdc_sound.specs.SoundDatabase.{IsSoundBetweenChanges, with_table_page}
-use Rattle.mdc_sound.specs.StandingTable.{ChangesTable, HasRowAt, IsTableSpace, OverwritesRow, PlacesRow, RoomNote, StandsTable, TableForests, TakesRowOut, forests_in_order, pages_of, spots_of}
+use Rattle.mdc_sound.specs.StandingTable.{ChangesTable, HasRowAt, IsTableSpace, OverwritesRow, PlacesRow, RoomNote, StandsTable, TableForests, TakesRowOut, forests_in_order, pages_of}
 use Rattle.mdc_sound.specs.TableRows.{rows_in_table}
 use Rattle.mdc_sound.specs.TableViews.{TableView, trees_of_table}
 use Rattle.mdc_sound.proofs.ChangedRowsLemmas.{rows_after_overwriting, rows_after_placing, rows_after_taking}
@@ -25,8 +24,8 @@ use Rattle.mdc_sound.proofs.RowNumbersLemmas.{numbers_in_order, numbers_over, nu
 use Rattle.mdc_sound.proofs.SoundDatabaseLemmas.{rows_with_table_page}
 use Rattle.mdc_sound.proofs.SpaceRulesLemmas.{there_at}
 use Rattle.mdc_sound.proofs.StandingTableLemmas.{forests_of, number_of_place, one_standing, stands_of_sound}
-use Rattle.mdc_table.proofs.RowSpaceLemmas.{same_row}
-use Rattle.cell_change.specs.RowChanges.{DeletesRow, HasThisRow, InsertsRow, row_in_place, rows_now}
+use Rattle.table_blocks.specs.BlockSteps.{HasThisRow}
+use Rattle.cell_change.specs.RowChanges.{DeletesRow, InsertsRow, row_in_place, rows_now}
 
 module _ {S : Type 0} (g : Ghosts S) where
   -- a row that is known lies in a place
@@ -79,12 +78,6 @@ module _ {S : Type 0} (g : Ghosts S) where
         (numbers_in_order (with_next def (def.next + 1)) (row_in_place rid row ∷ rows_now g before old def forests) now rows more)
 
     -- ---- a row less
-
-    -- the row that was taken out is the one that lay there
-    pub took_this : (room_of : Entry → RoomNote) (row other : Row) (rid : Rid) → HasThisRow g before old def rid row owners forests → TakesRowOut g before ext room_of old new def owners forests other rid
-        → TakesRowOut g before ext room_of old new def owners forests row rid
-    took_this room_of row other rid has takes =
-        subst (λ (r : Row). TakesRowOut g before ext room_of old new def owners forests r rid) (same_row (spots_of g before old def owners forests) rid other row takes.takes.slots has.slots takes.takes.lies has.lies) takes
 
     pub deletes : (room_of : Entry → RoomNote) (row : Row) (rid : Rid) → TakesRowOut g before ext room_of old new def owners forests row rid
         → DeletesRow g before ext room_of old new def row rid owners forests

@@ -24,11 +24,6 @@ rows_now g ext s def forests = rows_in_table ext (pages_of g s) def forests.map
 abbrev pub row_in_place : Rid → Row → PlacedRow
 row_in_place rid row = record { rid = rid; row = row }
 
--- this row lies in a place
-pub record HasThisRow {S : Type 0} (g : Ghosts S) (ext : Extents) (s : S) (def : TableDef) (rid : Rid) (row : Row) (owners : List Kind) (forests : TableForests) : Type 0 where
-  pub slots : List (Option Row)
-  pub lies : IsRowAt (spots_of g ext s def owners forests) rid row slots
-
 -- The row was placed, and the rows are those that there were with this one.
 pub record InsertsRow {S : Type 0} (g : Ghosts S) (before ext : Extents) (room_of : Entry → RoomNote) (old new : S) (def : TableDef) (row : Row) (rid : Rid) (owners : List Kind) (forests : TableForests) : Type 0 where
   pub places : PlacesRow g before ext room_of old new def owners forests row rid

@@ -14,8 +14,9 @@ ghost use Rattle.mdc_sound.specs.SoundDatabase.{IsSoundBetweenChanges, with_tabl
 ghost use Rattle.mdc_sound.specs.StandingTable.{BreaksExpected, IsReadyTable, KeepsBlocksBut, TableForests, pages_of};
 ghost use Rattle.mdc_sound.specs.StandsForDatabase.{PagesStandFor, with_row};
 ghost use Rattle.cell_rooms.specs.RoomNotes.{room_of};
-ghost use Rattle.mdc_table.specs.KnownBlocks.{IsExpectedSpace, IsUsedIfKnown};
-ghost use Rattle.cell_change.specs.RowChanges.{ChangesOneRow, HasThisRow, row_in_place};
+ghost use Rattle.mdc_table.specs.KnownBlocks.{IsExpectedSpace};
+ghost use Rattle.table_blocks.specs.BlockSteps.{HasThisRow};
+ghost use Rattle.cell_change.specs.RowChanges.{ChangesOneRow, row_in_place};
 
 use block_index::are_of_one_cell;
 use extent_map::{Extents, SpaceFault};
@@ -52,7 +53,7 @@ pub fn change_row<P: Pages>(
         → HasThisRow P.Pages ext.old pages.old def.now rid was.now owners forests
         → ChangesOneRow P.Pages ext.old ext.new (room_of rooms.new) pages.old pages.new def.now was.now is.now rid to owners forests) }
     ensures stay { IfOk result (λ to. (owners : List Kind) (forests : TableForests) → IsReadyTable P.Pages ext.old (room_of rooms.old) pages.old def.now owners forests
-        → KeepsBlocksBut P.Pages ext.old pages.old pages.new def.now owners (λ block. (block ≡ rid.block) ⊎ (block ≡ to.block))) }
+        → HasThisRow P.Pages ext.old pages.old def.now rid was.now owners forests → KeepsBlocksBut P.Pages ext.old pages.old pages.new def.now owners (λ block. (block ≡ rid.block) ⊎ (block ≡ to.block))) }
     ensures sound { OnOk result ((owners : List Kind) (forests : TableForests) → IsReadyTable P.Pages ext.old (room_of rooms.old) pages.old def.now owners forests
         → HasThisRow P.Pages ext.old pages.old def.now rid was.now owners forests
         → IsSoundBetweenChanges ext.old def.now (pages_of P.Pages pages.old) → IsSoundBetweenChanges ext.new def.now (pages_of P.Pages pages.new)) }
@@ -63,14 +64,14 @@ pub fn change_row<P: Pages>(
     ensures full { IfErr result (λ fault. IfFull fault (λ cap. (cap ≡ ext.old.cap) × ((owners : List Kind) (forests : TableForests) → IsReadyTable P.Pages ext.old (room_of rooms.old) pages.old def.now owners forests
         → HasThisRow P.Pages ext.old pages.old def.now rid was.now owners forests → UpdateRunsFull ext.old (pages_of P.Pages pages.old) def.now ((row_in_place rid was.now, is.now) ∷ [])))) }
     ensures shape { IsSameShape ext.old ext.new }
-    ensures runs { RunsOverPages P.Pages (IsExpectedSpace P.Pages ext.old pages.old def.now (IsUsedIfKnown known rid.block))
-        (IsExpectedSpace P.Pages ext.old pages.old def.now (IsUsedIfKnown known rid.block))
+    ensures runs { RunsOverPages P.Pages (IsExpectedSpace P.Pages ext.old pages.old def.now (HasThisRow P.Pages ext.old pages.old def.now rid was.now))
+        (IsExpectedSpace P.Pages ext.old pages.old def.now (HasThisRow P.Pages ext.old pages.old def.now rid was.now))
         (BreaksExpected P.Pages ext.old pages.old def.now (HasThisRow P.Pages ext.old pages.old def.now rid was.now)) pages.old pages.new (store_fault_in store_part_of result) }
 {
     if are_of_one_cell(def, &was.values, &is.values) {
         overwrite_row(alloc, def, ext, rooms, pages, known, rid, is)?;
         return Ok(rid);
     }
-    take_row(alloc, def, ext, rooms, pages, rid)?;
+    take_row(alloc, def, ext, rooms, pages, rid, was)?;
     place_row(alloc, def, ext, rooms, pages, is)
 }

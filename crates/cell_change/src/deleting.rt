@@ -14,8 +14,10 @@ ghost use Rattle.mdc_sound.specs.RunningFull.{taking_changes};
 ghost use Rattle.mdc_sound.specs.SoundDatabase.{IsSoundBetweenChanges, with_table_page};
 ghost use Rattle.mdc_sound.specs.StandingTable.{BreaksExpected, IsReadyTable, IsTableOrMapPage, KeepsBlocksBut, TableForests, pages_of, spots_of};
 ghost use Rattle.mdc_sound.specs.StandsForDatabase.{PagesStandFor, without_row};
+ghost use Rattle.block_rows.specs.HeldRows.{HasReadValues};
+ghost use Rattle.table_blocks.specs.BlockSteps.{HasThisRow};
 ghost use Rattle.cell_rooms.specs.RoomNotes.{room_of};
-ghost use Rattle.cell_change.specs.RowChanges.{DeletesRow, HasThisRow};
+ghost use Rattle.cell_change.specs.RowChanges.{DeletesRow};
 
 use extent_map::Extents;
 use mdc_ast::{Row, TableDef};
@@ -37,6 +39,7 @@ pub fn delete_row<P: Pages>(
 ) -> Result<(), StoreFault>
     requires defined { IsTableDef def.now.number def.now }
     requires no_indexes { def.now.indexes ≡ [] }
+    requires row { HasReadValues def.now.columns row.now }
     requires going { (P.state pages.old).ended ≡ false }
     ensures deletes { OnOk result ((owners : List Kind) (forests : TableForests) → IsReadyTable P.Pages ext.old (room_of rooms.old) pages.old def.now owners forests
         → HasThisRow P.Pages ext.old pages.old def.now rid row.now owners forests → DeletesRow P.Pages ext.old ext.new (room_of rooms.new) pages.old pages.new def.now row.now rid owners forests) }
@@ -56,6 +59,5 @@ pub fn delete_row<P: Pages>(
     ensures runs { RunsOverPages P.Pages (IsTableOrMapPage P.Pages ext.old pages.old def.now) (IsTableOrMapPage P.Pages ext.old pages.old def.now)
         (BreaksExpected P.Pages ext.old pages.old def.now (HasThisRow P.Pages ext.old pages.old def.now rid row.now)) pages.old pages.new (fault_of result) }
 {
-    let _row = row;
-    take_row(alloc, def, ext, rooms, pages, rid)
+    take_row(alloc, def, ext, rooms, pages, rid, row)
 }

@@ -91,6 +91,9 @@ pub fn delete<P: Pages>(
         rooms,
     } = table;
     let row = row_of(alloc, *shape, held.number, held.seed)?;
+    if !does_fit(def, &row) {
+        return Err("a row that doesn't fit")?;
+    }
     delete_row(alloc, def, ext, rooms, pages, held.rid, &row)?;
     Ok(())
 }

@@ -1,29 +1,24 @@
 -- What a call on a row touches whose block may be known to be Used.
-use Rattle.std.proofs.Common.{◌≡◌, ℕ, List, ap, subst, ◌∙◌, inl, inr}
+use Rattle.std.proofs.Common.{◌≡◌, ℕ, List, ap, ◌∙◌, inl, inr}
 use Rattle.std.specs.Option.{option_eq}
-use Rattle.std.specs.Prelude.{Contains, Option, None, Some, true}
+use Rattle.std.specs.Prelude.{Option, None, Some, true}
 use Rattle.std.proofs.Math.Dec.{eqb}
 use Rattle.std.proofs.lemmas.Bool.{eqb-true}
 use Rattle.mdc_ast.specs.declared.definition.TableDef.{TableDef}
 use Rattle.mdc_values.specs.declared.rid.Rid.{Rid}
-use Rattle.store_api.specs.Frame.{Touches}
 use Rattle.store_api.specs.RunsOverPages.{RunsOverPages}
 use Rattle.store_api.specs.declared.fault.Damage.{Damage}
 use Rattle.store_api.specs.declared.fault.StoreFault.{StoreFault}
 use Rattle.store_api.specs.declared.pages.Pages.{Ghosts}
-use Rattle.store_api.proofs.FrameLemmas.{touches_wider}
 use Rattle.store_api.proofs.RunsOverPagesLemmas.{runs_wider}
 use Rattle.extent_map.specs.Owners.{owner_of}
 use Rattle.extent_map.specs.declared.extents.Extents.{Extents}
 use Rattle.extent_map.specs.declared.kind.Kind.{Kind}
-use Rattle.entry_tree.specs.Forest.{Forest}
-use Rattle.block_map.specs.MapLines.{used_blocks}
 use Rattle.mdc_sound.specs.Placing.Spot.{OtherBlock}
-use Rattle.mdc_sound.specs.StandingTable.{HasRowAt, IsPageOfBlock, IsTableOrMapPage, IsTableSpace, StandsTable, TableForests, forests_in_order, pages_of}
+use Rattle.mdc_sound.specs.StandingTable.{HasRowAt, IsPageOfBlock, IsTableOrMapPage, StandsTable, TableForests, pages_of}
 use Rattle.mdc_sound.proofs.BlockRulesLemmas.{named_owned}
-use Rattle.mdc_sound.proofs.StandingTableLemmas.{one_standing}
 use Rattle.mdc_sound.proofs.TableSpotsLemmas.{used_of_spot}
-use Rattle.mdc_table.specs.KnownBlocks.{IsExpectedPlace, IsExpectedSpace, IsUsedIfKnown}
+use Rattle.mdc_table.specs.KnownBlocks.{IsExpectedPlace, IsUsedIfKnown}
 use Rattle.mdc_table.specs.TableReading.{HasUsedBlock}
 
 -- a block that was found to be the known one is it
@@ -49,16 +44,3 @@ module _ {S : Type 0} {g : Ghosts S} (ext : Extents) (s : S) (def : TableDef) wh
     pub runs_of_asked : RunsOverPages g (IsTableOrMapPage g ext s def) (IsTableOrMapPage g ext s def) Breaks s new fault
         → RunsOverPages g (IsExpectedPlace g ext s def (IsUsedIfKnown known block)) (IsExpectedPlace g ext s def (IsUsedIfKnown known block)) Breaks s new fault
     runs_of_asked run = runs_wider run (λ p there is owners forests st used. is owners forests st) (λ p is owners forests st used. is owners forests st) (λ damage b. b)
-
-  -- ---- a table that stands is one, so a block that one view has as a Used one is so in each
-
-  module _ (owners : List Kind) (forests : TableForests) (st : StandsTable g ext s def owners forests) (known : Option ℕ) (block : ℕ) (has : HasUsedBlock block owners forests) where
-    used_in_each : (others : List Kind) (trees : TableForests) → StandsTable g ext s def others trees → HasUsedBlock block others trees
-    used_in_each others trees other =
-        let same : forests_in_order forests ≡ forests_in_order trees = (one_standing g ext s def owners others forests trees st other).1 in
-        let map : forests.map ≡ trees.map = cc in
-        record { used = subst (λ (t : Forest). Contains (used_blocks t) block) map has.used }
-
-    -- so the pages that are touched are the table's
-    pub touches_known : {new : S} → Touches g (IsExpectedSpace g ext s def (IsUsedIfKnown known block)) s new → Touches g (IsTableSpace g ext s def) s new
-    touches_known touched = touches_wider touched (λ p is others trees other. is others trees other (λ same. used_in_each others trees other))

@@ -14,12 +14,11 @@ use Rattle.extent_map.specs.declared.fault.SpaceFault.TheVariants.{Full, Store}
 use Rattle.extent_map.specs.declared.kind.Kind.{Kind}
 use Rattle.block_map.specs.BlockMaps.{FindsFree, IsLowestFreeBlock}
 use Rattle.block_map.specs.MapLines.{free_blocks}
-use Rattle.row_page.specs.RowPage.{count_rows}
 use Rattle.table_trees.specs.SpaceChanges.{MakesChanges, RunsFull}
 use Rattle.table_trees.specs.ToldPages.{PageList}
 use Rattle.mdc_sound.specs.Placing.{HasRoomFor, HoldsNowhere, IsRowAt, Spot, table_spots}
 use Rattle.mdc_sound.specs.Placing.Spot.{FreeBlock, FreeExtent, OtherBlock, UsedBlock}
-use Rattle.mdc_sound.specs.RunningFull.{RowRunsFull, block_changes, left_changes}
+use Rattle.mdc_sound.specs.RunningFull.{RowRunsFull, block_changes}
 use Rattle.mdc_sound.specs.StandingTable.{IsReadyTable, RoomNote, StandsTable, TableForests, pages_of, spots_of}
 use Rattle.mdc_sound.proofs.StandingTableLemmas.{stands_same}
 use Rattle.mdc_sound.proofs.TableSpotsLemmas.{free_block_spot, free_spot}
@@ -124,10 +123,3 @@ same_row spots rid row other slots more one two =
     let same : slots ≡ more = cc in
     let rows : Some row ≡ Some other = sym one.slot ∙ (ap (λ s. slice_index_or s rid.slot None) same ∙ two.slot) in
     cc
-
--- the row that was taken out is the one that lay there
-pub taken_makes : (ext : Extents) (old new : PageList) (spots : List Spot) (def : TableDef) (rid : Rid) (row taken : Row) (slots there : List (Option Row)) → IsRowAt spots rid row slots → IsRowAt spots rid taken there
-    → ((more : List (Option Row)) → IsRowAt spots rid taken more → MakesChanges ext old (left_changes def taken rid.block (count_rows more)) new) → MakesChanges ext old (left_changes def row rid.block (count_rows slots)) new
-taken_makes ext old new spots def rid row taken slots there lies lay makes =
-    let is : row ≡ taken = same_row spots rid row taken slots there lies lay in
-    subst (λ (r : Row). MakesChanges ext old (left_changes def r rid.block (count_rows slots)) new) (sym is) (makes slots (subst (λ (r : Row). IsRowAt spots rid r slots) is lies))

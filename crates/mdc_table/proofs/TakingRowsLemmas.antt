@@ -23,7 +23,7 @@ use Rattle.mdc_sound.specs.Placing.{IsRowAt, Spot, block_slot_count, left_with}
 use Rattle.mdc_sound.specs.Placing.Spot.{UsedBlock}
 use Rattle.mdc_sound.specs.StandingTable.{AreRightRooms, BreaksExpected, HasRowAt, IsReadyTable, NamesTablePart, OverwritesRow, RoomNote, StandsTable, TableForests, TakesRowOut, spots_of}
 use Rattle.table_blocks.specs.BlockChanges.{SameSpot, TurnsSpot}
-use Rattle.table_blocks.specs.BlockSteps.{EmptiesSlot}
+use Rattle.table_blocks.specs.BlockSteps.{EmptiesSlot, HasThisRow}
 use Rattle.cell_rooms.specs.FoundRoom.{cell_key_of}
 use Rattle.cell_rooms.specs.RoomNotes.{SaysNoMore, lowered_to, no_note}
 use Rattle.mdc_table.specs.TableReading.{HasRowOfCell}
@@ -45,15 +45,31 @@ same_spots (x ∷ xs) [] all = absurd all
 same_spots (x ∷ xs) (y ∷ ys) all = let first : x ≡ y = all.0 in let rest : xs ≡ ys = same_spots xs ys all.1 in cc (first, rest)
 
 module _ {S : Type 0} {g : Ghosts S} where
-  -- no row lies where there is no such extent or no such slot
+  -- ---- no row lies where there is no such extent or no such slot
+
+  none_lies : (ext : Extents) (s : S) (def : TableDef) (rid : Rid) → (ext.cap ≤ rid.block) ⊎ (block_slot_count ext def ≤ rid.slot) → (row : Row) (slots : List (Option Row)) (owners : List Kind) (forests : TableForests)
+      → StandsTable g ext s def owners forests → IsRowAt (spots_of g ext s def owners forests) rid row slots → ⊥
+  none_lies ext s def rid past row slots owners forests st lies =
+      let within = lies_within ext s def owners forests st rid row slots lies in
+      elim past [ inl high ↦ omega (arith, high, within.0) | inr high ↦ omega (arith, high, within.1) ]
+
+  -- so damage is named where one should lie
   pub no_row_there : (ext : Extents) (s : S) (def : TableDef) (rid : Rid) → (ext.cap ≤ rid.block) ⊎ (block_slot_count ext def ≤ rid.slot)
       → BreaksExpected g ext s def (HasRowAt g ext s def rid) (record { page = def.roots.map; rule = 6 })
   no_row_there ext s def rid past = record {
     names = NamesTablePart.block_map refl refl;
-    broken = λ owners forests st has.
-        let within = lies_within ext s def owners forests st rid has.row has.slots has.lies in
-        elim past [ inl high ↦ omega (arith, high, within.0) | inr high ↦ omega (arith, high, within.1) ];
+    broken = λ owners forests st has. none_lies ext s def rid past has.row has.slots owners forests st has.lies;
   }
+
+  -- or where this one should
+  pub not_this_row_there : (ext : Extents) (s : S) (def : TableDef) (rid : Rid) (row : Row) → (ext.cap ≤ rid.block) ⊎ (block_slot_count ext def ≤ rid.slot)
+      → BreaksExpected g ext s def (HasThisRow g ext s def rid row) (record { page = def.roots.map; rule = 6 })
+  not_this_row_there ext s def rid row past = record {
+    names = NamesTablePart.block_map refl refl;
+    broken = λ owners forests st has. none_lies ext s def rid past row has.slots owners forests st has.lies;
+  }
+
+  -- ---- a row less
 
   module _ (before ext : Extents) (old new : S) (def : TableDef) (rid : Rid) (row : Row) (owners : List Kind) (forests : TableForests) (from now : Entry → RoomNote) (ready : IsReadyTable g before from old def owners forests)
       (empties : EmptiesSlot g before ext old new def rid row owners forests) where

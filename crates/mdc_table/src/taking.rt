@@ -10,7 +10,9 @@ ghost use Rattle.table_page.specs.TableLimits.{IsTableDef};
 ghost use Rattle.table_trees.specs.SpaceChanges.{MakesChanges};
 ghost use Rattle.mdc_sound.specs.Placing.{IsRowAt};
 ghost use Rattle.mdc_sound.specs.RunningFull.{left_changes};
-ghost use Rattle.mdc_sound.specs.StandingTable.{BreaksExpected, ChangesTable, HasRowAt, IsReadyTable, IsTableOrMapPage, KeepsBlocksBut, StandsTable, TableForests, TakesRowOut, pages_of, spots_of};
+ghost use Rattle.mdc_sound.specs.StandingTable.{BreaksExpected, ChangesTable, IsReadyTable, IsTableOrMapPage, KeepsBlocksBut, StandsTable, TableForests, TakesRowOut, pages_of, spots_of};
+ghost use Rattle.block_rows.specs.HeldRows.{HasReadValues};
+ghost use Rattle.table_blocks.specs.BlockSteps.{HasThisRow};
 ghost use Rattle.cell_rooms.specs.RoomNotes.{room_of};
 
 use crate::faults::unmapped;
@@ -23,8 +25,9 @@ use mdc_values::Rid;
 use std::alloc::Global;
 use store_api::{Pages, StoreFault};
 
-/// Takes the row out that lies in a place. Damaged where no row lies there. It claims no page, and where memory has no room for
-/// the key of the row's cell all notes are lost. After a fault `undo` goes back to a mark, and the notes are to be forgotten.
+/// Takes the row out that lies in a place; it is given too. Damaged where no row lies there. It claims no page, and where memory
+/// has no room for the key of the row's cell all notes are lost. After a fault `undo` goes back to a mark, and the notes are to be
+/// forgotten.
 pub fn take_row<P: Pages>(
     alloc: Global,
     def: &TableDef,
@@ -32,26 +35,29 @@ pub fn take_row<P: Pages>(
     rooms: &mut Rooms,
     pages: &mut P,
     rid: Rid,
+    row: &Row,
 ) -> Result<(), StoreFault>
     requires defined { IsTableDef def.now.number def.now }
+    requires keyed { HasReadValues def.now.columns row.now }
     requires going { (P.state pages.old).ended ≡ false }
     ensures takes { OnOk result ((owners : List Kind) (forests : TableForests) → IsReadyTable P.Pages ext.old (room_of rooms.old) pages.old def.now owners forests
-        → (row : Row) × TakesRowOut P.Pages ext.old ext.new (room_of rooms.new) pages.old pages.new def.now owners forests row rid) }
+        → HasThisRow P.Pages ext.old pages.old def.now rid row.now owners forests
+        → TakesRowOut P.Pages ext.old ext.new (room_of rooms.new) pages.old pages.new def.now owners forests row.now rid) }
     ensures leaves { OnOk result ((owners : List Kind) (forests : TableForests) → StandsTable P.Pages ext.old pages.old def.now owners forests
-        → (owners_now : List Kind) × (forests_now : TableForests) × ChangesTable P.Pages ext.old ext.new pages.old pages.new def.now owners forests owners_now forests_now) }
+        → HasThisRow P.Pages ext.old pages.old def.now rid row.now owners forests → (owners_now : List Kind) × (forests_now : TableForests) × ChangesTable P.Pages ext.old ext.new pages.old pages.new def.now owners forests owners_now forests_now) }
     ensures makes { OnOk result ((owners : List Kind) (forests : TableForests) → IsReadyTable P.Pages ext.old (room_of rooms.old) pages.old def.now owners forests
-        → (row : Row) (slots : List (Option Row)) → IsRowAt (spots_of P.Pages ext.old pages.old def.now owners forests) rid row slots
-        → MakesChanges ext.old (pages_of P.Pages pages.old) (left_changes def.now row rid.block (count_rows slots)) (pages_of P.Pages pages.new)) }
+        → (slots : List (Option Row)) → IsRowAt (spots_of P.Pages ext.old pages.old def.now owners forests) rid row.now slots
+        → MakesChanges ext.old (pages_of P.Pages pages.old) (left_changes def.now row.now rid.block (count_rows slots)) (pages_of P.Pages pages.new)) }
     ensures stay { (owners : List Kind) (forests : TableForests) → IsReadyTable P.Pages ext.old (room_of rooms.old) pages.old def.now owners forests → KeepsBlocksBut P.Pages ext.old pages.old pages.new def.now owners (λ block. block ≡ rid.block) }
     ensures count { length (P.state pages.new).work ≡ length (P.state pages.old).work }
     ensures shape { IsSameShape ext.old ext.new }
     ensures runs { RunsOverPages P.Pages (IsTableOrMapPage P.Pages ext.old pages.old def.now) (IsTableOrMapPage P.Pages ext.old pages.old def.now)
-        (BreaksExpected P.Pages ext.old pages.old def.now (HasRowAt P.Pages ext.old pages.old def.now rid)) pages.old pages.new (fault_of result) }
+        (BreaksExpected P.Pages ext.old pages.old def.now (HasThisRow P.Pages ext.old pages.old def.now rid row.now)) pages.old pages.new (fault_of result) }
 {
     if rid.block >= ext.cap || u32::from(rid.slot) >= block_slots(def, ext) {
         return Err(unmapped(def));
     }
-    let row = table_blocks::take_row(alloc, def, ext, pages, rid)?;
+    table_blocks::take_row(alloc, def, ext, pages, rid, row)?;
     let Ok(key) = cell_key(alloc, def, &row.values) else {
         rooms.forget();
         return Ok(());

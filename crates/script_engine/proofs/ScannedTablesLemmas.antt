@@ -42,7 +42,7 @@ use Rattle.mdc_sound.proofs.PlainTableLemmas.{IsPlainTable}
 use Rattle.mdc_sound.proofs.SpaceRulesLemmas.{range_at}
 use Rattle.mdc_sound.proofs.StandingTableLemmas.{forests_of, stands_of_sound, stands_same}
 use Rattle.mdc_sound.proofs.StandsForLemmas.{one_tree_at}
-use Rattle.cell_change.specs.RowChanges.{HasThisRow}
+use Rattle.table_blocks.specs.BlockSteps.{HasThisRow}
 use Rattle.cell_change.proofs.RowChangesLemmas.{numbers_here}
 use Rattle.cell_rooms.specs.RoomNotes.{room_of}
 use Rattle.stored_catalog.specs.StoredDefinitions.{AreStored}

@@ -1,5 +1,5 @@
 -- Rows that are deleted one after the other: what one of them and the rest make.
-use Rattle.std.proofs.Common.{ℕ, List, [], ◌∷◌, ◌++◌, map, refl}
+use Rattle.std.proofs.Common.{List, [], ◌∷◌, ◌++◌, map, refl}
 use Rattle.mdc_words.specs.ByteOrder.{Entry}
 use Rattle.mdc_values.specs.declared.rid.Rid.{Rid}
 use Rattle.mdc_ast.specs.declared.definition.TableDef.{TableDef}
@@ -21,7 +21,8 @@ use Rattle.mdc_sound.specs.StandsForDatabase.{PagesStandFor, without_row}
 use Rattle.mdc_sound.specs.TableRows.{PlacedRow}
 use Rattle.block_rows.specs.HeldRows.{placed_row}
 use Rattle.block_rows.specs.declared.hit.Hit.{Hit}
-use Rattle.cell_change.specs.RowChanges.{DeletesRow, HasThisRow, row_in_place}
+use Rattle.table_blocks.specs.BlockSteps.{HasThisRow}
+use Rattle.cell_change.specs.RowChanges.{DeletesRow, row_in_place}
 use Rattle.cell_change.proofs.ChangeRunsLemmas.{in_space}
 use Rattle.cell_change.proofs.TableStepsLemmas.{takes_no_block}
 use Rattle.statement_rows.specs.RowsAndSpace.{TakesRowsBy}

@@ -1,5 +1,5 @@
 -- A row of a DELETE that goes out behind others: what the call that takes it out says, as seen from before the first row.
-use Rattle.std.proofs.Common.{◌≡◌, ℕ, List, ◌∷◌, None, map, refl, subst}
+use Rattle.std.proofs.Common.{◌≡◌, List, ◌∷◌, None, map, refl, subst}
 use Rattle.std.specs.Prelude.{Option}
 use Rattle.mdc_words.specs.ByteOrder.{Entry}
 use Rattle.mdc_ast.specs.declared.definition.TableDef.{TableDef}
@@ -22,7 +22,8 @@ use Rattle.mdc_sound.specs.RunningFull.{taking_changes}
 use Rattle.mdc_sound.specs.SoundDatabase.{IsSoundBetweenChanges, with_table_page}
 use Rattle.mdc_sound.specs.StandingTable.{BreaksExpected, IsReadyTable, IsTableOrMapPage, RoomNote, TableForests, pages_of, spots_of}
 use Rattle.mdc_sound.specs.StandsForDatabase.{PagesStandFor, without_row}
-use Rattle.cell_change.specs.RowChanges.{DeletesRow, HasThisRow}
+use Rattle.table_blocks.specs.BlockSteps.{HasThisRow}
+use Rattle.cell_change.specs.RowChanges.{DeletesRow}
 use Rattle.statement_rows.specs.RowsOfStatement.{AnyPage, BreaksReady, HasTheseRows, IsReadyBetween}
 use Rattle.statement_rows.proofs.DeletingRowsLemmas.{DeletesOn, deletes_more}
 use Rattle.statement_rows.proofs.RowDamageLemmas.{runs_on_rows}

@@ -19,7 +19,7 @@ use Rattle.mdc_sound.specs.StandingTable.{TableForests, spots_of}
 use Rattle.mdc_sound.specs.TableRows.{PlacedRow}
 use Rattle.mdc_sound.proofs.BlockRulesLemmas.{each_as}
 use Rattle.mdc_table.proofs.RowSpaceLemmas.{same_row}
-use Rattle.cell_change.specs.RowChanges.{HasThisRow}
+use Rattle.table_blocks.specs.BlockSteps.{HasThisRow}
 use Rattle.statement_rows.specs.RowsOfStatement.{HasTheseRows}
 
 -- the row lies there, in whatever slots

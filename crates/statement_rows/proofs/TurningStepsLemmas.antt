@@ -20,8 +20,9 @@ use Rattle.mdc_sound.specs.RunningFull.{UpdateRunsFull}
 use Rattle.mdc_sound.specs.SoundDatabase.{IsSoundBetweenChanges, with_table_page}
 use Rattle.mdc_sound.specs.StandingTable.{BreaksExpected, IsReadyTable, RoomNote, TableForests, pages_of}
 use Rattle.mdc_sound.specs.StandsForDatabase.{PagesStandFor, with_row}
-use Rattle.mdc_table.specs.KnownBlocks.{IsExpectedSpace, IsUsedIfKnown}
-use Rattle.cell_change.specs.RowChanges.{ChangesOneRow, HasThisRow, row_in_place}
+use Rattle.mdc_table.specs.KnownBlocks.{IsExpectedSpace}
+use Rattle.table_blocks.specs.BlockSteps.{HasThisRow}
+use Rattle.cell_change.specs.RowChanges.{ChangesOneRow, row_in_place}
 use Rattle.cell_change.proofs.ChangeRunsLemmas.{touches_of_row}
 use Rattle.cell_change.proofs.ChangedRowLemmas.{full_as}
 use Rattle.statement_rows.specs.RowsAndSpace.{TurnsRowsBy}
@@ -62,17 +63,17 @@ module _ {S : Type 0} (g : Ghosts S) (before : Extents) (room_of : Entry → Roo
 
   module _ (ext : Extents) (room_now : Entry → RoomNote) (s : S) (one : Turned) (rest : List Turned) (turning : IsTurning ext room_now s (one ∷ rest)) where
     -- the call that makes the next row another, behind all calls before it
-    pub runs_one : (known : Option ℕ) (new : S) (fault : Option StoreFault)
-        → RunsOverPages g (IsExpectedSpace g ext s def (IsUsedIfKnown known one.hit.rid.block)) (IsExpectedSpace g ext s def (IsUsedIfKnown known one.hit.rid.block)) (BreaksExpected g ext s def (HasThisRow g ext s def one.hit.rid one.hit.row)) s new fault
+    pub runs_one : (new : S) (fault : Option StoreFault)
+        → RunsOverPages g (IsExpectedSpace g ext s def (HasThisRow g ext s def one.hit.rid one.hit.row)) (IsExpectedSpace g ext s def (HasThisRow g ext s def one.hit.rid one.hit.row)) (BreaksExpected g ext s def (HasThisRow g ext s def one.hit.rid one.hit.row)) s new fault
         → RunsOverPages g AnyPage AnyPage (BreaksReady g before room_of old def HasAll) old new fault
-    runs_one known new fault =
+    runs_one new fault =
         runs_on_rows g before ext room_of old s def def def.next refl turning.shape HasAll (HasThisRow g ext s def one.hit.rid one.hit.row)
         (λ owners forests ready has. let on = turning.turns owners forests ready has in (on.rows.owners_now, on.rows.forests_now, on.rows.ready.ready.stands, on.has.each.0))
         turning.runs
 
     -- the next row has become another
-    pub turning_goes_on : (known : Option ℕ) (then : Extents) (room_then : Entry → RoomNote) (new : S) (to : Rid) → IsSameShape ext then
-        → RunsOverPages g (IsExpectedSpace g ext s def (IsUsedIfKnown known one.hit.rid.block)) (IsExpectedSpace g ext s def (IsUsedIfKnown known one.hit.rid.block)) (BreaksExpected g ext s def (HasThisRow g ext s def one.hit.rid one.hit.row)) s new None
+    pub turning_goes_on : (then : Extents) (room_then : Entry → RoomNote) (new : S) (to : Rid) → IsSameShape ext then
+        → RunsOverPages g (IsExpectedSpace g ext s def (HasThisRow g ext s def one.hit.rid one.hit.row)) (IsExpectedSpace g ext s def (HasThisRow g ext s def one.hit.rid one.hit.row)) (BreaksExpected g ext s def (HasThisRow g ext s def one.hit.rid one.hit.row)) s new None
         → ((owners : List Kind) (forests : TableForests) → IsReadyTable g ext room_now s def owners forests → HasThisRow g ext s def one.hit.rid one.hit.row owners forests
         → ChangesOneRow g ext then room_then s new def one.hit.row one.row one.hit.rid to owners forests)
         → ((owners : List Kind) (forests : TableForests) → IsReadyTable g ext room_now s def owners forests → HasThisRow g ext s def one.hit.rid one.hit.row owners forests
@@ -81,9 +82,9 @@ module _ {S : Type 0} (g : Ghosts S) (before : Extents) (room_of : Entry → Roo
         → IsSoundBetweenChanges ext def (pages_of g s) → (db : Database) → PagesStandFor ext (with_table_page def (pages_of g s)) db
         → PagesStandFor then (with_table_page def (pages_of g new)) (changed_at db def.number (with_row one.row)))
         → IsTurning then room_then new rest
-    turning_goes_on known then room_then new to shape run changes sound stands_for = record {
+    turning_goes_on then room_then new to shape run changes sound stands_for = record {
       shape = shape_then before ext then turning.shape shape;
-      runs = runs_one known new None run;
+      runs = runs_one new None run;
       turns = λ owners forests ready has.
           let on = turning.turns owners forests ready has in
           let now = on.rows.owners_now in
@@ -91,7 +92,7 @@ module _ {S : Type 0} (g : Ghosts S) (before : Extents) (room_of : Entry → Roo
           let here = on.rows.ready in
           let this = on.has.each.0 in
           turns_more g before ext then room_now room_then old s new def all one rest to owners forests on (changes now trees here.ready this) run.works
-          (touches_of_row g ext s new def now trees here.ready.stands known one.hit.rid one.hit.row this run.touches) (sound now trees here.ready this here.sound)
+          (touches_of_row g ext s new def now trees here.ready.stands one.hit.rid one.hit.row this run.touches) (sound now trees here.ready this here.sound)
           (stands_for now trees here.ready this here.sound);
     }
 

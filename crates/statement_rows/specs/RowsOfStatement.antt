@@ -17,7 +17,7 @@ use Rattle.mdc_sound.specs.StandingTable.{ChangesTable, IsReadyTable, NamesTable
 use Rattle.mdc_sound.specs.StandsForDatabase.{PagesStandFor, with_row, without_row}
 use Rattle.mdc_sound.specs.TablePages.{table_page_at}
 use Rattle.mdc_sound.specs.TableRows.{PlacedRow}
-use Rattle.cell_change.specs.RowChanges.{HasThisRow}
+use Rattle.table_blocks.specs.BlockSteps.{HasThisRow}
 use Rattle.statement_rows.specs.OtherTables.{KeepsOtherTables}
 
 -- ---- before the statement

@@ -5,7 +5,7 @@ ghost use Rattle.store_api.specs.RunsOverPages.{RunsOverPages};
 ghost use Rattle.extent_map.specs.Owners.{IsSameShape};
 ghost use Rattle.extent_map.specs.declared.kind.Kind.{Kind};
 ghost use Rattle.table_page.specs.TableLimits.{IsTableDef};
-ghost use Rattle.block_rows.specs.HeldRows.{placed_row};
+ghost use Rattle.block_rows.specs.HeldRows.{HaveReadValues, placed_row};
 ghost use Rattle.mdc_sound.specs.StandingTable.{TableForests};
 ghost use Rattle.cell_rooms.specs.RoomNotes.{room_of};
 ghost use Rattle.statement_rows.specs.RowsAndSpace.{TakesRowsBy};
@@ -30,6 +30,7 @@ pub fn delete_rows<P: Pages>(
 ) -> Result<(), StoreFault>
     requires defined { IsTableDef def.now.number def.now }
     requires no_indexes { def.now.indexes ≡ [] }
+    requires read { HaveReadValues def.now.columns hits.now }
     requires going { (P.state pages.old).ended ≡ false }
     ensures deletes { OnOk result ((owners : List Kind) (forests : TableForests) → IsReadyBetween P.Pages ext.old (room_of rooms.old) pages.old def.now owners forests
         → HasTheseRows P.Pages ext.old pages.old def.now (map placed_row hits.now) owners forests

@@ -85,6 +85,9 @@ pub fn delete<P: Pages>(
     ensures marked { (P.state pages.new).marked ≡ (P.state pages.old).marked }
 {
     let row = row_of(alloc, number, d)?;
+    if !does_fit(def, &row) {
+        return Err("a row that doesn't fit")?;
+    }
     let mut rooms = Rooms::new(alloc);
     delete_row(alloc, def, ext, &mut rooms, pages, rid, &row)?;
     Ok(())

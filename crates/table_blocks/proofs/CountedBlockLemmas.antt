@@ -72,3 +72,7 @@ module _ {S : Type 0} {g : Ghosts S} (ext : Extents) (s : S) (def : TableDef) (l
       let here = counted_now (used_of_spot ext (pages_of g s) def owners forests.map st.map line.block slots is).0 in
       let spots : UsedBlock slots ≡ UsedBlock here.slots = sym is ∙ here.was OtherBlock in
       (here, cc)
+
+  -- the line says how many rows are in them
+  pub rows_counted : (slots : List (Option Row)) → slice_index_or (spots_of g ext s def owners forests) line.block OtherBlock ≡ UsedBlock slots → line.rows ≡ count_rows slots
+  rows_counted slots is = let counted = spot_counted slots is in counted.0.counted ∙ ap count_rows (sym counted.1)

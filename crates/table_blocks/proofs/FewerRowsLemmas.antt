@@ -1,5 +1,5 @@
 -- A row is taken out of a block of which the block map counted one less, since it keeps others.
-use Rattle.std.proofs.Common.{◌≡◌, ◌<◌, ◌-◌, ◌^◌, ℕ, List, refl, ap, arith, sym, ◌∙◌, length, subst}
+use Rattle.std.proofs.Common.{◌≡◌, ◌<◌, ◌-◌, ◌^◌, ℕ, List, arith, sym, length, subst}
 use Rattle.std.specs.Prelude.{IfSome, None, Option, Some, slice_index_or, slice_set}
 use Rattle.std.proofs.lemmas.Bool.{ne_eqb}
 use Rattle.mdc_values.specs.declared.rid.Rid.{Rid}
@@ -23,14 +23,13 @@ use Rattle.block_rows.specs.HeldRows.{HoldsRows}
 use Rattle.table_page.specs.TableLimits.{IsTableDef}
 use Rattle.table_trees.specs.SpaceChanges.{MakesChanges}
 use Rattle.mdc_sound.specs.Placing.{AfterReturns, IsRowAt, Spot}
-use Rattle.mdc_sound.specs.Placing.Spot.{OtherBlock, UsedBlock}
+use Rattle.mdc_sound.specs.Placing.Spot.{OtherBlock}
 use Rattle.mdc_sound.specs.RunningFull.{left_changes}
-use Rattle.mdc_sound.specs.StandingTable.{BreaksExpected, HasRowAt, IsBlockOrMapPage, IsPageOfBlock, StandsTable, TableForests, pages_of, spots_of}
-use Rattle.mdc_sound.proofs.TableSpotsLemmas.{length-spots}
+use Rattle.mdc_sound.specs.StandingTable.{BreaksExpected, IsBlockOrMapPage, IsPageOfBlock, StandsTable, TableForests, pages_of, spots_of}
 use Rattle.table_blocks.specs.BlockChanges.{BreaksAround, TurnsSpot}
-use Rattle.table_blocks.specs.BlockSteps.{EmptiesSlot, HasFilledSlot, TakesFromSlot}
+use Rattle.table_blocks.specs.BlockSteps.{EmptiesSlot, HasFilledSlot, HasThisRow}
 use Rattle.table_blocks.proofs.ClearedSlotsLemmas.{cleared_cell, count_cleared, left_used}
-use Rattle.table_blocks.proofs.CountedBlockLemmas.{IsCountedNow, used_counted}
+use Rattle.table_blocks.proofs.CountedBlockLemmas.{rows_counted}
 use Rattle.table_blocks.proofs.CountedLineLemmas.{rows_between, runs_behind, turns_behind}
 use Rattle.table_blocks.proofs.CountedSpaceLemmas.{counted_space}
 use Rattle.table_blocks.proofs.MapOfTableLemmas.{map_of_table}
@@ -51,49 +50,50 @@ module _ {S : Type 0} {g : Ghosts S} {Any : Damage → Type 0} (ext : Extents) (
   row_changes : (t : Forest) → HoldsTree g old tree t → IsMapForm t → ChangesRowTo g mid tree (used_row rid.block had) (used_row rid.block (had - 1)) t
   row_changes = subst (λ (o : Option ℕ). IfSome o (λ n. (t : Forest) → HoldsTree g old tree t → IsMapForm t → ChangesRowTo g mid tree (used_row rid.block n) (used_row rid.block (n - 1)) t)) is fewer
 
-  pub runs_fewer : {fault : Option StoreFault} (new : S)
+  pub runs_fewer : (row : Row) {fault : Option StoreFault} (new : S)
       → RunsOverPages g (IsPageOfBlock ext rid.block) (IsPageOfBlock ext rid.block) (BreaksAround g ext mid def rid.block (HasFilledSlot rid.slot g ext mid def rid.block)) mid new fault
-      → RunsOverPages g (IsBlockOrMapPage g ext old def rid.block) (IsBlockOrMapPage g ext old def rid.block) (BreaksExpected g ext old def (HasRowAt g ext old def rid)) old new fault
-  runs_fewer new behind =
+      → RunsOverPages g (IsBlockOrMapPage g ext old def rid.block) (IsBlockOrMapPage g ext old def rid.block) (BreaksExpected g ext old def (HasThisRow g ext old def rid row)) old new fault
+  runs_fewer row new behind =
       runs_behind returns_change ext old mid def (used_row rid.block had) (had - 1) defined low tree root width row_there row_changes count run
-      (λ slots. (row : Row) × (slice_index_or slots rid.slot None ≡ Some row)) (HasRowAt g ext old def rid)
+      (λ slots. (row : Row) × (slice_index_or slots rid.slot None ≡ Some row)) (HasThisRow g ext old def rid row)
       (λ owners forests st has. record {
         slots = has.slots;
         rows = (used_spot_now ext old def owners forests defined st rid.block has.slots (has.lies.block OtherBlock)).1.rows;
-        such = (has.row, has.lies.slot);
+        such = (row, has.lies.slot);
       }) new behind
 
-  block_now : (owners : List Kind) (forests : TableForests) → StandsTable g ext old def owners forests → IsCountedNow g ext old def (used_row rid.block had) owners forests
-  block_now owners forests st =
-      used_counted ext old def (used_row rid.block had) defined low few owners forests st (row_there forests.map (map_of_table ext old def defined tree root width owners forests st)) refl
+  -- it counted the rows of the block
+  had_counted : (row : Row) (owners : List Kind) (forests : TableForests) → StandsTable g ext old def owners forests → (slots : List (Option Row)) → IsRowAt (spots_of g ext old def owners forests) rid row slots → had ≡ count_rows slots
+  had_counted row owners forests st slots lies =
+      rows_counted ext old def (used_row rid.block had) defined low few owners forests st (row_there forests.map (map_of_table ext old def defined tree root width owners forests st)) slots (lies.block OtherBlock)
 
   module _ (new : S) (touched : Touches g (IsPageOfBlock ext rid.block) mid new) (told : (g.state new).is_told ≡ (g.state mid).is_told) (same_count : length (g.state new).work ≡ length (g.state mid).work) where
-    pub empties_fewer : (row : Row) → ((slots : List (Option Row)) → HoldsRows g ext mid def rid.block slots → TakesFromSlot g ext new def rid row slots)
-        → (owners : List Kind) (forests : TableForests) → StandsTable g ext old def owners forests → EmptiesSlot g ext ext old new def rid row owners forests
-    empties_fewer row takes owners forests st =
-        let here = block_now owners forests st in
-        let took = takes here.slots (rows_between returns_change ext old mid def (used_row rid.block had) (had - 1) defined low tree root width row_there row_changes count run owners forests st here.slots here.now.rows) in
-        let left = slice_set here.slots rid.slot None in
-        let less = count_cleared here.slots rid.slot row took.lay in
-        let others : 0 < count_rows left = omega (arith, less, here.counted, several) in
+    pub empties_fewer : ((slots : List (Option Row)) → HoldsRows g ext mid def rid.block slots → HoldsRows g ext new def rid.block (slice_set slots rid.slot None))
+        → (row : Row) (owners : List Kind) (forests : TableForests) → StandsTable g ext old def owners forests → HasThisRow g ext old def rid row owners forests → EmptiesSlot g ext ext old new def rid row owners forests
+    empties_fewer clears row owners forests st has =
+        let slots = has.slots in
+        let now = used_spot_now ext old def owners forests defined st rid.block slots (has.lies.block OtherBlock) in
+        let counted = had_counted row owners forests st slots has.lies in
+        let held = clears slots (rows_between returns_change ext old mid def (used_row rid.block had) (had - 1) defined low tree root width row_there row_changes count run owners forests st slots now.1.rows) in
+        let left = slice_set slots rid.slot None in
+        let less = count_cleared slots rid.slot row has.lies.slot in
+        let others : 0 < count_rows left = omega (arith, less, counted, several) in
         let turned =
-        turns_behind returns_change ext old mid def (used_row rid.block had) (had - 1) defined low tree root width row_there row_changes count run new touched told same_count owners forests st here.values here.slots left
-        here.now (omega (arith, less, here.counted)) (cleared_cell def here.values here.slots rid.slot others here.now.cell) took.held in
+        turns_behind returns_change ext old mid def (used_row rid.block had) (had - 1) defined low tree root width row_there row_changes count run new touched told same_count owners forests st now.0 slots left
+        now.1 (omega (arith, less, counted)) (cleared_cell def now.0 slots rid.slot others now.1.cell) held in
         record {
           owners_now = owners;
           forests_now = turned.0;
-          slots = here.slots;
-          lies = record { within = omega (arith, low, length-spots ext (pages_of g old) def owners forests.map); block = here.was; slot = took.lay };
+          slots = slots;
+          lies = has.lies;
           turns = subst (λ (spot : Spot). TurnsSpot g AfterReturns ext ext old new def rid.block spot owners forests owners turned.0) (sym (left_used left others)) turned.1;
         }
 
     pub fewer_space : (row : Row) (owners : List Kind) (forests : TableForests) → StandsTable g ext old def owners forests → (slots : List (Option Row)) → IsRowAt (spots_of g ext old def owners forests) rid row slots
         → MakesChanges ext (pages_of g old) (left_changes def row rid.block (count_rows slots)) (pages_of g new)
     fewer_space row owners forests st slots lies =
-        let here = block_now owners forests st in
-        let spots : UsedBlock slots ≡ UsedBlock here.slots = sym (lies.block OtherBlock) ∙ here.was OtherBlock in
-        let same : here.slots ≡ slots = cc in
-        let rows : had ≡ count_rows slots = here.counted ∙ ap count_rows same in
+        let now = used_spot_now ext old def owners forests defined st rid.block slots (lies.block OtherBlock) in
+        let rows = had_counted row owners forests st slots lies in
         let made =
-        counted_space ext old mid def (used_row rid.block had) (had - 1) defined low tree root width row_there row_changes count run new touched told same_count owners forests st here.now.own in
+        counted_space ext old mid def (used_row rid.block had) (had - 1) defined low tree root width row_there row_changes count run new touched told same_count owners forests st now.1.own in
         subst (λ (n : ℕ). MakesChanges ext (pages_of g old) (left_changes def row rid.block n) (pages_of g new)) rows (rw (ne_eqb had 1 (λ one. omega (arith, one, several))) made)

@@ -25,32 +25,31 @@ use Rattle.entry_tree.proofs.RemoveLemmas.{held_same as tree_same}
 use Rattle.block_map.specs.BlockMaps.{BreaksMapTree, HasRow, IsMapForm}
 use Rattle.block_map.specs.Counting.{IfUsed, used_row}
 use Rattle.block_map.specs.declared.row.BlockRow.{BlockRow}
-use Rattle.block_rows.specs.HeldRows.{HoldsRows}
-use Rattle.mdc_sound.specs.Placing.{AfterReturns, Spot}
+use Rattle.block_rows.proofs.HeldRowsLemmas.{rows_stay}
+use Rattle.mdc_sound.specs.Placing.{AfterReturns, IsRowAt, Spot}
 use Rattle.mdc_sound.specs.Placing.Spot.{OtherBlock}
-use Rattle.mdc_sound.specs.StandingTable.{BreaksExpected, HasRowAt, IsBlockOrMapPage, IsPageOfBlock, NamesTablePart, StandsTable, TableForests, pages_of}
+use Rattle.mdc_sound.specs.StandingTable.{BreaksExpected, HasRowAt, IsBlockOrMapPage, IsPageOfBlock, NamesTablePart, StandsTable, TableForests, spots_of}
 use Rattle.mdc_sound.proofs.StandingTableLemmas.{stands_same}
-use Rattle.mdc_sound.proofs.TableSpotsLemmas.{length-spots}
 use Rattle.table_blocks.specs.AroundBlock.{StandsAround}
 use Rattle.table_blocks.specs.BlockChanges.{BreaksAround, ChangesAround, IsPlaceAround, TurnsSpot}
 use Rattle.table_blocks.specs.BlockNow.{IsListed, IsOwnBlock, IsUsedNow, MapsUsed}
-use Rattle.table_blocks.specs.BlockSteps.{EmptiesSlot, ExpectsFreeing, FreesBlock, HasFilledSlot, TakesFromSlot}
+use Rattle.table_blocks.specs.BlockSteps.{EmptiesSlot, ExpectsFreeing, FreesBlock, HasFilledSlot, HasThisRow}
 use Rattle.table_blocks.proofs.AroundLemmas.{around_then, breaks_of_table, own_still, rows_step, runs_place_then}
 use Rattle.table_blocks.proofs.BlockPagesLemmas.{place_of_block}
 use Rattle.table_blocks.proofs.ClearedSlotsLemmas.{count_cleared, left_free, row_there}
 use Rattle.table_blocks.proofs.ClosingLemmas.{turns_free}
-use Rattle.table_blocks.proofs.CountedBlockLemmas.{IsCountedNow, used_counted}
+use Rattle.table_blocks.proofs.CountedBlockLemmas.{rows_counted}
 use Rattle.table_blocks.proofs.LineStepLemmas.{place_of_map}
 use Rattle.table_blocks.proofs.ListedCellsLemmas.{listed_in_cell}
 use Rattle.table_blocks.proofs.MapOfTableLemmas.{form_of_table, map_of_table, map_page}
 use Rattle.table_blocks.proofs.OpeningLemmas.{around_block, own_of_line, used_spot_now}
 use Rattle.table_blocks.proofs.SpotChangesLemmas.{returns_change}
-use Rattle.table_blocks.proofs.SuchSlotsLemmas.{rows_as_was}
 
 module _ {S : Type 0} {g : Ghosts S} (ext : Extents) (s : S) (def : TableDef) (defined : IsTableDef def.number def) (rid : Rid) (low : rid.block < ext.cap) where
   -- the block of a row that lies there
-  row_now : (owners : List Kind) (forests : TableForests) → StandsTable g ext s def owners forests → (has : HasRowAt g ext s def rid owners forests) → (values : List Value) × IsUsedNow g ext s def owners forests rid.block values has.slots
-  row_now owners forests st has = used_spot_now ext s def owners forests defined st rid.block has.slots (has.lies.block OtherBlock)
+  row_now : (row : Row) (slots : List (Option Row)) (owners : List Kind) (forests : TableForests) → StandsTable g ext s def owners forests → IsRowAt (spots_of g ext s def owners forests) rid row slots
+      → (values : List Value) × IsUsedNow g ext s def owners forests rid.block values slots
+  row_now row slots owners forests st lies = used_spot_now ext s def owners forests defined st rid.block slots (lies.block OtherBlock)
 
   -- ---- the line
 
@@ -68,7 +67,7 @@ module _ {S : Type 0} {g : Ghosts S} (ext : Extents) (s : S) (def : TableDef) (d
       names = NamesTablePart.block_map b.rule (b.page ∙ root);
       broken = λ owners forests st has.
           b.broken forests.map (map_then owners forests st) (form_of_table ext s def defined tree root width owners forests st)
-          (record { entries = st.map.entries; rows = count_rows has.slots; line = (row_now owners forests st has).1.line });
+          (record { entries = st.map.entries; rows = count_rows has.slots; line = (row_now has.row has.slots owners forests st has.lies).1.line });
     }
 
     pub runs_looking : {looked : S} {fault : Option StoreFault} → RunsOverPages g NoPage (IsTreePage g mid tree) (BreaksMapTree g mid tree (MapsUsed rid.block)) mid looked fault
@@ -89,6 +88,13 @@ module _ {S : Type 0} {g : Ghosts S} (ext : Extents) (s : S) (def : TableDef) (d
       → RunsOverPages g (IsBlockOrMapPage g ext s def rid.block) (IsBlockOrMapPage g ext s def rid.block) (BreaksExpected g ext s def (HasRowAt g ext s def rid)) s looked fault
   runs_of_table tree root width run = runs_wider run (λ p there none. absurd none) (λ p is. map_page ext s def defined tree root width rid.block p is) (λ damage b. b)
 
+  -- where this row is expected there
+  pub runs_this_row : (row : Row) {Mine Come : ℕ → Type 0} {new : S} {fault : Option StoreFault} → RunsOverPages g Mine Come (BreaksExpected g ext s def (HasRowAt g ext s def rid)) s new fault
+      → RunsOverPages g Mine Come (BreaksExpected g ext s def (HasThisRow g ext s def rid row)) s new fault
+  runs_this_row row run =
+      runs_wider run (λ p there is. is) (λ p is. is)
+      (λ damage b. record { names = b.names; broken = λ owners forests st has. b.broken owners forests st (record { row = row; slots = has.slots; lies = has.lies }) })
+
   -- the same, where no call came first
   pub run_looking : (tree : Tree) (root : tree.root ≡ def.roots.map) (width : tree.width ≡ 7) {looked : S} {fault : Option StoreFault}
       → RunsOverPages g NoPage (IsTreePage g s tree) (BreaksMapTree g s tree (MapsUsed rid.block)) s looked fault
@@ -101,21 +107,22 @@ module _ {S : Type 0} {g : Ghosts S} (ext : Extents) (s : S) (def : TableDef) (d
     pub opens : (owners : List Kind) (forests : TableForests) → StandsTable g ext s def owners forests → StandsAround g ext s def owners forests rid.block × IsOwnBlock ext owners def rid.block
     opens owners forests st = (around_block ext s def owners forests defined st rid.block, own_of_line ext s def owners forests defined st (used_row rid.block rows) (there owners forests st) low)
 
-    pub block_now : (owners : List Kind) (forests : TableForests) → StandsTable g ext s def owners forests → IsCountedNow g ext s def (used_row rid.block rows) owners forests
-    block_now owners forests st = used_counted ext s def (used_row rid.block rows) defined low few owners forests st (there owners forests st) refl
+    -- its line counts the rows of the block
+    pub line_counted : (row : Row) (slots : List (Option Row)) (owners : List Kind) (forests : TableForests) → StandsTable g ext s def owners forests → IsRowAt (spots_of g ext s def owners forests) rid row slots → rows ≡ count_rows slots
+    line_counted row slots owners forests st lies = rows_counted ext s def (used_row rid.block rows) defined low few owners forests st (there owners forests st) slots (lies.block OtherBlock)
 
-    pub runs_on_slot : {looked new : S} {fault : Option StoreFault} → (g.state looked).work ≡ (g.state s).work
+    pub runs_on_slot : (row : Row) {looked new : S} {fault : Option StoreFault} → (g.state looked).work ≡ (g.state s).work
         → RunsOverPages g (IsBlockOrMapPage g ext s def rid.block) (IsBlockOrMapPage g ext s def rid.block) (BreaksExpected g ext s def (HasRowAt g ext s def rid)) s looked None
         → RunsOverPages g (IsPageOfBlock ext rid.block) (IsPageOfBlock ext rid.block) (BreaksAround g ext looked def rid.block (HasFilledSlot rid.slot g ext looked def rid.block)) looked new fault
-        → RunsOverPages g (IsBlockOrMapPage g ext s def rid.block) (IsBlockOrMapPage g ext s def rid.block) (BreaksExpected g ext s def (HasRowAt g ext s def rid)) s new fault
-    runs_on_slot {looked} as_was first second =
+        → RunsOverPages g (IsBlockOrMapPage g ext s def rid.block) (IsBlockOrMapPage g ext s def rid.block) (BreaksExpected g ext s def (HasThisRow g ext s def rid row)) s new fault
+    runs_on_slot row {looked} as_was first second =
         let told = first.works.steady.is_told in
-        runs_then first second (λ p within is. page p is) (λ p is. page p is)
+        runs_then (runs_this_row row first) second (λ p within is. page p is) (λ p is. page p is)
         (λ damage b. record {
           names = b.names;
           broken = λ owners forests st has.
               b.broken owners forests (around_block ext looked def owners forests defined (stands_same ext s looked def owners forests told as_was st) rid.block) (opens owners forests st).1
-              (record { slots = has.slots; rows = rows_as_was ext s def rid.block looked has.slots told as_was (row_now owners forests st has).1.rows; such = (has.row, has.lies.slot) });
+              (record { slots = has.slots; rows = rows_stay g ext def rid.block told as_was (row_now row has.slots owners forests st has.lies).1.rows; such = (row, has.lies.slot) });
         })
       where
         page : (p : ℕ) → IsPageOfBlock ext rid.block p → IsBlockOrMapPage g ext s def rid.block p
@@ -124,7 +131,7 @@ module _ {S : Type 0} {g : Ghosts S} (ext : Extents) (s : S) (def : TableDef) (d
     module _ {Any : Damage → Type 0} (tree : Tree) (root : tree.root ≡ def.roots.map) (width : tree.width ≡ 7) (row : Row) (looked cleared : S) (first : RunsOverPages g NoPage (IsTreePage g s tree) Any s looked None)
         (as_was : (g.state looked).work ≡ (g.state s).work)
         (second : RunsOverPages g (IsPageOfBlock ext rid.block) (IsPageOfBlock ext rid.block) (BreaksAround g ext looked def rid.block (HasFilledSlot rid.slot g ext looked def rid.block)) looked cleared None)
-        (count : length (g.state cleared).work ≡ length (g.state looked).work) (takes : (slots : List (Option Row)) → HoldsRows g ext looked def rid.block slots → TakesFromSlot g ext cleared def rid row slots) where
+        (count : length (g.state cleared).work ≡ length (g.state looked).work) where
       pub so_far : RunsOverPages g (IsPageOfBlock ext rid.block) (IsPlaceAround g ext s def rid.block) (BreaksAround g ext s def rid.block (ExpectsFreeing def (used_row rid.block rows) row)) s cleared None
       so_far =
           runs_then (runs_wider (runs_on {Breaks = NoDamage} first) (λ p within none. absurd none) (λ p is. place_of_map tree def root width ext s rid.block p is) (λ damage none. absurd none)) (runs_on {Breaks = NoDamage} second)
@@ -134,17 +141,15 @@ module _ {S : Type 0} {g : Ghosts S} (ext : Extents) (s : S) (def : TableDef) (d
           → ChangesAround g AfterReturns ext ext s cleared def rid.block owners forests owners forests
       cleared_change owners forests st own = rows_step returns_change ext s cleared def rid.block owners forests st own so_far.touches so_far.works.steady.is_told (count ∙ ap length as_was)
 
-      took : (slots : List (Option Row)) → HoldsRows g ext s def rid.block slots → TakesFromSlot g ext cleared def rid row slots
-      took slots held = takes slots (rows_as_was ext s def rid.block looked slots first.works.steady.is_told as_was held)
-
-      listed : (owners : List Kind) (forests : TableForests) (values : List Value) (slots : List (Option Row)) → IsUsedNow g ext s def owners forests rid.block values slots → IsListed def forests row.values rid.block
-      listed owners forests values slots now =
-          listed_in_cell def forests values row.values rid.block (sym (now.cell.one_cell row (row_there slots rid.slot row (took slots now.rows).lay))) now.listed
+      listed : (owners : List Kind) (forests : TableForests) → StandsTable g ext s def owners forests → HasThisRow g ext s def rid row owners forests → IsListed def forests row.values rid.block
+      listed owners forests st has =
+          let now = row_now row has.slots owners forests st has.lies in
+          listed_in_cell def forests now.0 row.values rid.block (sym (now.1.cell.one_cell row (row_there has.slots rid.slot row has.lies.slot))) now.1.listed
 
       -- its block is freed
       pub runs_last : (line : BlockRow) → line ≡ used_row rid.block rows → {new : S} {fault : Option StoreFault}
           → RunsOverPages g (IsPlaceAround g ext cleared def line.block) (IsPlaceAround g ext cleared def line.block) (BreaksAround g ext cleared def line.block (ExpectsFreeing def line row)) cleared new fault
-          → RunsOverPages g (IsBlockOrMapPage g ext s def rid.block) (IsBlockOrMapPage g ext s def rid.block) (BreaksExpected g ext s def (HasRowAt g ext s def rid)) s new fault
+          → RunsOverPages g (IsBlockOrMapPage g ext s def rid.block) (IsBlockOrMapPage g ext s def rid.block) (BreaksExpected g ext s def (HasThisRow g ext s def rid row)) s new fault
       runs_last line is {new} {fault} run =
           let expects = ExpectsFreeing def (used_row rid.block rows) row in
           let last : RunsOverPages g (IsPlaceAround g ext cleared def rid.block) (IsPlaceAround g ext cleared def rid.block) (BreaksAround g ext cleared def rid.block expects) cleared new fault =
@@ -153,21 +158,18 @@ module _ {S : Type 0} {g : Ghosts S} (ext : Extents) (s : S) (def : TableDef) (d
           let whole = runs_place_then ext ext s cleared new def rid.block expects expects fault (record { cap = refl; extent_pages = refl })
           (λ owners forests st own. (record { owners_now = owners; forests_now = forests; changes = cleared_change owners forests st own; expects = λ e. e }, λ p l. l)) before last in
           runs_wider whole (λ p within is. place_of_block ext s def rid.block p opens is) (λ p is. place_of_block ext s def rid.block p opens is)
-          (λ damage b. breaks_of_table ext s def rid.block expects (HasRowAt g ext s def rid) damage b
+          (λ damage b. breaks_of_table ext s def rid.block expects (HasThisRow g ext s def rid row) damage b
           (λ owners forests st has.
           let o = opens owners forests st in
-          let now = row_now owners forests st has in
-          (o.0, o.1, record { line_there = there owners forests st; listed = listed owners forests now.0 has.slots now.1 })))
+          (o.0, o.1, record { line_there = there owners forests st; listed = listed owners forests st has })))
 
       pub empties_last : (line : BlockRow) → line ≡ used_row rid.block rows → (now : Extents) (new : S)
           → ((owners : List Kind) (forests : TableForests) → StandsAround g ext cleared def owners forests line.block → IsOwnBlock ext owners def line.block → FreesBlock g ext now cleared new def line.block row owners forests)
-          → (owners : List Kind) (forests : TableForests) → StandsTable g ext s def owners forests → rows ≤ 1 → EmptiesSlot g ext now s new def rid row owners forests
-      empties_last line is now new frees owners forests st last =
+          → (owners : List Kind) (forests : TableForests) → StandsTable g ext s def owners forests → HasThisRow g ext s def rid row owners forests → rows ≤ 1 → EmptiesSlot g ext now s new def rid row owners forests
+      empties_last line is now new frees owners forests st has last =
           let o = opens owners forests st in
-          let here = block_now owners forests st in
-          let lay = (took here.slots here.now.rows).lay in
-          let left = slice_set here.slots rid.slot None in
-          let none : count_rows left ≡ 0 = omega (arith, count_cleared here.slots rid.slot row lay, here.counted, last) in
+          let left = slice_set has.slots rid.slot None in
+          let none : count_rows left ≡ 0 = omega (arith, count_cleared has.slots rid.slot row has.lies.slot, line_counted row has.slots owners forests st has.lies, last) in
           let step = cleared_change owners forests o.0 o.1 in
           let freed : FreesBlock g ext now cleared new def rid.block row owners forests =
           subst
@@ -177,13 +179,13 @@ module _ {S : Type 0} {g : Ghosts S} (ext : Extents) (s : S) (def : TableDef) (d
           record {
             owners_now = freed.owners_now;
             forests_now = freed.forests_now;
-            slots = here.slots;
-            lies = record { within = omega (arith, low, length-spots ext (pages_of g s) def owners forests.map); block = here.was; slot = lay };
+            slots = has.slots;
+            lies = has.lies;
             turns = subst (λ (spot : Spot). TurnsSpot g AfterReturns ext now s new def rid.block spot owners forests freed.owners_now freed.forests_now) (sym (left_free left none))
                 (turns_free returns_change ext now s new def rid.block owners freed.owners_now forests freed.forests_now defined whole (record {
                   own = own_still ext now s new def rid.block owners freed.owners_now forests freed.forests_now whole o.1;
                   line = freed.line;
-                  unlisted = freed.unlisted (listed owners forests here.values here.slots here.now);
+                  unlisted = freed.unlisted (listed owners forests st has);
                 }));
           }
 

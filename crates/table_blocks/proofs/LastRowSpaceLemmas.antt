@@ -17,26 +17,24 @@ use Rattle.entry_tree.specs.declared.tree.Tree.{Tree}
 use Rattle.block_map.specs.BlockMaps.{HasRow}
 use Rattle.block_map.specs.Counting.{used_row}
 use Rattle.block_map.specs.declared.row.BlockRow.{BlockRow}
-use Rattle.block_rows.specs.HeldRows.{HoldsRows}
 use Rattle.table_trees.specs.SpaceChanges.{MakesChanges}
 use Rattle.mdc_sound.specs.Placing.{IsRowAt}
-use Rattle.mdc_sound.specs.Placing.Spot.{OtherBlock, UsedBlock}
 use Rattle.mdc_sound.specs.RunningFull.{left_changes}
 use Rattle.mdc_sound.specs.StandingTable.{IsPageOfBlock, StandsTable, TableForests, pages_of, spots_of}
 use Rattle.table_blocks.specs.AroundBlock.{StandsAround}
 use Rattle.table_blocks.specs.BlockChanges.{BreaksAround}
 use Rattle.table_blocks.specs.BlockNow.{IsOwnBlock}
-use Rattle.table_blocks.specs.BlockSteps.{HasFilledSlot, TakesFromSlot, free_changes}
+use Rattle.table_blocks.specs.BlockSteps.{HasFilledSlot, free_changes}
 use Rattle.table_blocks.proofs.BlockSpaceLemmas.{rows_same}
 use Rattle.table_blocks.proofs.ClearedSlotsLemmas.{count_cleared}
-use Rattle.table_blocks.proofs.LastRowLemmas.{block_now, cleared_change, opens, so_far}
+use Rattle.table_blocks.proofs.LastRowLemmas.{cleared_change, opens, line_counted, so_far}
 use Rattle.table_trees.proofs.SpaceChainsLemmas.{changes_from}
 
 module _ {S : Type 0} {g : Ghosts S} {Any : Damage → Type 0} (ext : Extents) (s : S) (def : TableDef) (defined : IsTableDef def.number def) (rid : Rid) (low : rid.block < ext.cap) (rows : ℕ) (few : rows < 2 ^ 16)
     (there : (owners : List Kind) (forests : TableForests) → StandsTable g ext s def owners forests → HasRow (used_row rid.block rows) forests.map) (tree : Tree) (root : tree.root ≡ def.roots.map) (width : tree.width ≡ 7)
     (row : Row) (looked cleared : S) (first : RunsOverPages g NoPage (IsTreePage g s tree) Any s looked None) (as_was : (g.state looked).work ≡ (g.state s).work)
     (second : RunsOverPages g (IsPageOfBlock ext rid.block) (IsPageOfBlock ext rid.block) (BreaksAround g ext looked def rid.block (HasFilledSlot rid.slot g ext looked def rid.block)) looked cleared None)
-    (count : length (g.state cleared).work ≡ length (g.state looked).work) (takes : (slots : List (Option Row)) → HoldsRows g ext looked def rid.block slots → TakesFromSlot g ext cleared def rid row slots) where
+    (count : length (g.state cleared).work ≡ length (g.state looked).work) where
   pub last_space : (line : BlockRow) → line ≡ used_row rid.block rows → (new : S)
       → ((owners : List Kind) (forests : TableForests) → StandsAround g ext cleared def owners forests line.block → IsOwnBlock ext owners def line.block
       → MakesChanges ext (pages_of g cleared) (free_changes def row line) (pages_of g new))
@@ -44,13 +42,10 @@ module _ {S : Type 0} {g : Ghosts S} {Any : Damage → Type 0} (ext : Extents) (
       → MakesChanges ext (pages_of g s) (left_changes def row rid.block (count_rows slots)) (pages_of g new)
   last_space line is new made owners forests st last slots lies =
       let o = opens ext s def defined rid low rows few there owners forests st in
-      let here = block_now ext s def defined rid low rows few there owners forests st in
-      let run = so_far ext s def defined rid low rows few there tree root width row looked cleared first as_was second count takes in
+      let run = so_far ext s def defined rid low rows few there tree root width row looked cleared first as_was second count in
       let stays = rows_same ext s cleared def rid.block owners forests o.0 o.1 run.touches run.works.steady.is_told (count ∙ ap length as_was) in
-      let step = cleared_change ext s def defined rid low rows few there tree root width row looked cleared first as_was second count takes owners forests o.0 o.1 in
-      let spots : UsedBlock slots ≡ UsedBlock here.slots = sym (lies.block OtherBlock) ∙ here.was OtherBlock in
-      let same : here.slots ≡ slots = cc in
-      let counted : rows ≡ count_rows slots = here.counted ∙ ap count_rows same in
+      let step = cleared_change ext s def defined rid low rows few there tree root width row looked cleared first as_was second count owners forests o.0 o.1 in
+      let counted = line_counted ext s def defined rid low rows few there row slots owners forests st lies in
       let one : count_rows slots ≡ 1 = omega (arith, counted, last, count_cleared slots rid.slot row lies.slot) in
       let row_is : rows ≡ 1 = counted ∙ one in
       let freed : MakesChanges ext (pages_of g cleared) (free_changes def row (used_row rid.block rows)) (pages_of g new) =

@@ -78,6 +78,11 @@ HasEmptySlot g ext s def block = HoldsSuch (λ slots. Contains slots None) g ext
 abbrev pub HasFilledSlot : ℕ → {S : Type 0} → Ghosts S → Extents → S → TableDef → ℕ → List Kind → TableForests → Type 0
 HasFilledSlot slot g ext s def block = HoldsSuch (λ slots. (row : Row) × (slice_index_or slots slot None ≡ Some row)) g ext s def block
 
+-- this row lies in a place
+pub record HasThisRow {S : Type 0} (g : Ghosts S) (ext : Extents) (s : S) (def : TableDef) (rid : Rid) (row : Row) (owners : List Kind) (forests : TableForests) : Type 0 where
+  pub slots : List (Option Row)
+  pub lies : IsRowAt (spots_of g ext s def owners forests) rid row slots
+
 -- The row lies in the lowest slot of its block that was empty, and nothing else changed.
 pub record FillsSlot {S : Type 0} (g : Ghosts S) (ext : Extents) (old new : S) (def : TableDef) (rid : Rid) (row : Row) (owners : List Kind) (forests : TableForests) : Type 0 where
   pub forests_now : TableForests
@@ -123,13 +128,6 @@ pub record HasFreeBlock (block : ℕ) (owners : List Kind) (forests : TableFores
 -- the changes of space of freeing it: its line, and then its entries under the cell of the row
 abbrev pub free_changes : TableDef → Row → BlockRow → List SpaceChange
 free_changes def row line = AmendEntry (map_place def) (row_entry line) (row_entry (free_line line.block)) ∷ removed_entries (block_listings def row line.block)
-
--- ---- a block that loses a row
-
--- the row lay in its slot, which is empty now
-pub record TakesFromSlot {S : Type 0} (g : Ghosts S) (ext : Extents) (new : S) (def : TableDef) (rid : Rid) (row : Row) (slots : List (Option Row)) : Type 0 where
-  pub lay : slice_index_or slots rid.slot None ≡ Some row
-  pub held : HoldsRows g ext new def rid.block (slice_set slots rid.slot None)
 
 -- ---- steps midway
 

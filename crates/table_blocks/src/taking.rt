@@ -1,5 +1,5 @@
 // A row less in a Used block.
-ghost use Rattle.std.specs.Prelude.{◌≡◌, ◌<◌, List, Option, false, length, IfOk};
+ghost use Rattle.std.specs.Prelude.{◌≡◌, ◌<◌, List, None, Option, false, length, slice_set, OnOk};
 ghost use Rattle.store_api.specs.Causes.{fault_of};
 ghost use Rattle.store_api.specs.RunsOverPages.{RunsOverPages};
 ghost use Rattle.extent_map.specs.Owners.{IsSameShape};
@@ -11,77 +11,74 @@ ghost use Rattle.table_trees.specs.SpaceChanges.{MakesChanges};
 ghost use Rattle.block_rows.specs.HeldRows.{HasReadValues, HoldsRows};
 ghost use Rattle.mdc_sound.specs.Placing.{IsRowAt, block_slot_count};
 ghost use Rattle.mdc_sound.specs.RunningFull.{left_changes};
-ghost use Rattle.mdc_sound.specs.StandingTable.{BreaksExpected, HasRowAt, IsBlockOrMapPage, IsPageOfBlock, StandsTable, TableForests, pages_of, spots_of};
+ghost use Rattle.mdc_sound.specs.StandingTable.{BreaksExpected, IsBlockOrMapPage, IsPageOfBlock, StandsTable, TableForests, pages_of, spots_of};
 ghost use Rattle.table_blocks.specs.BlockChanges.{BreaksAround};
-ghost use Rattle.table_blocks.specs.BlockSteps.{EmptiesSlot, HasFilledSlot, TakesFromSlot};
+ghost use Rattle.table_blocks.specs.BlockSteps.{EmptiesSlot, HasFilledSlot, HasThisRow};
 
 use crate::faults::miscounted;
 use crate::freeing::free_block;
 use crate::lines::line_of_used;
 use block_map::BlockMap;
-use block_rows::{clear_slot, row_in_slot};
+use block_rows::clear_slot;
 use extent_map::Extents;
 use mdc_ast::{Row, TableDef};
 use mdc_values::Rid;
 use std::alloc::Global;
 use store_api::{Pages, StoreFault};
 
-/// Takes the row out that lies in a place, and gives it. A block without rows is Free afterwards, and isn't listed. Damaged where
-/// no row lies there. It claims no page.
+/// Takes the row out that lies in a place; it is given too. A block without rows is Free afterwards, and isn't listed. Damaged
+/// where no row lies there. It claims no page.
 pub fn take_row<P: Pages>(
     alloc: Global,
     def: &TableDef,
     ext: &mut Extents,
     pages: &mut P,
     rid: Rid,
-) -> Result<Row, StoreFault>
+    row: &Row,
+) -> Result<(), StoreFault>
     requires defined { IsTableDef def.now.number def.now }
+    requires keyed { HasReadValues def.now.columns row.now }
     requires within { rid.block < ext.old.cap }
     requires slot { rid.slot < block_slot_count ext.old def.now }
     requires going { (P.state pages.old).ended ≡ false }
-    ensures takes { IfOk result (λ row. (owners : List Kind) (forests : TableForests) → StandsTable P.Pages ext.old pages.old def.now owners forests
-        → EmptiesSlot P.Pages ext.old ext.new pages.old pages.new def.now rid row owners forests) }
-    ensures keyed { IfOk result (HasReadValues def.now.columns) }
-    ensures makes { IfOk result (λ row. (owners : List Kind) (forests : TableForests) → StandsTable P.Pages ext.old pages.old def.now owners forests
-        → (slots : List (Option Row)) → IsRowAt (spots_of P.Pages ext.old pages.old def.now owners forests) rid row slots
-        → MakesChanges ext.old (pages_of P.Pages pages.old) (left_changes def.now row rid.block (count_rows slots)) (pages_of P.Pages pages.new)) }
+    ensures takes { OnOk result ((owners : List Kind) (forests : TableForests) → StandsTable P.Pages ext.old pages.old def.now owners forests
+        → HasThisRow P.Pages ext.old pages.old def.now rid row.now owners forests → EmptiesSlot P.Pages ext.old ext.new pages.old pages.new def.now rid row.now owners forests) }
+    ensures makes { OnOk result ((owners : List Kind) (forests : TableForests) → StandsTable P.Pages ext.old pages.old def.now owners forests
+        → (slots : List (Option Row)) → IsRowAt (spots_of P.Pages ext.old pages.old def.now owners forests) rid row.now slots
+        → MakesChanges ext.old (pages_of P.Pages pages.old) (left_changes def.now row.now rid.block (count_rows slots)) (pages_of P.Pages pages.new)) }
     ensures count { length (P.state pages.new).work ≡ length (P.state pages.old).work }
     ensures shape { IsSameShape ext.old ext.new }
     ensures runs { RunsOverPages P.Pages (IsBlockOrMapPage P.Pages ext.old pages.old def.now rid.block) (IsBlockOrMapPage P.Pages ext.old pages.old def.now rid.block)
-        (BreaksExpected P.Pages ext.old pages.old def.now (HasRowAt P.Pages ext.old pages.old def.now rid)) pages.old pages.new (fault_of result) }
+        (BreaksExpected P.Pages ext.old pages.old def.now (HasThisRow P.Pages ext.old pages.old def.now rid row.now)) pages.old pages.new (fault_of result) }
 {
     let map = BlockMap::at(alloc, def.roots.map);
-    let Some(_had) = map.discount_row(pages, rid.block)? else {
-        let line = line_of_used(def, &map, pages, rid.block)?;
-        let row = take_from_slot(alloc, def, ext, pages, rid)?;
-        free_block(alloc, def, ext, pages, line, &row)?;
-        return Ok(row);
-    };
-    take_from_slot(alloc, def, ext, pages, rid)
+    if let Some(_had) = map.discount_row(pages, rid.block)? {
+        return clear_filled(def, ext, pages, rid);
+    }
+    let line = line_of_used(def, &map, pages, rid.block)?;
+    clear_filled(def, ext, pages, rid)?;
+    free_block(alloc, def, ext, pages, line, row)
 }
 
-/// Takes the row out of its slot, and gives it. Damaged where the slot is empty.
-fn take_from_slot<P: Pages>(
-    alloc: Global,
+/// Empties the slot of a row. Damaged where it is empty.
+fn clear_filled<P: Pages>(
     def: &TableDef,
     ext: &Extents,
     pages: &mut P,
     rid: Rid,
-) -> Result<Row, StoreFault>
+) -> Result<(), StoreFault>
     requires defined { IsTableDef def.now.number def.now }
     requires within { rid.block < ext.now.cap }
     requires slot { rid.slot < block_slot_count ext.now def.now }
     requires going { (P.state pages.old).ended ≡ false }
-    ensures takes { IfOk result (λ row. (slots : List (Option Row)) → HoldsRows P.Pages ext.now pages.old def.now rid.block slots
-        → TakesFromSlot P.Pages ext.now pages.new def.now rid row slots) }
-    ensures keyed { IfOk result (HasReadValues def.now.columns) }
+    ensures clears { OnOk result ((slots : List (Option Row)) → HoldsRows P.Pages ext.now pages.old def.now rid.block slots
+        → HoldsRows P.Pages ext.now pages.new def.now rid.block (slice_set slots rid.slot None)) }
     ensures count { length (P.state pages.new).work ≡ length (P.state pages.old).work }
     ensures runs { RunsOverPages P.Pages (IsPageOfBlock ext.now rid.block) (IsPageOfBlock ext.now rid.block)
         (BreaksAround P.Pages ext.now pages.old def.now rid.block (HasFilledSlot rid.slot P.Pages ext.now pages.old def.now rid.block)) pages.old pages.new (fault_of result) }
 {
-    let Some(row) = row_in_slot(alloc, def, ext, pages, rid)? else {
+    if !clear_slot(def, ext, pages, rid)? {
         return Err(miscounted(ext, rid.block));
-    };
-    clear_slot(def, ext, pages, rid)?;
-    Ok(row)
+    }
+    Ok(())
 }

@@ -1,41 +1,31 @@
-use Rattle.std.proofs.Common.{arith, ◌≡◌, ◌<◌, ◌≤◌, length, ap, sym}
 use Rattle.std.proofs.lemmas.Result.{IfOk-weaker}
-use Rattle.store_api.specs.Causes.{fault_of}
 use Rattle.store_api.proofs.FrameLemmas.{touches_wider}
 use Rattle.row_page.specs.RowPage.{count_rows}
 use Rattle.mdc_sound.specs.StandingTable.{pages_of}
 use Rattle.cell_change.proofs.ChangedSpaceLemmas.{taking_makes}
-use Rattle.cell_change.proofs.RowChangesLemmas.{deletes, sound_deleted, took_this}
-use Rattle.cell_change.proofs.ChangeRunsLemmas.{in_space, runs_this}
+use Rattle.cell_change.proofs.RowChangesLemmas.{deletes, sound_deleted}
+use Rattle.cell_change.proofs.ChangeRunsLemmas.{in_space}
 use Rattle.cell_change.proofs.StandsForRowLemmas.{database_deleted}
 use Rattle.cell_change.proofs.deleting.delete_row.Goals as goal
 
 pub returns-clause-deletes : goal.returns-clause-deletes
 returns-clause-deletes g c =
     IfOk-weaker c.take_row.result _ _ (λ done takes owners forests ready has.
-    let out = takes owners forests ready in
-    deletes g.P.Pages c.args.ext.now c.take_row.new.ext c.args.pages.now c.take_row.new.pages c.args.def.now owners forests ready.stands _ c.args.row.now c.args.rid
-    (took_this g.P.Pages c.args.ext.now c.take_row.new.ext c.args.pages.now c.take_row.new.pages c.args.def.now owners forests ready.stands _ c.args.row.now out.0 c.args.rid has out.1))
+    deletes g.P.Pages c.args.ext.now c.take_row.new.ext c.args.pages.now c.take_row.new.pages c.args.def.now owners forests ready.stands _ c.args.row.now c.args.rid (takes owners forests ready has))
     c.take_row.ensures.takes
 
 pub returns-clause-sound : goal.returns-clause-sound
 returns-clause-sound g c =
     IfOk-weaker c.take_row.result _ _ (λ done takes owners forests ready has between.
-    let out = takes owners forests ready in
-    let took = took_this g.P.Pages c.args.ext.now c.take_row.new.ext c.args.pages.now c.take_row.new.pages c.args.def.now owners forests ready.stands _ c.args.row.now out.0 c.args.rid has out.1 in
-    sound_deleted g.P.Pages c.args.ext.now c.take_row.new.ext c.args.pages.now c.take_row.new.pages c.args.def.now owners forests ready.stands _ c.args.row.now c.args.rid took
+    sound_deleted g.P.Pages c.args.ext.now c.take_row.new.ext c.args.pages.now c.take_row.new.pages c.args.def.now owners forests ready.stands _ c.args.row.now c.args.rid (takes owners forests ready has)
     c.requires.no_indexes (touches_wider c.take_row.ensures.runs.touches (λ p mine. in_space g.P.Pages c.args.ext.now c.args.pages.now c.args.def.now p mine)) c.take_row.ensures.runs.works.no_shorter between)
     c.take_row.ensures.takes
-
-pub returns-clause-runs : goal.returns-clause-runs
-returns-clause-runs g c =
-    runs_this g.P.Pages c.args.ext.now c.args.pages.now c.take_row.new.pages c.args.def.now c.args.rid c.args.row.now (fault_of c.take_row.result) c.take_row.ensures.runs
 
 pub returns-clause-makes : goal.returns-clause-makes
 returns-clause-makes g c =
     IfOk-weaker c.take_row.result _ _ (λ done makes owners forests ready slots lies.
     taking_makes c.args.ext.now (pages_of g.P.Pages c.args.pages.now) (pages_of g.P.Pages c.take_row.new.pages) c.args.def.now c.args.row.now c.args.rid (count_rows slots) c.requires.no_indexes
-    (makes owners forests ready c.args.row.now slots lies))
+    (makes owners forests ready slots lies))
     c.take_row.ensures.makes
 
 pub returns-clause-stands_for : goal.returns-clause-stands_for
@@ -47,8 +37,6 @@ returns-clause-stands_for g c =
     let new = c.take_row.new.pages in
     let def = c.args.def.now in
     let runs = c.take_row.ensures.runs in
-    let out = takes owners forests ready in
-    let took = took_this g.P.Pages before ext old new def owners forests ready.stands _ c.args.row.now out.0 c.args.rid has out.1 in
     database_deleted g.P.Pages before ext _ old new def owners forests ready.stands (touches_wider runs.touches (λ p mine. in_space g.P.Pages before old def p mine)) runs.works.no_shorter between db stands
-    c.args.row.now c.args.rid (deletes g.P.Pages before ext old new def owners forests ready.stands _ c.args.row.now c.args.rid took))
+    c.args.row.now c.args.rid (deletes g.P.Pages before ext old new def owners forests ready.stands _ c.args.row.now c.args.rid (takes owners forests ready has)))
     c.take_row.ensures.takes

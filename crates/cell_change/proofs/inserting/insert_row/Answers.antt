@@ -1,4 +1,4 @@
-use Rattle.std.proofs.Common.{arith, ◌≡◌, ◌<◌, ◌+◌, ap, sym}
+use Rattle.std.proofs.Common.{arith}
 use Rattle.entry_tree.proofs.ClaimsLemmas.{if_err_by}
 use Rattle.cell_change.proofs.ChangedRowLemmas.{full_as}
 use Rattle.cell_change.proofs.ChangedSpaceLemmas.{insert_full}

@@ -1,6 +1,6 @@
-use Rattle.std.proofs.Common.{◌∙◌, ap, length, map, refl, sym}
+use Rattle.std.proofs.Common.{◌∙◌, ap, length, map, refl, subst, sym}
 use Rattle.store_api.proofs.RunsOverPagesLemmas.{runs_exit, runs_wider}
-use Rattle.block_rows.specs.HeldRows.{placed_row}
+use Rattle.block_rows.specs.HeldRows.{HaveReadValues, placed_row}
 use Rattle.row_judging.specs.Served.{MayJudge}
 use Rattle.script_engine.proofs.DoneRowsLemmas.{delete_does, runs_change}
 use Rattle.script_engine.proofs.ReadRowsLemmas.{may_judge_read}
@@ -26,6 +26,9 @@ delete_rows-requires-clause-defined g c = (served_def c.args.tables.now.catalog 
 
 pub delete_rows-requires-clause-no_indexes : goal.delete_rows-requires-clause-no_indexes
 delete_rows-requires-clause-no_indexes g c = (served_def c.args.tables.now.catalog c.args.tables.now.noted c.in-Some.def.now c.requires.served c.in-Some.ensures).no_indexes
+
+pub delete_rows-requires-clause-read : goal.delete_rows-requires-clause-read
+delete_rows-requires-clause-read g c = subst (HaveReadValues c.in-Some.def.now.columns) (sym c.as_slice.ensures.value) c.in_ok-hits.ensures.keyed
 
 pub returns-in_err-delete_rows-clause-runs : goal.returns-in_err-delete_rows-clause-runs
 returns-in_err-delete_rows-clause-runs g c =

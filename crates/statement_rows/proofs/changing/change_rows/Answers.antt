@@ -32,7 +32,7 @@ returns-in_err-to-clause-runs g c =
     turning_at g.P.Pages c.args.ext.now (room_of c.args.rooms.now) c.args.pages.now c.args.def.now all c.loop-one.ext (room_of c.loop-one.rooms) c.loop-one.pages i one c.loop-one.invariant c.loop-one-test.true
     c.one-item.is in
     runs_exit_as store_part_of c.from_residual.result c.from_residual.ensures.1
-    (runs_one g.P.Pages c.args.ext.now (room_of c.args.rooms.now) c.args.pages.now c.args.def.now all c.loop-one.ext (room_of c.loop-one.rooms) c.loop-one.pages one (drop (i + 1) all) turning c.loop-one.known c.change_row.new.pages
+    (runs_one g.P.Pages c.args.ext.now (room_of c.args.rooms.now) c.args.pages.now c.args.def.now all c.loop-one.ext (room_of c.loop-one.rooms) c.loop-one.pages one (drop (i + 1) all) turning c.change_row.new.pages
     (store_part_of c.in_err-to.field-0.0) c.in_err-to.ensures.runs)
 
 pub loop-one-preserved : goal.loop-one-preserved
@@ -45,7 +45,7 @@ loop-one-preserved g c =
     c.one-item.is in
     let said = c.in_ok-to.ensures in
     turning_goes_on g.P.Pages c.args.ext.now (room_of c.args.rooms.now) c.args.pages.now c.args.def.now all c.loop-one.ext (room_of c.loop-one.rooms) c.loop-one.pages one (drop (i + 1) all) turning
-    c.loop-one.known c.change_row.new.ext (room_of c.change_row.new.rooms) c.change_row.new.pages c.in_ok-to.to said.shape said.runs said.changes said.sound said.stands_for
+    c.change_row.new.ext (room_of c.change_row.new.rooms) c.change_row.new.pages c.in_ok-to.to said.shape said.runs said.changes said.sound said.stands_for
 
 pub returns-clause-changes : goal.returns-clause-changes
 returns-clause-changes g c owners forests ready has =

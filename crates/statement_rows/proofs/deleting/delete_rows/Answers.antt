@@ -1,7 +1,10 @@
-use Rattle.std.proofs.Common.{◌≡◌, ◌+◌, ◌∙◌, ◌∷◌, None, Some, drop, refl, arith, subst}
+use Rattle.std.proofs.Common.{◌≡◌, ◌+◌, ◌∙◌, ◌∷◌, None, Some, drop, refl, arith, subst, sym}
 use Rattle.std.proofs.lemmas.List.{drop_all}
+use Rattle.std.proofs.lemmas.List.Elements.{All-get_or}
 use Rattle.store_api.proofs.RunsOverPagesLemmas.{runs_exit, runs_none}
 use Rattle.entry_tree.proofs.ClaimsLemmas.{shape_none, shape_then}
+use Rattle.block_rows.specs.HeldRows.{HasReadValues}
+use Rattle.block_rows.specs.declared.hit.Hit.{Hit}
 use Rattle.cell_rooms.specs.RoomNotes.{room_of}
 use Rattle.statement_rows.proofs.DeletingRowsLemmas.{DeletesOn, deletes_all, deletes_none}
 use Rattle.statement_rows.proofs.DeletingStepsLemmas.{row_out, row_out_run}
@@ -15,6 +18,12 @@ loop-hit-init g c = record {
   shape = shape_none c.args.ext.now;
   runs = runs_none;
 }
+
+pub delete_row-requires-clause-row : goal.delete_row-requires-clause-row
+delete_row-requires-clause-row g c =
+    let columns = c.args.def.now.columns in
+    subst (λ (hit : Hit). HasReadValues columns hit.row) (sym c.hit-item.is)
+    (All-get_or (λ (hit : Hit). HasReadValues columns hit.row) c.args.hits.now c.loop-hit.hit-index c.hit-item.result c.loop-hit-test.true c.requires.read)
 
 pub returns-in_err-delete_row-clause-runs : goal.returns-in_err-delete_row-clause-runs
 returns-in_err-delete_row-clause-runs g c =
