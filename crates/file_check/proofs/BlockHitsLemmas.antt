@@ -18,7 +18,7 @@ use Rattle.row_page.specs.RowPage.{IsRowPage, row_page_head, rows_of}
 use Rattle.table_trees.specs.ToldPages.{PageList}
 use Rattle.block_rows.specs.HeldRows.{BreaksRows, HoldsRows, qualifying}
 use Rattle.mdc_sound.specs.TableRows.{PlacedRow, block_slots}
-use Rattle.file_check.specs.Known.{HasRowPages}
+use Rattle.file_check.specs.Known.{BlockHasRowPages}
 use Rattle.file_check.specs.Looking.{Unless}
 
 -- a filter without a predicate takes all rows
@@ -43,7 +43,7 @@ row_page_there pages columns p is = elim (cases_lt p (length pages)) [
 ]
 
 -- so is the last page of a block of row pages
-pub block_there : (ext : Extents) (pages : PageList) (def : TableDef) (block : ℕ) → HasRowPages ext pages def block → first_page_of ext.cap ext.extent_pages (block + 1) ≤ length pages
+pub block_there : (ext : Extents) (pages : PageList) (def : TableDef) (block : ℕ) → BlockHasRowPages ext pages def block → first_page_of ext.cap ext.extent_pages (block + 1) ≤ length pages
 block_there ext pages def block has =
     let n = ext.extent_pages in
     let some = (extent_limits ext).0 in
@@ -52,7 +52,7 @@ block_there ext pages def block has =
 
 module _ {S : Type 0} {g : Ghosts S} where
   -- where pages are told, a block of row pages holds its rows
-  pub holds_rows : (ext : Extents) (s : S) (def : TableDef) (block : ℕ) → IsTrue (g.state s).is_told → HasRowPages ext (g.state s).work def block
+  pub holds_rows : (ext : Extents) (s : S) (def : TableDef) (block : ℕ) → IsTrue (g.state s).is_told → BlockHasRowPages ext (g.state s).work def block
       → HoldsRows g ext s def block (block_slots ext (g.state s).work def block)
   holds_rows ext s def block told has = record {
     told = told;
@@ -62,7 +62,7 @@ module _ {S : Type 0} {g : Ghosts S} where
   }
 
   -- and no call finds it broken
-  pub reading_breaks_none : (ext : Extents) (s : S) (def : TableDef) (block : ℕ) (damage : Damage) → BreaksRows g ext s def block damage → Unless g s (λ pages. HasRowPages ext pages def block) damage
+  pub reading_breaks_none : (ext : Extents) (s : S) (def : TableDef) (block : ℕ) (damage : Damage) → BreaksRows g ext s def block damage → Unless g s (λ pages. BlockHasRowPages ext pages def block) damage
   reading_breaks_none ext s def block damage (inl b) told has =
       let there = block_there ext (g.state s).work def block has in
       omega (arith, there, b.past)

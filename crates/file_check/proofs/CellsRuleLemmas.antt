@@ -13,7 +13,7 @@ use Rattle.mdc_sound.specs.SpaceRules.{DatabaseView, tables_there}
 use Rattle.mdc_sound.specs.TableViews.{TableView}
 use Rattle.file_check.specs.BlocksJudged.{BreaksBlockCell}
 use Rattle.file_check.specs.Judging.{BreaksAny, JudgesEach, JudgesRule}
-use Rattle.file_check.specs.Known.{HasTrees}
+use Rattle.file_check.specs.Known.{ViewHasTrees}
 use Rattle.file_check.proofs.JudgingLemmas.{breaks_any-member, judges_as, member-breaks_any}
 use Rattle.file_check.proofs.ShownTablesLemmas.{shown_is_viewed, viewed_is_shown}
 
@@ -25,7 +25,7 @@ AreTableCells ext pages table = AllByRecursion (IsOfOneCell ext pages table.def)
 abbrev pub BreaksTableCells : Extents → PageList → TableView → ℕ → Type 0
 BreaksTableCells ext pages table = BreaksAny (BreaksBlockCell ext pages table.def) (used_blocks table.map)
 
-module _ (ext : Extents) (pages : PageList) (defs : Definitions) (view : DatabaseView) (has : HasTrees ext pages defs view) where
+module _ (ext : Extents) (pages : PageList) (defs : Definitions) (view : DatabaseView) (has : ViewHasTrees ext pages defs view) where
   breaks_rule9 : (p : ℕ) → BreaksAny (BreaksTableCells ext pages) (tables_there view.places) p → BreaksRule ext pages 9 p
   breaks_rule9 p broken =
       let in_table = member-breaks_any (BreaksTableCells ext pages) (tables_there view.places) p broken in

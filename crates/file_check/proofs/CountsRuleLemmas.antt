@@ -15,7 +15,7 @@ use Rattle.mdc_sound.specs.TableViews.{TableView}
 use Rattle.mdc_sound.proofs.BlockRulesLemmas.{each_as}
 use Rattle.file_check.specs.BlocksJudged.{BreaksLineCount, IsLineCounted}
 use Rattle.file_check.specs.Judging.{BreaksAny, JudgesEach, JudgesRule}
-use Rattle.file_check.specs.Known.{HasTrees}
+use Rattle.file_check.specs.Known.{ViewHasTrees}
 use Rattle.file_check.proofs.JudgingLemmas.{breaks_any-member, judges_as, member-breaks_any}
 use Rattle.file_check.proofs.ShownTablesLemmas.{shown_is_viewed, viewed_is_shown}
 
@@ -27,7 +27,7 @@ AreTableCounted ext pages table = AllByRecursion (IsLineCounted ext pages table.
 abbrev pub BreaksTableCounts : Extents → PageList → TableView → ℕ → Type 0
 BreaksTableCounts ext pages table = BreaksAny (BreaksLineCount ext pages table.def) (map_lines table.map)
 
-module _ (ext : Extents) (pages : PageList) (defs : Definitions) (view : DatabaseView) (has : HasTrees ext pages defs view) where
+module _ (ext : Extents) (pages : PageList) (defs : Definitions) (view : DatabaseView) (has : ViewHasTrees ext pages defs view) where
   breaks_rule8 : (p : ℕ) → BreaksAny (BreaksTableCounts ext pages) (tables_there view.places) p → BreaksRule ext pages 8 p
   breaks_rule8 p broken =
       let in_table = member-breaks_any (BreaksTableCounts ext pages) (tables_there view.places) p broken in

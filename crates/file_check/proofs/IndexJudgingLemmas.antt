@@ -24,7 +24,7 @@ use Rattle.mdc_ast.specs.meaning.Definitions.{Definitions}
 use Rattle.mdc_sound.specs.SpaceRules.{DatabaseView}
 use Rattle.mdc_sound.specs.TableRows.{rows_in_block}
 use Rattle.mdc_sound.proofs.ElementsLemmas.{contains_flat, from_map, in_map}
-use Rattle.file_check.specs.Known.{HasCells, HasRowPages}
+use Rattle.file_check.specs.Known.{ViewHasCells, BlockHasRowPages}
 use Rattle.file_check.specs.Looking.{Unless}
 use Rattle.file_check.specs.declared.entry_set.EntrySet.{EntrySet}
 use Rattle.file_check.specs.declared.table_index.IndexKind.{IndexKind}
@@ -154,9 +154,9 @@ noted_as_sound wanted entries read spare old new key at notes same key_is sound 
 
 -- damage of a block, and of a tree, in a later state that tells the same
 pub unless_block : {S : Type 0} (g : Ghosts S) (ext : Extents) (old now : S) (def : TableDef) (blocks : List ℕ) (block : ℕ) (place : TreePlace) (damage : Damage) → (g.state now).is_told ≡ (g.state old).is_told
-    → (g.state now).work ≡ (g.state old).work → Contains blocks block → Unless g now (λ told. HasRowPages ext told def block) damage → UnlessReadable g ext old def blocks place damage
+    → (g.state now).work ≡ (g.state old).work → Contains blocks block → Unless g now (λ told. BlockHasRowPages ext told def block) damage → UnlessReadable g ext old def blocks place damage
 unless_block g ext old now def blocks block place damage tells same there unless told readable tree has =
-    unless (tells ∙ told) (subst (λ (pages : PageList). HasRowPages ext pages def block) (sym same) (readable block there).1)
+    unless (tells ∙ told) (subst (λ (pages : PageList). BlockHasRowPages ext pages def block) (sym same) (readable block there).1)
 
 pub unless_later_tree : {S : Type 0} (g : Ghosts S) (ext : Extents) (old now : S) (def : TableDef) (blocks : List ℕ) (place : TreePlace) (damage : Damage) → (g.state now).is_told ≡ (g.state old).is_told
     → (g.state now).work ≡ (g.state old).work → UnlessTree g now place damage → UnlessReadable g ext old def blocks place damage
@@ -191,7 +191,7 @@ unless_indexes g kind ext old now def used index damage tells same there used_is
 -- damage of a table, in a later state
 pub unless_table : {S : Type 0} (g : Ghosts S) (kind : IndexKind) (ext : Extents) (old now : S) (defs : Definitions) (i : ℕ) (def : TableDef) (damage : Damage) → (g.state now).is_told ≡ (g.state old).is_told
     → (g.state now).work ≡ (g.state old).work → slice_get defs i ≡ Some (Some def)
-    → Unless g now (λ told. (map_tree : Forest) × HasIndexes kind ext told def map_tree) damage → Unless g old (λ told. (view : DatabaseView) × HasCells ext told defs view) damage
+    → Unless g now (λ told. (map_tree : Forest) × HasIndexes kind ext told def map_tree) damage → Unless g old (λ told. (view : DatabaseView) × ViewHasCells ext told defs view) damage
 unless_table g kind ext old now defs i def damage tells same at unless told (view, known) =
     let table = table_at ext (g.state old).work defs view i def known at in
     unless (tells ∙ told) (

@@ -23,7 +23,7 @@ use Rattle.mdc_sound.proofs.ElementsLemmas.{each_in, from_map, in_map}
 use Rattle.mdc_sound.proofs.SpaceRulesLemmas.{each_there, there_at}
 use Rattle.mdc_sound.proofs.StandsForLemmas.{one_tree_at}
 use Rattle.file_check.specs.Judging.{BreaksAny, JudgesEach, JudgesRule}
-use Rattle.file_check.specs.Known.{HasCells}
+use Rattle.file_check.specs.Known.{ViewHasCells}
 use Rattle.file_check.proofs.JudgingLemmas.{breaks_any-member, judges_as, member-breaks_any}
 use Rattle.file_check.proofs.KnownTablesLemmas.{defined_is_viewed, member_is_placed, viewed_is_defined}
 use Rattle.file_check.proofs.TableJudgingLemmas.{each_of}
@@ -137,7 +137,7 @@ at_zip (x0 ∷ xs) [] i x y e f = absurd (cc)
 at_zip (x0 ∷ xs) (y0 ∷ ys) zero x y e f = (0, omega arith, cc)
 at_zip (x0 ∷ xs) (y0 ∷ ys) (suc i) x y e f = contains_more (x, y) (x0, y0) (zip xs ys) (at_zip xs ys i x y e f)
 
-module _ (ext : Extents) (pages : PageList) (defs : Definitions) (view : DatabaseView) (known : HasCells ext pages defs view) where
+module _ (ext : Extents) (pages : PageList) (defs : Definitions) (view : DatabaseView) (known : ViewHasCells ext pages defs view) where
   -- an index of a table of the view that isn't sound
   broken_index : (kind : IndexKind) (t : ℕ) (def : TableDef) (index : PlacedIndex) → t < 16 → DefinesTable pages t def → Contains (indexes_of_kind kind def) index
       → ((map_tree tree : Forest) → HasTree pages (map_place def) map_tree → HasTree pages index.place tree → IsSoundTree kind ext pages def map_tree index tree → ⊥)

@@ -32,7 +32,7 @@ use Rattle.mdc_sound.proofs.ElementsLemmas.{each_line, from_map, in_map, named_b
 use Rattle.mdc_sound.proofs.SpaceRulesLemmas.{there_at}
 use Rattle.mdc_sound.proofs.StandsForLemmas.{one_tree_at}
 use Rattle.file_check.specs.Judging.{BreaksAny, Judges, JudgesEach, JudgesRule}
-use Rattle.file_check.specs.Known.{HasTrees}
+use Rattle.file_check.specs.Known.{ViewHasTrees}
 use Rattle.file_check.specs.Looking.{Unless}
 use Rattle.file_check.specs.BlockMapsJudged.{AreNoBlocksOf, BreaksMap, BreaksMapAt, HaveStates, IsBlockOf, JudgesMap, ListBlocksOf, ListOthers, RiseFrom}
 use Rattle.file_check.proofs.JudgingLemmas.{breaks_any-member, judges_as, member-breaks_any, place_with}
@@ -107,7 +107,7 @@ MapSound ext view table = IsBlockMapSound ext view.owners table.def table.map
 abbrev pub MapBreaks : DatabaseView → TableView → ℕ → Type 0
 MapBreaks view table = BreaksMapAt view.owners table.def table.map
 
-module _ (ext : Extents) (pages : PageList) (defs : Definitions) (view : DatabaseView) (has : HasTrees ext pages defs view) where
+module _ (ext : Extents) (pages : PageList) (defs : Definitions) (view : DatabaseView) (has : ViewHasTrees ext pages defs view) where
   -- the block map of a table stands
   pub map_stands : (t : ℕ) (table : TableView) → slice_get view.places t ≡ Some (Some table) → HasTree pages (map_place table.def) table.map
   map_stands t table at = (there_at _ view.places t table at has.rule4).0
@@ -190,7 +190,7 @@ module _ {S : Type 0} (g : Ghosts S) (old mid : S) (still : (g.state mid).is_tol
 
   -- so no damage of the block map of a table is named
   pub map_unless : (ext : Extents) (defs : Definitions) (i : ℕ) (def : TableDef) (damage : Damage) → slice_get defs i ≡ Some (Some def) → BreaksTreeAt g mid (map_place def) damage
-      → Unless g old (λ pages. (view : DatabaseView) × HasTrees ext pages defs view) damage
+      → Unless g old (λ pages. (view : DatabaseView) × ViewHasTrees ext pages defs view) damage
   map_unless ext defs i def damage at breaks told has =
       let view = has.0 in
       let (table, stands, is) = place_with view.places i def (ap (λ (ds : Definitions). slice_get ds i) has.1.defined ∙ at) in

@@ -14,7 +14,7 @@ use Rattle.mdc_sound.specs.SpaceRules.{AreBlockMapsSound, AreTablePagesSound, Ar
 use Rattle.mdc_sound.specs.TableViews.{TableView}
 use Rattle.file_check.specs.Judging.{JudgesRule}
 use Rattle.file_check.specs.Kept.{KeepsCells, KeepsTables, KeepsTrees, NoneBreaksBefore}
-use Rattle.file_check.specs.Known.{AreDefinitionsSound, AreTimesInTrees, HasBlocks, HasCells, HasDefinitions, HasRows, HasTheirTrees, HasTrees, IsDefinitionSound, defs_of, defs_there}
+use Rattle.file_check.specs.Known.{AreDefinitionsSound, AreTimesInTrees, ViewHasBlocks, ViewHasCells, HasDefinitions, ViewHasRows, HasTheirTrees, ViewHasTrees, IsDefinitionSound, defs_of, defs_there}
 use Rattle.file_check.specs.TablePagesJudged.{JudgesTablePages}
 use Rattle.file_check.specs.TreesJudged.{StandAsCounted}
 use Rattle.file_check.specs.declared.definitions.TablePages.{TablePages}
@@ -43,28 +43,28 @@ SaysTrees defs times found pages =
 
 abbrev pub SaysTreePages : Extents → List ℕ → Option ℕ → PageList → Type 0
 SaysTreePages ext times found pages =
-    (defs : Definitions) (view : DatabaseView) → HasTrees ext pages defs view → AreTimesInTrees pages view times → JudgesRule ext pages 5 (AreTreePagesSound ext view) found
+    (defs : Definitions) (view : DatabaseView) → ViewHasTrees ext pages defs view → AreTimesInTrees pages view times → JudgesRule ext pages 5 (AreTreePagesSound ext view) found
 
 abbrev pub SaysBlockMaps : Extents → Definitions → Option ℕ → PageList → Type 0
-SaysBlockMaps ext defs found pages = (view : DatabaseView) → HasTrees ext pages defs view → JudgesRule ext pages 6 (AreBlockMapsSound ext view) found
+SaysBlockMaps ext defs found pages = (view : DatabaseView) → ViewHasTrees ext pages defs view → JudgesRule ext pages 6 (AreBlockMapsSound ext view) found
 
 abbrev pub SaysRowPages : Extents → Definitions → Option ℕ → PageList → Type 0
-SaysRowPages ext defs found pages = (view : DatabaseView) → HasBlocks ext pages defs view → JudgesRule ext pages 7 (AreRowPagesSound ext pages view) found
+SaysRowPages ext defs found pages = (view : DatabaseView) → ViewHasBlocks ext pages defs view → JudgesRule ext pages 7 (AreRowPagesSound ext pages view) found
 
 abbrev pub SaysCounts : Extents → Definitions → Option ℕ → PageList → Type 0
-SaysCounts ext defs found pages = (view : DatabaseView) → HasRows ext pages defs view → JudgesRule ext pages 8 (AreCountsSound ext pages view) found
+SaysCounts ext defs found pages = (view : DatabaseView) → ViewHasRows ext pages defs view → JudgesRule ext pages 8 (AreCountsSound ext pages view) found
 
 abbrev pub SaysCells : Extents → Definitions → Option ℕ → PageList → Type 0
-SaysCells ext defs found pages = (view : DatabaseView) → HasRows ext pages defs view → JudgesRule ext pages 9 (AreCellsSound ext pages view) found
+SaysCells ext defs found pages = (view : DatabaseView) → ViewHasRows ext pages defs view → JudgesRule ext pages 9 (AreCellsSound ext pages view) found
 
 abbrev pub SaysBlockIndexes : Extents → Definitions → Option ℕ → PageList → Type 0
-SaysBlockIndexes ext defs found pages = (view : DatabaseView) → HasCells ext pages defs view → JudgesRule ext pages 10 (AreBlockIndexesSound ext pages view) found
+SaysBlockIndexes ext defs found pages = (view : DatabaseView) → ViewHasCells ext pages defs view → JudgesRule ext pages 10 (AreBlockIndexesSound ext pages view) found
 
 abbrev pub SaysRecordIndexes : Extents → Definitions → Option ℕ → PageList → Type 0
-SaysRecordIndexes ext defs found pages = (view : DatabaseView) → HasCells ext pages defs view → JudgesRule ext pages 11 (AreSoundIndexes ext pages view) found
+SaysRecordIndexes ext defs found pages = (view : DatabaseView) → ViewHasCells ext pages defs view → JudgesRule ext pages 11 (AreSoundIndexes ext pages view) found
 
 abbrev pub SaysKeys : Extents → Definitions → Option ℕ → PageList → Type 0
-SaysKeys ext defs found pages = (view : DatabaseView) → HasCells ext pages defs view → JudgesRule ext pages 12 (AreKeysSound ext pages view) found
+SaysKeys ext defs found pages = (view : DatabaseView) → ViewHasCells ext pages defs view → JudgesRule ext pages 12 (AreKeysSound ext pages view) found
 
 -- ---- what they rest on
 
@@ -72,19 +72,19 @@ abbrev pub SomeOwners : Extents → PageList → Type 0
 SomeOwners ext pages = IsRootSound ext pages × (owners : List Kind) × IsMapSound ext pages owners
 
 abbrev pub SomeTrees : Extents → PageList → Type 0
-SomeTrees ext pages = (defs : Definitions) × (view : DatabaseView) × HasTrees ext pages defs view
+SomeTrees ext pages = (defs : Definitions) × (view : DatabaseView) × ViewHasTrees ext pages defs view
 
 abbrev pub SomeTreesOf : Extents → Definitions → PageList → Type 0
-SomeTreesOf ext defs pages = (view : DatabaseView) × HasTrees ext pages defs view
+SomeTreesOf ext defs pages = (view : DatabaseView) × ViewHasTrees ext pages defs view
 
 abbrev pub SomeBlocks : Extents → Definitions → PageList → Type 0
-SomeBlocks ext defs pages = (view : DatabaseView) × HasBlocks ext pages defs view
+SomeBlocks ext defs pages = (view : DatabaseView) × ViewHasBlocks ext pages defs view
 
 abbrev pub SomeRows : Extents → Definitions → PageList → Type 0
-SomeRows ext defs pages = (view : DatabaseView) × HasRows ext pages defs view
+SomeRows ext defs pages = (view : DatabaseView) × ViewHasRows ext pages defs view
 
 abbrev pub SomeCells : Extents → Definitions → PageList → Type 0
-SomeCells ext defs pages = (view : DatabaseView) × HasCells ext pages defs view
+SomeCells ext defs pages = (view : DatabaseView) × ViewHasCells ext pages defs view
 
 -- ---- what is known behind the others
 
@@ -103,40 +103,40 @@ pub record KeepsExtents (ext : Extents) (pages : PageList) : Type 0 where
 -- the first four, and the trees are counted
 pub record KeepsCounted (ext : Extents) (defs : Definitions) (times : List ℕ) (pages : PageList) : Type 0 where
   pub view : DatabaseView
-  pub known : HasTrees ext pages defs view
+  pub known : ViewHasTrees ext pages defs view
   pub counted : AreTimesInTrees pages view times
   pub before : NoneBreaksBefore ext pages 5
 
 -- the first six
 pub record KeepsBlocks (ext : Extents) (defs : Definitions) (pages : PageList) : Type 0 where
   pub view : DatabaseView
-  pub known : HasBlocks ext pages defs view
+  pub known : ViewHasBlocks ext pages defs view
   pub before : NoneBreaksBefore ext pages 7
 
 -- the first seven
 pub record KeepsRows (ext : Extents) (defs : Definitions) (pages : PageList) : Type 0 where
   pub view : DatabaseView
-  pub known : HasRows ext pages defs view
+  pub known : ViewHasRows ext pages defs view
   pub before : NoneBreaksBefore ext pages 8
 
 -- the first eight
 pub record KeepsCounts (ext : Extents) (defs : Definitions) (pages : PageList) : Type 0 where
   pub view : DatabaseView
-  pub known : HasRows ext pages defs view
+  pub known : ViewHasRows ext pages defs view
   pub rule8 : AreCountsSound ext pages view
   pub before : NoneBreaksBefore ext pages 9
 
 -- the first ten
 pub record KeepsBlockIndexes (ext : Extents) (defs : Definitions) (pages : PageList) : Type 0 where
   pub view : DatabaseView
-  pub known : HasCells ext pages defs view
+  pub known : ViewHasCells ext pages defs view
   pub rule10 : AreBlockIndexesSound ext pages view
   pub before : NoneBreaksBefore ext pages 11
 
 -- the first eleven
 pub record KeepsIndexes (ext : Extents) (defs : Definitions) (pages : PageList) : Type 0 where
   pub view : DatabaseView
-  pub known : HasCells ext pages defs view
+  pub known : ViewHasCells ext pages defs view
   pub rule10 : AreBlockIndexesSound ext pages view
   pub rule11 : AreSoundIndexes ext pages view
   pub before : NoneBreaksBefore ext pages 12
@@ -166,7 +166,7 @@ table_pages_of_defs ext pages defs view is sound =
     }
 
 -- the trees of the tables that are defined
-trees_of_defs : (ext : Extents) (pages : PageList) (owners : List Kind) (defs : Definitions) (view : DatabaseView) → HasDefinitions ext pages owners defs → HasTheirTrees pages owners defs view → HasTrees ext pages defs view
+trees_of_defs : (ext : Extents) (pages : PageList) (owners : List Kind) (defs : Definitions) (view : DatabaseView) → HasDefinitions ext pages owners defs → HasTheirTrees pages owners defs view → ViewHasTrees ext pages defs view
 trees_of_defs ext pages owners defs view has trees = record {
   defined = trees.defined;
   rule1 = has.rule1;

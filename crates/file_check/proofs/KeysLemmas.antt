@@ -27,7 +27,7 @@ use Rattle.mdc_sound.proofs.DefinitionTreesLemmas.{index_has_parts}
 use Rattle.mdc_sound.proofs.StandsForLemmas.{one_tree_at}
 use Rattle.file_check.specs.Judging.{BreaksAny, Judges, JudgesEach, JudgesRule}
 use Rattle.file_check.specs.KeysJudged.{AreTableKeys, BreaksTableKeys, HasTableRows, TellsRows, WhereRows}
-use Rattle.file_check.specs.Known.{HasCells}
+use Rattle.file_check.specs.Known.{ViewHasCells}
 use Rattle.file_check.specs.Looking.{Unless}
 use Rattle.file_check.proofs.JudgingLemmas.{breaks_any-member, judges_as, member-breaks_any, place_with}
 use Rattle.file_check.proofs.KnownTablesLemmas.{IsDefinedAt, defined_is_viewed, member_is_placed, placed_is_there, viewed_is_defined}
@@ -43,7 +43,7 @@ KeysBreak ext pages table = BreaksTableKeys table.def (rows_in_table ext pages t
 -- ---- one table
 
 -- the rows of a table of the view are told
-known_rows : (ext : Extents) (pages : PageList) (defs : Definitions) (view : DatabaseView) (table : TableView) → HasCells ext pages defs view → Contains (tables_there view.places) table
+known_rows : (ext : Extents) (pages : PageList) (defs : Definitions) (view : DatabaseView) (table : TableView) → ViewHasCells ext pages defs view → Contains (tables_there view.places) table
     → HasTableRows ext pages table.def table.map
 known_rows ext pages defs view table has there =
     record {
@@ -54,7 +54,7 @@ known_rows ext pages defs view table has there =
     }
 
 -- what was judged of a definition is judged of its table in the view
-pub judged_in_view : (ext : Extents) (s : StoreState) (defs : Definitions) (view : DatabaseView) (def : TableDef) (here : Option ℕ) → IsTrue s.is_told → HasCells ext s.work defs view
+pub judged_in_view : (ext : Extents) (s : StoreState) (defs : Definitions) (view : DatabaseView) (def : TableDef) (here : Option ℕ) → IsTrue s.is_told → ViewHasCells ext s.work defs view
     → WhereRows s ext def (λ rows. Judges (AreTableKeys def rows) (BreaksTableKeys def rows) here)
     → (i : ℕ) (table : TableView) → slice_get view.places i ≡ Some (Some table) → table.def ≡ def → Judges (KeysHold ext s.work table) (KeysBreak ext s.work table) here
 judged_in_view ext s defs view def here told has judged i table at same =
@@ -74,7 +74,7 @@ module _ {S : Type 0} (g : Ghosts S) where
   -- damage of the table of a place isn't named where its rows are known
   pub cells_unless : (ext : Extents) (old now : S) (defs : Definitions) (i : ℕ) (place : Option TableDef) (def : TableDef) (damage : Damage) → (g.state now).is_told ≡ (g.state old).is_told
       → (g.state now).work ≡ (g.state old).work → i < length defs → place ≡ get_or defs i place → place ≡ Some def
-      → Unless g now (TellsRows ext def) damage → Unless g old (λ told. (view : DatabaseView) × HasCells ext told defs view) damage
+      → Unless g now (TellsRows ext def) damage → Unless g old (λ told. (view : DatabaseView) × ViewHasCells ext told defs view) damage
   cells_unless ext old now defs i place def damage tells works low is some unless told (view, has) =
       let (table, at, same) = place_with view.places i def (place_of_def ext (g.state old).work defs view has.rows.blocks.trees i (Some def) (place_found defs i place (Some def) low is some)) in
       unless (tells ∙ told) (subst (TellsRows ext def) (sym works)
@@ -123,7 +123,7 @@ says_keys ext pages rule page is (BreaksRule.unique t def index inside shows) = 
 says_keys ext pages rule page is other = absurd (omega (arith, is))
 
 -- all tables
-pub judges_keys : (ext : Extents) (pages : PageList) (defs : Definitions) (view : DatabaseView) (found : Option ℕ) → HasCells ext pages defs view
+pub judges_keys : (ext : Extents) (pages : PageList) (defs : Definitions) (view : DatabaseView) (found : Option ℕ) → ViewHasCells ext pages defs view
     → JudgesEach (KeysHold ext pages) (KeysBreak ext pages) (tables_there view.places) found → JudgesRule ext pages 12 (AreKeysSound ext pages view) found
 judges_keys ext pages defs view found has judged =
     let tables = tables_there view.places in

@@ -12,12 +12,12 @@ use Rattle.mdc_sound.specs.BlockRules.{AreBlockRowsSound}
 use Rattle.mdc_sound.specs.SpaceRules.{DatabaseView, tables_there}
 use Rattle.mdc_sound.specs.TableViews.{TableView}
 use Rattle.mdc_sound.proofs.BlockRulesLemmas.{each_of}
-use Rattle.file_check.specs.Known.{HasRows, HasUsedRows}
+use Rattle.file_check.specs.Known.{ViewHasRows, HasUsedRows}
 use Rattle.file_check.proofs.JudgingLemmas.{place_with}
 use Rattle.file_check.proofs.KnownTablesLemmas.{placed_is_there}
 use Rattle.file_check.proofs.ShownTablesLemmas.{member_map, place_of_def}
 
-module _ (ext : Extents) (pages : PageList) (defs : Definitions) (view : DatabaseView) (has : HasRows ext pages defs view) where
+module _ (ext : Extents) (pages : PageList) (defs : Definitions) (view : DatabaseView) (has : ViewHasRows ext pages defs view) where
   -- the Used blocks of a table have row pages
   pub member_rows : (table : TableView) → Contains (tables_there view.places) table → HasUsedRows ext pages table.def table.map
   member_rows table member = record {

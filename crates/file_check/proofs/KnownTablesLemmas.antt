@@ -13,7 +13,7 @@ use Rattle.mdc_sound.specs.SpaceRules.{DatabaseView, IsTablePlaceSound, tables_t
 use Rattle.mdc_sound.specs.TablePages.{DefinesTable, table_page_at}
 use Rattle.mdc_sound.specs.TableViews.{TableView}
 use Rattle.mdc_sound.proofs.SpaceRulesLemmas.{range_at, range_length, same_table}
-use Rattle.file_check.specs.Known.{HasTrees}
+use Rattle.file_check.specs.Known.{ViewHasTrees}
 
 -- what stands in a place is one of the tables
 pub placed_is_there : (places : List (Option TableView)) (t : ℕ) (table : TableView) → slice_get places t ≡ Some (Some table) → Contains (tables_there places) table
@@ -40,7 +40,7 @@ pub record IsViewed (view : DatabaseView) (t : ℕ) (def : TableDef) : Type 0 wh
   pub same : table.def ≡ def
 
 pub defined_is_viewed : (ext : Extents) (pages : PageList) (defs : Definitions) (view : DatabaseView) (t : ℕ) (def : TableDef)
-    → HasTrees ext pages defs view → t < 16 → DefinesTable pages t def → IsViewed view t def
+    → ViewHasTrees ext pages defs view → t < 16 → DefinesTable pages t def → IsViewed view t def
 defined_is_viewed ext pages defs view t def has low defines =
     go (get_or view.places t None) (slice_get-get_or view.places t None (omega (arith, low, range_length (IsTablePlaceSound ext pages view.owners) 0 16 view.places has.rule3.each)))
   where
@@ -67,7 +67,7 @@ pub record IsDefinedAt (pages : PageList) (t : ℕ) (table : TableView) : Type 0
   pub defines : DefinesTable pages t table.def
 
 pub viewed_is_defined : (ext : Extents) (pages : PageList) (defs : Definitions) (view : DatabaseView) (t : ℕ) (table : TableView)
-    → HasTrees ext pages defs view → slice_get view.places t ≡ Some (Some table) → IsDefinedAt pages t table
+    → ViewHasTrees ext pages defs view → slice_get view.places t ≡ Some (Some table) → IsDefinedAt pages t table
 viewed_is_defined ext pages defs view t table has at =
     let here = range_at (IsTablePlaceSound ext pages view.owners) 0 16 view.places t (Some table) has.rule3.each at in
     let same : 0 + t ≡ t = omega arith in

@@ -17,7 +17,7 @@ use Rattle.extent_map.proofs.MapLemmas.{entry_of-map_page}
 use Rattle.table_trees.specs.ToldPages.{PageList, told_pages}
 use Rattle.table_trees.proofs.ToldPagesLemmas.{told_of_map}
 use Rattle.mdc_sound.specs.SpaceRules.{DatabaseView, IsMapSound}
-use Rattle.file_check.specs.Known.{HasTrees}
+use Rattle.file_check.specs.Known.{ViewHasTrees}
 use Rattle.file_check.specs.Looking.{Unless}
 
 -- one page of the map shows one owner of an extent
@@ -33,9 +33,9 @@ sound_map_told ext pages owners sound = record { count = sound.count; pages = λ
 
 module _ {S : Type 0} (g : Ghosts S) (s : S) (ext : Extents) where
   -- so a store that tells these pages holds it
-  pub known_map : (defs : Definitions) (view : DatabaseView) → IsTrue (g.state s).is_told → HasTrees ext (g.state s).work defs view → HoldsMap g ext s view.owners
+  pub known_map : (defs : Definitions) (view : DatabaseView) → IsTrue (g.state s).is_told → ViewHasTrees ext (g.state s).work defs view → HoldsMap g ext s view.owners
   known_map defs view told has = told_of_map g s told ext view.owners (sound_map_told ext (g.state s).work view.owners has.rule2)
 
   -- and no call on extents names damage
-  pub space_unless : (defs : Definitions) (damage : Damage) → BreaksSpace g ext s damage → Unless g s (λ pages. (view : DatabaseView) × HasTrees ext pages defs view) damage
+  pub space_unless : (defs : Definitions) (damage : Damage) → BreaksSpace g ext s damage → Unless g s (λ pages. (view : DatabaseView) × ViewHasTrees ext pages defs view) damage
   space_unless defs damage breaks told has = breaks_space_never damage (known_map defs has.0 told has.1) breaks

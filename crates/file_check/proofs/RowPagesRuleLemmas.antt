@@ -15,7 +15,7 @@ use Rattle.mdc_sound.specs.FittingRows.{RowFits}
 use Rattle.mdc_sound.specs.SpaceRules.{DatabaseView, tables_there}
 use Rattle.mdc_sound.specs.TableViews.{TableView}
 use Rattle.file_check.specs.Judging.{BreaksAny, JudgesEach, JudgesRule}
-use Rattle.file_check.specs.Known.{HasTrees}
+use Rattle.file_check.specs.Known.{ViewHasTrees}
 use Rattle.file_check.specs.BlocksJudged.{BreaksBlockRows}
 use Rattle.file_check.proofs.BlockSlotsLemmas.{page_of_row, row_on_page}
 use Rattle.file_check.proofs.JudgingLemmas.{breaks_any-member, judges_as, member-breaks_any}
@@ -29,7 +29,7 @@ AreTableRowsSound ext pages table = AllByRecursion (AreBlockRowsSound ext pages 
 abbrev pub BreaksTableRows : Extents → PageList → TableView → ℕ → Type 0
 BreaksTableRows ext pages table = BreaksAny (BreaksBlockRows ext pages table.def) (used_blocks table.map)
 
-module _ (ext : Extents) (pages : PageList) (defs : Definitions) (view : DatabaseView) (has : HasTrees ext pages defs view) where
+module _ (ext : Extents) (pages : PageList) (defs : Definitions) (view : DatabaseView) (has : ViewHasTrees ext pages defs view) where
   breaks_rule7 : (p : ℕ) → BreaksAny (BreaksTableRows ext pages) (tables_there view.places) p → BreaksRule ext pages 7 p
   breaks_rule7 p broken =
       let in_table = member-breaks_any (BreaksTableRows ext pages) (tables_there view.places) p broken in

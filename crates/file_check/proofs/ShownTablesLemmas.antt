@@ -19,7 +19,7 @@ use Rattle.mdc_sound.specs.SpaceRules.{AreBlockMapsSound, DatabaseView, IsBlockM
 use Rattle.mdc_sound.specs.TableViews.{TableView, trees_of_table}
 use Rattle.mdc_sound.proofs.BlockRulesLemmas.{each_as, each_of}
 use Rattle.mdc_sound.proofs.StandsForLemmas.{one_tree_at}
-use Rattle.file_check.specs.Known.{HasBlockMap, HasTrees}
+use Rattle.file_check.specs.Known.{HasBlockMap, ViewHasTrees}
 use Rattle.file_check.proofs.JudgingLemmas.{place_with}
 use Rattle.file_check.proofs.KnownTablesLemmas.{defined_is_viewed, member_is_placed, placed_is_there, viewed_is_defined}
 
@@ -33,7 +33,7 @@ limits_found defs i def within at =
     let here = (range_at IsWithinLimits 0 16 defs i (Some def) within at).1 in
     subst (λ t. IsTableDef t def) (sym here.stands) here
 
-module _ (ext : Extents) (pages : PageList) (defs : Definitions) (view : DatabaseView) (has : HasTrees ext pages defs view) where
+module _ (ext : Extents) (pages : PageList) (defs : Definitions) (view : DatabaseView) (has : ViewHasTrees ext pages defs view) where
   -- the block map of a table of the view stands
   pub viewed_map : (table : TableView) → Contains (tables_there view.places) table → HasTree pages (map_place table.def) table.map
   viewed_map table there = (each_of (λ (t : TableView). AllZip (HasTree pages) (tree_places t.def) (trees_of_table t)) (tables_there view.places) table has.rule4 there).0

@@ -29,7 +29,7 @@ use Rattle.mdc_sound.specs.TableRows.{rows_in_block, rows_in_table}
 use Rattle.mdc_sound.specs.TableViews.{TableView, trees_of_table}
 use Rattle.mdc_sound.proofs.BlockRulesLemmas.{each_as, each_of}
 use Rattle.mdc_sound.proofs.SpaceRulesLemmas.{range_at, range_length}
-use Rattle.file_check.specs.Known.{HasTrees, defs_of}
+use Rattle.file_check.specs.Known.{ViewHasTrees, defs_of}
 use Rattle.file_check.specs.Verdicts.{IsVerdictOf}
 use Rattle.file_check.specs.declared.verdict.Verdict.{Verdict}
 use Rattle.file_check.specs.declared.verdict.Verdict.TheVariants.{Sound, Broken}
@@ -86,7 +86,7 @@ record_holds pages def P (first ∷ indexes) (tree ∷ trees) index all there st
 module _ (ext : Extents) (pages : PageList) (view : DatabaseView) (keeps : KeepAllRules ext pages view) where
   -- ---- what is known of the view
 
-  has_trees : HasTrees ext pages (defs_of view) view
+  has_trees : ViewHasTrees ext pages (defs_of view) view
   has_trees = record {
     defined = refl;
     rule1 = keeps.first.rule1;

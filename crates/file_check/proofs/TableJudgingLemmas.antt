@@ -24,7 +24,7 @@ use Rattle.mdc_sound.proofs.StandsForLemmas.{one_tree_at}
 use Rattle.stored_catalog.specs.StoredDefinitions.{AreWithinLimits, IsWithinLimits}
 use Rattle.table_page.specs.TableLimits.{IsTableDef}
 use Rattle.file_check.specs.Judging.{Judges, JudgesEach, lower}
-use Rattle.file_check.specs.Known.{HasCells}
+use Rattle.file_check.specs.Known.{ViewHasCells}
 use Rattle.file_check.proofs.JudgingLemmas.{judges_next}
 use Rattle.file_check.specs.declared.table_index.IndexKind.{IndexKind}
 use Rattle.file_check.specs.declared.table_index.IndexKind.TheVariants.{Blocks, Rows}
@@ -122,7 +122,7 @@ block_within ext view table block sound there =
     subst (λ n. n < ext.cap) line.block_is
     (each_of (IsMapLineSound ext view.owners table.def) (map_lines table.map) (map_line line.entry) sound.lines (in_map map_line (leaf_entries table.map) line.entry (contains_entry (leaf_entries table.map) line.entry line.there))).within
 
-pub has_indexes : (kind : IndexKind) (ext : Extents) (pages : PageList) (defs : Definitions) (view : DatabaseView) (t : ℕ) (table : TableView) → HasCells ext pages defs view → slice_get view.places t ≡ Some (Some table)
+pub has_indexes : (kind : IndexKind) (ext : Extents) (pages : PageList) (defs : Definitions) (view : DatabaseView) (t : ℕ) (table : TableView) → ViewHasCells ext pages defs view → slice_get view.places t ≡ Some (Some table)
     → HasIndexes kind ext pages table.def table.map
 has_indexes kind ext pages defs view t table known at =
     let trees = there_at (λ table. AllZip (HasTree pages) (tree_places table.def) (trees_of_table table)) view.places t table at known.rows.blocks.trees.rule4 in
@@ -153,14 +153,14 @@ table_in (None ∷ places) zero def at = absurd (cc)
 table_in (Some table ∷ places) zero def at = (table, refl, same_Some table.def def (same_Some (Some table.def) (Some def) at))
 table_in (place ∷ places) (suc t) def at = table_in places t def at
 
-pub table_at : (ext : Extents) (pages : PageList) (defs : Definitions) (view : DatabaseView) (t : ℕ) (def : TableDef) → HasCells ext pages defs view → slice_get defs t ≡ Some (Some def) → IsTableAt view t def
+pub table_at : (ext : Extents) (pages : PageList) (defs : Definitions) (view : DatabaseView) (t : ℕ) (def : TableDef) → ViewHasCells ext pages defs view → slice_get defs t ≡ Some (Some def) → IsTableAt view t def
 table_at ext pages defs view t def known at =
     let (table, stands, same) = table_in view.places t def (ap (λ (ds : Definitions). slice_get ds t) known.rows.blocks.trees.defined ∙ at) in
     record { table = table; stands = stands; same = same }
 
 -- what was judged of its definition is judged of the table
 pub table_judged : (kind : IndexKind) (ext : Extents) (pages work : PageList) (defs : Definitions) (view : DatabaseView) (t : ℕ) (table : TableView) (def : TableDef) (here : Option ℕ) → work ≡ pages
-    → HasCells ext pages defs view → slice_get view.places t ≡ Some (Some table) → table.def ≡ def
+    → ViewHasCells ext pages defs view → slice_get view.places t ≡ Some (Some table) → table.def ≡ def
     → ((map_tree : Forest) → HasIndexes kind ext work def map_tree → JudgesIndexes kind ext work def map_tree here) → Judges (HasSoundIndexes kind ext pages table) (BreaksAnyIndex kind ext pages table) here
 table_judged kind ext pages work defs view t table def here same known at is judged =
     let has = has_indexes kind ext pages defs view t table known at in

@@ -14,7 +14,7 @@ use Rattle.block_rows.specs.declared.hit.Hit.{Hit}
 use Rattle.table_trees.specs.TableTrees.{map_place}
 use Rattle.table_trees.specs.ToldPages.{HasTree}
 use Rattle.mdc_sound.specs.TableRows.{PlacedRow, rows_in_table}
-use Rattle.file_check.specs.Known.{HasBlockMap, HasRowPages}
+use Rattle.file_check.specs.Known.{HasBlockMap, BlockHasRowPages}
 use Rattle.file_check.specs.KeysJudged.{HasTableRows, TellsRows, WhereRows}
 use Rattle.file_check.specs.Looking.{Unless}
 
@@ -33,9 +33,9 @@ module _ {S : Type 0} (g : Ghosts S) where
   -- damage of a Used block
   pub block_unless : (ext : Extents) (old now : S) (def : TableDef) (block : ℕ) (damage : Damage) → (g.state now).is_told ≡ (g.state old).is_told → (g.state now).work ≡ (g.state old).work
       → (IsTrue (g.state old).is_told → (t : Forest) → HasTree (g.state old).work (map_place def) t → Contains (used_blocks t) block)
-      → Unless g now (λ told. HasRowPages ext told def block) damage → Unless g old (TellsRows ext def) damage
+      → Unless g now (λ told. BlockHasRowPages ext told def block) damage → Unless g old (TellsRows ext def) damage
   block_unless ext old now def block damage tells works used unless told (t, rows) =
-      unless (tells ∙ told) (subst (λ pages. HasRowPages ext pages def block) (sym works) (rows.rows block (used told t rows.map.tree)).forms)
+      unless (tells ∙ told) (subst (λ pages. BlockHasRowPages ext pages def block) (sym works) (rows.rows block (used told t rows.map.tree)).forms)
 
   -- damage of a later state that tells the same
   pub rows_unless : (ext : Extents) (old now : S) (def : TableDef) (damage : Damage) → (g.state now).is_told ≡ (g.state old).is_told → (g.state now).work ≡ (g.state old).work

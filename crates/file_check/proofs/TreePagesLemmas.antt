@@ -32,7 +32,7 @@ use Rattle.mdc_sound.specs.TableViews.{TableView, trees_of_table}
 use Rattle.mdc_sound.proofs.SpaceRulesLemmas.{same_table, there_at, there_sum, two_there_sum}
 use Rattle.mdc_sound.proofs.StandsForLemmas.{one_tree_at}
 use Rattle.file_check.specs.Judging.{JudgesRule}
-use Rattle.file_check.specs.Known.{AreTimesInTrees, HasTrees}
+use Rattle.file_check.specs.Known.{AreTimesInTrees, ViewHasTrees}
 use Rattle.file_check.specs.Looking.{AnyPage, Unless}
 use Rattle.file_check.specs.TreesJudged.{AreTimesDue, IsLowestUndue, due_times}
 use Rattle.file_check.proofs.KindsLemmas.{ReadsMap}
@@ -92,7 +92,7 @@ counted_twice view p t u i j x y apart = elim (cases_eq t u) [
       )
 ]
 
-module _ (ext : Extents) (pages : PageList) (defs : Definitions) (view : DatabaseView) (has : HasTrees ext pages defs view) where
+module _ (ext : Extents) (pages : PageList) (defs : Definitions) (view : DatabaseView) (has : ViewHasTrees ext pages defs view) where
   -- the place of a tree of the view
   placed : (t i : ℕ) (table : TableView) (tree : Forest) → slice_get view.places t ≡ Some (Some table) → slice_get (trees_of_table table) i ≡ Some tree
       → (place : TreePlace) × (slice_get (tree_places table.def) i ≡ Some place) × HasTree pages place tree
@@ -347,11 +347,11 @@ page_before ext e p low = let more : (e + 1) * ext.extent_pages ≡ e * ext.exte
 
 -- the kind that was read is that of the view
 pub kind_owned : {S : Type 0} (g : Ghosts S) (ext : Extents) (old mid : S) (e : ℕ) (kind : Kind) → (g.state mid).is_told ≡ (g.state old).is_told → (g.state mid).work ≡ (g.state old).work
-    → (defs : Definitions) (view : DatabaseView) → IsTrue (g.state old).is_told → HasTrees ext (g.state old).work defs view → (HoldsMap g ext mid view.owners → kind ≡ owner_of view.owners e) → owner_of view.owners e ≡ kind
+    → (defs : Definitions) (view : DatabaseView) → IsTrue (g.state old).is_told → ViewHasTrees ext (g.state old).work defs view → (HoldsMap g ext mid view.owners → kind ≡ owner_of view.owners e) → owner_of view.owners e ≡ kind
 kind_owned g ext old mid e kind still same defs view told has read = sym (read (holds_map_same still same (known_map g old ext defs view told has)))
 
 -- where the rules before hold, reading the map names no damage
 pub reads_unless : {S : Type 0} (g : Ghosts S) (ext : Extents) (old new : S) (fault : Option StoreFault) → ReadsMap g ext old new fault
-    → RunsOverPages g NoPage AnyPage (Unless g old (λ pages. (defs : Definitions) × (view : DatabaseView) × HasTrees ext pages defs view)) old new fault
+    → RunsOverPages g NoPage AnyPage (Unless g old (λ pages. (defs : Definitions) × (view : DatabaseView) × ViewHasTrees ext pages defs view)) old new fault
 reads_unless g ext old new fault run =
     runs_wider run (λ p there none. none) (λ p is. tt) (λ damage breaks told has. breaks_space_never damage (known_map g old ext has.0 has.1 told has.2) breaks)

@@ -67,7 +67,7 @@ pub record AreTimesInTrees (pages : PageList) (view : DatabaseView) (times : Lis
   pub each : (p : ℕ) → p < length pages → slice_index_or times p 0 ≡ times_in_trees p view
 
 -- the first four rules hold of a view with these definitions
-pub record HasTrees (ext : Extents) (pages : PageList) (defs : Definitions) (view : DatabaseView) : Type 0 where
+pub record ViewHasTrees (ext : Extents) (pages : PageList) (defs : Definitions) (view : DatabaseView) : Type 0 where
   pub defined : defs_of view ≡ defs
   pub rule1 : IsRootSound ext pages
   pub rule2 : IsMapSound ext pages view.owners
@@ -78,23 +78,23 @@ pub record HasTrees (ext : Extents) (pages : PageList) (defs : Definitions) (vie
 -- ---- 5 to 9: blocks
 
 -- the first six
-pub record HasBlocks (ext : Extents) (pages : PageList) (defs : Definitions) (view : DatabaseView) : Type 0 where
-  pub trees : HasTrees ext pages defs view
+pub record ViewHasBlocks (ext : Extents) (pages : PageList) (defs : Definitions) (view : DatabaseView) : Type 0 where
+  pub trees : ViewHasTrees ext pages defs view
   pub rule5 : AreTreePagesSound ext view
   pub rule6 : AreBlockMapsSound ext view
 
 -- each page of a block is a row page of these columns
-abbrev pub HasRowPages : Extents → PageList → TableDef → ℕ → Type 0
-HasRowPages ext pages def block = (j : ℕ) → j < ext.extent_pages → IsBlockPageSound ext pages def block j
+abbrev pub BlockHasRowPages : Extents → PageList → TableDef → ℕ → Type 0
+BlockHasRowPages ext pages def block = (j : ℕ) → j < ext.extent_pages → IsBlockPageSound ext pages def block j
 
 -- the first seven
-pub record HasRows (ext : Extents) (pages : PageList) (defs : Definitions) (view : DatabaseView) : Type 0 where
-  pub blocks : HasBlocks ext pages defs view
+pub record ViewHasRows (ext : Extents) (pages : PageList) (defs : Definitions) (view : DatabaseView) : Type 0 where
+  pub blocks : ViewHasBlocks ext pages defs view
   pub rule7 : AreRowPagesSound ext pages view
 
 -- the first nine
-pub record HasCells (ext : Extents) (pages : PageList) (defs : Definitions) (view : DatabaseView) : Type 0 where
-  pub rows : HasRows ext pages defs view
+pub record ViewHasCells (ext : Extents) (pages : PageList) (defs : Definitions) (view : DatabaseView) : Type 0 where
+  pub rows : ViewHasRows ext pages defs view
   pub rule8 : AreCountsSound ext pages view
   pub rule9 : AreCellsSound ext pages view
 
@@ -110,4 +110,4 @@ pub record HasBlockMap (ext : Extents) (pages : PageList) (def : TableDef) (map_
 -- and each of its Used blocks has row pages
 pub record HasUsedRows (ext : Extents) (pages : PageList) (def : TableDef) (map_tree : Forest) : Type 0 where
   pub map : HasBlockMap ext pages def map_tree
-  pub forms : (block : ℕ) → Contains (used_blocks map_tree) block → HasRowPages ext pages def block
+  pub forms : (block : ℕ) → Contains (used_blocks map_tree) block → BlockHasRowPages ext pages def block

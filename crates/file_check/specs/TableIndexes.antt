@@ -17,7 +17,7 @@ use Rattle.table_trees.specs.ToldPages.{HasTree, PageList}
 use Rattle.mdc_sound.specs.TableRows.{PlacedRow, rows_in_block}
 use Rattle.mdc_sound.specs.TableViews.{TableView}
 use Rattle.file_check.specs.Judging.{BreaksAny, JudgesEach}
-use Rattle.file_check.specs.Known.{HasRowPages}
+use Rattle.file_check.specs.Known.{BlockHasRowPages}
 use Rattle.file_check.specs.declared.entry_set.EntrySet.{EntrySet}
 use Rattle.file_check.specs.declared.table_index.IndexKind.{IndexKind}
 use Rattle.file_check.specs.declared.table_index.IndexKind.TheVariants.{Blocks, Rows}
@@ -119,7 +119,7 @@ LacksOne wanted entries = (entry : Entry) × Contains wanted entry × (Contains 
 
 -- each of these blocks is an extent of row pages
 abbrev pub AreReadable : Extents → PageList → TableDef → List ℕ → Type 0
-AreReadable ext pages def blocks = (block : ℕ) → Contains blocks block → (block < ext.cap) × HasRowPages ext pages def block
+AreReadable ext pages def blocks = (block : ℕ) → Contains blocks block → (block < ext.cap) × BlockHasRowPages ext pages def block
 
 -- a table's block map and its indexes of a kind stand, and its Used blocks can be read
 pub record HasIndexes (kind : IndexKind) (ext : Extents) (pages : PageList) (def : TableDef) (map_tree : Forest) : Type 0 where

@@ -11,7 +11,7 @@ ghost use Rattle.table_trees.specs.TreesBeside.{BreaksTreeAt, HoldsTreeAt};
 ghost use Rattle.stored_catalog.specs.StoredDefinitions.{AreWithinLimits};
 ghost use Rattle.mdc_sound.specs.SpaceRules.{AreBlockMapsSound, DatabaseView};
 ghost use Rattle.file_check.specs.Judging.{JudgesRule};
-ghost use Rattle.file_check.specs.Known.{HasTrees};
+ghost use Rattle.file_check.specs.Known.{ViewHasTrees};
 ghost use Rattle.file_check.specs.Looking.{AnyPage, Unless};
 ghost use Rattle.file_check.specs.BlockMapsJudged.{JudgesMap, ListBlocksOf, ListOthers};
 
@@ -37,11 +37,11 @@ pub(crate) fn judge_block_maps<P: Pages>(
 ) -> Result<Option<u32>, StoreFault>
     requires limits { AreWithinLimits defs.now }
     requires going { (P.state pages.old).ended ≡ false }
-    ensures judged { IfOk result (λ found. IsTrue (P.state pages.old).is_told → (view : DatabaseView) → HasTrees ext.now (P.state pages.old).work defs.now view
+    ensures judged { IfOk result (λ found. IsTrue (P.state pages.old).is_told → (view : DatabaseView) → ViewHasTrees ext.now (P.state pages.old).work defs.now view
         → JudgesRule ext.now (P.state pages.old).work 6 (AreBlockMapsSound ext.now view) found) }
     ensures same { (P.state pages.new).work ≡ (P.state pages.old).work }
     ensures runs { RunsOverPages P.Pages NoPage AnyPage
-        (Unless P.Pages pages.old (λ told. (view : DatabaseView) × HasTrees ext.now told defs.now view)) pages.old pages.new (fault_of result) }
+        (Unless P.Pages pages.old (λ told. (view : DatabaseView) × ViewHasTrees ext.now told defs.now view)) pages.old pages.new (fault_of result) }
 {
     let kinds = kinds_of(alloc, ext, pages)?;
     let mut lowest = None;

@@ -10,7 +10,7 @@ ghost use Rattle.block_rows.specs.HeldRows.{HaveReadValues, placed_row};
 ghost use Rattle.table_page.specs.TableLimits.{IsTableDef};
 ghost use Rattle.mdc_sound.specs.BlockRules.{AreCellsSound, IsOfOneCell};
 ghost use Rattle.mdc_sound.specs.SpaceRules.{DatabaseView};
-ghost use Rattle.file_check.specs.Known.{HasRowPages, HasRows, HasUsedRows};
+ghost use Rattle.file_check.specs.Known.{BlockHasRowPages, ViewHasRows, HasUsedRows};
 ghost use Rattle.file_check.specs.BlocksJudged.{BreaksBlockCell, JudgesCell};
 ghost use Rattle.file_check.specs.Judging.{Judges, JudgesEach, JudgesRule};
 ghost use Rattle.file_check.specs.Looking.{AnyPage, Unless};
@@ -35,11 +35,11 @@ pub(crate) fn judge_cells<P: Pages>(
 ) -> Result<Option<u32>, StoreFault>
     requires limits { AreWithinLimits defs.now }
     requires going { (P.state pages.old).ended ≡ false }
-    ensures judged { IfOk result (λ found. IsTrue (P.state pages.old).is_told → (view : DatabaseView) → HasRows ext.now (P.state pages.old).work defs.now view
+    ensures judged { IfOk result (λ found. IsTrue (P.state pages.old).is_told → (view : DatabaseView) → ViewHasRows ext.now (P.state pages.old).work defs.now view
         → JudgesRule ext.now (P.state pages.old).work 9 (AreCellsSound ext.now (P.state pages.old).work view) found) }
     ensures same { (P.state pages.new).work ≡ (P.state pages.old).work }
     ensures runs { RunsOverPages P.Pages NoPage AnyPage
-        (Unless P.Pages pages.old (λ told. (view : DatabaseView) × HasRows ext.now told defs.now view)) pages.old pages.new (fault_of result) }
+        (Unless P.Pages pages.old (λ told. (view : DatabaseView) × ViewHasRows ext.now told defs.now view)) pages.old pages.new (fault_of result) }
 {
     let mut lowest = None;
     for def in defs {
@@ -87,10 +87,10 @@ fn judge_block<P: Pages>(
     requires defined { IsTableDef def.now.number def.now }
     requires below { block < ext.now.cap }
     requires going { (P.state pages.old).ended ≡ false }
-    ensures judged { IfOk result (λ found. IsTrue (P.state pages.old).is_told → HasRowPages ext.now (P.state pages.old).work def.now block
+    ensures judged { IfOk result (λ found. IsTrue (P.state pages.old).is_told → BlockHasRowPages ext.now (P.state pages.old).work def.now block
         → Judges (IsOfOneCell ext.now (P.state pages.old).work def.now block) (BreaksBlockCell ext.now (P.state pages.old).work def.now block) found) }
     ensures same { (P.state pages.new).work ≡ (P.state pages.old).work }
-    ensures runs { RunsOverPages P.Pages NoPage AnyPage (Unless P.Pages pages.old (λ told. HasRowPages ext.now told def.now block)) pages.old pages.new (fault_of result) }
+    ensures runs { RunsOverPages P.Pages NoPage AnyPage (Unless P.Pages pages.old (λ told. BlockHasRowPages ext.now told def.now block)) pages.old pages.new (fault_of result) }
 {
     let rows = rows_of_block(alloc, ext, pages, def, block)?;
     if do_rows_share_cell(def, &rows) {

@@ -11,7 +11,7 @@ ghost use Rattle.row_page.specs.Row.{AreRowColumns};
 ghost use Rattle.mdc_sound.specs.SoundDatabase.{AreCountsSound};
 ghost use Rattle.mdc_sound.specs.TableRows.{rows_in_block};
 ghost use Rattle.mdc_sound.specs.SpaceRules.{DatabaseView};
-ghost use Rattle.file_check.specs.Known.{HasRowPages, HasRows, HasUsedRows};
+ghost use Rattle.file_check.specs.Known.{BlockHasRowPages, ViewHasRows, HasUsedRows};
 ghost use Rattle.file_check.specs.BlocksJudged.{BreaksBlockCount, BreaksLineCount, IsBlockCounted, IsLineCounted, JudgesCount};
 ghost use Rattle.file_check.specs.Judging.{Judges, JudgesEach, JudgesRule};
 ghost use Rattle.file_check.specs.Looking.{AnyPage, Unless};
@@ -35,11 +35,11 @@ pub(crate) fn judge_counts<P: Pages>(
 ) -> Result<Option<u32>, StoreFault>
     requires limits { AreWithinLimits defs.now }
     requires going { (P.state pages.old).ended ≡ false }
-    ensures judged { IfOk result (λ found. IsTrue (P.state pages.old).is_told → (view : DatabaseView) → HasRows ext.now (P.state pages.old).work defs.now view
+    ensures judged { IfOk result (λ found. IsTrue (P.state pages.old).is_told → (view : DatabaseView) → ViewHasRows ext.now (P.state pages.old).work defs.now view
         → JudgesRule ext.now (P.state pages.old).work 8 (AreCountsSound ext.now (P.state pages.old).work view) found) }
     ensures same { (P.state pages.new).work ≡ (P.state pages.old).work }
     ensures runs { RunsOverPages P.Pages NoPage AnyPage
-        (Unless P.Pages pages.old (λ told. (view : DatabaseView) × HasRows ext.now told defs.now view)) pages.old pages.new (fault_of result) }
+        (Unless P.Pages pages.old (λ told. (view : DatabaseView) × ViewHasRows ext.now told defs.now view)) pages.old pages.new (fault_of result) }
 {
     let mut lowest = None;
     for def in defs {
@@ -180,10 +180,10 @@ fn count_rows<P: Pages>(
     requires columns { AreRowColumns def.now.columns }
     requires below { block < ext.now.cap }
     requires going { (P.state pages.old).ended ≡ false }
-    ensures counted { IfOk result (λ rows. IsTrue (P.state pages.old).is_told → HasRowPages ext.now (P.state pages.old).work def.now block
+    ensures counted { IfOk result (λ rows. IsTrue (P.state pages.old).is_told → BlockHasRowPages ext.now (P.state pages.old).work def.now block
         → rows ≡ length (rows_in_block ext.now (P.state pages.old).work def.now block)) }
     ensures same { (P.state pages.new).work ≡ (P.state pages.old).work }
-    ensures runs { RunsOverPages P.Pages NoPage AnyPage (Unless P.Pages pages.old (λ told. HasRowPages ext.now told def.now block)) pages.old pages.new (fault_of result) }
+    ensures runs { RunsOverPages P.Pages NoPage AnyPage (Unless P.Pages pages.old (λ told. BlockHasRowPages ext.now told def.now block)) pages.old pages.new (fault_of result) }
 {
     let rows = rows_of_block(alloc, ext, pages, def, block)?;
     Ok(rows.len())

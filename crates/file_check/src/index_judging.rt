@@ -13,7 +13,7 @@ ghost use Rattle.table_trees.specs.TableTrees.{place_of_tree};
 ghost use Rattle.table_trees.specs.ToldPages.{HasTree};
 ghost use Rattle.mdc_sound.specs.SpaceRules.{DatabaseView, tables_there};
 ghost use Rattle.file_check.specs.Judging.{JudgesEach};
-ghost use Rattle.file_check.specs.Known.{HasCells};
+ghost use Rattle.file_check.specs.Known.{ViewHasCells};
 ghost use Rattle.file_check.specs.Looking.{AnyPage, Unless};
 ghost use Rattle.file_check.specs.TableIndexes.{AreReadable, AreSoundEntries, BreaksAnyIndex, FitsTable, HasIndexes, HasSoundIndexes, JudgesIndexes, LacksOne, NotesEntries, UnlessMap, UnlessReadable, bytes_behind_key, entries_of_blocks, noted_entries, spare_blocks};
 
@@ -47,11 +47,11 @@ pub(crate) fn judge_indexes<P: Pages>(
 ) -> Result<Option<u32>, StoreFault>
     requires limits { AreWithinLimits defs.now }
     requires going { (P.state pages.old).ended ≡ false }
-    ensures judged { IfOk result (λ found. IsTrue (P.state pages.old).is_told → (view : DatabaseView) → HasCells ext.now (P.state pages.old).work defs.now view
+    ensures judged { IfOk result (λ found. IsTrue (P.state pages.old).is_told → (view : DatabaseView) → ViewHasCells ext.now (P.state pages.old).work defs.now view
         → JudgesEach (HasSoundIndexes kind ext.now (P.state pages.old).work) (BreaksAnyIndex kind ext.now (P.state pages.old).work) (tables_there view.places) found) }
     ensures same { (P.state pages.new).work ≡ (P.state pages.old).work }
     ensures runs { RunsOverPages P.Pages NoPage AnyPage
-        (Unless P.Pages pages.old (λ told. (view : DatabaseView) × HasCells ext.now told defs.now view)) pages.old pages.new (fault_of result) }
+        (Unless P.Pages pages.old (λ told. (view : DatabaseView) × ViewHasCells ext.now told defs.now view)) pages.old pages.new (fault_of result) }
 {
     let mut lowest = None;
     for def in defs {

@@ -7,7 +7,7 @@ ghost use Rattle.stored_catalog.specs.StoredDefinitions.{AreWithinLimits};
 ghost use Rattle.mdc_sound.specs.SoundDatabase.{AreKeysSound};
 ghost use Rattle.mdc_sound.specs.SpaceRules.{DatabaseView};
 ghost use Rattle.file_check.specs.Judging.{JudgesRule};
-ghost use Rattle.file_check.specs.Known.{HasCells};
+ghost use Rattle.file_check.specs.Known.{ViewHasCells};
 ghost use Rattle.file_check.specs.Looking.{AnyPage, Unless};
 
 use crate::lowest::lower;
@@ -27,11 +27,11 @@ pub(crate) fn judge_keys<P: Pages>(
 ) -> Result<Option<u32>, StoreFault>
     requires limits { AreWithinLimits defs.now }
     requires going { (P.state pages.old).ended ≡ false }
-    ensures judged { IfOk result (λ found. IsTrue (P.state pages.old).is_told → (view : DatabaseView) → HasCells ext.now (P.state pages.old).work defs.now view
+    ensures judged { IfOk result (λ found. IsTrue (P.state pages.old).is_told → (view : DatabaseView) → ViewHasCells ext.now (P.state pages.old).work defs.now view
         → JudgesRule ext.now (P.state pages.old).work 12 (AreKeysSound ext.now (P.state pages.old).work view) found) }
     ensures same { (P.state pages.new).work ≡ (P.state pages.old).work }
     ensures runs { RunsOverPages P.Pages NoPage AnyPage
-        (Unless P.Pages pages.old (λ told. (view : DatabaseView) × HasCells ext.now told defs.now view)) pages.old pages.new (fault_of result) }
+        (Unless P.Pages pages.old (λ told. (view : DatabaseView) × ViewHasCells ext.now told defs.now view)) pages.old pages.new (fault_of result) }
 {
     let mut lowest = None;
     for def in defs {

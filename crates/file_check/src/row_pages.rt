@@ -12,7 +12,7 @@ ghost use Rattle.table_trees.specs.TableTrees.{map_place};
 ghost use Rattle.table_trees.specs.ToldPages.{HasTree};
 ghost use Rattle.mdc_sound.specs.BlockRules.{AreBlockRowsSound, AreRowPagesSound};
 ghost use Rattle.mdc_sound.specs.SpaceRules.{DatabaseView};
-ghost use Rattle.file_check.specs.Known.{HasBlockMap, HasBlocks};
+ghost use Rattle.file_check.specs.Known.{HasBlockMap, ViewHasBlocks};
 ghost use Rattle.file_check.specs.Judging.{Judges, JudgesEach, JudgesRule};
 ghost use Rattle.file_check.specs.Looking.{AnyPage, Unless};
 ghost use Rattle.file_check.specs.BlocksJudged.{BreaksBlockRows, JudgesPage, JudgesRows};
@@ -38,11 +38,11 @@ pub(crate) fn judge_row_pages<P: Pages>(
 ) -> Result<Option<u32>, StoreFault>
     requires limits { AreWithinLimits defs.now }
     requires going { (P.state pages.old).ended ≡ false }
-    ensures judged { IfOk result (λ found. IsTrue (P.state pages.old).is_told → (view : DatabaseView) → HasBlocks ext.now (P.state pages.old).work defs.now view
+    ensures judged { IfOk result (λ found. IsTrue (P.state pages.old).is_told → (view : DatabaseView) → ViewHasBlocks ext.now (P.state pages.old).work defs.now view
         → JudgesRule ext.now (P.state pages.old).work 7 (AreRowPagesSound ext.now (P.state pages.old).work view) found) }
     ensures same { (P.state pages.new).work ≡ (P.state pages.old).work }
     ensures runs { RunsOverPages P.Pages NoPage AnyPage
-        (Unless P.Pages pages.old (λ told. (view : DatabaseView) × HasBlocks ext.now told defs.now view)) pages.old pages.new (fault_of result) }
+        (Unless P.Pages pages.old (λ told. (view : DatabaseView) × ViewHasBlocks ext.now told defs.now view)) pages.old pages.new (fault_of result) }
 {
     let mut lowest = None;
     for def in defs {

@@ -6,7 +6,7 @@ ghost use Rattle.store_api.specs.RunsOverPages.{RunsOverPages};
 ghost use Rattle.row_page.specs.Row.{AreRowColumns};
 ghost use Rattle.block_rows.specs.HeldRows.{HaveReadValues, placed_row};
 ghost use Rattle.mdc_sound.specs.TableRows.{rows_in_block};
-ghost use Rattle.file_check.specs.Known.{HasRowPages};
+ghost use Rattle.file_check.specs.Known.{BlockHasRowPages};
 ghost use Rattle.file_check.specs.Looking.{AnyPage, Unless};
 
 use block_rows::{Hit, push_rows_of_block};
@@ -27,11 +27,11 @@ pub(crate) fn rows_of_block<P: Pages>(
     requires columns { AreRowColumns def.now.columns }
     requires below { block < ext.now.cap }
     requires going { (P.state pages.old).ended ≡ false }
-    ensures rows { IfOk result (λ hits. IsTrue (P.state pages.old).is_told → HasRowPages ext.now (P.state pages.old).work def.now block
+    ensures rows { IfOk result (λ hits. IsTrue (P.state pages.old).is_told → BlockHasRowPages ext.now (P.state pages.old).work def.now block
         → map placed_row hits.items ≡ rows_in_block ext.now (P.state pages.old).work def.now block) }
     ensures keyed { IfOk result (λ hits. HaveReadValues def.now.columns hits.items) }
     ensures same { (P.state pages.new).work ≡ (P.state pages.old).work }
-    ensures runs { RunsOverPages P.Pages NoPage AnyPage (Unless P.Pages pages.old (λ told. HasRowPages ext.now told def.now block)) pages.old pages.new (fault_of result) }
+    ensures runs { RunsOverPages P.Pages NoPage AnyPage (Unless P.Pages pages.old (λ told. BlockHasRowPages ext.now told def.now block)) pages.old pages.new (fault_of result) }
 {
     let every_row = None;
     let Ok(mut filter) = RowFilter::new(alloc, &every_row, def.columns.len()) else {

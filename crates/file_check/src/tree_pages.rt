@@ -7,7 +7,7 @@ ghost use Rattle.store_api.specs.RunsOverPages.{RunsOverPages};
 ghost use Rattle.extent_map.specs.declared.kind.Kind.{Kind};
 ghost use Rattle.mdc_sound.specs.SpaceRules.{AreTreePagesSound, DatabaseView};
 ghost use Rattle.file_check.specs.Judging.{JudgesRule};
-ghost use Rattle.file_check.specs.Known.{AreTimesInTrees, HasTrees};
+ghost use Rattle.file_check.specs.Known.{AreTimesInTrees, ViewHasTrees};
 ghost use Rattle.file_check.specs.Looking.{AnyPage, Unless};
 ghost use Rattle.file_check.specs.TreesJudged.{AreTimesDue, IsLowestUndue, due_times};
 
@@ -25,11 +25,11 @@ pub(crate) fn judge_tree_pages<P: Pages>(
     times: &[u16],
 ) -> Result<Option<u32>, StoreFault>
     requires going { (P.state pages.old).ended ≡ false }
-    ensures judged { IfOk result (λ found. IsTrue (P.state pages.old).is_told → (defs : Definitions) (view : DatabaseView) → HasTrees ext.now (P.state pages.old).work defs view
+    ensures judged { IfOk result (λ found. IsTrue (P.state pages.old).is_told → (defs : Definitions) (view : DatabaseView) → ViewHasTrees ext.now (P.state pages.old).work defs view
         → AreTimesInTrees (P.state pages.old).work view times.now → JudgesRule ext.now (P.state pages.old).work 5 (AreTreePagesSound ext.now view) found) }
     ensures same { (P.state pages.new).work ≡ (P.state pages.old).work }
     ensures runs { RunsOverPages P.Pages NoPage AnyPage
-        (Unless P.Pages pages.old (λ told. (defs : Definitions) × (view : DatabaseView) × HasTrees ext.now told defs view)) pages.old pages.new (fault_of result) }
+        (Unless P.Pages pages.old (λ told. (defs : Definitions) × (view : DatabaseView) × ViewHasTrees ext.now told defs view)) pages.old pages.new (fault_of result) }
 {
     // Those ahead of the extents are to be in no tree, as those of an extent that is free.
     let begin = ext.first_page(0);

@@ -4,7 +4,7 @@ use Rattle.store_api.specs.Frame.{NoPage}
 use Rattle.store_api.specs.RunsOverPages.{RunsOverPages}
 use Rattle.mdc_sound.specs.SpaceRules.{DatabaseView, tables_there}
 use Rattle.file_check.specs.Judging.{JudgesEach}
-use Rattle.file_check.specs.Known.{HasTrees}
+use Rattle.file_check.specs.Known.{ViewHasTrees}
 use Rattle.file_check.specs.Looking.{AnyPage, Unless}
 use Rattle.file_check.proofs.JudgedMapsLemmas.{MapBreaks, MapSound}
 use Rattle.file_check.proofs.block_maps.judge_block_maps.Given as goal
@@ -14,7 +14,7 @@ abbrev pub invariant-loop-def : goal.invariant-loop-def
 invariant-loop-def g l = record {
   same : (g.P.Pages.state l.pages).work ≡ (g.P.Pages.state l.fn.pages).work;
   going : (g.P.Pages.state l.pages).ended ≡ false;
-  runs : RunsOverPages g.P.Pages NoPage AnyPage (Unless g.P.Pages l.fn.pages (λ told. (view : DatabaseView) × HasTrees l.ext told l.defs view)) l.fn.pages l.pages None;
-  judged : IsTrue (g.P.Pages.state l.fn.pages).is_told → (view : DatabaseView) → HasTrees l.ext (g.P.Pages.state l.fn.pages).work l.defs view
+  runs : RunsOverPages g.P.Pages NoPage AnyPage (Unless g.P.Pages l.fn.pages (λ told. (view : DatabaseView) × ViewHasTrees l.ext told l.defs view)) l.fn.pages l.pages None;
+  judged : IsTrue (g.P.Pages.state l.fn.pages).is_told → (view : DatabaseView) → ViewHasTrees l.ext (g.P.Pages.state l.fn.pages).work l.defs view
       → JudgesEach (MapSound l.ext view) (MapBreaks view) (tables_there (take l.def-index view.places)) l.lowest;
 }

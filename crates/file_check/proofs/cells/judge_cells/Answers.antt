@@ -7,7 +7,7 @@ use Rattle.block_map.specs.MapLines.{used_blocks}
 use Rattle.table_trees.specs.ToldPages.{PageList}
 use Rattle.mdc_sound.specs.SpaceRules.{DatabaseView, tables_there}
 use Rattle.mdc_sound.specs.TableViews.{TableView}
-use Rattle.file_check.specs.Known.{HasRows, HasUsedRows}
+use Rattle.file_check.specs.Known.{ViewHasRows, HasUsedRows}
 use Rattle.file_check.specs.Judging.{JudgesEach}
 use Rattle.file_check.specs.BlocksJudged.{BreaksBlockCell}
 use Rattle.mdc_sound.specs.BlockRules.{IsOfOneCell}
@@ -57,7 +57,7 @@ returns-in_err-here-clause-runs g c =
     place_found c.args.defs.now c.loop-def.def-index c.def-item.result (Some def) c.loop-def-test.true c.def-item.is c.in-Some.is in
     runs_exit c.from_residual.result c.from_residual.ensures.1
     (runs_then inv.runs c.in_err-here.ensures.runs (λ p there mine. mine) (λ p is. tt)
-    (λ damage b. unless_still g.P.Pages c.args.pages.now c.loop-def.pages (λ told. (m : Forest) × HasUsedRows ext told def m) (λ told. (view : DatabaseView) × HasRows ext told c.args.defs.now view) damage
+    (λ damage b. unless_still g.P.Pages c.args.pages.now c.loop-def.pages (λ told. (m : Forest) × HasUsedRows ext told def m) (λ told. (view : DatabaseView) × ViewHasRows ext told c.args.defs.now view) damage
     inv.runs.works.steady.is_told inv.same
     (λ known. known_rows ext (g.P.Pages.state c.args.pages.now).work c.args.defs.now known.0 known.1 c.loop-def.def-index def at) b))
 
@@ -83,7 +83,7 @@ loop-def-preserved g c =
       same = c.judge_table.ensures.same ∙ inv.same;
       going = c.in_ok-here.ensures.runs.works.steady.ended ∙ inv.going;
       runs = runs_then {fault = None} inv.runs c.in_ok-here.ensures.runs (λ p there mine. mine) (λ p is. tt)
-          (λ damage b. unless_still g.P.Pages c.args.pages.now c.loop-def.pages (λ told. (m : Forest) × HasUsedRows ext told def m) (λ told. (view : DatabaseView) × HasRows ext told c.args.defs.now view) damage
+          (λ damage b. unless_still g.P.Pages c.args.pages.now c.loop-def.pages (λ told. (m : Forest) × HasUsedRows ext told def m) (λ told. (view : DatabaseView) × ViewHasRows ext told c.args.defs.now view) damage
           inv.runs.works.steady.is_told inv.same
           (λ known. known_rows ext work c.args.defs.now known.0 known.1 i def at) b);
     }

@@ -4,7 +4,7 @@ use Rattle.store_api.specs.Frame.{NoPage}
 use Rattle.store_api.specs.RunsOverPages.{RunsOverPages}
 use Rattle.mdc_sound.specs.SpaceRules.{DatabaseView, tables_there}
 use Rattle.file_check.specs.Judging.{JudgesEach}
-use Rattle.file_check.specs.Known.{HasRows}
+use Rattle.file_check.specs.Known.{ViewHasRows}
 use Rattle.file_check.specs.Looking.{AnyPage, Unless}
 use Rattle.file_check.proofs.CellsRuleLemmas.{AreTableCells, BreaksTableCells}
 use Rattle.file_check.proofs.cells.judge_cells.Given as goal
@@ -12,9 +12,9 @@ use Rattle.file_check.proofs.cells.judge_cells.Given as goal
 -- the tables so far are judged
 abbrev pub invariant-loop-def : goal.invariant-loop-def
 invariant-loop-def g l = record {
-  judged : IsTrue (g.P.Pages.state l.fn.pages).is_told → (view : DatabaseView) → HasRows l.ext (g.P.Pages.state l.fn.pages).work l.fn.defs view
+  judged : IsTrue (g.P.Pages.state l.fn.pages).is_told → (view : DatabaseView) → ViewHasRows l.ext (g.P.Pages.state l.fn.pages).work l.fn.defs view
       → JudgesEach (AreTableCells l.ext (g.P.Pages.state l.fn.pages).work) (BreaksTableCells l.ext (g.P.Pages.state l.fn.pages).work) (tables_there (take l.def-index view.places)) l.lowest;
   same : (g.P.Pages.state l.pages).work ≡ (g.P.Pages.state l.fn.pages).work;
   going : (g.P.Pages.state l.pages).ended ≡ false;
-  runs : RunsOverPages g.P.Pages NoPage AnyPage (Unless g.P.Pages l.fn.pages (λ told. (view : DatabaseView) × HasRows l.ext told l.fn.defs view)) l.fn.pages l.pages None;
+  runs : RunsOverPages g.P.Pages NoPage AnyPage (Unless g.P.Pages l.fn.pages (λ told. (view : DatabaseView) × ViewHasRows l.ext told l.fn.defs view)) l.fn.pages l.pages None;
 }

@@ -5,7 +5,7 @@ use Rattle.std.specs.Prelude.{Contains}
 use Rattle.table_trees.specs.ToldPages.{PageList}
 use Rattle.file_check.specs.BlocksJudged.{BreaksBlockCell}
 use Rattle.mdc_sound.specs.BlockRules.{IsOfOneCell}
-use Rattle.file_check.specs.Known.{HasRowPages}
+use Rattle.file_check.specs.Known.{BlockHasRowPages}
 use Rattle.file_check.specs.Judging.{Judges}
 use Rattle.file_check.proofs.BlockMapsLemmas.{is_listed}
 use Rattle.file_check.proofs.JudgedListsLemmas.{judged_all, judged_more}
@@ -39,7 +39,7 @@ returns-in_err-here-clause-runs g c =
     (runs_then inv.runs c.in_err-here.ensures.runs (λ p there mine. mine) (λ p is. tt)
     (λ damage b told known.
     let there = is_listed items (blocks_of_state 1 known.0) c.loop-block.block-index (c.as_slice-block-items.ensures.value ∙ c.in_ok-blocks.ensures.listed told known.0 known.1.map.tree) c.loop-block-test.true in
-    unless_still g.P.Pages c.args.pages.now c.loop-block.pages (λ told. HasRowPages ext told def block) (λ told. HasRowPages ext told def block) damage inv.runs.works.steady.is_told inv.same (λ forms. forms) b told
+    unless_still g.P.Pages c.args.pages.now c.loop-block.pages (λ told. BlockHasRowPages ext told def block) (λ told. BlockHasRowPages ext told def block) damage inv.runs.works.steady.is_told inv.same (λ forms. forms) b told
     (known.1.forms block there)))
 
 pub loop-block-preserved : goal.loop-block-preserved
@@ -55,18 +55,18 @@ loop-block-preserved g c =
           let there : Contains (blocks_of_state (1) m) block =
           is_listed items (blocks_of_state (1) m) c.loop-block.block-index
           (c.as_slice-block-items.ensures.value ∙ c.in_ok-blocks.ensures.listed told m has.map.tree) c.loop-block-test.true in
-          let forms : HasRowPages ext work def block = has.forms block there in
-          let here : HasRowPages ext (g.P.Pages.state c.loop-block.pages).work def block → Judges (IsOfOneCell ext (g.P.Pages.state c.loop-block.pages).work def block) (BreaksBlockCell ext (g.P.Pages.state c.loop-block.pages).work def block) c.in_ok-here.here =
+          let forms : BlockHasRowPages ext work def block = has.forms block there in
+          let here : BlockHasRowPages ext (g.P.Pages.state c.loop-block.pages).work def block → Judges (IsOfOneCell ext (g.P.Pages.state c.loop-block.pages).work def block) (BreaksBlockCell ext (g.P.Pages.state c.loop-block.pages).work def block) c.in_ok-here.here =
           c.in_ok-here.ensures.judged (inv.runs.works.steady.is_told ∙ told) in
           judged_more (IsOfOneCell ext work def) (BreaksBlockCell ext work def) items c.loop-block.block-index 0 c.loop-block.lowest c.in_ok-here.here c.lower-lowest.result c.loop-block-test.true
           c.lower-lowest.ensures (inv.judged told m has)
-          (subst (λ (pages : PageList). HasRowPages ext pages def block → Judges (IsOfOneCell ext pages def block) (BreaksBlockCell ext pages def block) c.in_ok-here.here) inv.same here forms);
+          (subst (λ (pages : PageList). BlockHasRowPages ext pages def block → Judges (IsOfOneCell ext pages def block) (BreaksBlockCell ext pages def block) c.in_ok-here.here) inv.same here forms);
       same = c.judge_block.ensures.same ∙ inv.same;
       going = c.in_ok-here.ensures.runs.works.steady.ended ∙ inv.going;
       runs = runs_then {fault = None} inv.runs c.in_ok-here.ensures.runs (λ p there mine. mine) (λ p is. tt)
           (λ damage b told known.
           let there = is_listed items (blocks_of_state 1 known.0) c.loop-block.block-index (c.as_slice-block-items.ensures.value ∙ c.in_ok-blocks.ensures.listed told known.0 known.1.map.tree) c.loop-block-test.true in
-          unless_still g.P.Pages c.args.pages.now c.loop-block.pages (λ told. HasRowPages ext told def block) (λ told. HasRowPages ext told def block) damage inv.runs.works.steady.is_told inv.same (λ forms. forms) b told
+          unless_still g.P.Pages c.args.pages.now c.loop-block.pages (λ told. BlockHasRowPages ext told def block) (λ told. BlockHasRowPages ext told def block) damage inv.runs.works.steady.is_told inv.same (λ forms. forms) b told
           (known.1.forms block there));
     }
 

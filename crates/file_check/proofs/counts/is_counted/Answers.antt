@@ -3,7 +3,7 @@ use Rattle.store_api.proofs.RunsOverPagesLemmas.{runs_exit, runs_then, runs_wide
 use Rattle.block_map.specs.MapRows.{state_number}
 use Rattle.table_trees.specs.ToldPages.{PageList}
 use Rattle.mdc_sound.specs.TableRows.{rows_in_block}
-use Rattle.file_check.specs.Known.{HasRowPages}
+use Rattle.file_check.specs.Known.{BlockHasRowPages}
 use Rattle.file_check.proofs.CountsLemmas.{idle_state, found_idle, found_in_used, found_used}
 use Rattle.file_check.proofs.UnlessLemmas.{unless_still}
 use Rattle.file_check.proofs.counts.is_counted.Goals as goal
@@ -23,7 +23,7 @@ returns-in_err-count-in-Used-clause-runs g c =
     (λ damage b told known.
     let used = found_in_used ext (g.P.Pages.state c.args.pages.now).work def known.0 c.args.block c.in_ok-row.field-0 c.in-Some.row c.in-Some.is c.ranges.block.fits (c.in_ok-row.ensures.found told known.0 known.1.map.tree)
     (ap state_number c.in-Used.is) known.1.map.form in
-    unless_still g.P.Pages c.args.pages.now c.row_in_map.new.pages (λ told. HasRowPages ext told def c.args.block) (λ told. HasRowPages ext told def c.args.block) damage first.works.steady.is_told c.in_ok-row.ensures.same
+    unless_still g.P.Pages c.args.pages.now c.row_in_map.new.pages (λ told. BlockHasRowPages ext told def c.args.block) (λ told. BlockHasRowPages ext told def c.args.block) damage first.works.steady.is_told c.in_ok-row.ensures.same
     (λ has. has) b told (known.1.forms c.args.block used)))
 
 pub returns-in_ok-count-in-Used-clause-judged : goal.returns-in_ok-count-in-Used-clause-judged
@@ -36,7 +36,7 @@ returns-in_ok-count-in-Used-clause-judged g c told map_tree has named =
     let is_used : state_number c.in-Some.row.state ≡ 1 = ap state_number c.in-Used.is in
     let used = found_in_used ext work def map_tree c.args.block c.in_ok-row.field-0 c.in-Some.row c.in-Some.is c.ranges.block.fits finds is_used has.map.form in
     let counts : c.in_ok-count-in-Used.count ≡ length (rows_in_block ext work def c.args.block) =
-    subst (λ (pages : PageList). HasRowPages ext pages def c.args.block → c.in_ok-count-in-Used.count ≡ length (rows_in_block ext pages def c.args.block)) c.in_ok-row.ensures.same
+    subst (λ (pages : PageList). BlockHasRowPages ext pages def c.args.block → c.in_ok-count-in-Used.count ≡ length (rows_in_block ext pages def c.args.block)) c.in_ok-row.ensures.same
     (c.in_ok-count-in-Used.ensures.counted (first.works.steady.is_told ∙ told)) (has.forms c.args.block used) in
     found_used ext work def map_tree c.args.block c.in_ok-row.field-0 c.in-Some.row c.in-Some.is c.ranges.block.fits finds has.map.form c.is_used_count.result c.in_ok-count-in-Used.count c.is_used_count.ensures.few
     c.is_used_count.ensures.right counts is_used
@@ -50,7 +50,7 @@ returns-in_ok-count-in-Used-clause-runs g c =
     (λ damage b told known.
     let used = found_in_used ext (g.P.Pages.state c.args.pages.now).work def known.0 c.args.block c.in_ok-row.field-0 c.in-Some.row c.in-Some.is c.ranges.block.fits (c.in_ok-row.ensures.found told known.0 known.1.map.tree)
     (ap state_number c.in-Used.is) known.1.map.form in
-    unless_still g.P.Pages c.args.pages.now c.row_in_map.new.pages (λ told. HasRowPages ext told def c.args.block) (λ told. HasRowPages ext told def c.args.block) damage first.works.steady.is_told c.in_ok-row.ensures.same
+    unless_still g.P.Pages c.args.pages.now c.row_in_map.new.pages (λ told. BlockHasRowPages ext told def c.args.block) (λ told. BlockHasRowPages ext told def c.args.block) damage first.works.steady.is_told c.in_ok-row.ensures.same
     (λ has. has) b told (known.1.forms c.args.block used))
 
 pub returns-in-Free : goal.returns-in-Free

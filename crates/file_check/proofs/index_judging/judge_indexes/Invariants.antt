@@ -4,7 +4,7 @@ use Rattle.store_api.specs.Frame.{NoPage}
 use Rattle.store_api.specs.RunsOverPages.{RunsOverPages}
 use Rattle.mdc_sound.specs.SpaceRules.{DatabaseView, tables_there}
 use Rattle.file_check.specs.Judging.{JudgesEach}
-use Rattle.file_check.specs.Known.{HasCells}
+use Rattle.file_check.specs.Known.{ViewHasCells}
 use Rattle.file_check.specs.Looking.{AnyPage, Unless}
 use Rattle.file_check.specs.TableIndexes.{BreaksAnyIndex, HasSoundIndexes}
 use Rattle.file_check.proofs.index_judging.judge_indexes.Given as goal
@@ -12,10 +12,10 @@ use Rattle.file_check.proofs.index_judging.judge_indexes.Given as goal
 -- the tables in the first places are judged
 abbrev pub invariant-loop-def : goal.invariant-loop-def
 invariant-loop-def g l = record {
-  judged : IsTrue (g.P.Pages.state l.fn.pages).is_told → (view : DatabaseView) → HasCells l.ext (g.P.Pages.state l.fn.pages).work l.defs view
+  judged : IsTrue (g.P.Pages.state l.fn.pages).is_told → (view : DatabaseView) → ViewHasCells l.ext (g.P.Pages.state l.fn.pages).work l.defs view
       → JudgesEach (HasSoundIndexes l.kind l.ext (g.P.Pages.state l.fn.pages).work) (BreaksAnyIndex l.kind l.ext (g.P.Pages.state l.fn.pages).work) (tables_there (take l.def-index view.places)) l.lowest;
   same : (g.P.Pages.state l.pages).work ≡ (g.P.Pages.state l.fn.pages).work;
   going : (g.P.Pages.state l.pages).ended ≡ false;
   runs : RunsOverPages g.P.Pages NoPage AnyPage
-      (Unless g.P.Pages l.fn.pages (λ told. (view : DatabaseView) × HasCells l.ext told l.defs view)) l.fn.pages l.pages None;
+      (Unless g.P.Pages l.fn.pages (λ told. (view : DatabaseView) × ViewHasCells l.ext told l.defs view)) l.fn.pages l.pages None;
 }

@@ -7,7 +7,7 @@ use Rattle.table_trees.specs.TableTrees.{place_of_tree}
 use Rattle.table_trees.specs.ToldPages.{HasTree, PageList}
 use Rattle.mdc_sound.specs.TableRows.{PlacedRow, rows_in_block}
 use Rattle.block_rows.specs.HeldRows.{placed_row}
-use Rattle.file_check.specs.Known.{HasRowPages}
+use Rattle.file_check.specs.Known.{BlockHasRowPages}
 use Rattle.file_check.specs.TableIndexes.{LacksOne, NotesEntries, entries_of_blocks, entry_of_kind}
 use Rattle.file_check.proofs.UnlessLemmas.{runs_to_damage}
 use Rattle.file_check.proofs.IndexJudgingLemmas.{blocks_more, lacks_of_blocks, notes_then, unless_block, unless_later_tree, when_false, when_true}
@@ -66,7 +66,7 @@ returns-then-not-branch-clause-notes g c told readable tree has all =
     let same = c.in_ok-hits.ensures.same ∙ inv.same in
     let rows : map placed_row c.deref.result.now ≡ rows_in_block c.args.ext.now work def block =
     ap (map placed_row) c.deref.ensures.value
-    ∙ (c.in_ok-hits.ensures.rows (inv.runs.works.steady.is_told ∙ told) (subst (λ (pages : PageList). HasRowPages c.args.ext.now pages def block) (sym inv.same) (readable block there).1)
+    ∙ (c.in_ok-hits.ensures.rows (inv.runs.works.steady.is_told ∙ told) (subst (λ (pages : PageList). BlockHasRowPages c.args.ext.now pages def block) (sym inv.same) (readable block there).1)
     ∙ ap (λ (pages : PageList). rows_in_block c.args.ext.now pages def block) inv.same) in
     let found = c.in_ok-note_entries.ensures.notes now_told tree (subst (λ (pages : PageList). HasTree pages (place_of_tree index.tree) tree) (sym same) has) (inv.notes told readable tree has all).has in
     let lacks = when_false c.in_ok-note_entries.field-0 _ (LacksOne (map (entry_of_kind index.kind def index.parts) (map placed_row c.deref.result.now)) (leaf_entries tree)) c.if-not-branch.true found in
@@ -103,7 +103,7 @@ loop-block-preserved g c =
           let now_told : IsTrue (g.P.Pages.state c.rows_of_block.new.pages).is_told = c.in_ok-hits.ensures.runs.works.steady.is_told ∙ (inv.runs.works.steady.is_told ∙ told) in
           let rows : map placed_row c.deref.result.now ≡ rows_in_block c.args.ext.now work def block =
           ap (map placed_row) c.deref.ensures.value
-          ∙ (c.in_ok-hits.ensures.rows (inv.runs.works.steady.is_told ∙ told) (subst (λ (pages : PageList). HasRowPages c.args.ext.now pages def block) (sym inv.same) (readable block there).1)
+          ∙ (c.in_ok-hits.ensures.rows (inv.runs.works.steady.is_told ∙ told) (subst (λ (pages : PageList). BlockHasRowPages c.args.ext.now pages def block) (sym inv.same) (readable block there).1)
           ∙ ap (λ (pages : PageList). rows_in_block c.args.ext.now pages def block) inv.same) in
           let found = c.in_ok-note_entries.ensures.notes now_told tree (subst (λ (pages : PageList). HasTree pages (place_of_tree index.tree) tree) (sym same) has) before.has in
           let noted = when_true c.in_ok-note_entries.field-0 (NotesEntries (map (entry_of_kind index.kind def index.parts) (map placed_row c.deref.result.now)) (leaf_entries tree) c.loop-block.noted c.note_entries.new.noted) _ c.if-not-branch.false found in

@@ -4,7 +4,7 @@ use Rattle.store_api.specs.Frame.{NoPage}
 use Rattle.store_api.specs.RunsOverPages.{RunsOverPages}
 use Rattle.mdc_sound.specs.SpaceRules.{DatabaseView, tables_there}
 use Rattle.file_check.specs.Judging.{JudgesEach}
-use Rattle.file_check.specs.Known.{HasBlocks}
+use Rattle.file_check.specs.Known.{ViewHasBlocks}
 use Rattle.file_check.specs.Looking.{AnyPage, Unless}
 use Rattle.file_check.proofs.RowPagesRuleLemmas.{AreTableRowsSound, BreaksTableRows}
 use Rattle.file_check.proofs.row_pages.judge_row_pages.Given as goal
@@ -12,9 +12,9 @@ use Rattle.file_check.proofs.row_pages.judge_row_pages.Given as goal
 -- the tables so far are judged
 abbrev pub invariant-loop-def : goal.invariant-loop-def
 invariant-loop-def g l = record {
-  judged : IsTrue (g.P.Pages.state l.fn.pages).is_told → (view : DatabaseView) → HasBlocks l.ext (g.P.Pages.state l.fn.pages).work l.fn.defs view
+  judged : IsTrue (g.P.Pages.state l.fn.pages).is_told → (view : DatabaseView) → ViewHasBlocks l.ext (g.P.Pages.state l.fn.pages).work l.fn.defs view
       → JudgesEach (AreTableRowsSound l.ext (g.P.Pages.state l.fn.pages).work) (BreaksTableRows l.ext (g.P.Pages.state l.fn.pages).work) (tables_there (take l.def-index view.places)) l.lowest;
   same : (g.P.Pages.state l.pages).work ≡ (g.P.Pages.state l.fn.pages).work;
   going : (g.P.Pages.state l.pages).ended ≡ false;
-  runs : RunsOverPages g.P.Pages NoPage AnyPage (Unless g.P.Pages l.fn.pages (λ told. (view : DatabaseView) × HasBlocks l.ext told l.fn.defs view)) l.fn.pages l.pages None;
+  runs : RunsOverPages g.P.Pages NoPage AnyPage (Unless g.P.Pages l.fn.pages (λ told. (view : DatabaseView) × ViewHasBlocks l.ext told l.fn.defs view)) l.fn.pages l.pages None;
 }

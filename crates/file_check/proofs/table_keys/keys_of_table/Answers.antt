@@ -10,7 +10,7 @@ use Rattle.table_trees.specs.TableTrees.{map_place}
 use Rattle.table_trees.specs.ToldPages.{HasTree}
 use Rattle.mdc_sound.specs.TableRows.{rows_in_block}
 use Rattle.file_check.specs.KeysJudged.{AreKeysOf}
-use Rattle.file_check.specs.Known.{HasRowPages}
+use Rattle.file_check.specs.Known.{BlockHasRowPages}
 use Rattle.file_check.proofs.TableRowsLemmas.{block_more, block_unless, map_unless}
 use Rattle.file_check.proofs.BlockMapsLemmas.{is_listed}
 use Rattle.file_check.proofs.UnlessLemmas.{runs_to_memory}
@@ -62,7 +62,7 @@ loop-block-preserved g c =
           (rows_in_block c.args.ext.now (g.P.Pages.state c.args.pages.now).work c.args.def.now) items c.loop-block.block-index c.in_ok-rows.rows.items
           c.loop-block-test.true (inv.keys told map_tree rows)
           (λ done so. subst (λ (hits : List Hit). AreKeysOf c.args.def.now.columns c.args.index.now.parts (map (λ key. key.items) c.push_keys.new.keys.items) (done ++ map placed_row hits)) c.deref.ensures.value (c.in_ok-push_keys.ensures.pushed done so))
-          (c.in_ok-rows.ensures.rows (inv.runs.works.steady.is_told ∙ told) (subst (λ pages. HasRowPages c.args.ext.now pages c.args.def.now (get_or items c.loop-block.block-index 0)) (sym inv.same) form)
+          (c.in_ok-rows.ensures.rows (inv.runs.works.steady.is_told ∙ told) (subst (λ pages. BlockHasRowPages c.args.ext.now pages c.args.def.now (get_or items c.loop-block.block-index 0)) (sym inv.same) form)
           ∙ ap (λ pages. rows_in_block c.args.ext.now pages c.args.def.now (get_or items c.loop-block.block-index 0)) inv.same);
       same = c.rows_of_block.ensures.same ∙ inv.same;
       going = c.in_ok-rows.ensures.runs.works.steady.ended ∙ inv.going;

@@ -3,7 +3,7 @@ use Rattle.std.specs.Prelude.{IsTrue}
 use Rattle.mdc_ast.specs.meaning.Definitions.{Definitions}
 use Rattle.store_api.specs.Extents.{first_page_of}
 use Rattle.mdc_sound.specs.SpaceRules.{DatabaseView, IsTreePageSound}
-use Rattle.file_check.specs.Known.{AreTimesInTrees, HasTrees}
+use Rattle.file_check.specs.Known.{AreTimesInTrees, ViewHasTrees}
 use Rattle.file_check.proofs.KindsLemmas.{ReadsMap}
 use Rattle.file_check.proofs.tree_pages.judge_tree_pages.Given as goal
 
@@ -13,6 +13,6 @@ invariant-loop-e g l = record {
   same : (g.P.Pages.state l.pages).work ≡ (g.P.Pages.state l.fn.pages).work;
   going : (g.P.Pages.state l.pages).ended ≡ false;
   runs : ReadsMap g.P.Pages l.ext l.fn.pages l.pages None;
-  sound : IsTrue (g.P.Pages.state l.fn.pages).is_told → (defs : Definitions) (view : DatabaseView) → HasTrees l.ext (g.P.Pages.state l.fn.pages).work defs view
+  sound : IsTrue (g.P.Pages.state l.fn.pages).is_told → (defs : Definitions) (view : DatabaseView) → ViewHasTrees l.ext (g.P.Pages.state l.fn.pages).work defs view
       → AreTimesInTrees (g.P.Pages.state l.fn.pages).work view l.times → (p : ℕ) → p < first_page_of l.ext.cap l.ext.extent_pages l.e → IsTreePageSound l.ext view p;
 }
