@@ -1,6 +1,6 @@
 -- An index is judged by the entries that were noted, and those that it has.
 use Rattle.std.proofs.Common.{◌≡◌, ◌+◌, ◌<◌, ◌⊎◌, ◌==◌, ◌||◌, Bool, ℕ, zero, suc, List, [], ◌∷◌, ◌++◌, refl, sym, ap, subst, ◌∙◌, arith, length, get_or, take, inl, inr, true, false, ne_eqb, eq-eqb}
-use Rattle.std.specs.Prelude.{IsTrue, Contains, MatchBool, flat_map, map, slice_get, Some}
+use Rattle.std.specs.Prelude.{IsTrue, Contains, MatchBool, flat_map, map}
 use Rattle.std.specs.List.{list_any}
 use Rattle.std.proofs.lemmas.Bool.{cases_eq}
 use Rattle.std.proofs.lemmas.List.{flat_map_more, map-append, take_more}
@@ -20,17 +20,14 @@ use Rattle.block_map.specs.MapLines.{used_blocks}
 use Rattle.block_map.proofs.MapLinesLemmas.{contains_cases, contains_more}
 use Rattle.table_trees.specs.TableTrees.{TreePlace, map_place, place_of_tree}
 use Rattle.table_trees.specs.ToldPages.{HasTree, PageList}
-use Rattle.mdc_ast.specs.meaning.Definitions.{Definitions}
-use Rattle.mdc_sound.specs.SpaceRules.{DatabaseView}
 use Rattle.mdc_sound.specs.TableRows.{rows_in_block}
 use Rattle.mdc_sound.proofs.ElementsLemmas.{contains_flat, from_map, in_map}
-use Rattle.file_check.specs.Known.{ViewHasCells, BlockHasRowPages}
+use Rattle.file_check.specs.Known.{BlockHasRowPages}
 use Rattle.file_check.specs.Looking.{Unless}
 use Rattle.file_check.specs.declared.entry_set.EntrySet.{EntrySet}
 use Rattle.file_check.specs.declared.table_index.IndexKind.{IndexKind}
 use Rattle.file_check.specs.TableIndexes.{AreReadable, AreSoundEntries, HasIndexes, LacksOne, NotesEntries, PlacedIndex, UnlessMap, UnlessReadable, UnlessTree, entries_of_blocks, entry_of_kind, indexes_of_kind, noted_entries}
 use Rattle.file_check.proofs.RowEntriesLemmas.{holds_told}
-use Rattle.file_check.proofs.TableJudgingLemmas.{has_indexes, table_at}
 
 -- ---- numbers and lists
 
@@ -187,15 +184,3 @@ unless_indexes g kind ext old now def used index damage tells same there used_is
     let tree = has.trees index there in
     unless (tells ∙ told) (subst (λ (blocks : List ℕ). AreReadable ext (g.state now).work def blocks) (sym (used_is told map_tree has.map)) (subst (λ (pages : PageList). AreReadable ext pages def (used_blocks map_tree)) (sym same) has.used))
     tree.0 (subst (λ (pages : PageList). HasTree pages index.place tree.0) (sym same) tree.1)
-
--- damage of a table, in a later state
-pub unless_table : {S : Type 0} (g : Ghosts S) (kind : IndexKind) (ext : Extents) (old now : S) (defs : Definitions) (i : ℕ) (def : TableDef) (damage : Damage) → (g.state now).is_told ≡ (g.state old).is_told
-    → (g.state now).work ≡ (g.state old).work → slice_get defs i ≡ Some (Some def)
-    → Unless g now (λ told. (map_tree : Forest) × HasIndexes kind ext told def map_tree) damage → Unless g old (λ told. (view : DatabaseView) × ViewHasCells ext told defs view) damage
-unless_table g kind ext old now defs i def damage tells same at unless told (view, known) =
-    let table = table_at ext (g.state old).work defs view i def known at in
-    unless (tells ∙ told) (
-      table.table.map,
-      subst (λ (d : TableDef). HasIndexes kind ext (g.state now).work d table.table.map) table.same
-          (subst (λ (pages : PageList). HasIndexes kind ext pages table.table.def table.table.map) (sym same) (has_indexes kind ext (g.state old).work defs view i table.table known table.stands)),
-    )

@@ -24,12 +24,14 @@ use Rattle.mdc_sound.proofs.SpaceRulesLemmas.{each_there, there_at}
 use Rattle.mdc_sound.proofs.StandsForLemmas.{one_tree_at}
 use Rattle.file_check.specs.Judging.{BreaksAny, JudgesEach, JudgesRule}
 use Rattle.file_check.specs.Known.{ViewHasCells}
+use Rattle.file_check.specs.RulesOfTables.{BreaksTableRule, KeepsTableRule}
+use Rattle.file_check.specs.declared.table_rule.TableRule.TheVariants.{Index}
 use Rattle.file_check.proofs.JudgingLemmas.{breaks_any-member, judges_as, member-breaks_any}
 use Rattle.file_check.proofs.KnownTablesLemmas.{defined_is_viewed, member_is_placed, viewed_is_defined}
 use Rattle.file_check.proofs.TableJudgingLemmas.{each_of}
 use Rattle.file_check.specs.declared.table_index.IndexKind.{IndexKind}
 use Rattle.file_check.specs.declared.table_index.IndexKind.TheVariants.{Blocks, Rows}
-use Rattle.file_check.specs.TableIndexes.{BreaksAnyIndex, BreaksPlace, HasSoundIndexes, IsPlaceSound, IsSoundTree, PlacedIndex, index_of_dimension, indexes_of_kind}
+use Rattle.file_check.specs.TableIndexes.{BreaksPlace, IsPlaceSound, IsSoundTree, PlacedIndex, index_of_dimension, indexes_of_kind}
 
 -- ---- one index, in the words of the rules
 
@@ -141,7 +143,7 @@ module _ (ext : Extents) (pages : PageList) (defs : Definitions) (view : Databas
   -- an index of a table of the view that isn't sound
   broken_index : (kind : IndexKind) (t : ℕ) (def : TableDef) (index : PlacedIndex) → t < 16 → DefinesTable pages t def → Contains (indexes_of_kind kind def) index
       → ((map_tree tree : Forest) → HasTree pages (map_place def) map_tree → HasTree pages index.place tree → IsSoundTree kind ext pages def map_tree index tree → ⊥)
-      → BreaksAny (BreaksAnyIndex kind ext pages) (tables_there view.places) index.place.root
+      → BreaksAny (BreaksTableRule (Index kind) ext pages) (tables_there view.places) index.place.root
   broken_index kind t def index within defines there never =
       let viewed = defined_is_viewed ext pages defs view t def known.rows.blocks.trees within defines in
       let table = viewed.table in
@@ -149,7 +151,7 @@ module _ (ext : Extents) (pages : PageList) (defs : Definitions) (view : Databas
       let breaks : BreaksAny (BreaksPlace kind ext pages def table.map) (indexes_of_kind kind def) index.place.root =
       breaks_any-member (BreaksPlace kind ext pages def table.map) (indexes_of_kind kind def) index index.place.root there
       (refl, λ tree has sound. never table.map tree (subst (λ (d : TableDef). HasTree pages (map_place d) table.map) viewed.same trees.0) has sound) in
-      breaks_any-member (BreaksAnyIndex kind ext pages) (tables_there view.places) table index.place.root viewed.member
+      breaks_any-member (BreaksTableRule (Index kind) ext pages) (tables_there view.places) table index.place.root viewed.member
       (subst (λ (d : TableDef). BreaksAny (BreaksPlace kind ext pages d table.map) (indexes_of_kind kind d) index.place.root) (sym viewed.same) breaks)
 
   -- of a table of the view, where its index stands
@@ -163,9 +165,9 @@ module _ (ext : Extents) (pages : PageList) (defs : Definitions) (view : Databas
     pub page : p ≡ index.place.root
     pub never : (map_tree tree : Forest) → HasTree pages (map_place table.def) map_tree → HasTree pages index.place tree → IsSoundTree kind ext pages table.def map_tree index tree → ⊥
 
-  index_broken : (kind : IndexKind) (p : ℕ) → BreaksAny (BreaksAnyIndex kind ext pages) (tables_there view.places) p → IsBrokenIndex kind p
+  index_broken : (kind : IndexKind) (p : ℕ) → BreaksAny (BreaksTableRule (Index kind) ext pages) (tables_there view.places) p → IsBrokenIndex kind p
   index_broken kind p breaks =
-      let (table, member, any) = member-breaks_any (BreaksAnyIndex kind ext pages) (tables_there view.places) p breaks in
+      let (table, member, any) = member-breaks_any (BreaksTableRule (Index kind) ext pages) (tables_there view.places) p breaks in
       let (index, there, broken) = member-breaks_any (BreaksPlace kind ext pages table.def table.map) (indexes_of_kind kind table.def) p any in
       let (t, at) = member_is_placed view table member in
       let defined = viewed_is_defined ext pages defs view t table known.rows.blocks.trees at in
@@ -184,9 +186,9 @@ module _ (ext : Extents) (pages : PageList) (defs : Definitions) (view : Databas
 
   -- ---- rule 10
 
-  block_indexes_sound : AllByRecursion (HasSoundIndexes Blocks ext pages) (tables_there view.places) → AreBlockIndexesSound ext pages view
+  block_indexes_sound : AllByRecursion (KeepsTableRule (Index Blocks) ext pages) (tables_there view.places) → AreBlockIndexesSound ext pages view
   block_indexes_sound all = each_there (AreTableBlockIndexesSound ext pages) view.places (λ t table at.
-      let sound = there_at (HasSoundIndexes Blocks ext pages) view.places t table at all in
+      let sound = there_at (KeepsTableRule (Index Blocks) ext pages) view.places t table at all in
       let trees = there_at (λ table. AllZip (HasTree pages) (tree_places table.def) (trees_of_table table)) view.places t table at known.rows.blocks.trees.rule4 in
       let split = there_at (λ table. length table.dims ≡ length table.def.dims) view.places t table at known.rows.blocks.trees.split in
       let defined = viewed_is_defined ext pages defs view t table known.rows.blocks.trees at in
@@ -195,7 +197,7 @@ module _ (ext : Extents) (pages : PageList) (defs : Definitions) (view : Databas
         dims = dimensions_of ext pages table.def table.map table.def.dims table.def.roots.dims table.dims table.indexes (record_places table.def) defined.defines.limits.roots.one_each split trees.1.1 sound.1;
       })
 
-  breaks_rule_10 : (p : ℕ) → BreaksAny (BreaksAnyIndex Blocks ext pages) (tables_there view.places) p → BreaksRule ext pages 10 p
+  breaks_rule_10 : (p : ℕ) → BreaksAny (BreaksTableRule (Index Blocks) ext pages) (tables_there view.places) p → BreaksRule ext pages 10 p
   breaks_rule_10 p breaks =
       let broken = index_broken Blocks p breaks in
       subst (BreaksRule ext pages 10) (sym broken.page) (go broken (contains_cases broken.index (record { place = composite_place broken.table.def; parts = cell_parts broken.table.def })
@@ -224,7 +226,7 @@ module _ (ext : Extents) (pages : PageList) (defs : Definitions) (view : Databas
           let found = from_map (index_of_dimension broken.table.def) (zip broken.table.def.dims broken.table.def.roots.dims) broken.index later in
           dimension_broken broken found.0 found.1 found.2
 
-  rule_10_breaks : (p : ℕ) → BreaksRule ext pages 10 p → BreaksAny (BreaksAnyIndex Blocks ext pages) (tables_there view.places) p
+  rule_10_breaks : (p : ℕ) → BreaksRule ext pages 10 p → BreaksAny (BreaksTableRule (Index Blocks) ext pages) (tables_there view.places) p
   rule_10_breaks _ (BreaksRule.composite t def within defines never) =
       let index : PlacedIndex = record { place = composite_place def; parts = cell_parts def } in
       broken_index Blocks t def index within defines (0, omega arith, refl)
@@ -236,16 +238,16 @@ module _ (ext : Extents) (pages : PageList) (defs : Definitions) (view : Databas
       (in_map (index_of_dimension def) (zip def.dims def.roots.dims) (dim, root) (at_zip def.dims def.roots.dims i dim root dim_at root_at)))
       (λ map_tree tree has_map has sound. never map_tree tree has_map has (block_index_of ext pages def map_tree index tree sound))
 
-  pub judges_rule_10 : (found : Option ℕ) → JudgesEach (HasSoundIndexes Blocks ext pages) (BreaksAnyIndex Blocks ext pages) (tables_there view.places) found → JudgesRule ext pages 10 (AreBlockIndexesSound ext pages view) found
+  pub judges_rule_10 : (found : Option ℕ) → JudgesEach (KeepsTableRule (Index Blocks) ext pages) (BreaksTableRule (Index Blocks) ext pages) (tables_there view.places) found → JudgesRule ext pages 10 (AreBlockIndexesSound ext pages view) found
   judges_rule_10 found judged =
-      judges_as {P = AllByRecursion (HasSoundIndexes Blocks ext pages) (tables_there view.places)} {Q = AreBlockIndexesSound ext pages view}
-      {A = BreaksAny (BreaksAnyIndex Blocks ext pages) (tables_there view.places)} {B = BreaksRule ext pages 10} found block_indexes_sound breaks_rule_10 rule_10_breaks judged
+      judges_as {P = AllByRecursion (KeepsTableRule (Index Blocks) ext pages) (tables_there view.places)} {Q = AreBlockIndexesSound ext pages view}
+      {A = BreaksAny (BreaksTableRule (Index Blocks) ext pages) (tables_there view.places)} {B = BreaksRule ext pages 10} found block_indexes_sound breaks_rule_10 rule_10_breaks judged
 
   -- ---- rule 11
 
-  record_indexes_sound : AllByRecursion (HasSoundIndexes Rows ext pages) (tables_there view.places) → AreSoundIndexes ext pages view
+  record_indexes_sound : AllByRecursion (KeepsTableRule (Index Rows) ext pages) (tables_there view.places) → AreSoundIndexes ext pages view
   record_indexes_sound all = each_there (AreTableIndexesSound ext pages) view.places (λ t table at.
-      let sound = there_at (HasSoundIndexes Rows ext pages) view.places t table at all in
+      let sound = there_at (KeepsTableRule (Index Rows) ext pages) view.places t table at all in
       let trees = there_at (λ table. AllZip (HasTree pages) (tree_places table.def) (trees_of_table table)) view.places t table at known.rows.blocks.trees.rule4 in
       let split = there_at (λ table. length table.dims ≡ length table.def.dims) view.places t table at known.rows.blocks.trees.split in
       let defined = viewed_is_defined ext pages defs view t table known.rows.blocks.trees at in
@@ -253,7 +255,7 @@ module _ (ext : Extents) (pages : PageList) (defs : Definitions) (view : Databas
       (behind_dimensions pages (dimension_places table.def) (record_places table.def) table.dims table.indexes
       (split ∙ sym (length-dimension_places table.def table.def.dims table.def.roots.dims defined.defines.limits.roots.one_each)) trees.1.1) sound)
 
-  breaks_rule_11 : (p : ℕ) → BreaksAny (BreaksAnyIndex Rows ext pages) (tables_there view.places) p → BreaksRule ext pages 11 p
+  breaks_rule_11 : (p : ℕ) → BreaksAny (BreaksTableRule (Index Rows) ext pages) (tables_there view.places) p → BreaksRule ext pages 11 p
   breaks_rule_11 p breaks =
       let broken = index_broken Rows p breaks in
       let def = broken.table.def in
@@ -263,13 +265,13 @@ module _ (ext : Extents) (pages : PageList) (defs : Definitions) (view : Databas
       broken.never map_tree tree has_map (subst (λ (placed : PlacedIndex). HasTree pages placed.place tree) is has)
       (subst (λ (placed : PlacedIndex). IsSoundTree Rows ext pages def map_tree placed tree) is (of_record_index ext pages def map_tree index tree sound)))))
 
-  rule_11_breaks : (p : ℕ) → BreaksRule ext pages 11 p → BreaksAny (BreaksAnyIndex Rows ext pages) (tables_there view.places) p
+  rule_11_breaks : (p : ℕ) → BreaksRule ext pages 11 p → BreaksAny (BreaksTableRule (Index Rows) ext pages) (tables_there view.places) p
   rule_11_breaks _ (BreaksRule.record_index t def index within defines there never) =
       broken_index Rows t def (record { place = record_place def index; parts = index.parts }) within defines
       (in_map (λ index. record { place = record_place def index; parts = index.parts }) def.indexes index there)
       (λ map_tree tree has_map has sound. never map_tree tree has_map has (record_index_of ext pages def map_tree index tree sound))
 
-  pub judges_rule_11 : (found : Option ℕ) → JudgesEach (HasSoundIndexes Rows ext pages) (BreaksAnyIndex Rows ext pages) (tables_there view.places) found → JudgesRule ext pages 11 (AreSoundIndexes ext pages view) found
+  pub judges_rule_11 : (found : Option ℕ) → JudgesEach (KeepsTableRule (Index Rows) ext pages) (BreaksTableRule (Index Rows) ext pages) (tables_there view.places) found → JudgesRule ext pages 11 (AreSoundIndexes ext pages view) found
   judges_rule_11 found judged =
-      judges_as {P = AllByRecursion (HasSoundIndexes Rows ext pages) (tables_there view.places)} {Q = AreSoundIndexes ext pages view}
-      {A = BreaksAny (BreaksAnyIndex Rows ext pages) (tables_there view.places)} {B = BreaksRule ext pages 11} found record_indexes_sound breaks_rule_11 rule_11_breaks judged
+      judges_as {P = AllByRecursion (KeepsTableRule (Index Rows) ext pages) (tables_there view.places)} {Q = AreSoundIndexes ext pages view}
+      {A = BreaksAny (BreaksTableRule (Index Rows) ext pages) (tables_there view.places)} {B = BreaksRule ext pages 11} found record_indexes_sound breaks_rule_11 rule_11_breaks judged

@@ -7,20 +7,17 @@ use Rattle.mdc_ast.specs.meaning.Definitions.{Definitions}
 use Rattle.extent_map.specs.declared.extents.Extents.{Extents}
 use Rattle.extent_map.specs.declared.kind.Kind.{Kind}
 use Rattle.table_trees.specs.ToldPages.{PageList}
-use Rattle.mdc_sound.specs.BlockRules.{AreBlockIndexesSound, AreCellsSound, AreRowPagesSound, AreSoundIndexes}
 use Rattle.mdc_sound.specs.Breaks.{BreaksRule, IsFirstBreak}
-use Rattle.mdc_sound.specs.SoundDatabase.{AreCountsSound, AreKeysSound, KeepAllRules}
 use Rattle.mdc_sound.specs.SpaceRules.{AreBlockMapsSound, AreTablePagesSound, AreTreePagesSound, DatabaseView, IsMapSound, IsRootSound, IsTablePlaceSound, definitions_in, tables_there}
 use Rattle.mdc_sound.specs.TableViews.{TableView}
 use Rattle.file_check.specs.Judging.{JudgesRule}
-use Rattle.file_check.specs.Kept.{KeepsCells, KeepsTables, KeepsTrees, NoneBreaksBefore}
-use Rattle.file_check.specs.Known.{AreDefinitionsSound, AreTimesInTrees, ViewHasBlocks, ViewHasCells, HasDefinitions, ViewHasRows, HasTheirTrees, ViewHasTrees, IsDefinitionSound, defs_of, defs_there}
+use Rattle.file_check.specs.Kept.{KeepsBlockMaps, KeepsTables, KeepsTrees, NoneBreaksBefore}
+use Rattle.file_check.specs.Known.{AreDefinitionsSound, AreTimesInTrees, HasDefinitions, HasTheirTrees, IsDefinitionSound, ViewHasTrees, defs_of, defs_there}
 use Rattle.file_check.specs.TablePagesJudged.{JudgesTablePages}
 use Rattle.file_check.specs.TreesJudged.{StandAsCounted}
 use Rattle.file_check.specs.declared.definitions.TablePages.{TablePages}
 use Rattle.file_check.specs.declared.definitions.TablePages.TheVariants.{Sound, Broken}
-use Rattle.file_check.specs.Verdicts.{AreSoundUnbroken}
-use Rattle.file_check.proofs.VerdictsLemmas.{first_break, first_lowest, holds_unbroken, none_at_all, none_next, none_yet}
+use Rattle.file_check.proofs.VerdictsLemmas.{first_break, first_lowest, holds_unbroken, none_next, none_yet}
 
 -- no page was found
 abbrev pub FindsNone : Option ℕ → Type 0
@@ -48,24 +45,6 @@ SaysTreePages ext times found pages =
 abbrev pub SaysBlockMaps : Extents → Definitions → Option ℕ → PageList → Type 0
 SaysBlockMaps ext defs found pages = (view : DatabaseView) → ViewHasTrees ext pages defs view → JudgesRule ext pages 6 (AreBlockMapsSound ext view) found
 
-abbrev pub SaysRowPages : Extents → Definitions → Option ℕ → PageList → Type 0
-SaysRowPages ext defs found pages = (view : DatabaseView) → ViewHasBlocks ext pages defs view → JudgesRule ext pages 7 (AreRowPagesSound ext pages view) found
-
-abbrev pub SaysCounts : Extents → Definitions → Option ℕ → PageList → Type 0
-SaysCounts ext defs found pages = (view : DatabaseView) → ViewHasRows ext pages defs view → JudgesRule ext pages 8 (AreCountsSound ext pages view) found
-
-abbrev pub SaysCells : Extents → Definitions → Option ℕ → PageList → Type 0
-SaysCells ext defs found pages = (view : DatabaseView) → ViewHasRows ext pages defs view → JudgesRule ext pages 9 (AreCellsSound ext pages view) found
-
-abbrev pub SaysBlockIndexes : Extents → Definitions → Option ℕ → PageList → Type 0
-SaysBlockIndexes ext defs found pages = (view : DatabaseView) → ViewHasCells ext pages defs view → JudgesRule ext pages 10 (AreBlockIndexesSound ext pages view) found
-
-abbrev pub SaysRecordIndexes : Extents → Definitions → Option ℕ → PageList → Type 0
-SaysRecordIndexes ext defs found pages = (view : DatabaseView) → ViewHasCells ext pages defs view → JudgesRule ext pages 11 (AreSoundIndexes ext pages view) found
-
-abbrev pub SaysKeys : Extents → Definitions → Option ℕ → PageList → Type 0
-SaysKeys ext defs found pages = (view : DatabaseView) → ViewHasCells ext pages defs view → JudgesRule ext pages 12 (AreKeysSound ext pages view) found
-
 -- ---- what they rest on
 
 abbrev pub SomeOwners : Extents → PageList → Type 0
@@ -73,18 +52,6 @@ SomeOwners ext pages = IsRootSound ext pages × (owners : List Kind) × IsMapSou
 
 abbrev pub SomeTrees : Extents → PageList → Type 0
 SomeTrees ext pages = (defs : Definitions) × (view : DatabaseView) × ViewHasTrees ext pages defs view
-
-abbrev pub SomeTreesOf : Extents → Definitions → PageList → Type 0
-SomeTreesOf ext defs pages = (view : DatabaseView) × ViewHasTrees ext pages defs view
-
-abbrev pub SomeBlocks : Extents → Definitions → PageList → Type 0
-SomeBlocks ext defs pages = (view : DatabaseView) × ViewHasBlocks ext pages defs view
-
-abbrev pub SomeRows : Extents → Definitions → PageList → Type 0
-SomeRows ext defs pages = (view : DatabaseView) × ViewHasRows ext pages defs view
-
-abbrev pub SomeCells : Extents → Definitions → PageList → Type 0
-SomeCells ext defs pages = (view : DatabaseView) × ViewHasCells ext pages defs view
 
 -- ---- what is known behind the others
 
@@ -106,40 +73,6 @@ pub record KeepsCounted (ext : Extents) (defs : Definitions) (times : List ℕ) 
   pub known : ViewHasTrees ext pages defs view
   pub counted : AreTimesInTrees pages view times
   pub before : NoneBreaksBefore ext pages 5
-
--- the first six
-pub record KeepsBlocks (ext : Extents) (defs : Definitions) (pages : PageList) : Type 0 where
-  pub view : DatabaseView
-  pub known : ViewHasBlocks ext pages defs view
-  pub before : NoneBreaksBefore ext pages 7
-
--- the first seven
-pub record KeepsRows (ext : Extents) (defs : Definitions) (pages : PageList) : Type 0 where
-  pub view : DatabaseView
-  pub known : ViewHasRows ext pages defs view
-  pub before : NoneBreaksBefore ext pages 8
-
--- the first eight
-pub record KeepsCounts (ext : Extents) (defs : Definitions) (pages : PageList) : Type 0 where
-  pub view : DatabaseView
-  pub known : ViewHasRows ext pages defs view
-  pub rule8 : AreCountsSound ext pages view
-  pub before : NoneBreaksBefore ext pages 9
-
--- the first ten
-pub record KeepsBlockIndexes (ext : Extents) (defs : Definitions) (pages : PageList) : Type 0 where
-  pub view : DatabaseView
-  pub known : ViewHasCells ext pages defs view
-  pub rule10 : AreBlockIndexesSound ext pages view
-  pub before : NoneBreaksBefore ext pages 11
-
--- the first eleven
-pub record KeepsIndexes (ext : Extents) (defs : Definitions) (pages : PageList) : Type 0 where
-  pub view : DatabaseView
-  pub known : ViewHasCells ext pages defs view
-  pub rule10 : AreBlockIndexesSound ext pages view
-  pub rule11 : AreSoundIndexes ext pages view
-  pub before : NoneBreaksBefore ext pages 12
 
 -- ---- the table pages of a view
 
@@ -213,67 +146,14 @@ module _ (ext : Extents) (pages : PageList) (found : Option ℕ) (none : FindsNo
       let sound = holds_unbroken (AreTreePagesSound ext kept.view) (BreaksRule ext pages 5) found none (says defs kept.view kept.known kept.counted) in
       record { view = kept.view; known = kept.known; rule5 = sound.holds; before = none_next ext pages 5 kept.before sound.unbroken }
 
-  module _ (defs : Definitions) where
-    pub block_maps_kept : KeepsTrees ext defs pages → SaysBlockMaps ext defs found pages → KeepsBlocks ext defs pages
-    block_maps_kept kept says =
-        let sound = holds_unbroken (AreBlockMapsSound ext kept.view) (BreaksRule ext pages 6) found none (says kept.view kept.known) in
-        record {
-          view = kept.view;
-          known = record { trees = kept.known; rule5 = kept.rule5; rule6 = sound.holds };
-          before = none_next ext pages 6 kept.before sound.unbroken;
-        }
-
-    pub row_pages_kept : KeepsBlocks ext defs pages → SaysRowPages ext defs found pages → KeepsRows ext defs pages
-    row_pages_kept kept says =
-        let sound = holds_unbroken (AreRowPagesSound ext pages kept.view) (BreaksRule ext pages 7) found none (says kept.view kept.known) in
-        record { view = kept.view; known = record { blocks = kept.known; rule7 = sound.holds }; before = none_next ext pages 7 kept.before sound.unbroken }
-
-    pub counts_kept : KeepsRows ext defs pages → SaysCounts ext defs found pages → KeepsCounts ext defs pages
-    counts_kept kept says =
-        let sound = holds_unbroken (AreCountsSound ext pages kept.view) (BreaksRule ext pages 8) found none (says kept.view kept.known) in
-        record { view = kept.view; known = kept.known; rule8 = sound.holds; before = none_next ext pages 8 kept.before sound.unbroken }
-
-    pub cells_kept : KeepsCounts ext defs pages → SaysCells ext defs found pages → KeepsCells ext defs pages
-    cells_kept kept says =
-        let sound = holds_unbroken (AreCellsSound ext pages kept.view) (BreaksRule ext pages 9) found none (says kept.view kept.known) in
-        record {
-          view = kept.view;
-          known = record { rows = kept.known; rule8 = kept.rule8; rule9 = sound.holds };
-          before = none_next ext pages 9 kept.before sound.unbroken;
-        }
-
-    pub block_indexes_kept : KeepsCells ext defs pages → SaysBlockIndexes ext defs found pages → KeepsBlockIndexes ext defs pages
-    block_indexes_kept kept says =
-        let sound = holds_unbroken (AreBlockIndexesSound ext pages kept.view) (BreaksRule ext pages 10) found none (says kept.view kept.known) in
-        record { view = kept.view; known = kept.known; rule10 = sound.holds; before = none_next ext pages 10 kept.before sound.unbroken }
-
-    pub indexes_kept : KeepsBlockIndexes ext defs pages → SaysRecordIndexes ext defs found pages → KeepsIndexes ext defs pages
-    indexes_kept kept says =
-        let sound = holds_unbroken (AreSoundIndexes ext pages kept.view) (BreaksRule ext pages 11) found none (says kept.view kept.known) in
-        record { view = kept.view; known = kept.known; rule10 = kept.rule10; rule11 = sound.holds; before = none_next ext pages 11 kept.before sound.unbroken }
-
-    pub all_kept : KeepsIndexes ext defs pages → SaysKeys ext defs found pages → AreSoundUnbroken ext pages
-    all_kept kept says =
-        let sound = holds_unbroken (AreKeysSound ext pages kept.view) (BreaksRule ext pages 12) found none (says kept.view kept.known) in
-        let cells = kept.known in
-        let blocks = cells.rows.blocks in
-        let first : KeepAllRules ext pages kept.view = record {
-          first = record {
-            rule1 = blocks.trees.rule1;
-            rule2 = blocks.trees.rule2;
-            rule3 = blocks.trees.rule3;
-            rule4 = blocks.trees.rule4;
-            rule5 = blocks.rule5;
-            rule6 = blocks.rule6;
-            rule7 = cells.rows.rule7;
-            rule8 = cells.rule8;
-            rule9 = cells.rule9;
-            rule10 = kept.rule10;
-          };
-          rule11 = kept.rule11;
-          rule12 = sound.holds;
-        } in
-        record { sound = (kept.view, first); unbroken = none_at_all ext pages (none_next ext pages 12 kept.before sound.unbroken) }
+  pub block_maps_kept : (defs : Definitions) → KeepsTrees ext defs pages → SaysBlockMaps ext defs found pages → KeepsBlockMaps ext defs pages
+  block_maps_kept defs kept says =
+      let sound = holds_unbroken (AreBlockMapsSound ext kept.view) (BreaksRule ext pages 6) found none (says kept.view kept.known) in
+      record {
+        view = kept.view;
+        known = record { trees = kept.known; rule5 = kept.rule5; rule6 = sound.holds };
+        before = none_next ext pages 6 kept.before sound.unbroken;
+      }
 
 -- ---- the first that is broken
 
@@ -294,24 +174,5 @@ module _ (ext : Extents) (pages : PageList) (found : Option ℕ) (page : ℕ) (i
   pub tree_pages_broken : (defs : Definitions) (times : List ℕ) → KeepsCounted ext defs times pages → SaysTreePages ext times found pages → IsFirstBreak ext pages 5 page
   tree_pages_broken defs times kept says = first_break ext pages 5 (AreTreePagesSound ext kept.view) found page is kept.before (says defs kept.view kept.known kept.counted)
 
-  module _ (defs : Definitions) where
-    pub block_maps_broken : KeepsTrees ext defs pages → SaysBlockMaps ext defs found pages → IsFirstBreak ext pages 6 page
-    block_maps_broken kept says = first_break ext pages 6 (AreBlockMapsSound ext kept.view) found page is kept.before (says kept.view kept.known)
-
-    pub row_pages_broken : KeepsBlocks ext defs pages → SaysRowPages ext defs found pages → IsFirstBreak ext pages 7 page
-    row_pages_broken kept says = first_break ext pages 7 (AreRowPagesSound ext pages kept.view) found page is kept.before (says kept.view kept.known)
-
-    pub counts_broken : KeepsRows ext defs pages → SaysCounts ext defs found pages → IsFirstBreak ext pages 8 page
-    counts_broken kept says = first_break ext pages 8 (AreCountsSound ext pages kept.view) found page is kept.before (says kept.view kept.known)
-
-    pub cells_broken : KeepsCounts ext defs pages → SaysCells ext defs found pages → IsFirstBreak ext pages 9 page
-    cells_broken kept says = first_break ext pages 9 (AreCellsSound ext pages kept.view) found page is kept.before (says kept.view kept.known)
-
-    pub block_indexes_broken : KeepsCells ext defs pages → SaysBlockIndexes ext defs found pages → IsFirstBreak ext pages 10 page
-    block_indexes_broken kept says = first_break ext pages 10 (AreBlockIndexesSound ext pages kept.view) found page is kept.before (says kept.view kept.known)
-
-    pub record_indexes_broken : KeepsBlockIndexes ext defs pages → SaysRecordIndexes ext defs found pages → IsFirstBreak ext pages 11 page
-    record_indexes_broken kept says = first_break ext pages 11 (AreSoundIndexes ext pages kept.view) found page is kept.before (says kept.view kept.known)
-
-    pub keys_broken : KeepsIndexes ext defs pages → SaysKeys ext defs found pages → IsFirstBreak ext pages 12 page
-    keys_broken kept says = first_break ext pages 12 (AreKeysSound ext pages kept.view) found page is kept.before (says kept.view kept.known)
+  pub block_maps_broken : (defs : Definitions) → KeepsTrees ext defs pages → SaysBlockMaps ext defs found pages → IsFirstBreak ext pages 6 page
+  block_maps_broken defs kept says = first_break ext pages 6 (AreBlockMapsSound ext kept.view) found page is kept.before (says kept.view kept.known)

@@ -1,13 +1,10 @@
 -- Row numbers and unique keys of all tables: rule 12.
-use Rattle.std.proofs.Common.{◌≡◌, ◌<◌, ◌+◌, ◌∙◌, ℕ, length, get_or, refl, ap, sym, subst, arith, inl, inr}
-use Rattle.std.specs.Prelude.{◌⊎◌, Contains, IsTrue, Option, Some, slice_get}
+use Rattle.std.proofs.Common.{◌≡◌, ◌+◌, ◌∙◌, ℕ, refl, ap, sym, subst, arith, inl, inr}
+use Rattle.std.specs.Prelude.{◌⊎◌, Contains, Option}
 use Rattle.std.specs.List.{AllByRecursion}
 use Rattle.mdc_ast.specs.declared.definition.IndexDef.{IndexDef}
 use Rattle.mdc_ast.specs.declared.definition.TableDef.{TableDef}
 use Rattle.mdc_ast.specs.meaning.Definitions.{Definitions}
-use Rattle.store_api.specs.StoreState.{StoreState}
-use Rattle.store_api.specs.declared.fault.Damage.{Damage}
-use Rattle.store_api.specs.declared.pages.Pages.{Ghosts}
 use Rattle.extent_map.specs.declared.extents.Extents.{Extents}
 use Rattle.entry_tree.specs.Forest.{Forest}
 use Rattle.key_codec.specs.Keys.{ArePartsOf}
@@ -25,25 +22,19 @@ use Rattle.mdc_sound.specs.TableViews.{TableView}
 use Rattle.mdc_sound.proofs.BlockRulesLemmas.{each_as, each_of}
 use Rattle.mdc_sound.proofs.DefinitionTreesLemmas.{index_has_parts}
 use Rattle.mdc_sound.proofs.StandsForLemmas.{one_tree_at}
-use Rattle.file_check.specs.Judging.{BreaksAny, Judges, JudgesEach, JudgesRule}
-use Rattle.file_check.specs.KeysJudged.{AreTableKeys, BreaksTableKeys, HasTableRows, TellsRows, WhereRows}
+use Rattle.file_check.specs.Judging.{BreaksAny, JudgesEach, JudgesRule}
+use Rattle.file_check.specs.KeysJudged.{HasTableRows}
 use Rattle.file_check.specs.Known.{ViewHasCells}
-use Rattle.file_check.specs.Looking.{Unless}
-use Rattle.file_check.proofs.JudgingLemmas.{breaks_any-member, judges_as, member-breaks_any, place_with}
-use Rattle.file_check.proofs.KnownTablesLemmas.{IsDefinedAt, defined_is_viewed, member_is_placed, placed_is_there, viewed_is_defined}
-use Rattle.file_check.proofs.ShownTablesLemmas.{member_map, place_found, place_of_def}
-
--- the row numbers and unique keys of a table are sound, and a page that breaks it
-abbrev pub KeysHold : Extents → PageList → TableView → Type 0
-KeysHold ext pages table = AreTableKeys table.def (rows_in_table ext pages table.def table.map)
-
-abbrev pub KeysBreak : Extents → PageList → TableView → ℕ → Type 0
-KeysBreak ext pages table = BreaksTableKeys table.def (rows_in_table ext pages table.def table.map)
+use Rattle.file_check.specs.RulesOfTables.{BreaksTableRule, KeepsTableRule}
+use Rattle.file_check.specs.declared.table_rule.TableRule.TheVariants.{Keys}
+use Rattle.file_check.proofs.JudgingLemmas.{breaks_any-member, judges_as, member-breaks_any}
+use Rattle.file_check.proofs.KnownTablesLemmas.{IsDefinedAt, defined_is_viewed, member_is_placed, viewed_is_defined}
+use Rattle.file_check.proofs.ShownTablesLemmas.{member_map}
 
 -- ---- one table
 
 -- the rows of a table of the view are told
-known_rows : (ext : Extents) (pages : PageList) (defs : Definitions) (view : DatabaseView) (table : TableView) → ViewHasCells ext pages defs view → Contains (tables_there view.places) table
+pub known_rows : (ext : Extents) (pages : PageList) (defs : Definitions) (view : DatabaseView) (table : TableView) → ViewHasCells ext pages defs view → Contains (tables_there view.places) table
     → HasTableRows ext pages table.def table.map
 known_rows ext pages defs view table has there =
     record {
@@ -53,14 +44,6 @@ known_rows ext pages defs view table has there =
           (each_of (λ x. AllByRecursion (AreBlockRowsSound ext pages x.def) (used_blocks x.map)) (tables_there view.places) table has.rows.rule7 there) used;
     }
 
--- what was judged of a definition is judged of its table in the view
-pub judged_in_view : (ext : Extents) (s : StoreState) (defs : Definitions) (view : DatabaseView) (def : TableDef) (here : Option ℕ) → IsTrue s.is_told → ViewHasCells ext s.work defs view
-    → WhereRows s ext def (λ rows. Judges (AreTableKeys def rows) (BreaksTableKeys def rows) here)
-    → (i : ℕ) (table : TableView) → slice_get view.places i ≡ Some (Some table) → table.def ≡ def → Judges (KeysHold ext s.work table) (KeysBreak ext s.work table) here
-judged_in_view ext s defs view def here told has judged i table at same =
-    let rows : HasTableRows ext s.work def table.map = subst (λ d. HasTableRows ext s.work d table.map) same (known_rows ext s.work defs view table has (placed_is_there view.places i table at)) in
-    subst (λ d. Judges (AreTableKeys d (rows_in_table ext s.work d table.map)) (BreaksTableKeys d (rows_in_table ext s.work d table.map)) here) (sym same) (judged told table.map rows)
-
 -- ---- what a definition has
 
 pub has_row_columns : (t : ℕ) (def : TableDef) → IsTableDef t def → AreRowColumns def.columns
@@ -69,16 +52,6 @@ has_row_columns t def is = record { few = is.columns.few; narrow = is.columns.na
 pub has_index_parts : (t : ℕ) (def : TableDef) → IsTableDef t def → AllByRecursion (λ index. ArePartsOf def.columns index.parts) def.indexes
 has_index_parts t def is =
     each_as (λ index. AreIndexParts def.columns index.parts) (λ index. ArePartsOf def.columns index.parts) def.indexes (λ index there parts. parts.key) (index_has_parts def.columns def.indexes is.indexes.good)
-
-module _ {S : Type 0} (g : Ghosts S) where
-  -- damage of the table of a place isn't named where its rows are known
-  pub cells_unless : (ext : Extents) (old now : S) (defs : Definitions) (i : ℕ) (place : Option TableDef) (def : TableDef) (damage : Damage) → (g.state now).is_told ≡ (g.state old).is_told
-      → (g.state now).work ≡ (g.state old).work → i < length defs → place ≡ get_or defs i place → place ≡ Some def
-      → Unless g now (TellsRows ext def) damage → Unless g old (λ told. (view : DatabaseView) × ViewHasCells ext told defs view) damage
-  cells_unless ext old now defs i place def damage tells works low is some unless told (view, has) =
-      let (table, at, same) = place_with view.places i def (place_of_def ext (g.state old).work defs view has.rows.blocks.trees i (Some def) (place_found defs i place (Some def) low is some)) in
-      unless (tells ∙ told) (subst (TellsRows ext def) (sym works)
-      (table.map, subst (λ d. HasTableRows ext (g.state old).work d table.map) same (known_rows ext (g.state old).work defs view table has (placed_is_there view.places i table at))))
 
 -- ---- rule 12
 
@@ -124,16 +97,16 @@ says_keys ext pages rule page is other = absurd (omega (arith, is))
 
 -- all tables
 pub judges_keys : (ext : Extents) (pages : PageList) (defs : Definitions) (view : DatabaseView) (found : Option ℕ) → ViewHasCells ext pages defs view
-    → JudgesEach (KeysHold ext pages) (KeysBreak ext pages) (tables_there view.places) found → JudgesRule ext pages 12 (AreKeysSound ext pages view) found
+    → JudgesEach (KeepsTableRule Keys ext pages) (BreaksTableRule Keys ext pages) (tables_there view.places) found → JudgesRule ext pages 12 (AreKeysSound ext pages view) found
 judges_keys ext pages defs view found has judged =
     let tables = tables_there view.places in
-    judges_as {P = AllByRecursion (KeysHold ext pages) tables} {Q = AreKeysSound ext pages view} {A = BreaksAny (KeysBreak ext pages) tables} {B = BreaksRule ext pages 12} found
+    judges_as {P = AllByRecursion (KeepsTableRule Keys ext pages) tables} {Q = AreKeysSound ext pages view} {A = BreaksAny (BreaksTableRule Keys ext pages) tables} {B = BreaksRule ext pages 12} found
     (λ all. record {
-      numbers = each_as (KeysHold ext pages) (λ table. AreRowNumbersSound table.def (rows_in_table ext pages table.def table.map)) tables (λ table there keys. keys.numbers) all;
-      unique = each_as (KeysHold ext pages) (λ table. AllByRecursion (IsUniqueSound (rows_in_table ext pages table.def table.map)) table.def.indexes) tables (λ table there keys. keys.unique) all;
+      numbers = each_as (KeepsTableRule Keys ext pages) (λ table. AreRowNumbersSound table.def (rows_in_table ext pages table.def table.map)) tables (λ table there keys. keys.numbers) all;
+      unique = each_as (KeepsTableRule Keys ext pages) (λ table. AllByRecursion (IsUniqueSound (rows_in_table ext pages table.def table.map)) table.def.indexes) tables (λ table there keys. keys.unique) all;
     })
     (λ p broken.
-    let (table, member, breaks) = member-breaks_any (KeysBreak ext pages) tables p broken in
+    let (table, member, breaks) = member-breaks_any (BreaksTableRule Keys ext pages) tables p broken in
     let (t, at) = member_is_placed view table member in
     let defined = viewed_is_defined ext pages defs view t table has.rows.blocks.trees at in
     subst (BreaksRule ext pages 12) (sym (breaks.is_its ∙ ap (λ n. 1 + n) defined.number)) (table_breaks ext pages t table defined (known_rows ext pages defs view table has member).map.tree breaks.broken))
@@ -143,7 +116,7 @@ judges_keys ext pages defs view found has judged =
     let table = viewed.table in
     let defined = viewed_is_defined ext pages defs view says.t table has.rows.blocks.trees viewed.stands in
     let tree : HasTree pages (map_place says.def) table.map = subst (λ d. HasTree pages (map_place d) table.map) viewed.same (known_rows ext pages defs view table has viewed.member).map.tree in
-    breaks_any-member (KeysBreak ext pages) tables table p viewed.member (record {
+    breaks_any-member (BreaksTableRule Keys ext pages) tables table p viewed.member (record {
       is_its = says.is_its ∙ ap (λ n. 1 + n) (sym defined.number);
       broken = subst (λ d. (AreRowNumbersSound d (rows_in_table ext pages d table.map) → ⊥) ⊎ ((index : IndexDef) × Contains d.indexes index × (IsUniqueSound (rows_in_table ext pages d table.map) index → ⊥)))
           (sym viewed.same) (says.shows.map table.map tree);

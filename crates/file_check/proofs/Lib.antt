@@ -38,7 +38,11 @@ pub mod RootPagesLemmas
 pub mod RowEntriesLemmas
 pub mod RowKeysLemmas
 pub mod RowPagesRuleLemmas
+pub mod RulesInOrderLemmas
+pub mod RulesOfBlocksLemmas
+pub mod RulesOfTablesLemmas
 pub mod SharedNamesLemmas
+pub mod ShownBreaksLemmas
 pub mod ShownTablesLemmas
 pub mod SoundUnbrokenLemmas
 pub mod TableIndexesLemmas

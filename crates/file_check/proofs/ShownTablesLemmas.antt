@@ -20,8 +20,7 @@ use Rattle.mdc_sound.specs.TableViews.{TableView, trees_of_table}
 use Rattle.mdc_sound.proofs.BlockRulesLemmas.{each_as, each_of}
 use Rattle.mdc_sound.proofs.StandsForLemmas.{one_tree_at}
 use Rattle.file_check.specs.Known.{HasBlockMap, ViewHasTrees}
-use Rattle.file_check.proofs.JudgingLemmas.{place_with}
-use Rattle.file_check.proofs.KnownTablesLemmas.{defined_is_viewed, member_is_placed, placed_is_there, viewed_is_defined}
+use Rattle.file_check.proofs.KnownTablesLemmas.{defined_is_viewed, member_is_placed, viewed_is_defined}
 
 -- what a loop over definitions finds in a place
 pub place_found : (defs : Definitions) (i : ℕ) (item place : Option TableDef) → i < length defs → item ≡ get_or defs i item → item ≡ place → slice_get defs i ≡ Some place
@@ -65,13 +64,6 @@ module _ (ext : Extents) (pages : PageList) (defs : Definitions) (view : Databas
 
   -- ---- by the places of definitions
 
-  -- what holds of a definition with its block map holds of its table
-  pub placed_holds : (Q : TableDef → Forest → Type 0) (i : ℕ) (def : TableDef) (table : TableView) → ((map_tree : Forest) → HasTree pages (map_place def) map_tree → Q def map_tree)
-      → slice_get view.places i ≡ Some (Some table) → table.def ≡ def → Q table.def table.map
-  placed_holds Q i def table holds at same =
-      let tree : HasTree pages (map_place def) table.map = subst (λ (d : TableDef). HasTree pages (map_place d) table.map) same (viewed_map table (placed_is_there view.places i table at)) in
-      subst (λ (d : TableDef). Q d table.map) (sym same) (holds table.map tree)
-
   -- the definition in a place, in the words of the view
   pub place_of_def : (i : ℕ) (place : Option TableDef) → slice_get defs i ≡ Some place → slice_get (map (option_map (λ table. table.def)) view.places) i ≡ Some place
   place_of_def i place at = subst (λ (ds : Definitions). slice_get ds i ≡ Some place) (sym has.defined) at
@@ -95,9 +87,3 @@ module _ (ext : Extents) (pages : PageList) (defs : Definitions) (view : Databas
         entries = sound.entries;
         within = each_as (IsMapLineSound ext view.owners table.def) (λ line. line.block < ext.cap) (map_lines table.map) (λ line inside is. is.within) sound.lines;
       }
-
-  pub known_map : AreBlockMapsSound ext view → (i : ℕ) (def : TableDef) → slice_get defs i ≡ Some (Some def) → (map_tree : Forest) × HasBlockMap ext pages def map_tree
-  known_map rule6 i def at =
-      let there = place_with view.places i def (place_of_def i (Some def) at) in
-      let known = member_map rule6 there.0 (placed_is_there view.places i there.0 there.1) in
-      (there.0.map, subst (λ (d : TableDef). HasBlockMap ext pages d there.0.map) there.2 known)

@@ -1,10 +1,10 @@
 -- The indexes of a table are judged one after the other, and those of all tables.
-use Rattle.std.proofs.Common.{◌≡◌, ◌+◌, ◌<◌, ◌⊎◌, Bool, ℕ, zero, suc, List, [], ◌∷◌, ◌++◌, refl, sym, ap, subst, ◌∙◌, arith, length, get_or, take, inl, inr}
-use Rattle.std.specs.Prelude.{IsTrue, Contains, ◌↔◌, Option, Some, None, map, option_map, slice_get, zip}
+use Rattle.std.proofs.Common.{◌≡◌, ◌+◌, ◌<◌, ◌⊎◌, Bool, ℕ, List, [], ◌∷◌, ◌++◌, refl, sym, ap, subst, ◌∙◌, arith, take, inl, inr}
+use Rattle.std.specs.Prelude.{IsTrue, Contains, ◌↔◌, Option, Some, None, map, slice_get, zip}
 use Rattle.std.specs.List.{AllByRecursion, AllZip}
 use Rattle.std.proofs.lemmas.List.{take_more}
 use Rattle.std.proofs.lemmas.List.Elements.{Contains-append_left, Contains-append_right}
-use Rattle.std.proofs.lemmas.Option.{get_or_from_slice_get, same_Some, slice_get_within}
+use Rattle.std.proofs.lemmas.Option.{get_or_from_slice_get, slice_get_within}
 use Rattle.mdc_ast.specs.declared.definition.TableDef.{TableDef}
 use Rattle.mdc_ast.specs.meaning.Definitions.{Definitions}
 use Rattle.extent_map.specs.declared.extents.Extents.{Extents}
@@ -19,17 +19,15 @@ use Rattle.mdc_sound.specs.SpaceRules.{DatabaseView, IsBlockMapSound, IsMapLineS
 use Rattle.mdc_sound.specs.TableViews.{TableView, trees_of_table}
 use Rattle.mdc_sound.proofs.ElementsLemmas.{contains_entry, from_map, in_map}
 use Rattle.mdc_sound.proofs.MappedBlocksLemmas.{map_form, used_line}
-use Rattle.mdc_sound.proofs.SpaceRulesLemmas.{range_at, there_at}
+use Rattle.mdc_sound.proofs.SpaceRulesLemmas.{there_at}
 use Rattle.mdc_sound.proofs.StandsForLemmas.{one_tree_at}
-use Rattle.stored_catalog.specs.StoredDefinitions.{AreWithinLimits, IsWithinLimits}
-use Rattle.table_page.specs.TableLimits.{IsTableDef}
 use Rattle.file_check.specs.Judging.{Judges, JudgesEach, lower}
 use Rattle.file_check.specs.Known.{ViewHasCells}
 use Rattle.file_check.proofs.JudgingLemmas.{judges_next}
 use Rattle.file_check.specs.declared.table_index.IndexKind.{IndexKind}
 use Rattle.file_check.specs.declared.table_index.IndexKind.TheVariants.{Blocks, Rows}
 use Rattle.file_check.specs.declared.table_index.TableIndex.{TableIndex}
-use Rattle.file_check.specs.TableIndexes.{AreReadable, AreSoundEntries, BreaksAnyIndex, BreaksPlace, HasIndexes, HasSoundIndexes, IsPlaceSound, IsSoundTree, JudgesIndexes, PlacedIndex, entries_of_blocks, index_of_dimension, indexes_of_kind, place_of_index, spare_blocks}
+use Rattle.file_check.specs.TableIndexes.{AreReadable, AreSoundEntries, BreaksPlace, HasIndexes, IsPlaceSound, IsSoundTree, PlacedIndex, entries_of_blocks, index_of_dimension, indexes_of_kind, place_of_index, spare_blocks}
 
 -- ---- one index
 
@@ -137,47 +135,3 @@ has_indexes kind ext pages defs view t table known at =
       );
       trees = λ index there. tree_in pages (tree_places table.def) (trees_of_table table) index.place trees (is_tree_place kind table.def index there);
     }
-
--- ---- the table of a definition
-
--- the table that a view has in the place of a definition
-pub record IsTableAt (view : DatabaseView) (t : ℕ) (def : TableDef) : Type 0 where
-  pub table : TableView
-  pub stands : slice_get view.places t ≡ Some (Some table)
-  pub same : table.def ≡ def
-
-table_in : (places : List (Option TableView)) (t : ℕ) (def : TableDef) → slice_get (map (option_map (λ (table : TableView). table.def)) places) t ≡ Some (Some def)
-    → (table : TableView) × (slice_get places t ≡ Some (Some table)) × (table.def ≡ def)
-table_in [] t def at = absurd (cc)
-table_in (None ∷ places) zero def at = absurd (cc)
-table_in (Some table ∷ places) zero def at = (table, refl, same_Some table.def def (same_Some (Some table.def) (Some def) at))
-table_in (place ∷ places) (suc t) def at = table_in places t def at
-
-pub table_at : (ext : Extents) (pages : PageList) (defs : Definitions) (view : DatabaseView) (t : ℕ) (def : TableDef) → ViewHasCells ext pages defs view → slice_get defs t ≡ Some (Some def) → IsTableAt view t def
-table_at ext pages defs view t def known at =
-    let (table, stands, same) = table_in view.places t def (ap (λ (ds : Definitions). slice_get ds t) known.rows.blocks.trees.defined ∙ at) in
-    record { table = table; stands = stands; same = same }
-
--- what was judged of its definition is judged of the table
-pub table_judged : (kind : IndexKind) (ext : Extents) (pages work : PageList) (defs : Definitions) (view : DatabaseView) (t : ℕ) (table : TableView) (def : TableDef) (here : Option ℕ) → work ≡ pages
-    → ViewHasCells ext pages defs view → slice_get view.places t ≡ Some (Some table) → table.def ≡ def
-    → ((map_tree : Forest) → HasIndexes kind ext work def map_tree → JudgesIndexes kind ext work def map_tree here) → Judges (HasSoundIndexes kind ext pages table) (BreaksAnyIndex kind ext pages table) here
-table_judged kind ext pages work defs view t table def here same known at is judged =
-    let has = has_indexes kind ext pages defs view t table known at in
-    let found = judged table.map (subst (λ (told : PageList). HasIndexes kind ext told def table.map) (sym same) (subst (λ (d : TableDef). HasIndexes kind ext pages d table.map) is has)) in
-    subst (λ (d : TableDef). JudgesIndexes kind ext pages d table.map here) (sym is) (subst (λ (told : PageList). JudgesIndexes kind ext told def table.map here) same found)
-
--- what stands in a place of a list
-pub item_at : {X : Type 0} (xs : List X) (i : ℕ) (x : X) → i < length xs → x ≡ get_or xs i x → slice_get xs i ≡ Some x
-item_at [] i x low is = absurd (omega (arith, low))
-item_at (y ∷ xs) zero x low is = ap Some (sym is)
-item_at (y ∷ xs) (suc i) x low is = item_at xs i x (omega (arith, low)) is
-
-pub no_item : {X : Type 0} (place : Option X) → ((x : X) → place ≡ Some x → ⊥) → place ≡ None
-no_item None none = refl
-no_item (Some x) none = absurd (none x refl)
-
-pub limits_in_place : (defs : Definitions) (t : ℕ) (def : TableDef) → AreWithinLimits defs → slice_get defs t ≡ Some (Some def) → IsTableDef def.number def
-limits_in_place defs t def within at =
-    let is = (range_at IsWithinLimits 0 16 defs t (Some def) within at).1 in
-    subst (λ n. IsTableDef n def) (sym is.stands) is

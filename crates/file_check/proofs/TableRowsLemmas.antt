@@ -1,6 +1,6 @@
 -- The rows of a table, block by block, and damage that isn't named where they are told.
 use Rattle.std.proofs.Common.{◌≡◌, ◌<◌, ◌+◌, ◌∙◌, ℕ, List, [], ◌++◌, length, take, get_or, ap, sym, subst}
-use Rattle.std.specs.Prelude.{map, flat_map, Contains, IsTrue}
+use Rattle.std.specs.Prelude.{map, flat_map, IsTrue}
 use Rattle.std.proofs.lemmas.List.{flat_map_more, take_more}
 use Rattle.mdc_ast.specs.declared.definition.TableDef.{TableDef}
 use Rattle.store_api.specs.StoreState.{StoreState}
@@ -17,6 +17,7 @@ use Rattle.mdc_sound.specs.TableRows.{PlacedRow, rows_in_table}
 use Rattle.file_check.specs.Known.{HasBlockMap, BlockHasRowPages}
 use Rattle.file_check.specs.KeysJudged.{HasTableRows, TellsRows, WhereRows}
 use Rattle.file_check.specs.Looking.{Unless}
+use Rattle.file_check.proofs.BlockMapsLemmas.{is_listed}
 
 -- the rows of one block more
 pub block_more : (P Q : List PlacedRow → Type 0) (rows_at : ℕ → List PlacedRow) (items : List ℕ) (i : ℕ) (hits : List Hit) → i < length items → P (flat_map rows_at (take i items))
@@ -30,12 +31,13 @@ module _ {S : Type 0} (g : Ghosts S) where
   pub map_unless : (ext : Extents) (s : S) (def : TableDef) (damage : Damage) → Unless g s (λ told. (map_tree : Forest) × HasBlockMap ext told def map_tree) damage → Unless g s (TellsRows ext def) damage
   map_unless ext s def damage unless told (t, rows) = unless told (t, rows.map)
 
-  -- damage of a Used block
-  pub block_unless : (ext : Extents) (old now : S) (def : TableDef) (block : ℕ) (damage : Damage) → (g.state now).is_told ≡ (g.state old).is_told → (g.state now).work ≡ (g.state old).work
-      → (IsTrue (g.state old).is_told → (t : Forest) → HasTree (g.state old).work (map_place def) t → Contains (used_blocks t) block)
-      → Unless g now (λ told. BlockHasRowPages ext told def block) damage → Unless g old (TellsRows ext def) damage
-  block_unless ext old now def block damage tells works used unless told (t, rows) =
-      unless (tells ∙ told) (subst (λ pages. BlockHasRowPages ext pages def block) (sym works) (rows.rows block (used told t rows.map.tree)).forms)
+  -- damage of a Used block that is listed
+  pub used_unless : (ext : Extents) (old now : S) (def : TableDef) (items : List ℕ) (i : ℕ) (damage : Damage) → (g.state now).is_told ≡ (g.state old).is_told → (g.state now).work ≡ (g.state old).work
+      → i < length items → (IsTrue (g.state old).is_told → (t : Forest) → HasTree (g.state old).work (map_place def) t → items ≡ used_blocks t)
+      → Unless g now (λ told. BlockHasRowPages ext told def (get_or items i 0)) damage → Unless g old (TellsRows ext def) damage
+  used_unless ext old now def items i damage tells works low listed unless told (t, rows) =
+      unless (tells ∙ told)
+      (subst (λ pages. BlockHasRowPages ext pages def (get_or items i 0)) (sym works) (rows.rows (get_or items i 0) (is_listed items (used_blocks t) i (listed told t rows.map.tree) low)).forms)
 
   -- damage of a later state that tells the same
   pub rows_unless : (ext : Extents) (old now : S) (def : TableDef) (damage : Damage) → (g.state now).is_told ≡ (g.state old).is_told → (g.state now).work ≡ (g.state old).work

@@ -1,8 +1,9 @@
 -- The verdict of one rule after another: the first that is broken, or that all hold.
-use Rattle.std.specs.Prelude.{◌≡◌, ◌≤◌, ◌+◌, ℕ, IsTrue, Option, Some, None}
+use Rattle.std.specs.Prelude.{◌≡◌, ◌≤◌, ◌+◌, ℕ, IfOk, IsTrue, Option, Result, Some, None}
 use Rattle.std.proofs.Common.{refl, sym, ap, subst, ◌∙◌, arith, inl, inr}
 use Rattle.std.proofs.lemmas.Bool.{cases_lt}
 use Rattle.std.proofs.lemmas.Option.{same_Some}
+use Rattle.std.proofs.lemmas.Result.{IfOk-weaker}
 use Rattle.mdc_words.proofs.FaultsLemmas.{counts_fault_as}
 use Rattle.extent_map.specs.declared.extents.Extents.{Extents}
 use Rattle.store_api.specs.Causes.{NoDamage}
@@ -18,6 +19,8 @@ use Rattle.mdc_sound.specs.Breaks.{BreaksRule, IsFirstBreak}
 use Rattle.file_check.specs.Judging.{HoldsUnbroken, IsLowestBreak, Judges, JudgesRule}
 use Rattle.file_check.specs.Kept.{NoneBreaksBefore}
 use Rattle.file_check.specs.Looking.{AnyPage, Unless, UnlessTold}
+use Rattle.file_check.specs.Verdicts.{IsVerdictOf}
+use Rattle.file_check.specs.declared.verdict.Verdict.{Verdict}
 
 -- ---- the numbers of rules
 
@@ -90,6 +93,14 @@ holds_unbroken Holds Breaks (Some page) none judged = absurd (none page refl)
 pub still_says : {S : Type 0} (g : Ghosts S) (old mid : S) (Says : PageList → Type 0) → (g.state mid).is_told ≡ (g.state old).is_told → (g.state mid).work ≡ (g.state old).work
     → (IsTrue (g.state mid).is_told → Says (g.state mid).work) → IsTrue (g.state old).is_told → Says (g.state old).work
 still_says g old mid Says tells same says told = subst Says same (says (tells ∙ told))
+
+-- the verdict of the rules that are judged later, where what they rest on follows from what is known
+pub verdict_behind : {S : Type 0} (g : Ghosts S) (old mid : S) (ext : Extents) (Known Next : PageList → Type 0) (result : Result Verdict StoreFault) → (g.state mid).is_told ≡ (g.state old).is_told
+    → (g.state mid).work ≡ (g.state old).work → (IsTrue (g.state old).is_told → Known (g.state old).work → Next (g.state old).work)
+    → IfOk result (λ verdict. IsTrue (g.state mid).is_told → Next (g.state mid).work → IsVerdictOf ext (g.state mid).work verdict)
+    → IfOk result (λ verdict. IsTrue (g.state old).is_told → Known (g.state old).work → IsVerdictOf ext (g.state old).work verdict)
+verdict_behind g old mid ext Known Next result tells same now later =
+    IfOk-weaker result _ _ (λ verdict says told known. still_says g old mid (λ pages. Next pages → IsVerdictOf ext pages verdict) tells same says told (now told known)) later
 
 module _ {S : Type 0} {g : Ghosts S} where
   -- a judge behind others that ended well

@@ -6,7 +6,7 @@ use Rattle.extent_map.specs.declared.kind.Kind.{Kind}
 use Rattle.table_trees.specs.ToldPages.{PageList}
 use Rattle.mdc_sound.specs.Breaks.{BreaksRule}
 use Rattle.mdc_sound.specs.SpaceRules.{AreTreePagesSound, DatabaseView}
-use Rattle.file_check.specs.Known.{ViewHasCells, HasDefinitions, ViewHasTrees}
+use Rattle.file_check.specs.Known.{HasDefinitions, ViewHasBlocks, ViewHasTrees}
 
 -- no page breaks a rule before this one
 pub record NoneBreaksBefore (ext : Extents) (pages : PageList) (rule : ℕ) : Type 0 where
@@ -25,8 +25,8 @@ pub record KeepsTrees (ext : Extents) (defs : Definitions) (pages : PageList) : 
   pub rule5 : AreTreePagesSound ext view
   pub before : NoneBreaksBefore ext pages 6
 
--- the first nine
-pub record KeepsCells (ext : Extents) (defs : Definitions) (pages : PageList) : Type 0 where
+-- the first six
+pub record KeepsBlockMaps (ext : Extents) (defs : Definitions) (pages : PageList) : Type 0 where
   pub view : DatabaseView
-  pub known : ViewHasCells ext pages defs view
-  pub before : NoneBreaksBefore ext pages 10
+  pub known : ViewHasBlocks ext pages defs view
+  pub before : NoneBreaksBefore ext pages 7

@@ -8,6 +8,8 @@ pub mod KeysJudged
 pub mod Known
 pub mod Looking
 pub mod MapPagesJudged
+pub mod RulesOfBlocks
+pub mod RulesOfTables
 pub mod TableIndexes
 pub mod TablePagesJudged
 pub mod TakingEntries

@@ -1,6 +1,5 @@
 -- The indexes of a table of one kind, whether their entries name blocks or rows, and when one of them is sound.
 use Rattle.std.specs.Prelude.{◌≡◌, ◌⊎◌, ◌+◌, ◌<◌, ℕ, IsTrue, List, [], ◌∷◌, map, flat_map, zip, Option, Contains}
-use Rattle.std.specs.List.{AllByRecursion}
 use Rattle.mdc_words.specs.ByteOrder.{Entry}
 use Rattle.mdc_ast.specs.declared.definition.KeyPart.{KeyPart}
 use Rattle.mdc_ast.specs.declared.definition.TableDef.{TableDef}
@@ -15,8 +14,7 @@ use Rattle.block_map.specs.MapLines.{pending_blocks, used_blocks}
 use Rattle.table_trees.specs.TableTrees.{TreePlace, block_entry, cell_parts, composite_place, dimension_place, map_place, place_of_tree, record_entry, record_place, rising_parts}
 use Rattle.table_trees.specs.ToldPages.{HasTree, PageList}
 use Rattle.mdc_sound.specs.TableRows.{PlacedRow, rows_in_block}
-use Rattle.mdc_sound.specs.TableViews.{TableView}
-use Rattle.file_check.specs.Judging.{BreaksAny, JudgesEach}
+use Rattle.file_check.specs.Judging.{JudgesEach}
 use Rattle.file_check.specs.Known.{BlockHasRowPages}
 use Rattle.file_check.specs.declared.entry_set.EntrySet.{EntrySet}
 use Rattle.file_check.specs.declared.table_index.IndexKind.{IndexKind}
@@ -90,14 +88,6 @@ BreaksPlace kind ext pages def map_tree index p = (p ≡ index.place.root) × ((
 -- the indexes of a kind of a table with this block map are judged
 abbrev pub JudgesIndexes : IndexKind → Extents → PageList → TableDef → Forest → Option ℕ → Type 0
 JudgesIndexes kind ext pages def map_tree = JudgesEach (IsPlaceSound kind ext pages def map_tree) (BreaksPlace kind ext pages def map_tree) (indexes_of_kind kind def)
-
--- each index of a kind of a table is sound
-abbrev pub HasSoundIndexes : IndexKind → Extents → PageList → TableView → Type 0
-HasSoundIndexes kind ext pages table = AllByRecursion (IsPlaceSound kind ext pages table.def table.map) (indexes_of_kind kind table.def)
-
--- a page is the root of one that isn't
-abbrev pub BreaksAnyIndex : IndexKind → Extents → PageList → TableView → ℕ → Type 0
-BreaksAnyIndex kind ext pages table = BreaksAny (BreaksPlace kind ext pages table.def table.map) (indexes_of_kind kind table.def)
 
 -- ---- entries that were noted
 

@@ -4,21 +4,17 @@ ghost use Rattle.store_api.specs.Causes.{NoDamage, fault_of, fault_of_pages};
 ghost use Rattle.store_api.specs.Frame.{NoPage};
 ghost use Rattle.store_api.specs.RunsOverPages.{RunsOverPages};
 ghost use Rattle.stored_catalog.specs.StoredDefinitions.{AreWithinLimits};
-ghost use Rattle.file_check.specs.Kept.{KeepsCells, KeepsTables, KeepsTrees};
+ghost use Rattle.file_check.specs.Kept.{KeepsBlockMaps, KeepsTables, KeepsTrees};
 ghost use Rattle.file_check.specs.Looking.{AnyPage, Unless, UnlessTold};
 ghost use Rattle.file_check.specs.Verdicts.{IsVerdictOf};
 ghost use Rattle.file_check.specs.declared.verdict.Verdict.TheVariants.{Broken};
 
-use crate::block_indexes::judge_block_indexes;
 use crate::block_maps::judge_block_maps;
-use crate::cells::judge_cells;
-use crate::counts::judge_counts;
 use crate::definitions::{TablePages, judge_table_pages};
 use crate::extents::judge_extents;
-use crate::keys::judge_keys;
-use crate::record_indexes::judge_record_indexes;
 use crate::root::judge_root;
-use crate::row_pages::judge_row_pages;
+use crate::table_judging::judge_table_rule;
+use crate::table_rule::TABLE_RULES;
 use crate::tree_pages::judge_tree_pages;
 use crate::trees::judge_trees;
 use crate::verdict::Verdict;
@@ -27,7 +23,7 @@ use mdc_ast::TableDef;
 use std::alloc::Global;
 use store_api::{Damage, PageFault, Pages, StoreFault};
 
-/// The numbers of the rules.
+/// The numbers of the first rules.
 const ROOT_RULE: u16 = 1;
 
 const EXTENTS_RULE: u16 = 2;
@@ -39,18 +35,6 @@ const TREES_RULE: u16 = 4;
 const TREE_PAGES_RULE: u16 = 5;
 
 const BLOCK_MAPS_RULE: u16 = 6;
-
-const ROW_PAGES_RULE: u16 = 7;
-
-const COUNTS_RULE: u16 = 8;
-
-const CELLS_RULE: u16 = 9;
-
-const BLOCK_INDEXES_RULE: u16 = 10;
-
-const RECORD_INDEXES_RULE: u16 = 11;
-
-const KEYS_RULE: u16 = 12;
 
 /// Judges all pages of a database by the twelve rules. Where they aren't sound, the first rule that is broken is named, with the
 /// lowest page that breaks it.
@@ -111,7 +95,7 @@ fn judge_tables<P: Pages>(
     judge_blocks(alloc, ext, pages, defs)
 }
 
-/// Judges rules 6 to 9, of the blocks of these tables and what lies in them, and then the others.
+/// Judges rule 6, of the block maps of these tables, and then the others.
 fn judge_blocks<P: Pages>(
     alloc: Global,
     ext: &Extents,
@@ -127,20 +111,11 @@ fn judge_blocks<P: Pages>(
     if let Some(page) = judge_block_maps(alloc, ext, pages, defs)? {
         return Ok(broken(BLOCK_MAPS_RULE, page));
     }
-    if let Some(page) = judge_row_pages(alloc, ext, pages, defs)? {
-        return Ok(broken(ROW_PAGES_RULE, page));
-    }
-    if let Some(page) = judge_counts(alloc, ext, pages, defs)? {
-        return Ok(broken(COUNTS_RULE, page));
-    }
-    if let Some(page) = judge_cells(alloc, ext, pages, defs)? {
-        return Ok(broken(CELLS_RULE, page));
-    }
-    judge_indexes(alloc, ext, pages, defs)
+    judge_contents(alloc, ext, pages, defs)
 }
 
-/// Judges rules 10 to 12, of the indexes of these tables and of their keys.
-fn judge_indexes<P: Pages>(
+/// Judges rules 7 to 12, of what lies in these tables.
+fn judge_contents<P: Pages>(
     alloc: Global,
     ext: &Extents,
     pages: &mut P,
@@ -148,18 +123,14 @@ fn judge_indexes<P: Pages>(
 ) -> Result<Verdict, StoreFault>
     requires limits { AreWithinLimits defs.now }
     requires going { (P.state pages.old).ended ≡ false }
-    ensures verdict { IfOk result (λ verdict. IsTrue (P.state pages.old).is_told → KeepsCells ext.now defs.now (P.state pages.old).work → IsVerdictOf ext.now (P.state pages.old).work verdict) }
+    ensures verdict { IfOk result (λ verdict. IsTrue (P.state pages.old).is_told → KeepsBlockMaps ext.now defs.now (P.state pages.old).work → IsVerdictOf ext.now (P.state pages.old).work verdict) }
     ensures same { (P.state pages.new).work ≡ (P.state pages.old).work }
-    ensures runs { RunsOverPages P.Pages NoPage AnyPage (Unless P.Pages pages.old (KeepsCells ext.now defs.now)) pages.old pages.new (fault_of result) }
+    ensures runs { RunsOverPages P.Pages NoPage AnyPage (Unless P.Pages pages.old (KeepsBlockMaps ext.now defs.now)) pages.old pages.new (fault_of result) }
 {
-    if let Some(page) = judge_block_indexes(alloc, ext, pages, defs)? {
-        return Ok(broken(BLOCK_INDEXES_RULE, page));
-    }
-    if let Some(page) = judge_record_indexes(alloc, ext, pages, defs)? {
-        return Ok(broken(RECORD_INDEXES_RULE, page));
-    }
-    if let Some(page) = judge_keys(alloc, ext, pages, defs)? {
-        return Ok(broken(KEYS_RULE, page));
+    for rule in TABLE_RULES {
+        if let Some(page) = judge_table_rule(alloc, ext, pages, defs, rule)? {
+            return Ok(broken(rule.number(), page));
+        }
     }
     Ok(Verdict::Sound)
 }

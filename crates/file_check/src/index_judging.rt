@@ -1,9 +1,8 @@
-// The indexes of one kind, of all tables.
+// Rules 10 and 11: the indexes of one kind.
 ghost use Rattle.std.specs.Prelude.{◌≡◌, ◌↔◌, ◌⊎◌, ◌≤◌, ◌-◌, length, false, Contains, IsTrue, IfOk, MatchBool, ℕ, List};
 ghost use Rattle.store_api.specs.Causes.{fault_of};
 ghost use Rattle.store_api.specs.Frame.{NoPage};
 ghost use Rattle.store_api.specs.RunsOverPages.{RunsOverPages};
-ghost use Rattle.stored_catalog.specs.StoredDefinitions.{AreWithinLimits};
 ghost use Rattle.key_codec.specs.Keys.{width_of_parts};
 ghost use Rattle.node_page.specs.Node.{number_within};
 ghost use Rattle.entry_tree.specs.Entries.{AreOfWidth};
@@ -11,11 +10,8 @@ ghost use Rattle.entry_tree.specs.Forest.{Forest, leaf_entries};
 ghost use Rattle.table_page.specs.TableLimits.{IsTableDef};
 ghost use Rattle.table_trees.specs.TableTrees.{place_of_tree};
 ghost use Rattle.table_trees.specs.ToldPages.{HasTree};
-ghost use Rattle.mdc_sound.specs.SpaceRules.{DatabaseView, tables_there};
-ghost use Rattle.file_check.specs.Judging.{JudgesEach};
-ghost use Rattle.file_check.specs.Known.{ViewHasCells};
 ghost use Rattle.file_check.specs.Looking.{AnyPage, Unless};
-ghost use Rattle.file_check.specs.TableIndexes.{AreReadable, AreSoundEntries, BreaksAnyIndex, FitsTable, HasIndexes, HasSoundIndexes, JudgesIndexes, LacksOne, NotesEntries, UnlessMap, UnlessReadable, bytes_behind_key, entries_of_blocks, noted_entries, spare_blocks};
+ghost use Rattle.file_check.specs.TableIndexes.{AreReadable, AreSoundEntries, FitsTable, HasIndexes, JudgesIndexes, LacksOne, NotesEntries, UnlessMap, UnlessReadable, bytes_behind_key, entries_of_blocks, noted_entries, spare_blocks};
 
 use crate::blocks::no_extent;
 use crate::entries::entries_of;
@@ -36,36 +32,9 @@ use store_api::{Pages, StoreFault};
 /// How many bytes a block has in an entry.
 const BLOCK_BYTES: usize = 4;
 
-/// Judges the indexes of a kind of all tables: each has the entry of each row, and no other but those that name spare blocks. Else
-/// the lowest root of one that isn't so.
-pub(crate) fn judge_indexes<P: Pages>(
-    alloc: Global,
-    ext: &Extents,
-    pages: &mut P,
-    defs: &[Option<TableDef>],
-    kind: IndexKind,
-) -> Result<Option<u32>, StoreFault>
-    requires limits { AreWithinLimits defs.now }
-    requires going { (P.state pages.old).ended ≡ false }
-    ensures judged { IfOk result (λ found. IsTrue (P.state pages.old).is_told → (view : DatabaseView) → ViewHasCells ext.now (P.state pages.old).work defs.now view
-        → JudgesEach (HasSoundIndexes kind ext.now (P.state pages.old).work) (BreaksAnyIndex kind ext.now (P.state pages.old).work) (tables_there view.places) found) }
-    ensures same { (P.state pages.new).work ≡ (P.state pages.old).work }
-    ensures runs { RunsOverPages P.Pages NoPage AnyPage
-        (Unless P.Pages pages.old (λ told. (view : DatabaseView) × ViewHasCells ext.now told defs.now view)) pages.old pages.new (fault_of result) }
-{
-    let mut lowest = None;
-    for def in defs {
-        let Some(def) = def else {
-            continue;
-        };
-        let here = judge_table(alloc, ext, pages, def, kind)?;
-        lowest = lower(lowest, here);
-    }
-    Ok(lowest)
-}
-
-/// Judges the indexes of a kind of a table.
-fn judge_table<P: Pages>(
+/// Judges the indexes of a kind of a table: each has the entry of each row, and no other but those that name spare blocks. Else the
+/// lowest root of one that isn't so.
+pub(crate) fn judge_indexes_of_table<P: Pages>(
     alloc: Global,
     ext: &Extents,
     pages: &mut P,

@@ -4,23 +4,13 @@ ghost use Rattle.store_api.specs.Causes.{NoDamage, fault_of};
 ghost use Rattle.store_api.specs.Frame.{NoPage};
 ghost use Rattle.store_api.specs.RunsOverPages.{RunsOverPages};
 ghost use Rattle.store_api.specs.StoreState.{page_at};
-ghost use Rattle.entry_tree.specs.Forest.{Forest};
-ghost use Rattle.stored_catalog.specs.StoredDefinitions.{AreWithinLimits};
-ghost use Rattle.block_map.specs.MapLines.{used_blocks};
 ghost use Rattle.table_page.specs.TableLimits.{IsTableDef};
-ghost use Rattle.table_trees.specs.TableTrees.{map_place};
-ghost use Rattle.table_trees.specs.ToldPages.{HasTree};
-ghost use Rattle.mdc_sound.specs.BlockRules.{AreBlockRowsSound, AreRowPagesSound};
-ghost use Rattle.mdc_sound.specs.SpaceRules.{DatabaseView};
-ghost use Rattle.file_check.specs.Known.{HasBlockMap, ViewHasBlocks};
-ghost use Rattle.file_check.specs.Judging.{Judges, JudgesEach, JudgesRule};
-ghost use Rattle.file_check.specs.Looking.{AnyPage, Unless};
+ghost use Rattle.mdc_sound.specs.BlockRules.{AreBlockRowsSound};
+ghost use Rattle.file_check.specs.Judging.{Judges};
+ghost use Rattle.file_check.specs.Looking.{AnyPage};
 ghost use Rattle.file_check.specs.BlocksJudged.{BreaksBlockRows, JudgesPage, JudgesRows};
 
-use crate::blocks::blocks_in_state;
 use crate::fitting::does_row_fit;
-use crate::lowest::lower;
-use block_map::BlockState;
 use extent_map::Extents;
 use mdc_ast::TableDef;
 use mdc_values::Memory;
@@ -28,59 +18,8 @@ use row_page::{RowPageView, capacity};
 use std::alloc::Global;
 use store_api::{Pages, StoreFault, bring};
 
-/// Judges the pages of Used blocks: each is a row page of its table's columns, and each row fits the definition. Else the lowest page
-/// that isn't one, or has a row that doesn't.
-pub(crate) fn judge_row_pages<P: Pages>(
-    alloc: Global,
-    ext: &Extents,
-    pages: &mut P,
-    defs: &[Option<TableDef>],
-) -> Result<Option<u32>, StoreFault>
-    requires limits { AreWithinLimits defs.now }
-    requires going { (P.state pages.old).ended ≡ false }
-    ensures judged { IfOk result (λ found. IsTrue (P.state pages.old).is_told → (view : DatabaseView) → ViewHasBlocks ext.now (P.state pages.old).work defs.now view
-        → JudgesRule ext.now (P.state pages.old).work 7 (AreRowPagesSound ext.now (P.state pages.old).work view) found) }
-    ensures same { (P.state pages.new).work ≡ (P.state pages.old).work }
-    ensures runs { RunsOverPages P.Pages NoPage AnyPage
-        (Unless P.Pages pages.old (λ told. (view : DatabaseView) × ViewHasBlocks ext.now told defs.now view)) pages.old pages.new (fault_of result) }
-{
-    let mut lowest = None;
-    for def in defs {
-        let Some(def) = def else {
-            continue;
-        };
-        let here = judge_table(alloc, ext, pages, def)?;
-        lowest = lower(lowest, here);
-    }
-    Ok(lowest)
-}
-
-/// The lowest page of a Used block of a table that isn't a row page, or has a row that doesn't fit.
-fn judge_table<P: Pages>(
-    alloc: Global,
-    ext: &Extents,
-    pages: &mut P,
-    def: &TableDef,
-) -> Result<Option<u32>, StoreFault>
-    requires defined { IsTableDef def.now.number def.now }
-    requires going { (P.state pages.old).ended ≡ false }
-    ensures judged { IfOk result (λ found. IsTrue (P.state pages.old).is_told → (map_tree : Forest) → HasTree (P.state pages.old).work (map_place def.now) map_tree
-        → JudgesEach (AreBlockRowsSound ext.now (P.state pages.old).work def.now) (BreaksBlockRows ext.now (P.state pages.old).work def.now) (used_blocks map_tree) found) }
-    ensures same { (P.state pages.new).work ≡ (P.state pages.old).work }
-    ensures runs { RunsOverPages P.Pages NoPage AnyPage
-        (Unless P.Pages pages.old (λ told. (map_tree : Forest) × HasBlockMap ext.now told def.now map_tree)) pages.old pages.new (fault_of result) }
-{
-    let blocks = blocks_in_state(alloc, ext, pages, def, BlockState::Used)?;
-    let mut lowest = None;
-    for block in blocks.as_slice() {
-        let here = judge_block(alloc, ext, pages, def, *block)?;
-        lowest = lower(lowest, here);
-    }
-    Ok(lowest)
-}
-
 /// The lowest page of a block that isn't a row page, or has a row that doesn't fit.
-fn judge_block<P: Pages>(
+pub(crate) fn judge_rows_of_block<P: Pages>(
     alloc: Global,
     ext: &Extents,
     pages: &mut P,

@@ -1,0 +1,42 @@
+-- A break of a rule that is judged item by item, as the blocks of all tables or the lines of their block maps: in the view, and as pages show it.
+use Rattle.std.proofs.Common.{ℕ, List}
+use Rattle.std.specs.Prelude.{Contains}
+use Rattle.mdc_ast.specs.declared.definition.TableDef.{TableDef}
+use Rattle.mdc_ast.specs.meaning.Definitions.{Definitions}
+use Rattle.extent_map.specs.declared.extents.Extents.{Extents}
+use Rattle.entry_tree.specs.Forest.{Forest}
+use Rattle.table_trees.specs.ToldPages.{PageList}
+use Rattle.mdc_sound.specs.Breaks.{ShowsTable}
+use Rattle.mdc_sound.specs.SpaceRules.{DatabaseView, tables_there}
+use Rattle.mdc_sound.specs.TableViews.{TableView}
+use Rattle.file_check.specs.Judging.{BreaksAny}
+use Rattle.file_check.specs.Known.{ViewHasTrees}
+use Rattle.file_check.proofs.JudgingLemmas.{breaks_any-member, member-breaks_any}
+use Rattle.file_check.proofs.ShownTablesLemmas.{shown_is_viewed, viewed_is_shown}
+
+module _ (ext : Extents) (pages : PageList) (defs : Definitions) (view : DatabaseView) (has : ViewHasTrees ext pages defs view) {X : Type 0} (items : Forest → List X) (Breaks : TableDef → X → ℕ → Type 0) where
+  -- an item of a table breaks it
+  abbrev BreaksInTable : TableView → ℕ → Type 0
+  BreaksInTable table = BreaksAny (Breaks table.def) (items table.map)
+
+  -- pages show the item
+  pub record IsShownBreak (p : ℕ) : Type 0 where
+    pub t : ℕ
+    pub def : TableDef
+    pub item : X
+    pub shows : ShowsTable pages t def (λ map_tree. Contains (items map_tree) item)
+    pub breaks : Breaks def item p
+
+  pub shown_break : (p : ℕ) → BreaksAny BreaksInTable (tables_there view.places) p → IsShownBreak p
+  shown_break p broken =
+      let in_table = member-breaks_any BreaksInTable (tables_there view.places) p broken in
+      let table = in_table.0 in
+      let in_items = member-breaks_any (Breaks table.def) (items table.map) p in_table.2 in
+      let shown = viewed_is_shown ext pages defs view has table (λ m. Contains (items m) in_items.0) in_table.1 in_items.1 in
+      record { t = shown.0; def = table.def; item = in_items.0; shows = shown.1; breaks = in_items.2 }
+
+  pub viewed_break : (t : ℕ) (def : TableDef) (item : X) (p : ℕ) → ShowsTable pages t def (λ map_tree. Contains (items map_tree) item) → Breaks def item p → BreaksAny BreaksInTable (tables_there view.places) p
+  viewed_break t def item p shows broken =
+      let shown = shown_is_viewed ext pages defs view has t def (λ d m. Contains (items m) item × Breaks d item p)
+      (record { within = shows.within; defines = shows.defines; map = λ m tree. (shows.map m tree, broken) }) in
+      breaks_any-member BreaksInTable (tables_there view.places) shown.table p shown.member (breaks_any-member (Breaks shown.table.def) (items shown.table.map) item p shown.holds.0 shown.holds.1)

@@ -1,0 +1,54 @@
+use Rattle.std.proofs.Common.{Option, ℕ, None, ap, subst, sym, ◌∙◌}
+use Rattle.store_api.proofs.RunsOverPagesLemmas.{runs_exit}
+use Rattle.entry_tree.specs.Forest.{Forest}
+use Rattle.block_map.specs.MapLines.{blocks_of_state, map_lines}
+use Rattle.table_trees.specs.ToldPages.{PageList}
+use Rattle.file_check.specs.Known.{HasUsedRows}
+use Rattle.file_check.specs.BlocksJudged.{BreaksBlockCount, BreaksLineCount, IsBlockCounted, IsLineCounted}
+use Rattle.file_check.specs.Judging.{JudgesEach, lower}
+use Rattle.file_check.proofs.CountsLemmas.{judges_lines, state_is_mapped}
+use Rattle.file_check.proofs.UnlessLemmas.{runs_unless}
+use Rattle.file_check.proofs.block_judging.judge_counts.Goals as goal
+
+pub judge_state-requires-clause-under : goal.judge_state-requires-clause-under
+judge_state-requires-clause-under g c = λ m block there. state_is_mapped m 0 block there
+
+pub judge_state-requires-2-clause-under : goal.judge_state-requires-2-clause-under
+judge_state-requires-2-clause-under g c = λ m block there. state_is_mapped m 1 block there
+
+pub judge_state-requires-3-clause-under : goal.judge_state-requires-3-clause-under
+judge_state-requires-3-clause-under g c = λ m block there. state_is_mapped m 2 block there
+
+pub returns-in_err-used-clause-runs : goal.returns-in_err-used-clause-runs
+returns-in_err-used-clause-runs g c =
+    runs_exit c.from_residual-in_err-used.result c.from_residual-in_err-used.ensures.1
+    (runs_unless (λ told. (m : Forest) × HasUsedRows c.args.ext.now told c.args.def.now m) c.in_ok-free.ensures.same c.in_ok-free.ensures.runs c.in_err-used.ensures.runs)
+
+pub returns-in_err-pending-clause-runs : goal.returns-in_err-pending-clause-runs
+returns-in_err-pending-clause-runs g c =
+    runs_exit c.from_residual-in_err-pending.result c.from_residual-in_err-pending.ensures.1
+    (runs_unless (λ told. (m : Forest) × HasUsedRows c.args.ext.now told c.args.def.now m)
+    (c.in_ok-used.ensures.same ∙ c.in_ok-free.ensures.same)
+    (runs_unless (λ told. (m : Forest) × HasUsedRows c.args.ext.now told c.args.def.now m) {fault = None} c.in_ok-free.ensures.same c.in_ok-free.ensures.runs c.in_ok-used.ensures.runs) c.in_err-pending.ensures.runs)
+
+pub returns-clause-judged : goal.returns-clause-judged
+returns-clause-judged g c told m has =
+    let ext = c.args.ext.now in
+    let def = c.args.def.now in
+    let work = (g.P.Pages.state c.args.pages.now).work in
+    let after = c.in_ok-free.ensures.runs.works.steady.is_told ∙ told in
+    let same = c.in_ok-used.ensures.same ∙ c.in_ok-free.ensures.same in
+    let used : JudgesEach (IsBlockCounted ext work def m) (BreaksBlockCount ext work def m) (blocks_of_state 1 m) c.in_ok-used.used =
+    subst (λ (pages : PageList). HasUsedRows ext pages def m → JudgesEach (IsBlockCounted ext pages def m) (BreaksBlockCount ext pages def m) (blocks_of_state 1 m) c.in_ok-used.used) c.in_ok-free.ensures.same
+    (λ now. c.in_ok-used.ensures.judged after m now) has in
+    let pending : JudgesEach (IsBlockCounted ext work def m) (BreaksBlockCount ext work def m) (blocks_of_state 2 m) c.in_ok-pending.pending =
+    subst (λ (pages : PageList). HasUsedRows ext pages def m → JudgesEach (IsBlockCounted ext pages def m) (BreaksBlockCount ext pages def m) (blocks_of_state 2 m) c.in_ok-pending.pending) same
+    (λ now. c.in_ok-pending.ensures.judged (c.in_ok-used.ensures.runs.works.steady.is_told ∙ after) m now) has in
+    subst (JudgesEach (IsLineCounted ext work def) (BreaksLineCount ext work def) (map_lines m)) (sym (c.lower-2.ensures ∙ ap (λ (found : Option ℕ). lower found c.in_ok-pending.pending) c.lower.ensures))
+    (judges_lines ext work def m has.map.form c.in_ok-free.free c.in_ok-used.used c.in_ok-pending.pending (c.in_ok-free.ensures.judged told m has) used pending)
+
+pub returns-clause-runs : goal.returns-clause-runs
+returns-clause-runs g c =
+    runs_unless (λ told. (m : Forest) × HasUsedRows c.args.ext.now told c.args.def.now m) {fault = None}
+    (c.in_ok-used.ensures.same ∙ c.in_ok-free.ensures.same)
+    (runs_unless (λ told. (m : Forest) × HasUsedRows c.args.ext.now told c.args.def.now m) {fault = None} c.in_ok-free.ensures.same c.in_ok-free.ensures.runs c.in_ok-used.ensures.runs) c.in_ok-pending.ensures.runs

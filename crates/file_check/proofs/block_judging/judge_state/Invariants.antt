@@ -1,0 +1,19 @@
+use Rattle.std.proofs.Common.{◌≡◌, None, false, take}
+use Rattle.std.specs.Prelude.{IsTrue}
+use Rattle.store_api.specs.Frame.{NoPage}
+use Rattle.store_api.specs.RunsOverPages.{RunsOverPages}
+use Rattle.entry_tree.specs.Forest.{Forest}
+use Rattle.file_check.specs.Judging.{JudgesEach}
+use Rattle.file_check.specs.Looking.{AnyPage, Unless}
+use Rattle.file_check.specs.RulesOfBlocks.{BlockBreaks, BlockKeeps, BlocksKnownFor}
+use Rattle.file_check.proofs.block_judging.judge_state.Given as goal
+
+-- the blocks so far are judged
+abbrev pub invariant-loop-block : goal.invariant-loop-block
+invariant-loop-block g l = record {
+  judged : IsTrue (g.P.Pages.state l.fn.pages).is_told → (map_tree : Forest) → BlocksKnownFor l.rule l.ext (g.P.Pages.state l.fn.pages).work l.def map_tree
+      → JudgesEach (BlockKeeps l.rule l.ext (g.P.Pages.state l.fn.pages).work l.def map_tree) (BlockBreaks l.rule l.ext (g.P.Pages.state l.fn.pages).work l.def map_tree) (take l.block-index l.block-items) l.lowest;
+  same : (g.P.Pages.state l.pages).work ≡ (g.P.Pages.state l.fn.pages).work;
+  going : (g.P.Pages.state l.pages).ended ≡ false;
+  runs : RunsOverPages g.P.Pages NoPage AnyPage (Unless g.P.Pages l.fn.pages (λ told. (map_tree : Forest) × BlocksKnownFor l.rule l.ext told l.def map_tree)) l.fn.pages l.pages None;
+}

@@ -1,0 +1,82 @@
+-- The rules on what lies in the tables, by rule: its number, what is known when it is judged, when it is kept, and where it is broken.
+use Rattle.std.specs.Prelude.{List, [], ◌∷◌, ℕ}
+use Rattle.std.specs.List.{AllByRecursion}
+use Rattle.mdc_ast.specs.declared.definition.TableDef.{TableDef}
+use Rattle.mdc_ast.specs.meaning.Definitions.{Definitions}
+use Rattle.extent_map.specs.declared.extents.Extents.{Extents}
+use Rattle.entry_tree.specs.Forest.{Forest}
+use Rattle.table_trees.specs.ToldPages.{PageList}
+use Rattle.mdc_sound.specs.BlockRules.{AreBlockIndexesSound, AreCellsSound, AreRowPagesSound, AreSoundIndexes}
+use Rattle.mdc_sound.specs.SoundDatabase.{AreCountsSound, AreKeysSound}
+use Rattle.mdc_sound.specs.SpaceRules.{DatabaseView}
+use Rattle.mdc_sound.specs.TableRows.{rows_in_table}
+use Rattle.mdc_sound.specs.TableViews.{TableView}
+use Rattle.file_check.specs.Judging.{BreaksAny}
+use Rattle.file_check.specs.KeysJudged.{AreTableKeys, BreaksTableKeys, HasTableRows}
+use Rattle.file_check.specs.Known.{ViewHasBlocks, ViewHasCells, ViewHasRows}
+use Rattle.file_check.specs.RulesOfBlocks.{BlocksBreak, BlocksKeep, BlocksKnownFor}
+use Rattle.file_check.specs.TableIndexes.{BreaksPlace, HasIndexes, IsPlaceSound, indexes_of_kind}
+use Rattle.file_check.specs.declared.block_rule.BlockRule.TheVariants.{Cells, Counts, RowPages}
+use Rattle.file_check.specs.declared.table_index.IndexKind.TheVariants.{Blocks, Rows}
+use Rattle.file_check.specs.declared.table_rule.TableRule.{TableRule}
+use Rattle.file_check.specs.declared.table_rule.TableRule.TheVariants.{Block, Index, Keys}
+
+-- ---- all tables
+
+-- the number of a rule
+abbrev pub rule_number : TableRule → ℕ
+rule_number (Block RowPages) = 7
+rule_number (Block Counts) = 8
+rule_number (Block Cells) = 9
+rule_number (Index Blocks) = 10
+rule_number (Index Rows) = 11
+rule_number Keys = 12
+
+-- all of them, in their order
+abbrev pub table_rules : List TableRule
+table_rules = Block RowPages ∷ Block Counts ∷ Block Cells ∷ Index Blocks ∷ Index Rows ∷ Keys ∷ []
+
+-- what is known of a view when a rule is judged
+abbrev pub ViewKnownFor : TableRule → Extents → PageList → Definitions → DatabaseView → Type 0
+ViewKnownFor (Block RowPages) ext pages defs view = ViewHasBlocks ext pages defs view
+ViewKnownFor (Block Counts) ext pages defs view = ViewHasRows ext pages defs view
+ViewKnownFor (Block Cells) ext pages defs view = ViewHasRows ext pages defs view
+ViewKnownFor (Index kind) ext pages defs view = ViewHasCells ext pages defs view
+ViewKnownFor Keys ext pages defs view = ViewHasCells ext pages defs view
+
+-- a view keeps it
+abbrev pub ViewKeeps : TableRule → Extents → PageList → DatabaseView → Type 0
+ViewKeeps (Block RowPages) ext pages view = AreRowPagesSound ext pages view
+ViewKeeps (Block Counts) ext pages view = AreCountsSound ext pages view
+ViewKeeps (Block Cells) ext pages view = AreCellsSound ext pages view
+ViewKeeps (Index Blocks) ext pages view = AreBlockIndexesSound ext pages view
+ViewKeeps (Index Rows) ext pages view = AreSoundIndexes ext pages view
+ViewKeeps Keys ext pages view = AreKeysSound ext pages view
+
+-- ---- one table
+
+-- what is known of a table with this block map when a rule is judged
+abbrev pub TableKnownFor : TableRule → Extents → PageList → TableDef → Forest → Type 0
+TableKnownFor (Block rule) ext pages def map_tree = BlocksKnownFor rule ext pages def map_tree
+TableKnownFor (Index kind) ext pages def map_tree = HasIndexes kind ext pages def map_tree
+TableKnownFor Keys ext pages def map_tree = HasTableRows ext pages def map_tree
+
+-- it keeps the rule
+abbrev pub TableKeeps : TableRule → Extents → PageList → TableDef → Forest → Type 0
+TableKeeps (Block rule) ext pages def map_tree = BlocksKeep rule ext pages def map_tree
+TableKeeps (Index kind) ext pages def map_tree = AllByRecursion (IsPlaceSound kind ext pages def map_tree) (indexes_of_kind kind def)
+TableKeeps Keys ext pages def map_tree = AreTableKeys def (rows_in_table ext pages def map_tree)
+
+-- it breaks it at a page
+abbrev pub TableBreaks : TableRule → Extents → PageList → TableDef → Forest → ℕ → Type 0
+TableBreaks (Block rule) ext pages def map_tree = BlocksBreak rule ext pages def map_tree
+TableBreaks (Index kind) ext pages def map_tree = BreaksAny (BreaksPlace kind ext pages def map_tree) (indexes_of_kind kind def)
+TableBreaks Keys ext pages def map_tree = BreaksTableKeys def (rows_in_table ext pages def map_tree)
+
+-- so does a table of a view
+abbrev pub KeepsTableRule : TableRule → Extents → PageList → TableView → Type 0
+KeepsTableRule rule ext pages table = TableKeeps rule ext pages table.def table.map
+
+-- or it breaks it at a page
+abbrev pub BreaksTableRule : TableRule → Extents → PageList → TableView → ℕ → Type 0
+BreaksTableRule rule ext pages table = TableBreaks rule ext pages table.def table.map
