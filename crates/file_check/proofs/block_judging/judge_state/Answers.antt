@@ -1,4 +1,4 @@
-use Rattle.std.proofs.Common.{◌≡◌, ◌∙◌, ℕ, List, None, subst, get_or}
+use Rattle.std.proofs.Common.{◌∙◌, ℕ, List, None, subst, get_or}
 use Rattle.std.specs.Prelude.{Contains, IsTrue}
 use Rattle.store_api.proofs.RunsOverPagesLemmas.{runs_exit, runs_then, runs_wider}
 use Rattle.block_map.specs.MapLines.{blocks_of_state}
