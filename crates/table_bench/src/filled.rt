@@ -11,10 +11,10 @@ use cell_change::{change_row, delete_row, insert_row};
 use entry_tree::Tree;
 use extent_map::Extents;
 use mdc_ast::{Roots, Row, TableDef};
-use mdc_table::{Account, Rooms, account_of, row_at};
 use mdc_values::{List, Rid};
 use std::alloc::Global;
 use store_api::{Pages, Store, blank_page};
+use table_calls::{Account, Rooms, account_of, row_at};
 use table_page::def_page;
 
 // The page of the table in place 0.
@@ -72,8 +72,9 @@ impl Filled {
     /// Puts the row of the next number, and answers where it lies.
     pub fn insert<S: Pages>(&mut self, store: &mut S) -> Result<Rid, Stop>
         requires going { (S.state store.old).ended ≡ false }
+        requires unmarked { (S.state store.old).marked ≡ None }
         ensures going { (S.state store.new).ended ≡ false }
-        ensures marked { (S.state store.new).marked ≡ (S.state store.old).marked }
+        ensures unmarked { (S.state store.new).marked ≡ None }
     {
         let number = self.def.next;
         if number >= MOST_NUMBERS {
@@ -94,8 +95,9 @@ impl Filled {
     /// Changes the row in a place, and answers where it lies then.
     pub fn change<S: Pages>(&mut self, store: &mut S, rid: Rid) -> Result<Rid, Stop>
         requires going { (S.state store.old).ended ≡ false }
+        requires unmarked { (S.state store.old).marked ≡ None }
         ensures going { (S.state store.new).ended ≡ false }
-        ensures marked { (S.state store.new).marked ≡ (S.state store.old).marked }
+        ensures unmarked { (S.state store.new).marked ≡ None }
     {
         let was = self.row(store, rid)?;
         let is = row_of(self.alloc, self.seed, was.number, changed(was.number))?;
@@ -116,8 +118,9 @@ impl Filled {
     /// Deletes the row in a place.
     pub fn delete<S: Pages>(&mut self, store: &mut S, rid: Rid) -> Result<(), Stop>
         requires going { (S.state store.old).ended ≡ false }
+        requires unmarked { (S.state store.old).marked ≡ None }
         ensures going { (S.state store.new).ended ≡ false }
-        ensures marked { (S.state store.new).marked ≡ (S.state store.old).marked }
+        ensures unmarked { (S.state store.new).marked ≡ None }
     {
         let row = self.row(store, rid)?;
         delete_row(
@@ -135,9 +138,10 @@ impl Filled {
     // The row in a place.
     fn row<S: Pages>(&self, store: &mut S, rid: Rid) -> Result<Row, Stop>
         requires going { (S.state store.old).ended ≡ false }
+        requires unmarked { (S.state store.old).marked ≡ None }
         ensures read { IfOk result (HasReadValues self.now.def.columns) }
         ensures going { (S.state store.new).ended ≡ false }
-        ensures marked { (S.state store.new).marked ≡ (S.state store.old).marked }
+        ensures unmarked { (S.state store.new).marked ≡ None }
     {
         match row_at(self.alloc, &self.def, &self.ext, store, rid)? {
             Some(row) => Ok(row),
@@ -177,6 +181,7 @@ impl Filled {
     /// How many of its blocks are in each state.
     pub fn account<S: Pages>(&self, store: &mut S) -> Result<Account, Stop>
         requires going { (S.state store.old).ended ≡ false }
+        requires unmarked { (S.state store.old).marked ≡ None }
     {
         Ok(account_of(self.alloc, &self.def, &self.ext, store)?)
     }

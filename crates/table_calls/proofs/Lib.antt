@@ -1,0 +1,4 @@
+pub mod ExactDamageLemmas
+pub mod MarkedChangesLemmas
+pub mod SamePagesLemmas
+pub mod ShapeBreaksLemmas

@@ -1,0 +1,63 @@
+-- Damage that is exact by the definition in hand.
+use Rattle.std.specs.Prelude.{◌≡◌, ℕ, IsTrue, List, Option, Some}
+use Rattle.std.specs.Option.{unwrap_or}
+use Rattle.mdc_words.specs.Faults.{CountsFault}
+use Rattle.mdc_values.specs.declared.rid.Rid.{Rid}
+use Rattle.mdc_ast.specs.declared.definition.TableDef.{TableDef}
+use Rattle.mdc_ast.specs.declared.row.Row.{Row}
+use Rattle.store_api.specs.StoreState.{StoreState}
+use Rattle.store_api.specs.declared.fault.Damage.{Damage}
+use Rattle.store_api.specs.declared.fault.StoreFault.{StoreFault}
+use Rattle.store_api.specs.declared.fault.StoreFault.TheVariants.{Damaged, Device}
+use Rattle.store_api.specs.declared.pages.Pages.{Ghosts}
+use Rattle.extent_map.specs.declared.extents.Extents.{Extents}
+use Rattle.extent_map.specs.declared.kind.Kind.{Kind}
+use Rattle.table_trees.specs.ToldPages.{PageList}
+use Rattle.mdc_sound.specs.Breaks.{IsFirstBreak}
+use Rattle.mdc_sound.specs.SoundDatabase.{IsSoundDatabase, with_table_page}
+use Rattle.mdc_sound.specs.StandingTable.{StandsTable, TableForests, pages_of}
+use Rattle.table_blocks.specs.BlockSteps.{HasThisRow}
+use Rattle.mdc_table.specs.TableReading.{HasUsedBlock}
+
+-- Where the store tells its pages, they break this rule at this page with the definition in the place of its table page: the first
+-- rule that they break, and the lowest page that breaks it.
+abbrev pub IsExactWith : {S : Type 0} → Ghosts S → Extents → TableDef → S → Damage → Type 0
+IsExactWith g ext def s damage = IsTrue (g.state s).is_told → IsFirstBreak ext (with_table_page def (pages_of g s)) damage.rule damage.page
+
+-- the damage that a call answers is that of the pages that it began with
+abbrev pub AnswersExactly : {S : Type 0} → Ghosts S → Extents → TableDef → S → Option StoreFault → Type 0
+AnswersExactly g ext def s fault = (damage : Damage) → fault ≡ Some (Damaged damage) → IsExactWith g ext def s damage
+
+-- ---- what a call expects
+
+-- this is so of the table wherever it stands
+abbrev pub IfStanding : {S : Type 0} → Ghosts S → Extents → S → TableDef → (List Kind → TableForests → Type 0) → Type 0
+IfStanding g ext s def Expected = (owners : List Kind) (forests : TableForests) → StandsTable g ext s def owners forests → Expected owners forests
+
+-- this row lies in its place, where the table stands
+abbrev pub HasRowIfStanding : {S : Type 0} → Ghosts S → Extents → S → TableDef → Rid → Row → Type 0
+HasRowIfStanding g ext s def rid row = IfStanding g ext s def (HasThisRow g ext s def rid row)
+
+-- the block is a Used one of the table, where that stands
+abbrev pub HasUsedIfStanding : {S : Type 0} → Ghosts S → Extents → S → TableDef → ℕ → Type 0
+HasUsedIfStanding g ext s def block = IfStanding g ext s def (HasUsedBlock block)
+
+-- ---- a fault that is judged
+
+-- the pages aren't sound with the definition in the place of its table page, where the store tells them
+abbrev pub IsUnsoundWith : {S : Type 0} → Ghosts S → Extents → TableDef → S → Type 0
+IsUnsoundWith g ext def s = IsTrue (g.state s).is_told → IsSoundDatabase ext (with_table_page def (pages_of g s)) → ⊥
+
+-- A fault was met, and this one is answered: its damage is exact, if damage was met on pages that aren't sound.
+abbrev pub JudgesFault : {S : Type 0} → Ghosts S → Extents → TableDef → S → Option StoreFault → Option StoreFault → Type 0
+JudgesFault g ext def s met answered =
+    (damage : Damage) → answered ≡ Some (Damaged damage) → ((first : Damage) → met ≡ Some (Damaged first) → IsUnsoundWith g ext def s) → IsExactWith g ext def s damage
+
+-- where the faults of the disk were counted by the fault that was met, they are counted by the one that is answered
+abbrev pub CountsAnswer : {S : Type 0} → Ghosts S → S → S → Option StoreFault → Option StoreFault → Type 0
+CountsAnswer g old new met answered =
+    (before : ℕ) → CountsFault (met ≡ Some Device) before (g.disk_faults old) → CountsFault (answered ≡ Some Device) before (g.disk_faults new)
+
+-- the pages of the mark, where one is open
+abbrev pub marked_pages : StoreState → PageList
+marked_pages state = unwrap_or state.marked state.work

@@ -1,0 +1,2 @@
+pub mod ExactDamage
+pub mod MissingPlaces
