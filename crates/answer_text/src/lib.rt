@@ -21,6 +21,3 @@ pub use lines::Lines;
 pub use refusals::refusal_bytes;
 pub use replies::{outcome_bytes, reply_bytes};
 pub use select::select_lines;
-
-#[cfg(test)]
-mod tests;

@@ -30,6 +30,3 @@ mod whole_rows;
 pub use binding::{BindFault, bind};
 pub use forms::built;
 pub use whole_rows::{WholeRows, bind_whole};
-
-#[cfg(test)]
-mod tests;

@@ -19,6 +19,3 @@ mod reading;
 pub use changing::{clear_slot, put_first, put_slot, wipe_block};
 pub use hit::Hit;
 pub use reading::{push_rows_of_block, row_in_slot};
-
-#[cfg(test)]
-mod tests;

@@ -24,6 +24,3 @@ pub use part::put_part;
 pub use range::key_range;
 pub use reading::read_part;
 pub use width::{key_width, part_width};
-
-#[cfg(test)]
-mod tests;

@@ -33,6 +33,3 @@ pub use rid::Rid;
 pub use rids::Rids;
 pub use truth::{Op, Truth};
 pub use value::{ColType, Value};
-
-#[cfg(test)]
-mod tests;

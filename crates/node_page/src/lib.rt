@@ -21,6 +21,3 @@ pub use leaf::{leaf_room, make_leaf, put_entry, set_entry, take_entry};
 pub use splits::{split_inner, split_leaf};
 pub use sweep::{count_named, drop_blocks};
 pub use view::NodeView;
-
-#[cfg(test)]
-mod tests;

@@ -15,6 +15,3 @@ mod tables;
 mod updating;
 
 pub use engine::Engine;
-
-#[cfg(test)]
-mod tests;

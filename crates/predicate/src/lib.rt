@@ -16,6 +16,3 @@ pub use cells::may_hold;
 pub use judging::{truth, truth_of_test};
 pub use laws::what_is_true_may_hold;
 pub use pushing::push_not;
-
-#[cfg(test)]
-mod tests;

@@ -19,6 +19,3 @@ pub use images::Images;
 pub use journal::write_journal;
 pub use lent_images::LentImages;
 pub use replaying::{ReplayFault, replay};
-
-#[cfg(test)]
-mod tests;

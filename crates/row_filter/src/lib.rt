@@ -10,6 +10,3 @@ mod judging;
 mod reading;
 
 pub use filter::RowFilter;
-
-#[cfg(test)]
-mod tests;

@@ -15,10 +15,7 @@ mod shape;
 mod slots;
 mod values;
 
-pub use layout::capacity;
+pub use layout::{capacity, row_width};
 pub use page_view::RowPageView;
 pub use row_view::RowView;
 pub use shape::RowShape;
-
-#[cfg(test)]
-mod tests;

@@ -26,6 +26,3 @@ pub use definition_page::def_page;
 pub use fault::DefFault;
 pub use laws::page_is_of_one_definition;
 pub use numbering::set_next;
-
-#[cfg(test)]
-mod tests;

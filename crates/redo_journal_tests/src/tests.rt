@@ -1,6 +1,6 @@
-use crate::{Images, close_gate, home, open_gate, replay, write_journal};
 use mdc_outside::{Disk, Failed};
 use page_file::Scratch;
+use redo_journal::{Images, close_gate, home, open_gate, replay, write_journal};
 use std::alloc::Global;
 use std::test::Fail;
 use store_api::Page;

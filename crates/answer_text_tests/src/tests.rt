@@ -3,7 +3,7 @@ ghost use Rattle.std.specs.Prelude.{◌≡◌, length, IfOk, IsTrue};
 ghost use Rattle.std.specs.List.{list_all};
 ghost use Rattle.answer_text.specs.Lines.{are_outs_within, are_rows_wide, is_column_out, is_plain_select};
 
-use crate::{Lines, blocks_line, outcome_bytes, refusal_bytes, reply_bytes, select_lines};
+use answer_text::{Lines, blocks_line, outcome_bytes, refusal_bytes, reply_bytes, select_lines};
 use mdc_ast::{
     BoundOut, BoundSelect, ColumnDef, Name, Outcome, Refusal, Reply, Roots, Row, TableDef,
 };

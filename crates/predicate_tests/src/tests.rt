@@ -5,52 +5,12 @@ ghost use Rattle.mdc_ast.specs.Truth.{may_judge, may_test};
 ghost use Rattle.mdc_ast.specs.declared.predicate.Test.TheVariants as tests;
 ghost use Rattle.mdc_values.specs.declared.value.Value.TheVariants as value;
 
-use crate::combining::{and, not, or};
-use crate::{may_hold, push_not, truth};
 use mdc_ast::{Atom, Cell, Name, Pred, Right, Roots, TableDef, Test};
 use mdc_values::{Boxed, Chars, List, Memory, Op, Truth, Value};
+use predicate::{may_hold, push_not, truth};
 use std::alloc::Global;
 use std::process::Abort;
 use std::test::Fail;
-
-/// Two truths, in either order, are joined so by AND and by OR.
-fn are_joined(rt: &impl Abort, a: Truth, b: Truth, by_and: Truth, by_or: Truth) {
-    assert_eq!(rt; and(a, b), by_and);
-    assert_eq!(rt; and(b, a), by_and);
-    assert_eq!(rt; or(a, b), by_or);
-    assert_eq!(rt; or(b, a), by_or);
-}
-
-#[test]
-fn and_or_and_not_have_their_tables(rt: HostRuntime) {
-    are_joined(&rt, Truth::True, Truth::True, Truth::True, Truth::True);
-    are_joined(&rt, Truth::True, Truth::False, Truth::False, Truth::True);
-    are_joined(
-        &rt,
-        Truth::True,
-        Truth::Unknown,
-        Truth::Unknown,
-        Truth::True,
-    );
-    are_joined(&rt, Truth::False, Truth::False, Truth::False, Truth::False);
-    are_joined(
-        &rt,
-        Truth::False,
-        Truth::Unknown,
-        Truth::False,
-        Truth::Unknown,
-    );
-    are_joined(
-        &rt,
-        Truth::Unknown,
-        Truth::Unknown,
-        Truth::Unknown,
-        Truth::Unknown,
-    );
-    assert_eq!(rt; not(Truth::True), Truth::False);
-    assert_eq!(rt; not(Truth::False), Truth::True);
-    assert_eq!(rt; not(Truth::Unknown), Truth::Unknown);
-}
 
 /// A predicate has that truth, and so has what NOT is pushed in.
 fn has_truth(

@@ -1,7 +1,9 @@
 // Each call on the rows of a block once, over a store in memory: rows without columns, of which a page has 402.
 ghost use Rattle.std.specs.Prelude.{◌≡◌, ◌<◌, [], IfOk, false};
 
-use crate::{Hit, clear_slot, push_rows_of_block, put_first, put_slot, row_in_slot, wipe_block};
+use block_rows::{
+    Hit, clear_slot, push_rows_of_block, put_first, put_slot, row_in_slot, wipe_block,
+};
 use extent_map::Extents;
 use mdc_ast::{Name, Roots, Row, TableDef};
 use mdc_values::{Chars, List, Memory, Rid};

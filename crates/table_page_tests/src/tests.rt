@@ -1,12 +1,11 @@
 // A table page worked by hand, read and printed, and pages that are no table page.
-use crate::definition_limits::is_within_limits;
-use crate::{DefFault, def_of, def_page};
 use mdc_ast::{ColumnDef, GenKind, IndexDef, TableDef};
 use mdc_values::ColType;
 use std::alloc::Global;
 use std::process::Abort;
 use std::test::Fail;
 use store_api::{Page, blank_page, put};
+use table_page::{DefFault, def_of, def_page};
 
 /// The page of `ORDERS (K INTEGER NOT NULL, C CHAR(3), D DATE, Y INTEGER made by YEAR(D))` with the dimensions K and Y and a
 /// unique index IX by C descending and K, byte by byte. Its next row is 258.
@@ -42,7 +41,6 @@ fn a_definition_is_read_and_printed(rt: HostRuntime) -> Result<(), Fail> {
     assert_eq!(rt; def.roots.map, 66);
     assert_eq!(rt; def.roots.composite, 67);
     assert!(rt; def.roots.dims.as_slice() == [68, 69].as_slice());
-    assert!(rt; is_within_limits(alloc, &def)?);
     let mut printed = [0xff; 4096];
     def_page(&def, &mut printed);
     assert!(rt; printed[..] == page[..]);

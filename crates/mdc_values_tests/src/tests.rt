@@ -1,5 +1,5 @@
 // Values worked by hand: what fits, how it is shown, and what stands before what.
-use crate::{
+use mdc_values::{
     Blocks, Chars, ColType, List, Literal, Memory, Op, Rid, Rids, Truth, Value, ValueFault,
     compare, day, fit, place, print,
 };

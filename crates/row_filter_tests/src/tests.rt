@@ -4,9 +4,9 @@ ghost use Rattle.mdc_ast.specs.Truth.{may_judge, may_test_atom};
 ghost use Rattle.row_page.specs.Row.{AreRowColumns};
 ghost use Rattle.row_filter.specs.Filtering.{may_filter};
 
-use crate::RowFilter;
 use mdc_ast::{Atom, ColumnDef, Name, Pred, Right, Test};
 use mdc_values::{Chars, ColType, List, Memory, Op, Value};
+use row_filter::RowFilter;
 use row_page::{RowPageView, RowView};
 use std::alloc::Global;
 use std::test::Fail;

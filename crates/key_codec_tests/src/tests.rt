@@ -5,7 +5,7 @@ ghost use Rattle.mdc_ast.specs.declared.span.Cut.TheVariants as cut;
 ghost use Rattle.key_codec.specs.Keys as spec;
 ghost use Rattle.key_codec.specs.Spans.{span_has_kind_of};
 
-use crate::{key_of, key_range, key_width, part_width, put_part, read_part};
+use key_codec::{key_of, key_range, key_width, part_width, put_part, read_part};
 use mdc_ast::{ColumnDef, Cut, KeyPart, Name, Span};
 use mdc_values::{Chars, ColType, List, Memory, Value};
 use std::alloc::Global;

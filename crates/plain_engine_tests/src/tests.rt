@@ -1,9 +1,9 @@
-use crate::Engine;
 use answer_text::outcome_bytes;
 use mdc_ast::{
     ColumnText, InsertItem, Name, Operand, OutList, Select, SetItem, SetText, Sign, Stmt, TypeText,
 };
 use mdc_values::{Chars, List, Literal, Memory};
+use plain_engine::Engine;
 use std::alloc::Global;
 use std::test::Fail;
 

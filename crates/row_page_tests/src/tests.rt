@@ -3,10 +3,9 @@ ghost use Rattle.std.specs.Prelude.{IsTrue};
 ghost use Rattle.mdc_ast.specs.meaning.Database.{fits, fits_all};
 ghost use Rattle.row_page.specs.Row.{AreRowColumns};
 
-use crate::layout::row_width;
-use crate::{RowPageView, RowShape, RowView, capacity};
 use mdc_ast::{ColumnDef, Name, Row};
 use mdc_values::{Chars, ColType, List, Memory, Value, print, trim};
+use row_page::{RowPageView, RowShape, RowView, capacity, row_width};
 use std::alloc::Global;
 use std::process::Abort;
 use std::test::Fail;

@@ -1,6 +1,6 @@
 ghost use Rattle.std.specs.Prelude.{◌<◌};
 
-use crate::NodeView;
+use node_page::NodeView;
 use std::test::Fail;
 use store_api::{Page, blank_page, put};
 
