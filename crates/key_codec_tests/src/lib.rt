@@ -1,6 +1,6 @@
 //! Tests of `key_codec`: keys and ranges worked by hand.
 //!
-//! It promises nothing: all of it is tests, so that `key_codec` itself is proved once. It stands on `key_codec`.
+//! It promises nothing. It stands on `key_codec`, `mdc_ast` and `mdc_values`.
 #![tactic(auto)]
 
 #[cfg(test)]

@@ -1,6 +1,6 @@
-//! Tests of `mdc_values`: values worked by hand: what fits, how it is shown, and what stands before what.
+//! Tests of `mdc_values`, by values worked by hand: what fits, how it is shown, and what stands before what.
 //!
-//! It promises nothing: all of it is tests, so that `mdc_values` itself is proved once. It stands on `mdc_values`.
+//! It promises nothing. It stands on `mdc_values`.
 #![tactic(auto)]
 
 #[cfg(test)]

@@ -1,6 +1,6 @@
 //! Tests of `predicate`: truth with three values by hand, and what may hold in a cell.
 //!
-//! It promises nothing: all of it is tests, so that `predicate` itself is proved once. It stands on `predicate`.
+//! It promises nothing. It stands on `predicate`, `mdc_ast` and `mdc_values`.
 #![tactic(auto)]
 
 #[cfg(test)]

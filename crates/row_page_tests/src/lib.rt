@@ -1,6 +1,6 @@
-//! Tests of `row_page`: rows worked by hand: the bytes of rows, of a head and of slots, and what is no row page.
+//! Tests of `row_page`, by rows worked by hand: the bytes of rows, of a head and of slots, and what is no row page.
 //!
-//! It promises nothing: all of it is tests, so that `row_page` itself is proved once. It stands on `row_page`.
+//! It promises nothing. It stands on `row_page`, `store_api`, `mdc_ast` and `mdc_values`.
 #![tactic(auto)]
 
 #[cfg(test)]
