@@ -13,6 +13,7 @@ use Rattle.mdc_words.specs.ByteOrder.{Entry}
 use Rattle.mdc_values.specs.declared.rid.Rid.{Rid}
 use Rattle.mdc_ast.specs.declared.definition.TableDef.{TableDef}
 use Rattle.mdc_ast.specs.declared.row.Row.{Row}
+use Rattle.row_page.specs.RowPage.{count_rows}
 use Rattle.store_api.specs.declared.pages.Pages.{Ghosts}
 use Rattle.extent_map.specs.declared.extents.Extents.{Extents}
 use Rattle.extent_map.specs.declared.kind.Kind.{Kind}
@@ -30,10 +31,12 @@ use Rattle.mdc_sound.proofs.DefinitionTreesLemmas.{has_block_indexes}
 use Rattle.mdc_sound.proofs.PlacingLemmas.{filled_below}
 use Rattle.mdc_sound.proofs.TableSpotsLemmas.{used_of_spot}
 use Rattle.table_blocks.specs.BlockChanges.{SameSpot}
+use Rattle.table_blocks.proofs.ClearedSlotsLemmas.{left_used}
 use Rattle.cell_rooms.specs.FoundRoom.{cell_key_of}
 use Rattle.cell_rooms.specs.RoomNotes.{SaysNoMore, found_at, lowered_to, no_note}
+use Rattle.mdc_table.specs.LoweredNotes.{LowersNoteOf}
 use Rattle.cell_rooms.proofs.CellKeysLemmas.{cell_key_of-same, one_cell}
-use Rattle.mdc_sound.proofs.SlotRowsLemmas.{IsPlaced, placed_in_slot}
+use Rattle.mdc_sound.proofs.SlotRowsLemmas.{IsPlaced, placed_in_slot, some_row}
 
 -- ---- lists
 
@@ -116,8 +119,8 @@ holds_used def key FreeBlock holds = absurd holds
 holds_used def key PendingBlock holds = absurd holds
 
 -- what is left is a Used block with these slots, if it is one
-left_used : (slots all : List (Option Row)) → left_with slots ≡ UsedBlock all → slots ≡ all
-left_used slots all is = go (list_all is_none slots) is
+slots_left : (slots all : List (Option Row)) → left_with slots ≡ UsedBlock all → slots ≡ all
+slots_left slots all is = go (list_all is_none slots) is
   where
     go : (none : Bool) → cond none FreeBlock (UsedBlock slots) ≡ UsedBlock all → slots ≡ all
     go true e = absurd (cc)
@@ -322,10 +325,15 @@ module _ {S : Type 0} {g : Ghosts S} (before ext : Extents) (old new : S) (def :
   -- a row was taken out
   pub rooms_lowered : (now : Entry → RoomNote) (rid : Rid) (row : Row) (slots : List (Option Row)) → IsRowAt (spots_of g before old def owners forests) rid row slots
       → AllZip AfterReturns (slice_set (spots_of g before old def owners forests) rid.block (left_with (slice_set slots rid.slot None))) (spots_of g ext new def owners_now forests_now)
-      → SaysNoMore (now (cell_key_of def row.values)) (lowered_to rid.block (from (cell_key_of def row.values)))
-      → ((other : Entry) → other ≢ cell_key_of def row.values → SaysNoMore (now other) (from other)) → AreRightRooms def now (spots_of g ext new def owners_now forests_now)
-  rooms_lowered now rid row slots lies turned says others = record { full = full; of_cell = of_cell }
+      → LowersNoteOf def row rid.block from now → AreRightRooms def now (spots_of g ext new def owners_now forests_now)
+  rooms_lowered now rid row slots lies turned lowers = record { full = full; of_cell = of_cell }
     where
+      says : SaysNoMore (now (cell_key_of def row.values)) (lowered_to rid.block (from (cell_key_of def row.values)))
+      says = lowers.cell
+
+      others : (other : Entry) → other ≢ cell_key_of def row.values → SaysNoMore (now other) (from other)
+      others = lowers.others
+
       cell : Entry
       cell = cell_key_of def row.values
 
@@ -379,7 +387,7 @@ module _ {S : Type 0} {g : Ghosts S} (before ext : Extents) (old new : S) (def :
             let here : slice_index_or (spots_of g ext new def owners_now forests_now) rid.block OtherBlock ≡ UsedBlock all =
             subst (λ (n : ℕ). slice_index_or (spots_of g ext new def owners_now forests_now) n OtherBlock ≡ UsedBlock all) same is in
             let e = used_there AfterReturns returns_keep (spots_of g before old def owners forests) (spots_of g ext new def owners_now forests_now) rid.block (left_with (slice_set slots rid.slot None)) turned all here in
-            let slots_are = left_used (slice_set slots rid.slot None) all e in
+            let slots_are = slots_left (slice_set slots rid.slot None) all e in
             let in_now : Contains (slice_set slots rid.slot None) (Some r) = subst (λ (xs : List (Option Row)). Contains xs (Some r)) (sym slots_are) there in
             let in_old : Contains slots (Some r) = elim (of_set slots rid.slot None (Some r) in_now) [ inl wrong ↦ absurd (cc (wrong)) | inr c ↦ c ] in
             let one = same_cell before old def owners forests st rid.block slots r row (lies.block OtherBlock) in_old (in_slot slots rid.slot row lies.slot) in
@@ -388,6 +396,53 @@ module _ {S : Type 0} {g : Ghosts S} (before ext : Extents) (old new : S) (def :
         | inr other ↦
             let was = used_elsewhere AfterReturns returns_keep (spots_of g before old def owners forests) (spots_of g ext new def owners_now forests_now) rid.block (left_with (slice_set slots rid.slot None)) turned b all other is in
             right.full b r all was there (omega (arith, low, kept (cell_key_of def r.values))) empty
+      ]
+
+  -- a row was taken out of a block that had room before, and others are left in it: the notes are right as they were
+  pub rooms_left : (rid : Rid) (row : Row) (slots : List (Option Row)) → IsRowAt (spots_of g before old def owners forests) rid row slots
+      → AllZip AfterReturns (slice_set (spots_of g before old def owners forests) rid.block (left_with (slice_set slots rid.slot None))) (spots_of g ext new def owners_now forests_now)
+      → Contains slots None → 0 < count_rows (slice_set slots rid.slot None) → AreRightRooms def from (spots_of g ext new def owners_now forests_now)
+  rooms_left rid row slots lies turned empty others = record { full = full; of_cell = of_cell }
+    where
+      left : List (Option Row)
+      left = slice_set slots rid.slot None
+
+      is_used : left_with left ≡ UsedBlock left
+      is_used = left_used left others
+
+      -- a row that is left lay there before
+      was_there : (r : Row) → Contains left (Some r) → Contains slots (Some r)
+      was_there r there = elim (of_set slots rid.slot None (Some r) there) [ inl wrong ↦ absurd (cc (wrong)) | inr c ↦ c ]
+
+      of_cell : (key : Entry) → IsTrue (from key).is_of_cell → HoldsKey def key (slice_index_or (spots_of g ext new def owners_now forests_now) (from key).from OtherBlock)
+      of_cell key known = elim (cases_eq (from key).from rid.block) [
+        | inl same ↦
+            let there : HoldsKey def key (slice_index_or (spots_of g before old def owners forests) rid.block OtherBlock) =
+            subst (λ (n : ℕ). HoldsKey def key (slice_index_or (spots_of g before old def owners forests) n OtherBlock)) same (right.of_cell key known) in
+            let holds : HoldsKey def key (UsedBlock slots) = subst (HoldsKey def key) (lies.block OtherBlock) there in
+            let other = some_row left others in
+            let one = same_cell before old def owners forests st rid.block slots other.0 holds.0 (lies.block OtherBlock) (was_there other.0 other.1) holds.1 in
+            let key_is : cell_key_of def other.0.values ≡ key = cell_key_of-same def other.0.values holds.0.values one ∙ holds.2 in
+            subst (λ (n : ℕ). HoldsKey def key (slice_index_or (spots_of g ext new def owners_now forests_now) n OtherBlock)) (sym same)
+            (holds_there AfterReturns returns_keep (spots_of g before old def owners forests) (spots_of g ext new def owners_now forests_now) rid.block (left_with left) turned def key
+            (used_below (spots_of g before old def owners forests) rid.block slots (lies.block OtherBlock)) (subst (HoldsKey def key) (sym is_used) (other.0, other.1, key_is)))
+        | inr other ↦
+            holds_elsewhere AfterReturns returns_keep (spots_of g before old def owners forests) (spots_of g ext new def owners_now forests_now) rid.block (left_with left) turned def key (from key).from
+            other (right.of_cell key known)
+      ]
+
+      full : (b : ℕ) (r : Row) (all : List (Option Row)) → slice_index_or (spots_of g ext new def owners_now forests_now) b OtherBlock ≡ UsedBlock all → Contains all (Some r)
+          → b < (from (cell_key_of def r.values)).from → Contains all None → ⊥
+      full b r all is there low none = elim (cases_eq b rid.block) [
+        | inl same ↦
+            let here : slice_index_or (spots_of g ext new def owners_now forests_now) rid.block OtherBlock ≡ UsedBlock all =
+            subst (λ (n : ℕ). slice_index_or (spots_of g ext new def owners_now forests_now) n OtherBlock ≡ UsedBlock all) same is in
+            let e = used_there AfterReturns returns_keep (spots_of g before old def owners forests) (spots_of g ext new def owners_now forests_now) rid.block (left_with left) turned all here in
+            let in_now : Contains left (Some r) = subst (λ (xs : List (Option Row)). Contains xs (Some r)) (sym (slots_left left all e)) there in
+            right.full rid.block r slots (lies.block OtherBlock) (was_there r in_now) (subst (λ (n : ℕ). n < (from (cell_key_of def r.values)).from) same low) empty
+        | inr other ↦
+            let was = used_elsewhere AfterReturns returns_keep (spots_of g before old def owners forests) (spots_of g ext new def owners_now forests_now) rid.block (left_with left) turned b all other is in
+            right.full b r all was there low none
       ]
 
   -- a row became another of its cell

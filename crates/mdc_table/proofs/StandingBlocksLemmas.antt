@@ -110,13 +110,18 @@ module _ {S : Type 0} {g : Ghosts S} (ext : Extents) (s : S) (def : TableDef) (o
       go FreeBlock is = refl
       go PendingBlock is = refl
 
+  -- a block with a row has all its slots
+  pub length-slots_at : (rid : Rid) (row : Row) (slots : List (Option Row)) → IsRowAt (spots_of g ext s def owners forests) rid row slots → length slots ≡ block_slot_count ext def
+  length-slots_at rid row slots lies =
+      let spot = used_of_spot ext (pages_of g s) def owners forests.map st.map rid.block slots (lies.block OtherBlock) in
+      omega (arith, ap length spot.1, length-block_slots ext (pages_of g s) def rid.block)
+
   -- where a row lies there is such an extent and such a slot
   pub lies_within : (rid : Rid) (row : Row) (slots : List (Option Row)) → IsRowAt (spots_of g ext s def owners forests) rid row slots → (rid.block < ext.cap) × (rid.slot < block_slot_count ext def)
-  lies_within rid row slots lies =
-      let spot = used_of_spot ext (pages_of g s) def owners forests.map st.map rid.block slots (lies.block OtherBlock) in (
-        omega (arith, lies.within, length-spots ext (pages_of g s) def owners forests.map),
-        omega (arith, filled_below slots rid.slot row lies.slot, ap length spot.1, length-block_slots ext (pages_of g s) def rid.block),
-      )
+  lies_within rid row slots lies = (
+    omega (arith, lies.within, length-spots ext (pages_of g s) def owners forests.map),
+    omega (arith, filled_below slots rid.slot row lies.slot, length-slots_at rid row slots lies),
+  )
 
 -- ---- runs
 

@@ -1,5 +1,5 @@
 -- A row that was taken out or written over, as calls on a table say it.
-use Rattle.std.proofs.Common.{◌≡◌, ◌≢◌, ◌<◌, ◌≤◌, ℕ, false, List, [], ◌∷◌, length, refl, arith, sym, ◌∙◌, subst, ◌⊎◌, inl, inr}
+use Rattle.std.proofs.Common.{◌≡◌, ◌<◌, ◌≤◌, ◌+◌, ℕ, false, List, [], ◌∷◌, length, refl, arith, sym, subst, ◌⊎◌, inl, inr}
 use Rattle.std.specs.Prelude.{IsTrue, OnOk, Option, Some, None, Result, Ok, Err, slice_set}
 use Rattle.std.specs.List.{AllZip}
 use Rattle.std.proofs.lemmas.Bool.Decides.{nat_tests}
@@ -21,14 +21,20 @@ use Rattle.block_rows.specs.HeldRows.{HasReadValues}
 use Rattle.table_trees.specs.RowCells.{AreOfOneCell}
 use Rattle.mdc_sound.specs.Placing.{IsRowAt, Spot, block_slot_count, left_with}
 use Rattle.mdc_sound.specs.Placing.Spot.{UsedBlock}
+use Rattle.mdc_sound.proofs.SlotRowsLemmas.{empty_slot}
+use Rattle.table_blocks.proofs.ClearedSlotsLemmas.{count_cleared}
+use Rattle.row_page.specs.RowPage.{count_rows}
 use Rattle.mdc_sound.specs.StandingTable.{AreRightRooms, BreaksExpected, HasRowAt, IsReadyTable, NamesTablePart, OverwritesRow, RoomNote, StandsTable, TableForests, TakesRowOut, spots_of}
 use Rattle.table_blocks.specs.BlockChanges.{SameSpot, TurnsSpot}
 use Rattle.table_blocks.specs.BlockSteps.{EmptiesSlot, HasThisRow}
 use Rattle.cell_rooms.specs.FoundRoom.{cell_key_of}
-use Rattle.cell_rooms.specs.RoomNotes.{SaysNoMore, lowered_to, no_note}
+use Rattle.cell_rooms.specs.RoomNotes.{IsForgotten, Lowers, lowered_to, room_of}
+use Rattle.cell_rooms.specs.declared.rooms.Rooms.{Rooms}
+use Rattle.cell_rooms.proofs.RoomNotesLemmas.{noted_at_most, others_at_most}
+use Rattle.mdc_table.specs.LoweredNotes.{LowersNoteOf}
 use Rattle.mdc_table.specs.TableReading.{HasRowOfCell}
-use Rattle.mdc_table.proofs.KeptRoomsLemmas.{rooms_forgotten, rooms_lowered, rooms_overwritten}
-use Rattle.mdc_table.proofs.StandingBlocksLemmas.{lies_within}
+use Rattle.mdc_table.proofs.KeptRoomsLemmas.{rooms_left, rooms_lowered, rooms_overwritten}
+use Rattle.mdc_table.proofs.StandingBlocksLemmas.{length-slots_at, lies_within}
 
 -- a row that was read has keys in places that are there
 pub keys_of_read : (columns : List ColumnDef) (places : List ℕ) (row : Row) → IsTrue (are_there columns (places_of (rising_parts places))) → HasReadValues columns row → HaveKeys columns places row.values
@@ -37,6 +43,19 @@ keys_of_read columns (place ∷ places) row there read =
     let split = first_there columns (record { column = place; descending = false }) (rising_parts places) there in
     let within : place < length columns = grind (arith, nat_tests, split.0) in
     (read.each place within, keys_of_read columns places row split.1 read)
+
+-- a note that was lowered by the key of a row's cell
+pub note_lowered : (def : TableDef) (row : Row) (block : ℕ) (old new : Rooms) (key : Entry) → key ≡ cell_key_of def row.values → Lowers key block old new → LowersNoteOf def row block (room_of old) (room_of new)
+note_lowered def row block old new key is lowers =
+    subst (λ (k : Entry). Lowers k block old new → LowersNoteOf def row block (room_of old) (room_of new)) (sym is)
+    (λ by. record {
+      cell = noted_at_most (cell_key_of def row.values) (lowered_to block (room_of old (cell_key_of def row.values))) old new by;
+      others = others_at_most (cell_key_of def row.values) (lowered_to block (room_of old (cell_key_of def row.values))) old new by;
+    }) lowers
+
+-- and where all notes were lost
+pub note_forgotten : (def : TableDef) (row : Row) (block : ℕ) (old new : Rooms) → IsForgotten new → LowersNoteOf def row block (room_of old) (room_of new)
+note_forgotten def row block old new none = record { cell = inr (none (cell_key_of def row.values)); others = λ other differ. inr (none other) }
 
 same_spots : (xs ys : List Spot) → AllZip SameSpot xs ys → xs ≡ ys
 same_spots [] [] all = refl
@@ -85,15 +104,23 @@ module _ {S : Type 0} {g : Ghosts S} where
     }
 
     -- a row was taken out, and the note of its cell lowered
-    pub row_taken : (key : Entry) → key ≡ cell_key_of def row.values → SaysNoMore (now key) (lowered_to rid.block (from key))
-        → ((other : Entry) → other ≢ key → SaysNoMore (now other) (from other)) → TakesRowOut g before ext now old new def owners forests row rid
-    row_taken key is says others =
+    pub row_taken : LowersNoteOf def row rid.block from now → TakesRowOut g before ext now old new def owners forests row rid
+    row_taken lowers =
         row_out (rooms_lowered before ext old new def owners empties.owners_now forests empties.forests_now ready.stands empties.turns.changes.stands from ready.rooms now rid row empties.slots empties.lies
-        empties.turns.spots (subst (λ (k : Entry). SaysNoMore (now k) (lowered_to rid.block (from k))) is says) (λ other differ. others other (λ e. differ (e ∙ is))))
+        empties.turns.spots lowers)
 
-    -- or the notes were lost
-    pub row_taken_forgetting : ((key : Entry) → now key ≡ no_note) → TakesRowOut g before ext now old new def owners forests row rid
-    row_taken_forgetting none = row_out (rooms_forgotten def now (spots_of g ext new def empties.owners_now empties.forests_now) none)
+  -- a row was taken out of a block that had room before, and others are left in it
+  pub row_taken_of_several : (before ext : Extents) (old new : S) (def : TableDef) (rid : Rid) (row : Row) (owners : List Kind) (forests : TableForests) (from : Entry → RoomNote) (left : ℕ)
+      → IsReadyTable g before from old def owners forests → EmptiesSlot g before ext old new def rid row owners forests
+      → ((slots : List (Option Row)) → IsRowAt (spots_of g before old def owners forests) rid row slots → count_rows slots ≡ left + 1) → 0 < left → left + 1 < block_slot_count before def
+      → TakesRowOut g before ext from old new def owners forests row rid
+  row_taken_of_several before ext old new def rid row owners forests from left ready empties counts several fewer =
+      let counted = counts empties.slots empties.lies in
+      let less = count_cleared empties.slots rid.slot row empties.lies.slot in
+      let long = length-slots_at before old def owners forests ready.stands rid row empties.slots empties.lies in
+      row_out before ext old new def rid row owners forests from from ready empties
+      (rooms_left before ext old new def owners empties.owners_now forests empties.forests_now ready.stands empties.turns.changes.stands from ready.rooms rid row empties.slots empties.lies empties.turns.spots
+      (empty_slot empties.slots (omega (arith, counted, long, fewer))) (omega (arith, counted, less, several)))
 
 -- a row was written over
 pub row_overwritten : {S : Type 0} (g : Ghosts S) (ext : Extents) (old new : S) (def : TableDef) (rid : Rid) (row : Row) (from : Entry → RoomNote) (result : Result (Unit {0}) StoreFault)

@@ -14,6 +14,7 @@ ghost use Rattle.mdc_sound.specs.StandingTable.{BreaksExpected, ChangesTable, Is
 ghost use Rattle.block_rows.specs.HeldRows.{HasReadValues};
 ghost use Rattle.table_blocks.specs.BlockSteps.{HasThisRow};
 ghost use Rattle.cell_rooms.specs.RoomNotes.{room_of};
+ghost use Rattle.mdc_table.specs.LoweredNotes.{LowersNoteOf};
 
 use crate::faults::unmapped;
 use crate::reading::block_slots;
@@ -25,9 +26,9 @@ use mdc_values::Rid;
 use std::alloc::Global;
 use store_api::{Pages, StoreFault};
 
-/// Takes the row out that lies in a place; it is given too. Damaged where no row lies there. It claims no page, and where memory
-/// has no room for the key of the row's cell all notes are lost. After a fault `undo` goes back to a mark, and the notes are to be
-/// forgotten.
+/// Takes the row out that lies in a place; it is given too. Damaged where no row lies there. It claims no page. The note of the
+/// row's cell stays as it is where the block had room before and keeps other rows; else it is lowered, and where memory has no
+/// room for the key of the cell all notes are lost. After a fault `undo` goes back to a mark, and the notes are to be forgotten.
 pub fn take_row<P: Pages>(
     alloc: Global,
     def: &TableDef,
@@ -54,14 +55,27 @@ pub fn take_row<P: Pages>(
     ensures runs { RunsOverPages P.Pages (IsTableOrMapPage P.Pages ext.old pages.old def.now) (IsTableOrMapPage P.Pages ext.old pages.old def.now)
         (BreaksExpected P.Pages ext.old pages.old def.now (HasThisRow P.Pages ext.old pages.old def.now rid row.now)) pages.old pages.new (fault_of result) }
 {
-    if rid.block >= ext.cap || u32::from(rid.slot) >= block_slots(def, ext) {
+    let slots = block_slots(def, ext);
+    if rid.block >= ext.cap || u32::from(rid.slot) >= slots {
         return Err(unmapped(def));
     }
-    table_blocks::take_row(alloc, def, ext, pages, rid, row)?;
-    let Ok(key) = cell_key(alloc, def, &row.values) else {
-        rooms.forget();
+    let left = u32::from(table_blocks::take_row(alloc, def, ext, pages, rid, row)?);
+    // No right note leads past a block that had room before, and the block is still one of the cell where rows are left in it.
+    if 0 < left && left + 1 < slots {
         return Ok(());
-    };
-    rooms.lower(&key, rid.block);
+    }
+    lower_note(alloc, def, rooms, row, rid.block);
     Ok(())
+}
+
+/// Notes that a row was taken out of a block. All notes are lost where memory has no room for the key of the row's cell.
+fn lower_note(alloc: Global, def: &TableDef, rooms: &mut Rooms, row: &Row, block: u32)
+    requires defined { IsTableDef def.now.number def.now }
+    requires keyed { HasReadValues def.now.columns row.now }
+    ensures lowers { LowersNoteOf def.now row.now block (room_of rooms.old) (room_of rooms.new) }
+{
+    match cell_key(alloc, def, &row.values) {
+        Ok(key) => rooms.lower(&key, block),
+        Err(_) => rooms.forget(),
+    }
 }

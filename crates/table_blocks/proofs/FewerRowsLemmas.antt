@@ -1,5 +1,5 @@
 -- A row is taken out of a block of which the block map counted one less, since it keeps others.
-use Rattle.std.proofs.Common.{◌≡◌, ◌<◌, ◌-◌, ◌^◌, ℕ, List, arith, sym, length, subst}
+use Rattle.std.proofs.Common.{◌≡◌, ◌<◌, ◌+◌, ◌-◌, ◌^◌, ℕ, List, arith, sym, length, subst}
 use Rattle.std.specs.Prelude.{IfSome, None, Option, Some, slice_index_or, slice_set}
 use Rattle.std.proofs.lemmas.Bool.{ne_eqb}
 use Rattle.mdc_values.specs.declared.rid.Rid.{Rid}
@@ -66,6 +66,11 @@ module _ {S : Type 0} {g : Ghosts S} {Any : Damage → Type 0} (ext : Extents) (
   had_counted : (row : Row) (owners : List Kind) (forests : TableForests) → StandsTable g ext old def owners forests → (slots : List (Option Row)) → IsRowAt (spots_of g ext old def owners forests) rid row slots → had ≡ count_rows slots
   had_counted row owners forests st slots lies =
       rows_counted ext old def (used_row rid.block had) defined low few owners forests st (row_there forests.map (map_of_table ext old def defined tree root width owners forests st)) slots (lies.block OtherBlock)
+
+  -- so one less are left
+  pub left_counted : (row : Row) (owners : List Kind) (forests : TableForests) → StandsTable g ext old def owners forests → (slots : List (Option Row)) → IsRowAt (spots_of g ext old def owners forests) rid row slots
+      → count_rows slots ≡ had - 1 + 1
+  left_counted row owners forests st slots lies = omega (arith, had_counted row owners forests st slots lies, several)
 
   module _ (new : S) (touched : Touches g (IsPageOfBlock ext rid.block) mid new) (told : (g.state new).is_told ≡ (g.state mid).is_told) (same_count : length (g.state new).work ≡ length (g.state mid).work) where
     pub empties_fewer : ((slots : List (Option Row)) → HoldsRows g ext mid def rid.block slots → HoldsRows g ext new def rid.block (slice_set slots rid.slot None))

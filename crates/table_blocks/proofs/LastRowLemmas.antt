@@ -1,6 +1,6 @@
 -- The last row of a block is taken out, and the block is freed. The block map was asked for its line first, behind a call that
 -- changed nothing.
-use Rattle.std.proofs.Common.{◌≡◌, ◌<◌, ◌≤◌, ◌^◌, ℕ, List, refl, ap, arith, sym, ◌∙◌, subst, length, inl, inr}
+use Rattle.std.proofs.Common.{◌≡◌, ◌<◌, ◌≤◌, ◌+◌, ◌^◌, ℕ, List, refl, ap, arith, sym, ◌∙◌, subst, length, inl, inr}
 use Rattle.std.specs.Prelude.{IfNone, None, Option, slice_set}
 use Rattle.mdc_values.specs.declared.rid.Rid.{Rid}
 use Rattle.mdc_values.specs.declared.value.Value.{Value}
@@ -25,6 +25,7 @@ use Rattle.entry_tree.proofs.RemoveLemmas.{held_same as tree_same}
 use Rattle.block_map.specs.BlockMaps.{BreaksMapTree, HasRow, IsMapForm}
 use Rattle.block_map.specs.Counting.{IfUsed, used_row}
 use Rattle.block_map.specs.declared.row.BlockRow.{BlockRow}
+use Rattle.block_map.specs.declared.state.BlockState.TheVariants.{Used}
 use Rattle.block_rows.proofs.HeldRowsLemmas.{rows_stay}
 use Rattle.mdc_sound.specs.Placing.{AfterReturns, IsRowAt, Spot}
 use Rattle.mdc_sound.specs.Placing.Spot.{OtherBlock}
@@ -36,6 +37,7 @@ use Rattle.table_blocks.specs.BlockNow.{IsListed, IsOwnBlock, IsUsedNow, MapsUse
 use Rattle.table_blocks.specs.BlockSteps.{EmptiesSlot, ExpectsFreeing, FreesBlock, HasFilledSlot, HasThisRow}
 use Rattle.table_blocks.proofs.AroundLemmas.{around_then, breaks_of_table, own_still, rows_step, runs_place_then}
 use Rattle.table_blocks.proofs.BlockPagesLemmas.{place_of_block}
+use Rattle.table_blocks.proofs.BlockSpaceLemmas.{line_used}
 use Rattle.table_blocks.proofs.ClearedSlotsLemmas.{count_cleared, left_free, row_there}
 use Rattle.table_blocks.proofs.ClosingLemmas.{turns_free}
 use Rattle.table_blocks.proofs.CountedBlockLemmas.{rows_counted}
@@ -44,6 +46,15 @@ use Rattle.table_blocks.proofs.ListedCellsLemmas.{listed_in_cell}
 use Rattle.table_blocks.proofs.MapOfTableLemmas.{form_of_table, map_of_table, map_page}
 use Rattle.table_blocks.proofs.OpeningLemmas.{around_block, own_of_line, used_spot_now}
 use Rattle.table_blocks.proofs.SpotChangesLemmas.{returns_change}
+
+-- what the line of a block says, which was looked at behind a call that counted none less of it
+pub record SeesLast {S : Type 0} (g : Ghosts S) (ext : Extents) (s looked : S) (def : TableDef) (rid : Rid) (tree : Tree) (line : BlockRow) : Type 0 where
+  pub few : line.rows < 2 ^ 16
+  pub is : line ≡ used_row rid.block line.rows
+  pub there : (owners : List Kind) (forests : TableForests) → StandsTable g ext s def owners forests → HasRow (used_row rid.block line.rows) forests.map
+  pub as_was : (g.state looked).work ≡ (g.state s).work
+  pub looking : RunsOverPages g NoPage (IsTreePage g s tree) (BreaksExpected g ext s def (HasRowAt g ext s def rid)) s looked None
+  pub last : (owners : List Kind) (forests : TableForests) → StandsTable g ext s def owners forests → line.rows ≤ 1
 
 module _ {S : Type 0} {g : Ghosts S} (ext : Extents) (s : S) (def : TableDef) (defined : IsTableDef def.number def) (rid : Rid) (low : rid.block < ext.cap) where
   -- the block of a row that lies there
@@ -197,3 +208,29 @@ module _ {S : Type 0} {g : Ghosts S} (ext : Extents) (s : S) (def : TableDef) (d
       let said : (t : Forest) → HoldsTree g s tree t → IsMapForm t → IfUsed rid.block (λ n. n ≤ 1) t =
       subst (λ (o : Option ℕ). IfNone o ((t : Forest) → HoldsTree g s tree t → IsMapForm t → IfUsed rid.block (λ n. n ≤ 1) t)) is last in
       said forests.map (map_of_table ext s def defined tree root width owners forests st) (form_of_table ext s def defined tree root width owners forests st) rows few there
+
+  -- it says that one row is there
+  pub sees_last : {Any : Damage → Type 0} (tree : Tree) (root : tree.root ≡ def.roots.map) (width : tree.width ≡ 7) (mid : S) (counted : Option ℕ) → counted ≡ None
+      → IfNone counted ((t : Forest) → HoldsTree g s tree t → IsMapForm t → IfUsed rid.block (λ n. n ≤ 1) t) → RunsOverPages g (IsTreePage g s tree) (IsTreePage g s tree) Any s mid None
+      → (g.state mid).work ≡ (g.state s).work → (looked : S) (line : BlockRow) → line.rows < 2 ^ 16 → ((t : Forest) → HoldsTree g mid tree t → HasRow line t) → line.block ≡ rid.block → line.state ≡ Used
+      → (g.state looked).work ≡ (g.state mid).work → RunsOverPages g NoPage (IsTreePage g mid tree) (BreaksMapTree g mid tree (MapsUsed rid.block)) mid looked None → SeesLast g ext s looked def rid tree line
+  sees_last tree root width mid counted none fewest first same looked line few found named used still second = record {
+    few = few;
+    is = is;
+    there = there;
+    as_was = still ∙ same;
+    looking = runs_looking tree root width mid first same second;
+    last = λ owners forests st. is_last tree root width counted none fewest line.rows few owners forests st (there owners forests st);
+  }
+    where
+      is : line ≡ used_row rid.block line.rows
+      is = line_used line rid.block line.rows named used refl
+
+      there : (owners : List Kind) (forests : TableForests) → StandsTable g ext s def owners forests → HasRow (used_row rid.block line.rows) forests.map
+      there owners forests st = subst (λ (l : BlockRow). HasRow l forests.map) is (line_of_table tree root width mid first same line found owners forests st)
+
+  -- so none is left
+  pub none_left : (tree : Tree) (looked : S) (line : BlockRow) → SeesLast g ext s looked def rid tree line → (row : Row) (owners : List Kind) (forests : TableForests) → StandsTable g ext s def owners forests → (slots : List (Option Row))
+      → IsRowAt (spots_of g ext s def owners forests) rid row slots → count_rows slots ≡ 0 + 1
+  none_left tree looked line sees row owners forests st slots lies =
+      omega (arith, count_cleared slots rid.slot row lies.slot, line_counted line.rows sees.few sees.there row slots owners forests st lies, sees.last owners forests st)

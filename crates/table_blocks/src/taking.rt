@@ -1,5 +1,5 @@
 // A row less in a Used block.
-ghost use Rattle.std.specs.Prelude.{◌≡◌, ◌<◌, List, None, Option, false, length, slice_set, OnOk};
+ghost use Rattle.std.specs.Prelude.{◌≡◌, ◌<◌, ◌+◌, List, None, Option, false, length, slice_set, IfOk, OnOk};
 ghost use Rattle.store_api.specs.Causes.{fault_of};
 ghost use Rattle.store_api.specs.RunsOverPages.{RunsOverPages};
 ghost use Rattle.extent_map.specs.Owners.{IsSameShape};
@@ -26,8 +26,8 @@ use mdc_values::Rid;
 use std::alloc::Global;
 use store_api::{Pages, StoreFault};
 
-/// Takes the row out that lies in a place; it is given too. A block without rows is Free afterwards, and isn't listed. Damaged
-/// where no row lies there. It claims no page.
+/// Takes the row out that lies in a place; it is given too. Answers how many rows are left in its block: one without rows is Free
+/// afterwards, and isn't listed. Damaged where no row lies there. It claims no page.
 pub fn take_row<P: Pages>(
     alloc: Global,
     def: &TableDef,
@@ -35,7 +35,7 @@ pub fn take_row<P: Pages>(
     pages: &mut P,
     rid: Rid,
     row: &Row,
-) -> Result<(), StoreFault>
+) -> Result<u16, StoreFault>
     requires defined { IsTableDef def.now.number def.now }
     requires keyed { HasReadValues def.now.columns row.now }
     requires within { rid.block < ext.old.cap }
@@ -43,6 +43,8 @@ pub fn take_row<P: Pages>(
     requires going { (P.state pages.old).ended ≡ false }
     ensures takes { OnOk result ((owners : List Kind) (forests : TableForests) → StandsTable P.Pages ext.old pages.old def.now owners forests
         → HasThisRow P.Pages ext.old pages.old def.now rid row.now owners forests → EmptiesSlot P.Pages ext.old ext.new pages.old pages.new def.now rid row.now owners forests) }
+    ensures left { IfOk result (λ left. (owners : List Kind) (forests : TableForests) → StandsTable P.Pages ext.old pages.old def.now owners forests
+        → (slots : List (Option Row)) → IsRowAt (spots_of P.Pages ext.old pages.old def.now owners forests) rid row.now slots → count_rows slots ≡ left + 1) }
     ensures makes { OnOk result ((owners : List Kind) (forests : TableForests) → StandsTable P.Pages ext.old pages.old def.now owners forests
         → (slots : List (Option Row)) → IsRowAt (spots_of P.Pages ext.old pages.old def.now owners forests) rid row.now slots
         → MakesChanges ext.old (pages_of P.Pages pages.old) (left_changes def.now row.now rid.block (count_rows slots)) (pages_of P.Pages pages.new)) }
@@ -52,12 +54,14 @@ pub fn take_row<P: Pages>(
         (BreaksExpected P.Pages ext.old pages.old def.now (HasThisRow P.Pages ext.old pages.old def.now rid row.now)) pages.old pages.new (fault_of result) }
 {
     let map = BlockMap::at(alloc, def.roots.map);
-    if let Some(_had) = map.discount_row(pages, rid.block)? {
-        return clear_filled(def, ext, pages, rid);
+    if let Some(had) = map.discount_row(pages, rid.block)? {
+        clear_filled(def, ext, pages, rid)?;
+        return Ok(had - 1);
     }
     let line = line_of_used(def, &map, pages, rid.block)?;
     clear_filled(def, ext, pages, rid)?;
-    free_block(alloc, def, ext, pages, line, row)
+    free_block(alloc, def, ext, pages, line, row)?;
+    Ok(0)
 }
 
 /// Empties the slot of a row. Damaged where it is empty.
