@@ -14,7 +14,7 @@ ghost use Rattle.row_judging.specs.RowChange.{are_within, misfit_cause};
 use crate::tables::Tables;
 use mdc_ast::{BoundSet, ColumnDef, Outcome, Pred, Reply, Row};
 use mdc_values::Memory;
-use row_judging::{Misfit, first_misfit_of_row, new_values, put_values, qualifies, unfit};
+use row_judging::{Misfit, changed_values, first_misfit_of_row, qualifies, unfit};
 use std::alloc::Global;
 
 /// An UPDATE: all rows are judged before one is changed. After `Memory` the table may have lost its rows.
@@ -99,7 +99,6 @@ fn change(
     if !qualifies(pred, row) {
         return Ok(false);
     }
-    let news = new_values(alloc, sets, row.values.as_slice())?;
-    put_values(news, &mut row.values);
+    row.values = changed_values(alloc, sets, row.values.as_slice())?;
     Ok(true)
 }

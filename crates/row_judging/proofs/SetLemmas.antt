@@ -1,13 +1,14 @@
 -- The values of a row as columns are set one after the other.
 use Rattle.std.proofs.Common.{◌≡◌, ◌≢◌, ◌<◌, ◌+◌, ℕ, zero, suc, List, [], ◌∷◌, ◌++◌, ◌∙◌, refl, sym, ap, length, take, get_or, arith, length-set}
 use Rattle.std.specs.Prelude.{slice_set, nat_lt, IsTrue}
+use Rattle.std.proofs.lemmas.Bool.Decides.{nat_tests}
 use Rattle.std.proofs.lemmas.List.{take_more}
 use Rattle.mdc_values.specs.declared.value.Value.{Value}
 use Rattle.mdc_ast.specs.declared.bound.BoundSet.{BoundSet}
 use Rattle.mdc_ast.specs.meaning.Database.{is_null}
 use Rattle.mdc_ast.specs.meaning.Doing.{item_on, set_on}
-use Rattle.mdc_ast.proofs.TestsLemmas.{and_true, both}
-use Rattle.row_judging.specs.RowChange.{is_null_at, fall_within, are_within, is_within, item_is_within, new_values_on, with_values}
+use Rattle.mdc_ast.proofs.TestsLemmas.{both}
+use Rattle.row_judging.specs.RowChange.{is_null_at, are_within, is_within, item_is_within}
 
 -- a row keeps its width
 pub length-set_on : (was : List Value) (sets : List BoundSet) (values : List Value) → length (set_on was sets values) ≡ length values
@@ -43,14 +44,12 @@ is_null_at-other (first ∷ values) zero (suc column) value ne = refl
 is_null_at-other (first ∷ values) (suc place) zero value ne = refl
 is_null_at-other (first ∷ values) (suc place) (suc column) value ne = is_null_at-other values place column value (λ e. ne (ap suc e))
 
--- the new values, put in turn, are the row with its columns set
-pub with_values-items : (was : List Value) (sets : List BoundSet) (values : List Value) → with_values (new_values_on was sets) values ≡ set_on was sets values
-with_values-items was [] values = refl
-with_values-items was (first ∷ sets) values = with_values-items was sets (slice_set values first.column (item_on was first.item))
-
--- and their columns are there
-pub are_there-items : (n : ℕ) (was : List Value) (sets : List BoundSet) → IsTrue (are_within n sets) → IsTrue (fall_within n (new_values_on was sets))
-are_there-items n was [] h = refl
-are_there-items n was (first ∷ sets) h =
-    let parts : IsTrue (is_within n first) × IsTrue (are_within n sets) = both (is_within n first) (are_within n sets) h in
-    and_true (nat_lt first.column n) (fall_within n (new_values_on was sets)) (both (nat_lt first.column n) (item_is_within n first.item) parts.0).0 (are_there-items n was sets parts.1)
+-- a column that is set is there
+pub within_at : (n : ℕ) (sets : List BoundSet) (i : ℕ) (next : BoundSet) → i < length sets → next ≡ get_or sets i next → IsTrue (are_within n sets) → next.column < n
+within_at n [] i next low at all = absurd (omega (arith, low))
+within_at n (first ∷ sets) zero next low at all =
+    let parts = both (is_within n first) (are_within n sets) all in
+    let column = (both (nat_lt first.column n) (item_is_within n first.item) parts.0).0 in
+    let same : next.column ≡ first.column = ap (λ (set : BoundSet). set.column) at in
+    grind (arith, nat_tests, column, same)
+within_at n (first ∷ sets) (suc i) next low at all = within_at n sets i next (omega (arith, low)) at (both (is_within n first) (are_within n sets) all).1

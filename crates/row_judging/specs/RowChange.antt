@@ -1,5 +1,5 @@
 -- What is said first against the new values of a row, and what their computing needs.
-use Rattle.std.specs.Prelude.{ℕ, List, [], ◌∷◌, Bool, true, false, ◌&&◌, nat_lt, slice_get, slice_set, map}
+use Rattle.std.specs.Prelude.{ℕ, List, Bool, true, false, ◌&&◌, nat_lt, slice_get}
 use Rattle.std.specs.List.{list_all}
 use Rattle.std.specs.Option.{option_map_or}
 use Rattle.mdc_values.specs.Fitting.{in_bigint}
@@ -14,7 +14,6 @@ use Rattle.mdc_ast.specs.meaning.Cause as cause
 use Rattle.mdc_ast.specs.meaning.Cause.{Cause}
 use Rattle.mdc_ast.specs.meaning.Database.{is_null}
 use Rattle.mdc_ast.specs.meaning.Doing.{item_on}
-use Rattle.row_judging.specs.declared.row_change.computing.NewValue.{NewValue}
 use Rattle.row_judging.specs.declared.row_change.given.Given.{Given}
 use Rattle.row_judging.specs.declared.row_change.given.Given.TheVariants.{Lent, Number, Null}
 use Rattle.row_judging.specs.declared.row_change.misfits.Misfit.{Misfit}
@@ -35,19 +34,6 @@ value_given Null = value.Null
 -- whether a column is there and null
 abbrev pub is_null_at : ℕ → List Value → Bool
 is_null_at place values = option_map_or is_null (slice_get values place) false
-
--- what each item gives for its column on a row as it was
-abbrev pub new_values_on : List Value → List BoundSet → List NewValue
-new_values_on was sets = map (λ set. record { column = set.column; value = item_on was set.item }) sets
-
--- new values put into their columns, one after the other
-abbrev pub with_values : List NewValue → List Value → List Value
-with_values [] values = values
-with_values (new ∷ news) values = with_values news (slice_set values new.column new.value)
-
--- each new value has a column among the first n
-abbrev pub fall_within : ℕ → List NewValue → Bool
-fall_within n news = list_all (λ new. nat_lt new.column n) news
 
 -- a column that an operand names is one of the first n
 abbrev pub operand_is_within : ℕ → BoundOperand → Bool

@@ -16,6 +16,4 @@ mod row_change;
 pub use filtering::qualifies;
 pub use fitting::do_fit;
 pub use refusals::{file_full, no_table, not_built, not_in_state, numbers_used_up, unfit};
-pub use row_change::{
-    Misfit, NewValue, first_misfit, first_misfit_of_row, first_null_in, new_values, put_values,
-};
+pub use row_change::{Misfit, changed_values, first_misfit, first_misfit_of_row, first_null_in};

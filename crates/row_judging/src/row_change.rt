@@ -3,5 +3,5 @@ mod computing;
 mod given;
 mod misfits;
 
-pub use computing::{NewValue, new_values, put_values};
+pub use computing::changed_values;
 pub use misfits::{Misfit, first_misfit, first_misfit_of_row, first_null_in, holds_number};

@@ -7,7 +7,7 @@ ghost use Rattle.mdc_ast.specs.declared.row.Row.{Row};
 ghost use Rattle.mdc_ast.specs.meaning.Cause.{refusal_of};
 ghost use Rattle.mdc_ast.specs.meaning.Database.{fits_all};
 ghost use Rattle.mdc_ast.specs.meaning.Definitions.{def_at};
-ghost use Rattle.mdc_ast.specs.meaning.Doing.{changed_causes, changed_row, set_on};
+ghost use Rattle.mdc_ast.specs.meaning.Doing.{changed_causes, changed_row};
 ghost use Rattle.store_api.specs.Causes.{fault_of, store_fault_in};
 ghost use Rattle.store_api.specs.Extents.{first_page_of};
 ghost use Rattle.store_api.specs.Frame.{NoPage};
@@ -21,7 +21,7 @@ ghost use Rattle.mdc_sound.specs.StandingTable.{StandsTable, TableForests, pages
 ghost use Rattle.binder.specs.Saying.{first_of};
 ghost use Rattle.row_filter.specs.Filtering.{may_filter};
 ghost use Rattle.row_judging.specs.Filtering.{may_change};
-ghost use Rattle.row_judging.specs.RowChange.{are_storable, are_within, misfit_cause};
+ghost use Rattle.row_judging.specs.RowChange.{are_within, misfit_cause};
 ghost use Rattle.row_judging.specs.Served.{IsDefined, MaySet};
 ghost use Rattle.statement_rows.specs.RowsOfStatement.{AnyPage};
 ghost use Rattle.statement_rows.specs.Turning.{turned_row};
@@ -33,8 +33,8 @@ use crate::tables::Tables;
 use extent_map::{Extents, SpaceFault};
 use mdc_ast::{BoundSet, ColumnDef, Outcome, Pred, Reply, Row, TableDef};
 use mdc_table::Hit;
-use mdc_values::{List, Memory, Value};
-use row_judging::{Misfit, do_fit, first_misfit, new_values, put_values, unfit};
+use mdc_values::{List, Memory};
+use row_judging::{Misfit, changed_values, do_fit, first_misfit, unfit};
 use statement_rows::{Turned, change_rows};
 use std::alloc::Global;
 use store_api::{Damage, Pages, StoreFault};
@@ -204,27 +204,4 @@ fn turned_rows(alloc: Global, sets: &[BoundSet], hits: Vec<Hit>) -> Result<Vec<T
         turned.push(Turned { hit, row })?;
     }
     Ok(turned)
-}
-
-// The values of a row once columns are set.
-fn changed_values(alloc: Global, sets: &[BoundSet], values: &[Value]) -> Result<List<Value>, Memory>
-    requires within { IsTrue (are_within (length values.now) sets.now) }
-    requires storable { IsTrue (are_storable values.now sets.now) }
-    ensures { IfOk result (λ changed. changed ≡ set_on values.now sets.now values.now) }
-{
-    let news = new_values(alloc, sets, values)?;
-    let mut changed = copied_values(alloc, values)?;
-    put_values(news, &mut changed);
-    Ok(changed)
-}
-
-// Equal values.
-fn copied_values(alloc: Global, values: &[Value]) -> Result<List<Value>, Memory>
-    ensures { IfOk result (λ copies. copies ≡ values.now) }
-{
-    let mut copies = Vec::with_capacity(alloc, values.len())?;
-    for value in values {
-        copies.push(value.copy(alloc)?)?;
-    }
-    Ok(List::from_vec(copies))
 }

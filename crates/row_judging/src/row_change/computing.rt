@@ -1,47 +1,39 @@
-// The new values of a row.
+// The values that a row becomes.
 ghost use Rattle.std.specs.Prelude.{◌≡◌, length, IfOk, IsTrue};
-ghost use Rattle.row_judging.specs.RowChange.{are_storable, fall_within, are_within, new_values_on, with_values};
+ghost use Rattle.mdc_ast.specs.meaning.Doing.{set_on};
+ghost use Rattle.row_judging.specs.RowChange.{are_storable, are_within};
 
 use crate::row_change::given::{item_on, to_value};
 use mdc_ast::BoundSet;
 use mdc_values::{List, Memory, Value};
 use std::alloc::Global;
 
-/// A new value for a column of a row, which is named by its place.
-#[derive(Debug, Drop)]
-pub struct NewValue {
-    pub column: u8,
-    pub value: Value,
-}
-
-/// What each item gives for its column, all on the row as it was. It needs that no number among them is too large for 64
-/// bits.
-pub fn new_values(
+/// The values of a row once columns are set, each to what its item gives on the row as it was. It needs that no number among
+/// the new ones is too large for 64 bits.
+pub fn changed_values(
     alloc: Global,
     sets: &[BoundSet],
     values: &[Value],
-) -> Result<Vec<NewValue>, Memory>
+) -> Result<List<Value>, Memory>
     requires within { IsTrue (are_within (length values.now) sets.now) }
     requires storable { IsTrue (are_storable values.now sets.now) }
-    ensures { IfOk result (λ news. news.items ≡ new_values_on values.now sets.now) }
+    ensures { IfOk result (λ changed. changed ≡ set_on values.now sets.now values.now) }
 {
-    let mut news = Vec::with_capacity(alloc, sets.len())?;
+    let mut changed = copied_values(alloc, values)?;
     for set in sets {
         let value = to_value(alloc, item_on(values, &set.item))?;
-        news.push(NewValue {
-            column: set.column,
-            value,
-        })?;
+        changed.set(set.column as usize, value);
     }
-    Ok(news)
+    Ok(changed)
 }
 
-/// Puts each new value into its column. It takes no memory.
-pub fn put_values(news: Vec<NewValue>, values: &mut List<Value>)
-    requires { IsTrue (fall_within (length values.old) news.items) }
-    ensures { values.new ≡ with_values news.items values.old }
+// Equal values.
+fn copied_values(alloc: Global, values: &[Value]) -> Result<List<Value>, Memory>
+    ensures { IfOk result (λ copies. copies ≡ values.now) }
 {
-    for new in news {
-        values.set(new.column as usize, new.value);
+    let mut copies = Vec::with_capacity(alloc, values.len())?;
+    for value in values {
+        copies.push(value.copy(alloc)?)?;
     }
+    Ok(List::from_vec(copies))
 }
