@@ -2,6 +2,7 @@ pub mod BlockHitsLemmas
 pub mod BlockMapsLemmas
 pub mod BlockSlotsLemmas
 pub mod BranchesLemmas
+pub mod BreaksAlongLemmas
 pub mod BroughtPagesLemmas
 pub mod CellsLemmas
 pub mod CellsRuleLemmas
@@ -41,6 +42,7 @@ pub mod RowPagesRuleLemmas
 pub mod RulesInOrderLemmas
 pub mod RulesOfBlocksLemmas
 pub mod RulesOfTablesLemmas
+pub mod SameShapeLemmas
 pub mod SharedNamesLemmas
 pub mod ShownBreaksLemmas
 pub mod ShownTablesLemmas

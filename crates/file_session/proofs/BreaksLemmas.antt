@@ -15,7 +15,7 @@ use Rattle.page_store.specs.declared.fault.OpenFault.TheVariants as opening
 use Rattle.script_engine.specs.Committing.{IsUncounted}
 use Rattle.script_engine.specs.Opening.{KeepsPages}
 use Rattle.script_engine.specs.declared.engine.Engine.{Engine}
-use Rattle.script_engine.proofs.BreaksAlongLemmas.{first_break_along}
+use Rattle.file_check.proofs.BreaksAlongLemmas.{first_break_along}
 use Rattle.script_session.specs.Damaged.{BreaksAtStop, opened_behind}
 use Rattle.script_session.specs.Replying.{RepliesTo}
 use Rattle.script_session.specs.declared.stop.Served.{Served}

@@ -16,7 +16,7 @@ use Rattle.mdc_sound.specs.SoundDatabase.{IsSoundDatabase}
 use Rattle.stored_catalog.specs.StoredDefinitions.{BreaksTablePages, IsAnyTablePage}
 use Rattle.script_engine.specs.Breaking.{JudgesDamage, LoadsExactly, NamesExactly, OnlyReads}
 use Rattle.script_engine.specs.declared.stop.EngineStop.{EngineStop}
-use Rattle.script_engine.proofs.BreaksAlongLemmas.{first_break_along}
+use Rattle.file_check.proofs.BreaksAlongLemmas.{first_break_along}
 use Rattle.script_engine.proofs.ReloadingLemmas.{no_damage}
 
 module _ {S : Type 0} (g : Ghosts S) where

@@ -1,6 +1,5 @@
 pub mod AnsweringAnewLemmas
 pub mod BetweenChangesLemmas
-pub mod BreaksAlongLemmas
 pub mod BreakingLemmas
 pub mod CatalogLemmas
 pub mod ComingTablesLemmas

@@ -1,12 +1,12 @@
 -- What is said of pages in extents of one shape, whatever is noted of these.
-use Rattle.std.proofs.Common.{ℕ, List, [], ◌∷◌, Option, Some, None, sym, subst}
+use Rattle.std.proofs.Common.{ℕ, List, [], ◌∷◌, Option, Some, None, sym}
 use Rattle.std.specs.Prelude.{IsTrue}
 use Rattle.std.specs.List.{AllByRecursion, AllZip, range_with_len}
 use Rattle.mdc_ast.specs.declared.bound.Bound.{Bound}
 use Rattle.mdc_ast.specs.declared.definition.TableDef.{TableDef}
 use Rattle.mdc_ast.specs.meaning.Database.{Database, PlainTable}
 use Rattle.store_api.specs.Extents.{is_shape}
-use Rattle.extent_map.specs.Owners.{IsSameShape, IsUsedPage}
+use Rattle.extent_map.specs.Owners.{IsSameShape}
 use Rattle.extent_map.specs.declared.extents.Extents.{Extents}
 use Rattle.extent_map.specs.declared.kind.Kind.{Kind}
 use Rattle.block_map.specs.MapLines.{map_lines, used_blocks}
@@ -20,6 +20,8 @@ use Rattle.mdc_sound.specs.SoundDatabase.{KeepAllRules}
 use Rattle.mdc_sound.specs.SpaceRules.{DatabaseView, IsBlockMapSound, IsIndexPage, IsMapLineSound, IsMapSound, IsRootSound, IsTablePlaceSound, IsTreePageSound, tables_there}
 use Rattle.mdc_sound.specs.StandsForDatabase.{HoldsPlace, PagesStandFor}
 use Rattle.mdc_sound.specs.TableViews.{TableView}
+use Rattle.file_check.proofs.BreaksAlongLemmas.{counted_along, held_along, index_along, map_page_along}
+use Rattle.file_check.proofs.SameShapeLemmas.{along, extents_with, used_along}
 use Rattle.script_engine.specs.Doing.{PlacesOnPages}
 
 -- what holds of two lists side by side, where it implies something else
@@ -29,13 +31,6 @@ zip_as P Q so [] (y ∷ ys) all = absurd all
 zip_as P Q so (x ∷ xs) [] all = absurd all
 zip_as P Q so (x ∷ xs) (y ∷ ys) all = (so x y all.0, zip_as P Q so xs ys all.1)
 
--- extents by their numbers
-abbrev pub extents_with : (cap n free unused : ℕ) → IsTrue (is_shape cap n) → Extents
-extents_with cap n free unused within = record { cap = cap; extent_pages = n; free_from = free; unused_from = unused; within = within }
-
-pub used_along : (c n f u h v : ℕ) (w x : IsTrue (is_shape c n)) (owners : List Kind) (p : ℕ) → IsUsedPage (extents_with c n f u w) owners p → IsUsedPage (extents_with c n h v x) owners p
-used_along c n f u h v w x owners p is = record { page = record { behind = is.page.behind; within = is.page.within }; used = is.used }
-
 module _ (c n f u h v : ℕ) (w x : IsTrue (is_shape c n)) (pages : PageList) where
   root_along : IsRootSound (extents_with c n f u w) pages → IsRootSound (extents_with c n h v x) pages
   root_along is = record { count = record { extents = is.count.extents; within = is.count.within; count = is.count.count }; root = is.root }
@@ -43,9 +38,7 @@ module _ (c n f u h v : ℕ) (w x : IsTrue (is_shape c n)) (pages : PageList) wh
   map_along : (owners : List Kind) → IsMapSound (extents_with c n f u w) pages owners → IsMapSound (extents_with c n h v x) pages owners
   map_along owners is = record {
     count = is.count;
-    each = λ i low.
-        let page = is.each i low in
-        record { held = record { page = page.held.page; kinds = page.held.kinds; there = page.held.there }; owned = page.owned };
+    each = λ i low. map_page_along c n f u h v w x pages owners i (is.each i low);
   }
 
   place_along : (owners : List Kind) (t : ℕ) (place : Option TableView) → IsTablePlaceSound (extents_with c n f u w) pages owners t place → IsTablePlaceSound (extents_with c n h v x) pages owners t place
@@ -53,7 +46,7 @@ module _ (c n f u h v : ℕ) (w x : IsTrue (is_shape c n)) (pages : PageList) wh
   place_along owners t (Some table) is = (
     is.0,
     all_weaker (λ place. IsIndexPage (extents_with c n f u w) owners place.root) (λ place. IsIndexPage (extents_with c n h v x) owners place.root)
-        (λ place at. record { page = record { behind = at.page.behind; within = at.page.within }; index = at.index }) (tree_places table.def) is.1,
+        (λ place. index_along c n f u h v w x owners place.root) (tree_places table.def) is.1,
   )
 
   tree_page_along : (view : DatabaseView) (p : ℕ) → IsTreePageSound (extents_with c n f u w) view p → IsTreePageSound (extents_with c n h v x) view p
@@ -96,7 +89,7 @@ module _ (c n f u h v : ℕ) (w x : IsTrue (is_shape c n)) (pages : PageList) wh
             used = all_weaker (λ table. AllByRecursion (IsUsedCountSound (extents_with c n f u w) pages table.def) (map_lines table.map))
                 (λ table. AllByRecursion (IsUsedCountSound (extents_with c n h v x) pages table.def) (map_lines table.map))
                 (λ table are. all_weaker (IsUsedCountSound (extents_with c n f u w) pages table.def) (IsUsedCountSound (extents_with c n h v x) pages table.def)
-                (λ line is. record { some_row = is.some_row; counted = is.counted }) (map_lines table.map) are) (tables_there view.places) first.rule8.used;
+                (counted_along c n f u h v w x pages table.def) (map_lines table.map) are) (tables_there view.places) first.rule8.used;
             idle = first.rule8.idle;
           };
           rule9 = first.rule9;
@@ -123,22 +116,10 @@ module _ (c n f u h v : ℕ) (w x : IsTrue (is_shape c n)) (pages : PageList) wh
   spots_along def spots is = record {
     owners = is.owners;
     map_tree = is.map_tree;
-    has_extents = record {
-      count = is.has_extents.count;
-      pages = λ i low.
-          let page = is.has_extents.pages i low in
-          record { page = page.page; kinds = page.kinds; there = page.there };
-    };
+    has_extents = record { count = is.has_extents.count; pages = λ i low. held_along c n f u h v w x pages is.owners i (is.has_extents.pages i low) };
     has_map = is.has_map;
     spots_are = is.spots_are;
   }
-
--- what holds of extents whatever their notes are holds of all of one shape
-pub along : (P : Extents → Type 0) → ((c n f u h v : ℕ) (w x : IsTrue (is_shape c n)) → P (extents_with c n f u w) → P (extents_with c n h v x)) → (before now : Extents) → IsSameShape before now → P before → P now
-along P turn before now shape is =
-    subst (λ cap. (x : IsTrue (is_shape cap now.extent_pages)) → P (extents_with cap now.extent_pages now.free_from now.unused_from x)) (sym shape.cap)
-    (subst (λ n. (x : IsTrue (is_shape before.cap n)) → P (extents_with before.cap n now.free_from now.unused_from x)) (sym shape.extent_pages)
-    (λ x. turn before.cap before.extent_pages before.free_from before.unused_from now.free_from now.unused_from before.within x is)) now.within
 
 -- sound pages are sound
 pub keeps_along : (before now : Extents) (pages : PageList) (view : DatabaseView) → IsSameShape before now → KeepAllRules before pages view → KeepAllRules now pages view

@@ -10,7 +10,7 @@ use Rattle.script_engine.specs.Breaking.{HoldsAtDamage, StaysAtDamage}
 use Rattle.script_engine.specs.Leaving.{IsAllCommitted}
 use Rattle.script_engine.specs.Serving.{held_by}
 use Rattle.script_engine.specs.declared.engine.Engine.{Engine}
-use Rattle.script_engine.proofs.BreaksAlongLemmas.{first_break_along}
+use Rattle.file_check.proofs.BreaksAlongLemmas.{first_break_along}
 use Rattle.script_session.specs.Damaged.{BreaksAtStop, HoldsCommitted, opened_behind, opened_by_item}
 
 -- behind one item more

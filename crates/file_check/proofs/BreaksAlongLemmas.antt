@@ -4,7 +4,7 @@ use Rattle.std.specs.Prelude.{IsTrue}
 use Rattle.mdc_ast.specs.declared.definition.TableDef.{TableDef}
 use Rattle.store_api.specs.Extents.{is_shape}
 use Rattle.extent_map.specs.Map.{HoldsMapPage}
-use Rattle.extent_map.specs.Owners.{IsExtentPage, IsSameShape}
+use Rattle.extent_map.specs.Owners.{IsSameShape}
 use Rattle.extent_map.specs.declared.extents.Extents.{Extents}
 use Rattle.extent_map.specs.declared.kind.Kind.{Kind}
 use Rattle.block_map.specs.MapLines.{MapLine}
@@ -12,25 +12,22 @@ use Rattle.table_trees.specs.ToldPages.{PageList, told_pages}
 use Rattle.mdc_sound.specs.BlockRules.{IsUsedCountSound}
 use Rattle.mdc_sound.specs.Breaks.{BreaksRule, IsFirstBreak, ShowsExtentOf}
 use Rattle.mdc_sound.specs.SpaceRules.{IsIndexPage, IsMapPageSound}
-use Rattle.script_engine.proofs.ShapeLemmas.{along, extents_with, used_along}
+use Rattle.file_check.proofs.SameShapeLemmas.{along, extents_with, used_along, within_along}
 
 module _ (c n f u h v : ℕ) (w x : IsTrue (is_shape c n)) where
-  within_along : (p : ℕ) → IsExtentPage (extents_with c n f u w) p → IsExtentPage (extents_with c n h v x) p
-  within_along p is = record { behind = is.behind; within = is.within }
-
-  held_along : (pages : PageList) (owners : List Kind) (i : ℕ) → HoldsMapPage told_pages (extents_with c n f u w) pages owners i → HoldsMapPage told_pages (extents_with c n h v x) pages owners i
+  pub held_along : (pages : PageList) (owners : List Kind) (i : ℕ) → HoldsMapPage told_pages (extents_with c n f u w) pages owners i → HoldsMapPage told_pages (extents_with c n h v x) pages owners i
   held_along pages owners i is = record { page = is.page; kinds = is.kinds; there = is.there }
 
   shown_along : (pages : PageList) (owners : List Kind) (p : ℕ) → ShowsExtentOf (extents_with c n f u w) pages owners p → ShowsExtentOf (extents_with c n h v x) pages owners p
-  shown_along pages owners p is = (within_along p is.0, record { page = is.1.page; kinds = is.1.kinds; there = is.1.there })
+  shown_along pages owners p is = (within_along c n f u h v w x p is.0, record { page = is.1.page; kinds = is.1.kinds; there = is.1.there })
 
-  map_page_along : (pages : PageList) (owners : List Kind) (i : ℕ) → IsMapPageSound (extents_with c n f u w) pages owners i → IsMapPageSound (extents_with c n h v x) pages owners i
+  pub map_page_along : (pages : PageList) (owners : List Kind) (i : ℕ) → IsMapPageSound (extents_with c n f u w) pages owners i → IsMapPageSound (extents_with c n h v x) pages owners i
   map_page_along pages owners i is = record { held = held_along pages owners i is.held; owned = is.owned }
 
-  index_along : (owners : List Kind) (p : ℕ) → IsIndexPage (extents_with c n f u w) owners p → IsIndexPage (extents_with c n h v x) owners p
-  index_along owners p is = record { page = within_along p is.page; index = is.index }
+  pub index_along : (owners : List Kind) (p : ℕ) → IsIndexPage (extents_with c n f u w) owners p → IsIndexPage (extents_with c n h v x) owners p
+  index_along owners p is = record { page = within_along c n f u h v w x p is.page; index = is.index }
 
-  counted_along : (pages : PageList) (def : TableDef) (line : MapLine) → IsUsedCountSound (extents_with c n f u w) pages def line → IsUsedCountSound (extents_with c n h v x) pages def line
+  pub counted_along : (pages : PageList) (def : TableDef) (line : MapLine) → IsUsedCountSound (extents_with c n f u w) pages def line → IsUsedCountSound (extents_with c n h v x) pages def line
   counted_along pages def line is = record { some_row = is.some_row; counted = is.counted }
 
 -- a rule that is broken is broken whatever is noted
