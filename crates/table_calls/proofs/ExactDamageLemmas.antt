@@ -29,10 +29,11 @@ use Rattle.mdc_sound.proofs.StandingTableLemmas.{forests_of, stands_along, stand
 use Rattle.mdc_table.specs.NextBlock.{FindsNoPlace}
 use Rattle.stored_catalog.proofs.OpenedTableLemmas.{defined_there}
 use Rattle.stored_catalog.proofs.SavingLemmas.{saved}
+use Rattle.file_check.proofs.BreaksAlongLemmas.{first_break_along}
 use Rattle.table_calls.specs.ExactDamage.{AnswersExactly, IsUnsoundWith, JudgesFault}
 use Rattle.table_calls.specs.MissingPlaces.{LacksPlace}
-use Rattle.table_calls.proofs.SamePagesLemmas.{HasSamePages, pages_back, stands_there}
-use Rattle.table_calls.proofs.ShapeBreaksLemmas.{first_break_along}
+use Rattle.table_calls.specs.WholeChanges.{HasSamePages}
+use Rattle.table_calls.proofs.SamePagesLemmas.{pages_back, stands_there}
 
 -- pages that are sound with a definition in the place of its table page are sound with it in hand
 pub sound_in_hand : (ext : Extents) (def : TableDef) (pages : PageList) → IsTableDef def.number def → def.number < 16 → IsSoundDatabase ext (with_table_page def pages) → IsSoundWith ext def pages
@@ -51,7 +52,7 @@ module _ {S : Type 0} (g : Ghosts S) where
       let in_hand = sound_in_hand ext def (pages_of g new) limits low sound in
       let owners = in_hand.view.owners in
       let forests = forests_of in_hand.table in
-      none owners forests (stands_there g before new old def owners forests (pages_back g old new pages)
+      none owners forests (stands_there (pages_back pages)
       (stands_along ext before new def owners forests (record { cap = sym shape.cap; extent_pages = sym shape.extent_pages }) (stands_of_sound g ext new def in_hand told)))
 
   -- so what was judged is the answer to the damage that was met
@@ -77,14 +78,16 @@ module _ {S : Type 0} (g : Ghosts S) where
 -- ---- a fault that is handed on
 
 -- what a call says of a full file
-pub full_handed_on : (P Q : ℕ → Type 0) (met answered : SpaceFault) → ((cap : ℕ) → P cap → Q cap) → IfFull answered (λ cap. met ≡ Full cap) → IfFull met P → IfFull answered Q
-full_handed_on P Q met (Full cap) so same full = so cap (subst (λ fault. IfFull fault P) same full)
-full_handed_on P Q met (Store fault) so same full = tt
+pub full_handed_on : (extents : ℕ) (Was Is : Type 0) (met answered : SpaceFault) → (Was → Is) → IfFull answered (λ cap. met ≡ Full cap) → IfFull met (λ cap. (cap ≡ extents) × Was) → IfFull answered (λ cap. (cap ≡ extents) × Is)
+full_handed_on extents Was Is met (Full cap) so same full =
+    let was : (cap ≡ extents) × Was = subst (λ fault. IfFull fault (λ cap. (cap ≡ extents) × Was)) same full in
+    (was.0, so was.1)
+full_handed_on extents Was Is met (Store fault) so same full = tt
 
 -- so that a row which found no place under the mark lacks one
-pub lacks_place : {S : Type 0} (g : Ghosts S) (before ext : Extents) (old marked mid : S) (def : TableDef) (row : Row) (owners : List Kind) (forests : TableForests) → (g.state marked).work ≡ (g.state old).work
+pub lacks_place : {S : Type 0} {g : Ghosts S} {before ext : Extents} {old marked mid : S} {def : TableDef} {row : Row} {owners : List Kind} {forests : TableForests} → HasSamePages g old marked
     → FindsNoPlace g before ext marked mid def row owners forests → LacksPlace g before old def row owners forests
-lacks_place g before ext old marked mid def row owners forests same finds = record {
-  no_room = subst (λ (work : PageList). HoldsNowhere (HasRoomFor def row) (table_spots before work def owners forests.map)) same finds.no_room;
-  runs_full = subst (λ (work : PageList). RowRunsFull before work def (table_spots before work def owners forests.map) row) same finds.runs_full;
+lacks_place {before = before} {def = def} {row = row} {owners = owners} {forests = forests} first finds = record {
+  no_room = subst (λ (work : PageList). HoldsNowhere (HasRoomFor def row) (table_spots before work def owners forests.map)) first.same finds.no_room;
+  runs_full = subst (λ (work : PageList). RowRunsFull before work def (table_spots before work def owners forests.map) row) first.same finds.runs_full;
 }

@@ -1,4 +1,3 @@
 pub mod ExactDamageLemmas
 pub mod MarkedChangesLemmas
 pub mod SamePagesLemmas
-pub mod ShapeBreaksLemmas

@@ -1,18 +1,15 @@
 -- Damage that is exact by the definition in hand.
 use Rattle.std.specs.Prelude.{◌≡◌, ℕ, IsTrue, List, Option, Some}
-use Rattle.std.specs.Option.{unwrap_or}
 use Rattle.mdc_words.specs.Faults.{CountsFault}
 use Rattle.mdc_values.specs.declared.rid.Rid.{Rid}
 use Rattle.mdc_ast.specs.declared.definition.TableDef.{TableDef}
 use Rattle.mdc_ast.specs.declared.row.Row.{Row}
-use Rattle.store_api.specs.StoreState.{StoreState}
 use Rattle.store_api.specs.declared.fault.Damage.{Damage}
 use Rattle.store_api.specs.declared.fault.StoreFault.{StoreFault}
 use Rattle.store_api.specs.declared.fault.StoreFault.TheVariants.{Damaged, Device}
 use Rattle.store_api.specs.declared.pages.Pages.{Ghosts}
 use Rattle.extent_map.specs.declared.extents.Extents.{Extents}
 use Rattle.extent_map.specs.declared.kind.Kind.{Kind}
-use Rattle.table_trees.specs.ToldPages.{PageList}
 use Rattle.mdc_sound.specs.Breaks.{IsFirstBreak}
 use Rattle.mdc_sound.specs.SoundDatabase.{IsSoundDatabase, with_table_page}
 use Rattle.mdc_sound.specs.StandingTable.{StandsTable, TableForests, pages_of}
@@ -57,7 +54,3 @@ JudgesFault g ext def s met answered =
 abbrev pub CountsAnswer : {S : Type 0} → Ghosts S → S → S → Option StoreFault → Option StoreFault → Type 0
 CountsAnswer g old new met answered =
     (before : ℕ) → CountsFault (met ≡ Some Device) before (g.disk_faults old) → CountsFault (answered ≡ Some Device) before (g.disk_faults new)
-
--- the pages of the mark, where one is open
-abbrev pub marked_pages : StoreState → PageList
-marked_pages state = unwrap_or state.marked state.work

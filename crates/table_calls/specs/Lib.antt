@@ -1,2 +1,3 @@
 pub mod ExactDamage
 pub mod MissingPlaces
+pub mod WholeChanges

@@ -1,13 +1,7 @@
 // A row becomes another.
-ghost use Rattle.std.specs.Prelude.{◌≡◌, ◌<◌, ◌⊎◌, [], ◌∷◌, List, None, Some, false, IfErr, IfOk, OnErr, OnOk};
-ghost use Rattle.mdc_words.specs.Faults.{CountsFault};
+ghost use Rattle.std.specs.Prelude.{◌≡◌, ◌<◌, ◌⊎◌, [], ◌∷◌, List, None, false, IfErr, IfOk, OnOk};
 ghost use Rattle.store_api.specs.Causes.{store_fault_in};
-ghost use Rattle.store_api.specs.Fetching.{BringsOnly};
-ghost use Rattle.store_api.specs.Frame.{Touches};
-ghost use Rattle.store_api.specs.Works.{Steady};
-ghost use Rattle.store_api.specs.declared.fault.StoreFault.TheVariants as store;
 ghost use Rattle.extent_map.specs.Damages.{IfFull, store_part_of};
-ghost use Rattle.extent_map.specs.Owners.{AreRightNotes, IsSameShape};
 ghost use Rattle.extent_map.specs.declared.kind.Kind.{Kind};
 ghost use Rattle.mdc_ast.specs.meaning.Database.{Database, changed_at};
 ghost use Rattle.table_page.specs.TableLimits.{IsTableDef};
@@ -17,13 +11,14 @@ ghost use Rattle.mdc_sound.specs.RunningFull.{UpdateRunsFull};
 ghost use Rattle.mdc_sound.specs.SoundDatabase.{IsSoundBetweenChanges, with_table_page};
 ghost use Rattle.mdc_sound.specs.StandingTable.{IsReadyTable, KeepsBlocksBut, TableForests, pages_of};
 ghost use Rattle.mdc_sound.specs.StandsForDatabase.{PagesStandFor, with_row};
-ghost use Rattle.cell_rooms.specs.RoomNotes.{IsForgotten, room_of};
+ghost use Rattle.cell_rooms.specs.RoomNotes.{room_of};
 ghost use Rattle.mdc_table.specs.KnownBlocks.{IsExpectedSpace};
 ghost use Rattle.table_blocks.specs.BlockSteps.{HasThisRow};
 ghost use Rattle.cell_change.specs.RowChanges.{ChangesOneRow, row_in_place};
 ghost use Rattle.table_calls.specs.ExactDamage.{AnswersExactly, HasRowIfStanding};
+ghost use Rattle.table_calls.specs.WholeChanges.{IsWholeChange};
 
-use crate::ending::{forget_notes, keep_or_undo, undo_space_change};
+use crate::ending::{begin_change, forget_notes, keep_or_undo, undo_space_change};
 use cell_rooms::Rooms;
 use extent_map::{Extents, SpaceFault};
 use mdc_ast::{Row, TableDef};
@@ -69,17 +64,9 @@ pub fn change_row<P: Pages>(
     ensures full { IfErr result (λ fault. IfFull fault (λ cap. (cap ≡ ext.old.cap) × ((owners : List Kind) (forests : TableForests) → IsReadyTable P.Pages ext.old (room_of rooms.old) pages.old def.now owners forests
         → HasThisRow P.Pages ext.old pages.old def.now rid was.now owners forests → UpdateRunsFull ext.old (pages_of P.Pages pages.old) def.now ((row_in_place rid was.now, is.now) ∷ [])))) }
     ensures exact { HasRowIfStanding P.Pages ext.old pages.old def.now rid was.now → AnswersExactly P.Pages ext.old def.now pages.old (store_fault_in store_part_of result) }
-    ensures back { OnErr result ((P.state pages.new).work ≡ (P.state pages.old).work) }
-    ensures notes { OnErr result ((owners : List Kind) → AreRightNotes ext.new owners) }
-    ensures forgotten { OnErr result (IsForgotten rooms.new) }
-    ensures shape { IsSameShape ext.old ext.new }
-    ensures unmarked { (P.state pages.new).marked ≡ None }
-    ensures steady { Steady P.Pages pages.old pages.new }
-    ensures device { CountsFault (store_fault_in store_part_of result ≡ Some store.Device) (P.disk_faults pages.old) (P.disk_faults pages.new) }
-    ensures touches { Touches P.Pages (IsExpectedSpace P.Pages ext.old pages.old def.now (HasThisRow P.Pages ext.old pages.old def.now rid was.now)) pages.old pages.new }
-    ensures brings { OnOk result (BringsOnly P.Pages (IsExpectedSpace P.Pages ext.old pages.old def.now (HasThisRow P.Pages ext.old pages.old def.now rid was.now)) pages.old pages.new) }
+    ensures whole { IsWholeChange P.Pages (IsExpectedSpace P.Pages ext.old pages.old def.now (HasThisRow P.Pages ext.old pages.old def.now rid was.now)) ext.old ext.new rooms.new pages.old pages.new result (store_fault_in store_part_of result) }
 {
-    pages.mark();
+    begin_change(pages);
     match cell_change::change_row(alloc, def, ext, rooms, pages, None, rid, was, is) {
         Ok(to) => match keep_or_undo(pages) {
             Ok(()) => Ok(to),

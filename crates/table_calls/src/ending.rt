@@ -1,17 +1,14 @@
-// How a change ends: it is kept, or all goes back to the mark.
-ghost use Rattle.std.specs.Prelude.{◌≡◌, ◌<◌, false, IsSome, List, None, OnErr, OnOk, Some};
+// How a change begins and ends: it is kept, or all goes back to the mark.
+ghost use Rattle.std.specs.Prelude.{◌≡◌, ◌<◌, false, IsSome, None, OnErr, OnOk, Some};
 ghost use Rattle.mdc_words.specs.Faults.{CountsFault};
 ghost use Rattle.store_api.specs.Causes.{fault_of};
-ghost use Rattle.store_api.specs.Works.{Steady};
 ghost use Rattle.store_api.specs.declared.fault.Damage.{Damage};
 ghost use Rattle.store_api.specs.declared.fault.StoreFault.TheVariants as store;
 ghost use Rattle.extent_map.specs.Damages.{IfFull, store_part_of};
-ghost use Rattle.extent_map.specs.Owners.{AreRightNotes, IsSameShape};
 ghost use Rattle.extent_map.specs.declared.fault.SpaceFault.TheVariants as space;
-ghost use Rattle.extent_map.specs.declared.kind.Kind.{Kind};
 ghost use Rattle.table_page.specs.TableLimits.{IsTableDef};
-ghost use Rattle.cell_rooms.specs.RoomNotes.{IsForgotten};
-ghost use Rattle.table_calls.specs.ExactDamage.{CountsAnswer, JudgesFault, marked_pages};
+ghost use Rattle.table_calls.specs.ExactDamage.{CountsAnswer, JudgesFault};
+ghost use Rattle.table_calls.specs.WholeChanges.{BeginsChange, ForgetsNotes, KeepsChange, UndoesChange};
 
 use crate::judging::exact_fault;
 use cell_rooms::Rooms;
@@ -20,15 +17,21 @@ use mdc_ast::TableDef;
 use std::alloc::Global;
 use store_api::{Pages, StoreFault};
 
+/// Marks the pages that a change begins with.
+pub(crate) fn begin_change<P: Pages>(pages: &mut P)
+    requires going { (P.state pages.old).ended ≡ false }
+    requires unmarked { (P.state pages.old).marked ≡ None }
+    ensures { BeginsChange P.Pages pages.old pages.new }
+{
+    pages.mark();
+}
+
 /// Drops the mark of a change that was made. Where that fails, the pages go back to it.
 pub(crate) fn keep_or_undo<P: Pages>(pages: &mut P) -> Result<(), StoreFault>
     requires going { (P.state pages.old).ended ≡ false }
     requires marked { IsSome (P.state pages.old).marked }
-    ensures kept { OnOk result ((P.state pages.new).work ≡ (P.state pages.old).work) }
-    ensures fetched { OnOk result ((P.state pages.new).fetched ≡ (P.state pages.old).fetched) }
-    ensures back { OnErr result ((P.state pages.new).work ≡ marked_pages (P.state pages.old)) }
-    ensures unmarked { (P.state pages.new).marked ≡ None }
-    ensures steady { Steady P.Pages pages.old pages.new }
+    ensures keeps { OnOk result (KeepsChange P.Pages pages.old pages.new) }
+    ensures undoes { OnErr result (UndoesChange P.Pages pages.old pages.new) }
     ensures device { CountsFault (fault_of result ≡ Some store.Device) (P.disk_faults pages.old) (P.disk_faults pages.new) }
     ensures damaged { (damage : Damage) → fault_of result ≡ Some (store.Damaged damage) → ⊥ }
 {
@@ -43,9 +46,7 @@ pub(crate) fn keep_or_undo<P: Pages>(pages: &mut P) -> Result<(), StoreFault>
 
 /// Forgets what is noted of the extents and of the rooms, which isn't known to be right where the pages went back.
 pub(crate) fn forget_notes(ext: &mut Extents, rooms: &mut Rooms)
-    ensures shape { IsSameShape ext.old ext.new }
-    ensures notes { (owners : List Kind) → AreRightNotes ext.new owners }
-    ensures rooms { IsForgotten rooms.new }
+    ensures { ForgetsNotes ext.old ext.new rooms.new }
 {
     ext.forget();
     rooms.forget();
@@ -65,13 +66,9 @@ pub(crate) fn undo_change<P: Pages>(
     requires going { (P.state pages.old).ended ≡ false }
     requires marked { IsSome (P.state pages.old).marked }
     ensures exact { JudgesFault P.Pages ext.new def.now pages.new (Some fault) (Some result) }
-    ensures back { (P.state pages.new).work ≡ marked_pages (P.state pages.old) }
-    ensures unmarked { (P.state pages.new).marked ≡ None }
-    ensures steady { Steady P.Pages pages.old pages.new }
+    ensures undoes { UndoesChange P.Pages pages.old pages.new }
     ensures device { CountsAnswer P.Pages pages.old pages.new (Some fault) (Some result) }
-    ensures shape { IsSameShape ext.old ext.new }
-    ensures notes { (owners : List Kind) → AreRightNotes ext.new owners }
-    ensures rooms { IsForgotten rooms.new }
+    ensures forgets { ForgetsNotes ext.old ext.new rooms.new }
 {
     pages.undo();
     forget_notes(ext, rooms);
@@ -93,13 +90,9 @@ pub(crate) fn undo_space_change<P: Pages>(
     requires marked { IsSome (P.state pages.old).marked }
     ensures exact { JudgesFault P.Pages ext.new def.now pages.new (store_part_of fault) (store_part_of result) }
     ensures full { IfFull result (λ cap. fault ≡ space.Full cap) }
-    ensures back { (P.state pages.new).work ≡ marked_pages (P.state pages.old) }
-    ensures unmarked { (P.state pages.new).marked ≡ None }
-    ensures steady { Steady P.Pages pages.old pages.new }
+    ensures undoes { UndoesChange P.Pages pages.old pages.new }
     ensures device { CountsAnswer P.Pages pages.old pages.new (store_part_of fault) (store_part_of result) }
-    ensures shape { IsSameShape ext.old ext.new }
-    ensures notes { (owners : List Kind) → AreRightNotes ext.new owners }
-    ensures rooms { IsForgotten rooms.new }
+    ensures forgets { ForgetsNotes ext.old ext.new rooms.new }
 {
     match fault {
         SpaceFault::Store(fault) => {

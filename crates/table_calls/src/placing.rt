@@ -1,13 +1,7 @@
 // A row is put where placing says.
-ghost use Rattle.std.specs.Prelude.{◌≡◌, ◌<◌, List, None, Some, false, slice_index_or, IfErr, IfOk, OnErr, OnOk};
-ghost use Rattle.mdc_words.specs.Faults.{CountsFault};
+ghost use Rattle.std.specs.Prelude.{◌≡◌, ◌<◌, List, None, false, slice_index_or, IfErr, IfOk};
 ghost use Rattle.store_api.specs.Causes.{store_fault_in};
-ghost use Rattle.store_api.specs.Fetching.{BringsOnly};
-ghost use Rattle.store_api.specs.Frame.{Touches};
-ghost use Rattle.store_api.specs.Works.{Steady};
-ghost use Rattle.store_api.specs.declared.fault.StoreFault.TheVariants as store;
 ghost use Rattle.extent_map.specs.Damages.{IfFull, store_part_of};
-ghost use Rattle.extent_map.specs.Owners.{AreRightNotes, IsSameShape};
 ghost use Rattle.extent_map.specs.declared.kind.Kind.{Kind};
 ghost use Rattle.table_page.specs.TableLimits.{IsTableDef};
 ghost use Rattle.table_trees.specs.SpaceChanges.{MakesChanges};
@@ -15,11 +9,12 @@ ghost use Rattle.mdc_sound.specs.FittingRows.{RowFits};
 ghost use Rattle.mdc_sound.specs.Placing.Spot.{OtherBlock};
 ghost use Rattle.mdc_sound.specs.RunningFull.{block_changes};
 ghost use Rattle.mdc_sound.specs.StandingTable.{IsReadyTable, IsTableSpace, KeepsBlocksBut, PlacesRow, TableForests, pages_of, spots_of};
-ghost use Rattle.cell_rooms.specs.RoomNotes.{IsForgotten, room_of};
+ghost use Rattle.cell_rooms.specs.RoomNotes.{room_of};
 ghost use Rattle.table_calls.specs.ExactDamage.{AnswersExactly};
 ghost use Rattle.table_calls.specs.MissingPlaces.{LacksPlace};
+ghost use Rattle.table_calls.specs.WholeChanges.{IsWholeChange};
 
-use crate::ending::{forget_notes, keep_or_undo, undo_space_change};
+use crate::ending::{begin_change, forget_notes, keep_or_undo, undo_space_change};
 use cell_rooms::Rooms;
 use extent_map::{Extents, SpaceFault};
 use mdc_ast::{Row, TableDef};
@@ -52,17 +47,9 @@ pub fn place_row<P: Pages>(
     ensures stay { IfOk result (λ rid. (owners : List Kind) (forests : TableForests) → IsReadyTable P.Pages ext.old (room_of rooms.old) pages.old def.now owners forests
         → KeepsBlocksBut P.Pages ext.old pages.old pages.new def.now owners (λ block. block ≡ rid.block)) }
     ensures exact { AnswersExactly P.Pages ext.old def.now pages.old (store_fault_in store_part_of result) }
-    ensures back { OnErr result ((P.state pages.new).work ≡ (P.state pages.old).work) }
-    ensures notes { OnErr result ((owners : List Kind) → AreRightNotes ext.new owners) }
-    ensures forgotten { OnErr result (IsForgotten rooms.new) }
-    ensures shape { IsSameShape ext.old ext.new }
-    ensures unmarked { (P.state pages.new).marked ≡ None }
-    ensures steady { Steady P.Pages pages.old pages.new }
-    ensures device { CountsFault (store_fault_in store_part_of result ≡ Some store.Device) (P.disk_faults pages.old) (P.disk_faults pages.new) }
-    ensures touches { Touches P.Pages (IsTableSpace P.Pages ext.old pages.old def.now) pages.old pages.new }
-    ensures brings { OnOk result (BringsOnly P.Pages (IsTableSpace P.Pages ext.old pages.old def.now) pages.old pages.new) }
+    ensures whole { IsWholeChange P.Pages (IsTableSpace P.Pages ext.old pages.old def.now) ext.old ext.new rooms.new pages.old pages.new result (store_fault_in store_part_of result) }
 {
-    pages.mark();
+    begin_change(pages);
     match mdc_table::place_row(alloc, def, ext, rooms, pages, row) {
         Ok(rid) => match keep_or_undo(pages) {
             Ok(()) => Ok(rid),

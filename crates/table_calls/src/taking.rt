@@ -1,12 +1,6 @@
 // A row is taken out.
-ghost use Rattle.std.specs.Prelude.{◌≡◌, ◌<◌, List, Option, None, Some, false, length, OnErr, OnOk};
-ghost use Rattle.mdc_words.specs.Faults.{CountsFault};
+ghost use Rattle.std.specs.Prelude.{◌≡◌, ◌<◌, List, Option, None, false, length, OnOk};
 ghost use Rattle.store_api.specs.Causes.{fault_of};
-ghost use Rattle.store_api.specs.Fetching.{BringsOnly};
-ghost use Rattle.store_api.specs.Frame.{Touches};
-ghost use Rattle.store_api.specs.Works.{Steady};
-ghost use Rattle.store_api.specs.declared.fault.StoreFault.TheVariants as store;
-ghost use Rattle.extent_map.specs.Owners.{AreRightNotes, IsSameShape};
 ghost use Rattle.extent_map.specs.declared.kind.Kind.{Kind};
 ghost use Rattle.mdc_ast.specs.declared.row.Row.{Row};
 ghost use Rattle.row_page.specs.RowPage.{count_rows};
@@ -17,10 +11,11 @@ ghost use Rattle.mdc_sound.specs.RunningFull.{left_changes};
 ghost use Rattle.mdc_sound.specs.StandingTable.{ChangesTable, IsReadyTable, IsTableOrMapPage, KeepsBlocksBut, StandsTable, TableForests, TakesRowOut, pages_of, spots_of};
 ghost use Rattle.block_rows.specs.HeldRows.{HasReadValues};
 ghost use Rattle.table_blocks.specs.BlockSteps.{HasThisRow};
-ghost use Rattle.cell_rooms.specs.RoomNotes.{IsForgotten, room_of};
+ghost use Rattle.cell_rooms.specs.RoomNotes.{room_of};
 ghost use Rattle.table_calls.specs.ExactDamage.{AnswersExactly, HasRowIfStanding};
+ghost use Rattle.table_calls.specs.WholeChanges.{IsWholeChange};
 
-use crate::ending::{forget_notes, keep_or_undo, undo_change};
+use crate::ending::{begin_change, forget_notes, keep_or_undo, undo_change};
 use cell_rooms::Rooms;
 use extent_map::Extents;
 use mdc_ast::{Row, TableDef};
@@ -55,17 +50,9 @@ pub fn take_row<P: Pages>(
     ensures stay { (owners : List Kind) (forests : TableForests) → IsReadyTable P.Pages ext.old (room_of rooms.old) pages.old def.now owners forests → KeepsBlocksBut P.Pages ext.old pages.old pages.new def.now owners (λ block. block ≡ rid.block) }
     ensures count { length (P.state pages.new).work ≡ length (P.state pages.old).work }
     ensures exact { HasRowIfStanding P.Pages ext.old pages.old def.now rid row.now → AnswersExactly P.Pages ext.old def.now pages.old (fault_of result) }
-    ensures back { OnErr result ((P.state pages.new).work ≡ (P.state pages.old).work) }
-    ensures notes { OnErr result ((owners : List Kind) → AreRightNotes ext.new owners) }
-    ensures forgotten { OnErr result (IsForgotten rooms.new) }
-    ensures shape { IsSameShape ext.old ext.new }
-    ensures unmarked { (P.state pages.new).marked ≡ None }
-    ensures steady { Steady P.Pages pages.old pages.new }
-    ensures device { CountsFault (fault_of result ≡ Some store.Device) (P.disk_faults pages.old) (P.disk_faults pages.new) }
-    ensures touches { Touches P.Pages (IsTableOrMapPage P.Pages ext.old pages.old def.now) pages.old pages.new }
-    ensures brings { OnOk result (BringsOnly P.Pages (IsTableOrMapPage P.Pages ext.old pages.old def.now) pages.old pages.new) }
+    ensures whole { IsWholeChange P.Pages (IsTableOrMapPage P.Pages ext.old pages.old def.now) ext.old ext.new rooms.new pages.old pages.new result (fault_of result) }
 {
-    pages.mark();
+    begin_change(pages);
     match mdc_table::take_row(alloc, def, ext, rooms, pages, rid, row) {
         Ok(()) => match keep_or_undo(pages) {
             Ok(()) => Ok(()),
