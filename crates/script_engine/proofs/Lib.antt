@@ -7,6 +7,7 @@ pub mod CommittingLemmas
 pub mod DefinedTablesLemmas
 pub mod DoneRowsLemmas
 pub mod ExecutingLemmas
+pub mod FetchesForListingLemmas
 pub mod FetchesForQueryLemmas
 pub mod InsertedLemmas
 pub mod KeptWordsLemmas

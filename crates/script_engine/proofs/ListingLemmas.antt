@@ -30,10 +30,12 @@ use Rattle.mdc_table.specs.declared.account.Account.{Account}
 use Rattle.row_judging.specs.Executing.{answer_of}
 use Rattle.statement_rows.specs.RowsOfStatement.{AnyPage}
 use Rattle.script_engine.specs.Breaking.{HoldsAtDamage, NamesExactly}
+use Rattle.script_engine.specs.Fetching.{FetchesForListing}
 use Rattle.script_engine.specs.Held.{HeldPages, KeepsBase, StandsForSession, StepsOnPages}
 use Rattle.script_engine.specs.Held.StepsOnPages.{lists, turns}
 use Rattle.script_engine.specs.Leaving.{IsAllCommitted}
 use Rattle.script_engine.specs.Listing.{TellsBlocks, blocks_told}
+use Rattle.script_engine.specs.Opening.{are_built}
 use Rattle.script_engine.specs.Ready.{AreServed, BreaksDatabase, IsReady}
 use Rattle.script_engine.specs.Serving.{IsReadyEngine, MayCall, held_by}
 use Rattle.script_engine.specs.Stops.{stop_of}
@@ -103,7 +105,7 @@ module _ {S : Type 0} (g : Ghosts S) (old : Engine S) (store : S) (name : Name) 
           session = subst (λ (held : HeldPages). StandsForSession old.tables.ext held session) (sym still) stands;
           answers = ap answer_of (sym is);
         })
-        (base_still ready.closed) tt
+        (base_still ready.closed) same
         (leaves_others_still old.tables.ext (ListBlocks name) (held_by g old) (held_by g new) same refl) (λ refusal says. still)
         (λ done says place def changed at. absurd (cc))
 
@@ -120,15 +122,19 @@ module _ {S : Type 0} (g : Ghosts S) (old : Engine S) (store : S) (name : Name) 
   pub list_done : (outcome : Outcome) → MayCall g old → old.served ≡ true → RunsOverPages g NoPage AnyPage (BreaksDatabase g old.store old.tables) old.store store None
       → (def_named old.tables.catalog name ≡ None → outcome ≡ said.Refused (refusal_of (NoTable name)))
       → ((def : TableDef) → def_named old.tables.catalog name ≡ Some def → IsReady g old.store old.tables → TellsBlocks (pages_of g old.store) def outcome)
-      → Executes g (ListBlocks name) (Ok outcome) old new
-  list_done outcome may served runs absent tells =
+      → FetchesForListing g old.store store old.tables.catalog (ListBlocks name) → Executes g (ListBlocks name) (Ok outcome) old new
+  list_done outcome may served runs absent tells fetches =
       let steady = runs.works.steady in
       record {
         steps = λ ready. (list_steps runs outcome absent tells ready, ready_along g old store steady.is_told steady.base same ready);
         may = record { going = steady.ended ∙ may.going; unmarked = runs.works.marked ∙ may.unmarked; served = may.served };
         keeps = λ all. base_still runs all;
+        keeps_work = same;
+        controls = tt;
+        built = λ was. was;
         leaves = λ ready. leaves_steady g (ListBlocks name) old new steady;
         fetches = λ ready. tt;
+        lists = λ ready. fetches;
         refused = λ refusal is. still runs;
         unserved = λ unserved other outcome is. let wrong : true ≡ false = sym served ∙ unserved in absurd (cc);
         damaged = λ damage e ready. absurd (cc);
@@ -182,8 +188,12 @@ module _ {S : Type 0} (g : Ghosts S) (old : Engine S) (mid store : S) (tables : 
           served = λ is. subst AreServed (sym tried.catalog) (may.served is);
         };
         keeps = λ all. record { closed = λ shut. steady.base ∙ (all shut ∙ sym (work_anew (Ok outcome) tried)); is_open = λ opened. steady.base };
+        keeps_work = work_anew (Ok outcome) tried;
+        controls = tt;
+        built = λ was. was ∙ ap are_built (sym tried.catalog);
         leaves = λ ready. absurd (unready ready);
         fetches = λ ready. tt;
+        lists = λ ready. absurd (unready ready);
         refused = λ refusal is. held_anew (Ok outcome) tried;
         unserved = λ unserved other outcome is. let wrong : true ≡ false = sym served ∙ unserved in absurd (cc);
         damaged = λ damage e ready. absurd (cc);

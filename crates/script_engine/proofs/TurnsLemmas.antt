@@ -39,14 +39,16 @@ use Rattle.script_engine.specs.Ready.{AreServed, IsReady}
 use Rattle.script_engine.specs.Reloading.{Reloads}
 use Rattle.script_engine.specs.Serving.{IsReadyEngine, MayCall, held_by}
 use Rattle.script_engine.specs.Trying.{IsRefusedFull, TriesStep}
-use Rattle.script_engine.specs.Turns.{Executes, LeavesCommitted, LeavesOutside, control_of, opened_by}
+use Rattle.script_engine.specs.Turns.{AnswersControl, Executes, LeavesCommitted, LeavesOutside, answer_in_state, control_of, opened_by}
 use Rattle.script_engine.specs.declared.engine.Engine.{Engine}
 use Rattle.script_engine.specs.declared.stop.EngineStop.{EngineStop}
 use Rattle.script_engine.specs.declared.stop.EngineStop.TheVariants.{Damaged, Device, Output}
 use Rattle.script_engine.specs.declared.tables.Tables.{Tables}
+use Rattle.script_engine.specs.declared.transactions.Control.{Control}
 use Rattle.script_engine.specs.declared.transactions.Control.TheVariants as control
 use Rattle.script_engine.proofs.BreakingLemmas.{exact_along}
 use Rattle.script_engine.proofs.CatalogLemmas.{built_of, one_catalog, served_of}
+use Rattle.script_engine.proofs.FetchesForListingLemmas.{lists_other}
 use Rattle.script_engine.proofs.FetchesForQueryLemmas.{fetches_counted}
 use Rattle.script_engine.proofs.LeavingLemmas.{leaves_steady, leaves_then}
 use Rattle.script_engine.proofs.LeavingOthersLemmas.{leaves_others_done, leaves_others_still}
@@ -75,6 +77,14 @@ same_outcome result a b first second = cc
 -- any statement but BEGIN, COMMIT and ROLLBACK leaves a transaction open or none
 pub opened_other : (was : Bool) (stmt : Stmt) → control_of stmt ≡ control.Other → was ≡ opened_by (control_of stmt) was
 opened_other was stmt other = sym (ap (λ control. opened_by control was) other)
+
+-- what the state of the transaction allows is done
+answers_done : (allowed : Bool) → allowed ≡ true → said.Done reply.Done ≡ answer_in_state allowed
+answers_done allowed is = sym (ap answer_in_state is)
+
+-- any statement but BEGIN, COMMIT and ROLLBACK may be answered whatever the state of the transaction is
+answers_other : (was : Bool) (stmt : Stmt) (outcome : Outcome) → control_of stmt ≡ control.Other → AnswersControl (control_of stmt) was outcome
+answers_other was stmt outcome other = subst (λ (c : Control). AnswersControl c was outcome) (sym other) tt
 
 -- any statement but BEGIN, COMMIT, ROLLBACK and LIST BLOCKS turns a session as it does without transactions
 turn_other : (session : Session) (stmt : Stmt) → control_of stmt ≡ control.Other → is_listing stmt ≡ false → turn_over session stmt ≡ turn session stmt
@@ -120,27 +130,27 @@ asks_none defs (statement.CleanTable name) changing = refl
 asks_none defs (statement.ListBlocks name) changing = absurd (cc)
 asks_none defs (statement.Reclaim name) changing = refl
 
--- any statement but BEGIN, COMMIT and ROLLBACK leaves the pages, where it is a query
-keeps_work : (old new : HeldPages) (stmt : Stmt) → control_of stmt ≡ control.Other → (is_reading stmt ≡ true → new.work ≡ old.work) → KeepsWork stmt old new
-keeps_work old new statement.Begin other reads = absurd (cc)
-keeps_work old new statement.Commit other reads = absurd (cc)
-keeps_work old new statement.Rollback other reads = absurd (cc)
-keeps_work old new (statement.CreateTable name columns dims) other reads = tt
-keeps_work old new (statement.CreateIndex name unique table parts) other reads = tt
-keeps_work old new (statement.DropTable name) other reads = tt
-keeps_work old new (statement.DropIndex name) other reads = tt
-keeps_work old new (statement.Insert table columns rows) other reads = tt
-keeps_work old new (statement.Update table sets pred) other reads = tt
-keeps_work old new (statement.Delete table pred) other reads = tt
-keeps_work old new (statement.Query select) other reads = reads refl
-keeps_work old new (statement.Explain select) other reads = tt
-keeps_work old new (statement.SetRollout mode) other reads = tt
-keeps_work old new (statement.SetPlan mode) other reads = tt
-keeps_work old new (statement.SetPace n) other reads = tt
-keeps_work old new (statement.Clean n) other reads = tt
-keeps_work old new (statement.CleanTable name) other reads = tt
-keeps_work old new (statement.ListBlocks name) other reads = tt
-keeps_work old new (statement.Reclaim name) other reads = tt
+-- any statement but BEGIN, COMMIT, ROLLBACK and LIST BLOCKS leaves the pages, where it is a query
+keeps_work : (old new : HeldPages) (stmt : Stmt) → control_of stmt ≡ control.Other → is_listing stmt ≡ false → (is_reading stmt ≡ true → new.work ≡ old.work) → KeepsWork stmt old new
+keeps_work old new statement.Begin other changing reads = absurd (cc)
+keeps_work old new statement.Commit other changing reads = absurd (cc)
+keeps_work old new statement.Rollback other changing reads = absurd (cc)
+keeps_work old new (statement.CreateTable name columns dims) other changing reads = tt
+keeps_work old new (statement.CreateIndex name unique table parts) other changing reads = tt
+keeps_work old new (statement.DropTable name) other changing reads = tt
+keeps_work old new (statement.DropIndex name) other changing reads = tt
+keeps_work old new (statement.Insert table columns rows) other changing reads = tt
+keeps_work old new (statement.Update table sets pred) other changing reads = tt
+keeps_work old new (statement.Delete table pred) other changing reads = tt
+keeps_work old new (statement.Query select) other changing reads = reads refl
+keeps_work old new (statement.Explain select) other changing reads = tt
+keeps_work old new (statement.SetRollout mode) other changing reads = tt
+keeps_work old new (statement.SetPlan mode) other changing reads = tt
+keeps_work old new (statement.SetPace n) other changing reads = tt
+keeps_work old new (statement.Clean n) other changing reads = tt
+keeps_work old new (statement.CleanTable name) other changing reads = tt
+keeps_work old new (statement.ListBlocks name) other changing reads = absurd (cc)
+keeps_work old new (statement.Reclaim name) other changing reads = tt
 
 -- the kept database behind a step, whether a transaction is open or not
 kept_on : (ext : Extents) (base work : PageList) (kept db : Database) (is_open : Bool) → PagesStandFor ext work db → (is_open ≡ true → PagesStandFor ext base kept) → (is_open ≡ false → base ≡ work)
@@ -194,7 +204,7 @@ module _ {S : Type 0} (g : Ghosts S) where
       } in
       subst (λ (end_ : Session × Answer). StandsForTurn old.tables.ext new end_ outcome) (sym (turn_other session stmt other changing))
       (stands_stepped old.tables.ext (held_by g old) new session (step session.working stmt) outcome stands keeps is_open here))
-      keeps (keeps_work (held_by g old) new stmt other (λ is. work ∙ reads is))
+      keeps (keeps_work (held_by g old) new stmt other changing (λ is. work ∙ reads is))
       (leaves_others_done g old new mid now stmt outcome shape work defs does) refused
       (λ reply done place def changed at.
       subst (λ (pages : PageList). PlacesOnPages old.tables.ext old.tables.ext (pages_of g old.store) pages def (bound_of old.tables.catalog stmt)) (sym work)
@@ -294,8 +304,12 @@ module _ {S : Type 0} (g : Ghosts S) where
     steps = tt;
     may = tt;
     keeps = tt;
+    keeps_work = tt;
+    controls = tt;
+    built = tt;
     leaves = leaves;
     fetches = tt;
+    lists = tt;
     refused = λ refusal e. absurd (cc);
     unserved = λ served other outcome e. absurd (cc);
     damaged = λ damage e ready. damaged damage (cc) ready;
@@ -367,8 +381,12 @@ module _ {S : Type 0} (g : Ghosts S) where
         steps = λ ready. (commit_steps old.tables.ext (held_by g old) (held_by g new) is_open refl commits.base commits.work refl, ready_committed old new old.store old.tables ready.work (may.served ready.served) ready.served refl commits);
         may = record { going = commits.going; unmarked = commits.unmarked; served = may.served };
         keeps = λ all. record { closed = λ shut. commits.base ∙ sym commits.work; is_open = λ opened. absurd (cc) };
+        keeps_work = commits.work;
+        controls = answers_done old.is_open is_open;
+        built = λ was. was;
         leaves = λ ready. leaves_then g (Ok tt) statement.Commit old new old.store steady_none commits (work_left old may is_open ready);
         fetches = λ ready. tt;
+        lists = λ ready. tt;
         refused = λ refusal e. absurd (cc);
         unserved = λ served other outcome e. absurd (cc);
         damaged = λ damage e ready. absurd (cc);
@@ -447,8 +465,12 @@ module _ {S : Type 0} (g : Ghosts S) where
           served = λ is. served_of tables.catalog reloads.limits reloads.names (sym reloads.built ∙ is);
         };
         keeps = λ all. record { closed = λ shut. reloads.steady.base ∙ sym reloads.work; is_open = λ opened. absurd (cc) };
+        keeps_work = λ opened. reloads.work;
+        controls = answers_done old.is_open is_open;
+        built = λ was. reloads.built;
         leaves = λ ready. leaves_steady g statement.Rollback old new reloads.steady;
         fetches = λ ready. tt;
+        lists = λ ready. tt;
         refused = λ refusal e. absurd (cc);
         unserved = λ served other outcome e. absurd (cc);
         damaged = λ damage e ready. absurd (cc);
@@ -511,8 +533,12 @@ module _ {S : Type 0} (g : Ghosts S) where
         steps = λ ready. (kept_steps old store tables stmt outcome other changing ready tries kept (tries.does ready.work), kept_ready old store tables stmt outcome ready tries kept);
         may = record { going = tries.steady.ended ∙ may.going; unmarked = tries.unmarked; served = λ is. tries.served };
         keeps = λ all. base_tried old store tables stmt outcome all tries kept;
+        keeps_work = keeps_work (held_by g old) (held_by g new) stmt other changing tries.reads;
+        controls = answers_other old.is_open stmt outcome other;
+        built = λ was. served ∙ sym (built_of tables.catalog tries.served.valid);
         leaves = λ ready. leaves_steady g stmt old new tries.steady;
         fetches = λ ready. tries.fetches ready.work;
+        lists = λ ready. lists_other g old.store store old.tables.catalog stmt changing;
         refused = λ refusal is. held_left old store tables tries.steady (tries.refused refusal is);
         unserved = λ unserved other outcome is. let wrong : true ≡ false = sym served ∙ unserved in absurd (cc);
         damaged = λ damage e ready. absurd (cc);
@@ -562,8 +588,12 @@ module _ {S : Type 0} (g : Ghosts S) where
         );
         may = record { going = commits.going; unmarked = commits.unmarked; served = λ is. tries.served };
         keeps = λ all. record { closed = λ still. commits.base ∙ sym commits.work; is_open = λ opened. let wrong : true ≡ false = sym opened ∙ shut in absurd (cc) };
+        keeps_work = keeps_work (held_by g old) (held_by g new) stmt other changing (λ is. commits.work ∙ tries.reads is);
+        controls = answers_other old.is_open stmt outcome other;
+        built = λ was. served ∙ sym (built_of tables.catalog tries.served.valid);
         leaves = λ ready. leaves_then g (Ok tt) stmt old new mid tries.steady commits (made_left old mid tables stmt outcome other changing done shut tries ready);
         fetches = λ ready. fetches_counted g old.tables.ext old.tables.catalog old.store mid store (bound_of old.tables.catalog stmt) (tries.fetches ready.work) commits.brings;
+        lists = λ ready. lists_other g old.store store old.tables.catalog stmt changing;
         refused = λ refusal is. absurd (not_done outcome refusal done (same_outcome (Ok outcome) outcome (said.Refused refusal) refl is));
         unserved = λ unserved other outcome is. let wrong : true ≡ false = sym served ∙ unserved in absurd (cc);
         damaged = λ damage e ready. absurd (cc);

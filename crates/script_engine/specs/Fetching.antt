@@ -1,13 +1,17 @@
--- Which pages the execution of a query brings to hand.
+-- Which pages the execution of a query and of LIST BLOCKS brings to hand.
 use Rattle.std.specs.Prelude.{◌≡◌, ◌⊎◌, ℕ, Option, Some}
 use Rattle.mdc_ast.specs.declared.bound.Bound.{Bound}
 use Rattle.mdc_ast.specs.declared.bound.Bound.TheVariants as bound
 use Rattle.mdc_ast.specs.declared.definition.TableDef.{TableDef}
 use Rattle.mdc_ast.specs.declared.predicate.Pred.{Pred}
-use Rattle.mdc_ast.specs.meaning.Definitions.{Definitions, def_at}
+use Rattle.mdc_ast.specs.declared.statement.Stmt.{Stmt}
+use Rattle.mdc_ast.specs.declared.statement.Stmt.TheVariants.{ListBlocks}
+use Rattle.mdc_ast.specs.meaning.Definitions.{Definitions, def_at, def_named}
 use Rattle.store_api.specs.Fetching.{BringsOnly}
 use Rattle.store_api.specs.declared.pages.Pages.{Ghosts}
 use Rattle.extent_map.specs.declared.extents.Extents.{Extents}
+use Rattle.table_trees.specs.TableTrees.{map_place}
+use Rattle.table_trees.specs.TreesBeside.{IsTreePageAt}
 use Rattle.table_scan.specs.FoundRows.{IsScannedPage}
 
 -- page 0, which a commit looks at, or a page that a scan of the table by the predicate looks at
@@ -19,3 +23,8 @@ abbrev pub FetchesForQuery : {S : Type 0} → Ghosts S → Extents → S → S �
 FetchesForQuery g ext old new defs (bound.Query select) =
     (def : TableDef) → def_at defs select.table ≡ Some def → BringsOnly g (IsPageForQuery g ext old def select.pred) old new
 FetchesForQuery g ext old new defs statement = Unit {0}
+
+-- of LIST BLOCKS of a table that is there, only pages of its block map came to hand; of another statement nothing is said
+abbrev pub FetchesForListing : {S : Type 0} → Ghosts S → S → S → Definitions → Stmt → Type 0
+FetchesForListing g old new defs (ListBlocks name) = (def : TableDef) → def_named defs name ≡ Some def → BringsOnly g (IsTreePageAt g old (map_place def)) old new
+FetchesForListing g old new defs stmt = Unit {0}

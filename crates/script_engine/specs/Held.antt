@@ -76,9 +76,10 @@ pub record KeepsBase (old new : HeldPages) : Type 0 where
   pub closed : new.open_ ≡ false → new.base ≡ new.work
   pub is_open : new.open_ ≡ true → new.base ≡ old.base
 
--- a query, BEGIN and COMMIT leave the pages, and ROLLBACK of an open transaction brings back those of the last commit
+-- a query, LIST BLOCKS, BEGIN and COMMIT leave the pages, and ROLLBACK of an open transaction brings back those of the last commit
 abbrev pub KeepsWork : Stmt → HeldPages → HeldPages → Type 0
 KeepsWork (Query select) old new = new.work ≡ old.work
+KeepsWork (ListBlocks name) old new = new.work ≡ old.work
 KeepsWork Begin old new = new.work ≡ old.work
 KeepsWork Commit old new = new.work ≡ old.work
 KeepsWork Rollback old new = old.open_ ≡ true → new.work ≡ old.base

@@ -1,23 +1,25 @@
 -- What each call on an engine does: to what it holds, to its store, and to what is outside.
-use Rattle.std.specs.Prelude.{◌≡◌, Bool, true, false, IfOk, OnOk, IsErrOf, Result, Ok, Err}
+use Rattle.std.specs.Prelude.{◌≡◌, Bool, true, false, not, IfOk, OnOk, IsErrOf, Result, Ok, Err}
 use Rattle.mdc_words.specs.Faults.{CountsFault}
 use Rattle.mdc_words.specs.Time.{OverTime, ReachesBack}
 use Rattle.mdc_ast.specs.declared.refusal.Refusal.{Refusal}
 use Rattle.mdc_ast.specs.declared.reply.Outcome.{Outcome}
 use Rattle.mdc_ast.specs.declared.reply.Outcome.TheVariants as said
+use Rattle.mdc_ast.specs.declared.reply.Reply.TheVariants as reply
 use Rattle.mdc_ast.specs.declared.statement.Stmt.{Stmt}
 use Rattle.mdc_ast.specs.declared.statement.Stmt.TheVariants as statement
 use Rattle.mdc_ast.specs.meaning.Binding.{bound_of}
-use Rattle.mdc_ast.specs.meaning.Cause.{NotBuilt, refusal_of}
+use Rattle.mdc_ast.specs.meaning.Cause.{NotBuilt, State, refusal_of}
 use Rattle.store_api.specs.Moments.{BaseOrNow}
 use Rattle.store_api.specs.Works.{Rests}
 use Rattle.store_api.specs.declared.fault.Damage.{Damage}
 use Rattle.store_api.specs.declared.pages.Pages.{Ghosts}
 use Rattle.extent_map.specs.Owners.{IsSameShape}
 use Rattle.script_engine.specs.Breaking.{NamesExactly, StaysAtDamage}
-use Rattle.script_engine.specs.Fetching.{FetchesForQuery}
-use Rattle.script_engine.specs.Held.{KeepsBase, StepsOnPages}
+use Rattle.script_engine.specs.Fetching.{FetchesForListing, FetchesForQuery}
+use Rattle.script_engine.specs.Held.{KeepsBase, KeepsWork, StepsOnPages}
 use Rattle.script_engine.specs.Leaving.{IsAllCommitted, LeftWithin, MayBeLeft}
+use Rattle.script_engine.specs.Opening.{are_built}
 use Rattle.script_engine.specs.Serving.{IsReadyEngine, MayCall, held_by}
 use Rattle.script_engine.specs.declared.engine.Engine.{Engine}
 use Rattle.script_engine.specs.declared.stop.EngineStop.{EngineStop}
@@ -38,6 +40,22 @@ opened_by control.Begin was = true
 opened_by control.Commit was = false
 opened_by control.Rollback was = false
 opened_by control.Other was = was
+
+-- what is answered where the state of the transaction allows a statement, and where it doesn't: nothing but that, or 12
+abbrev pub answer_in_state : Bool → Outcome
+answer_in_state true = said.Done reply.Done
+answer_in_state false = said.Refused (refusal_of State)
+
+-- what BEGIN, COMMIT and ROLLBACK are answered hangs on whether a transaction is open alone; of another statement nothing is said
+abbrev pub AnswersControl : Control → Bool → Outcome → Type 0
+AnswersControl control.Begin was outcome = outcome ≡ answer_in_state (not was)
+AnswersControl control.Commit was outcome = outcome ≡ answer_in_state was
+AnswersControl control.Rollback was outcome = outcome ≡ answer_in_state was
+AnswersControl control.Other was outcome = Unit {0}
+
+-- the engine serves statements exactly where all its tables are of built forms
+abbrev pub IsServedByForms : {S : Type 0} → Engine S → Type 0
+IsServedByForms engine = engine.served ≡ are_built engine.tables.catalog
 
 -- the law of a store: what may be left since a time may be left since an earlier one
 abbrev pub KeepsTime : {S : Type 0} → Ghosts S → Type 0
@@ -61,13 +79,18 @@ pub record LeavesCommitted {S : Type 0} (g : Ghosts S) (stmt : Stmt) (old new : 
   pub base : MayBeLeft old.tables.ext (held_by g old) stmt (g.state new.store).base
 
 -- What a statement did to an engine: it steps on sound pages, a refusal changes nothing, no damage is named of sound pages, and
--- damage that is named is exact.
+-- damage that is named is exact. On any pages BEGIN, COMMIT and ROLLBACK do as the transaction's state has it, and what only reads
+-- leaves the pages.
 pub record Executes {S : Type 0} (g : Ghosts S) (stmt : Stmt) (result : Result Outcome EngineStop) (old new : Engine S) : Type 0 where
   pub steps : IfOk result (λ outcome. IsReadyEngine g old → StepsOnPages old.tables.ext (held_by g old) stmt outcome (held_by g new) × IsReadyEngine g new)
   pub may : OnOk result (MayCall g new)
   pub keeps : OnOk result (IsAllCommitted (held_by g old) → KeepsBase (held_by g old) (held_by g new))
+  pub keeps_work : OnOk result (KeepsWork stmt (held_by g old) (held_by g new))
+  pub controls : IfOk result (AnswersControl (control_of stmt) old.is_open)
+  pub built : OnOk result (IsServedByForms old → IsServedByForms new)
   pub leaves : IsReadyEngine g old → LeavesCommitted g stmt old new
   pub fetches : OnOk result (IsReadyEngine g old → FetchesForQuery g old.tables.ext old.store new.store old.tables.catalog (bound_of old.tables.catalog stmt))
+  pub lists : OnOk result (IsReadyEngine g old → FetchesForListing g old.store new.store old.tables.catalog stmt)
   pub refused : (refusal : Refusal) → result ≡ Ok (said.Refused refusal) → held_by g new ≡ held_by g old
   pub unserved : old.served ≡ false → control_of stmt ≡ control.Other → (outcome : Outcome) → result ≡ Ok outcome → outcome ≡ said.Refused (refusal_of NotBuilt)
   pub damaged : (damage : Damage) → result ≡ Err (Damaged damage) → IsReadyEngine g old → ⊥

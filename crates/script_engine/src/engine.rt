@@ -12,11 +12,11 @@ ghost use Rattle.store_api.specs.declared.fault.Damage.{Damage};
 ghost use Rattle.extent_map.specs.Owners.{IsSameShape};
 ghost use Rattle.mdc_sound.specs.Breaks.{IsFirstBreak};
 ghost use Rattle.script_engine.specs.Breaking.{StaysAtDamage};
-ghost use Rattle.script_engine.specs.Fetching.{FetchesForQuery};
-ghost use Rattle.script_engine.specs.Held.{IsWritten, KeepsBase, StepsOnPages};
+ghost use Rattle.script_engine.specs.Fetching.{FetchesForListing, FetchesForQuery};
+ghost use Rattle.script_engine.specs.Held.{IsWritten, KeepsBase, KeepsWork, StepsOnPages};
 ghost use Rattle.script_engine.specs.Leaving.{IsAllCommitted, LeftWithin, MayBeLeft};
 ghost use Rattle.script_engine.specs.Serving.{IsReadyEngine, MayCall, held_by};
-ghost use Rattle.script_engine.specs.Turns.{control_of, opened_by};
+ghost use Rattle.script_engine.specs.Turns.{AnswersControl, IsServedByForms, control_of, opened_by};
 ghost use Rattle.script_engine.specs.declared.transactions.Control.{Control};
 
 use crate::stop::EngineStop;
@@ -46,16 +46,22 @@ impl<S: Store> Engine<S> {
     /// Executes a statement. Outside a transaction its change is committed before the answer; where it is refused, nothing has
     /// changed. A crash within it leaves the pages of the last commit before it, or those that it commits, and so does a stop, after
     /// which the engine takes no further call but `close`. Damage is exact: of the pages as they are then, the first rule that they
-    /// break, and the lowest page that breaks it. A query brings pages of rows to hand only of blocks in whose cells a row may qualify.
+    /// break, and the lowest page that breaks it. A query brings pages of rows to hand only of blocks in whose cells a row may qualify,
+    /// and LIST BLOCKS pages of the block map alone. Whatever the pages are, what BEGIN, COMMIT and ROLLBACK answer hangs on whether a
+    /// transaction is open, and a query, LIST BLOCKS, BEGIN and COMMIT leave the pages.
     pub fn execute(&mut self, stmt: &Stmt) -> Result<Outcome, EngineStop>
         requires may { MayCall S.Pages self.old }
         requires written { IsWritten stmt.now }
         ensures steps { IfOk result (λ outcome. IsReadyEngine S.Pages self.old → StepsOnPages self.old.tables.ext (held_by S.Pages self.old) stmt.now outcome (held_by S.Pages self.new) × IsReadyEngine S.Pages self.new) }
         ensures may { OnOk result (MayCall S.Pages self.new) }
+        ensures keeps_work { OnOk result (KeepsWork stmt.now (held_by S.Pages self.old) (held_by S.Pages self.new)) }
+        ensures controls { IfOk result (AnswersControl (control_of stmt.now) self.old.is_open) }
+        ensures built { OnOk result (IsServedByForms self.old → IsServedByForms self.new) }
         ensures commits { OnOk result (IsAllCommitted (held_by S.Pages self.old) → KeepsBase (held_by S.Pages self.old) (held_by S.Pages self.new)) }
         ensures left { IsReadyEngine S.Pages self.old → OverTime S.clock S.left (LeftWithin self.old.tables.ext (held_by S.Pages self.old) stmt.now (S.state self.old.store)) self.old.store self.new.store }
         ensures base { IsReadyEngine S.Pages self.old → MayBeLeft self.old.tables.ext (held_by S.Pages self.old) stmt.now (S.state self.new.store).base }
         ensures fetches { OnOk result (IsReadyEngine S.Pages self.old → FetchesForQuery S.Pages self.old.tables.ext self.old.store self.new.store self.old.tables.catalog (bound_of self.old.tables.catalog stmt.now)) }
+        ensures lists { OnOk result (IsReadyEngine S.Pages self.old → FetchesForListing S.Pages self.old.store self.new.store self.old.tables.catalog stmt.now) }
         ensures unserved { self.old.served ≡ false → control_of stmt.now ≡ Control.Other → (outcome : Outcome) → result ≡ Ok outcome → outcome ≡ Outcome.Refused (refusal_of NotBuilt) }
         ensures refused { (refusal : Refusal) → result ≡ Ok (Outcome.Refused refusal) → held_by S.Pages self.new ≡ held_by S.Pages self.old }
         ensures opens { OnOk result (self.new.is_open ≡ opened_by (control_of stmt.now) self.old.is_open) }

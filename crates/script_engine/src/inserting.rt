@@ -3,6 +3,7 @@ ghost use Rattle.std.specs.Prelude.{◌≡◌, ◌≤◌, ◌<◌, ◌-◌, [], 
 ghost use Rattle.mdc_ast.specs.declared.bound.Bound.TheVariants as bound;
 ghost use Rattle.mdc_ast.specs.declared.definition.TableDef.{TableDef};
 ghost use Rattle.mdc_ast.specs.declared.refusal.Refusal.{Refusal};
+ghost use Rattle.mdc_ast.specs.meaning.Cause.{NumbersUsedUp, refusal_of};
 ghost use Rattle.mdc_ast.specs.meaning.Definitions.{def_at, with_def};
 ghost use Rattle.mdc_ast.specs.meaning.Doing.{appended, numbered};
 ghost use Rattle.store_api.specs.Causes.{store_fault_in};
@@ -14,6 +15,7 @@ ghost use Rattle.mdc_sound.specs.Placing.{block_slot_count};
 ghost use Rattle.mdc_sound.specs.RunningFull.{InsertRunsFull};
 ghost use Rattle.mdc_sound.specs.StandingTable.{TableForests, pages_of};
 ghost use Rattle.cell_rooms.specs.RoomNotes.{room_of};
+ghost use Rattle.row_judging.specs.RowChange.{misfit_cause};
 ghost use Rattle.row_judging.specs.Served.{IsDefined, MayPut};
 ghost use Rattle.statement_rows.specs.RowsAndSpace.{PutsRowsBy};
 ghost use Rattle.statement_rows.specs.RowsOfStatement.{AnyPage, ChangesRowsOf, IsReadyBetween};
@@ -25,8 +27,9 @@ use crate::tables::Tables;
 use extent_map::SpaceFault;
 use mdc_ast::{Outcome, Refusal, Reply};
 use mdc_values::{List, Value};
-use row_judging::{first_null_in, numbers_used_up, unfit};
+use row_judging::{Misfit, first_null_in, numbers_used_up, unfit};
 use statement_rows::insert_rows;
+use std::alloc::Global;
 use store_api::{Pages, StoreFault};
 use stored_catalog::save_next;
 
@@ -65,15 +68,30 @@ fn judge(tables: &Tables, tuples: &[List<Value>]) -> Result<Option<Refusal>, Spa
         unreachable!()
     };
     if let Some(misfit) = first_null_in(def.columns.as_slice(), tuples) {
-        return match unfit(tables.alloc, misfit) {
-            Ok(refusal) => Ok(Some(refusal)),
-            Err(_) => Err(SpaceFault::Store(StoreFault::Memory)),
-        };
+        return null_there(tables.alloc, misfit);
     }
     if def.next.checked_add(tuples.len() as u64).is_none() {
-        return Ok(Some(numbers_used_up(tables.alloc, def.next)));
+        return used_up(tables.alloc, def.next);
     }
     Ok(None)
+}
+
+/// The refusal of a tuple with a null where none may be.
+fn null_there(alloc: Global, misfit: Misfit<'_>) -> Result<Option<Refusal>, SpaceFault>
+    ensures said { IfOk result (λ refusal. refusal ≡ Some (refusal_of (misfit_cause misfit.entry))) }
+    ensures memory { IfErr result (λ fault. fault ≡ SpaceFault.Store StoreFault.Memory) }
+{
+    match unfit(alloc, misfit) {
+        Ok(refusal) => Ok(Some(refusal)),
+        Err(_) => Err(SpaceFault::Store(StoreFault::Memory)),
+    }
+}
+
+/// The refusal of tuples for which there are no row numbers left.
+fn used_up(alloc: Global, next: u64) -> Result<Option<Refusal>, SpaceFault>
+    ensures { result ≡ Ok (Some (refusal_of (NumbersUsedUp next))) }
+{
+    Ok(Some(numbers_used_up(alloc, next)))
 }
 
 /// Puts tuples against which nothing is said into the table that is turned to, and writes its next row number.

@@ -11,6 +11,7 @@ ghost use Rattle.mdc_sound.specs.SoundDatabase.{IsSoundDatabase};
 ghost use Rattle.mdc_sound.specs.StandingTable.{pages_of};
 ghost use Rattle.statement_rows.specs.RowsOfStatement.{AnyPage};
 ghost use Rattle.script_engine.specs.Breaking.{NamesExactly};
+ghost use Rattle.script_engine.specs.Fetching.{FetchesForListing};
 ghost use Rattle.script_engine.specs.Listing.{TellsBlocks, blocks_told, is_listing};
 ghost use Rattle.script_engine.specs.Ready.{AreServed, BreaksDatabase, IsReady};
 ghost use Rattle.script_engine.specs.Serving.{MayCall};
@@ -119,13 +120,14 @@ fn list_reloaded<P: Pages>(
     Ok(outcome)
 }
 
-/// Tells how many blocks the table of that name has in each state, if there is one.
+/// Tells how many blocks the table of that name has in each state, if there is one. Of pages only those of its block map come to hand.
 fn list<P: Pages>(tables: &Tables, pages: &mut P, name: &Name) -> Result<Outcome, StoreFault>
     requires served { AreServed tables.now.catalog }
     requires going { (P.state pages.old).ended ≡ false }
     ensures absent { def_named tables.now.catalog name.now ≡ None → IfOk result (λ outcome. outcome ≡ Outcome.Refused (refusal_of (NoTable name.now))) }
     ensures tells { (def : TableDef) → def_named tables.now.catalog name.now ≡ Some def → IfOk result (λ outcome. IsReady P.Pages pages.old tables.now → TellsBlocks (pages_of P.Pages pages.old) def outcome) }
     ensures same { (P.state pages.new).work ≡ (P.state pages.old).work }
+    ensures fetches { FetchesForListing P.Pages pages.old pages.new tables.now.catalog (Stmt.ListBlocks name.now) }
     ensures runs { RunsOverPages P.Pages NoPage AnyPage (BreaksDatabase P.Pages pages.old tables.now) pages.old pages.new (fault_of result) }
 {
     let Some(def) = tables.catalog.table(name) else {

@@ -12,6 +12,7 @@ ghost use Rattle.stored_catalog.specs.StoredDefinitions.{AreStored, AreWithinLim
 ghost use Rattle.script_engine.specs.Breaking.{IsExactDamage};
 ghost use Rattle.script_engine.specs.Opening.{IsSoundStore, KeepsPages, are_built, is_built_place};
 ghost use Rattle.script_engine.specs.Serving.{IsReadyEngine, MayCall};
+ghost use Rattle.script_engine.specs.Turns.{IsServedByForms};
 
 use crate::damage::load_exactly;
 use crate::engine::Engine;
@@ -43,6 +44,7 @@ impl<S: Store> Engine<S> {
         ensures may { IfOk result (λ engine. MayCall S.Pages engine) }
         ensures ready { IfOk result (λ engine. IsSoundStore S.Pages ext store → IsReadyEngine S.Pages engine) }
         ensures stored { IfOk result (λ engine. IsTrue (S.state store).is_told → AreStored (S.state store).work engine.tables.catalog) }
+        ensures built { IfOk result (λ engine. IsServedByForms engine) }
         ensures closed { IfOk result (λ engine. engine.is_open ≡ false) }
         ensures shape { IfOk result (λ engine. IsSameShape ext engine.tables.ext) }
         ensures pages { MatchResult result (λ engine. KeepsPages S.Pages store engine.store) (λ stopped. KeepsPages S.Pages store stopped.store) }

@@ -4,6 +4,7 @@ use Rattle.mdc_ast.specs.declared.definition.TableDef.{TableDef}
 use Rattle.mdc_sound.specs.StandingTable.{pages_of}
 use Rattle.store_api.proofs.RunsOverPagesLemmas.{runs_exit, runs_memory, runs_none}
 use Rattle.script_engine.specs.Listing.{TellsBlocks}
+use Rattle.script_engine.proofs.FetchesForListingLemmas.{lists_counted}
 use Rattle.script_engine.proofs.ListingLemmas.{runs_account, tells_account}
 use Rattle.script_engine.proofs.listing.list.Goals as goal
 
@@ -32,3 +33,15 @@ returns-in-Ok-told-clause-runs g c =
 pub returns-in-Err-told-clause-runs : goal.returns-in-Err-told-clause-runs
 returns-in-Err-told-clause-runs g c =
     runs_memory (runs_account g.P.Pages c.args.pages.now c.args.tables.now c.args.name.now c.in-Some.def.now c.requires.served c.in-Some.ensures.found c.account_of.new.pages c.in_ok-account.ensures.runs)
+
+pub returns-in_err-account-clause-fetches : goal.returns-in_err-account-clause-fetches
+returns-in_err-account-clause-fetches g c =
+    lists_counted g.P.Pages c.args.pages.now c.account_of.new.pages c.args.tables.now.catalog c.args.name.now c.in-Some.def.now c.in-Some.ensures.found c.in_err-account.ensures.runs.brings
+
+pub returns-in-Ok-told-clause-fetches : goal.returns-in-Ok-told-clause-fetches
+returns-in-Ok-told-clause-fetches g c =
+    lists_counted g.P.Pages c.args.pages.now c.account_of.new.pages c.args.tables.now.catalog c.args.name.now c.in-Some.def.now c.in-Some.ensures.found c.in_ok-account.ensures.runs.brings
+
+pub returns-in-Err-told-clause-fetches : goal.returns-in-Err-told-clause-fetches
+returns-in-Err-told-clause-fetches g c =
+    lists_counted g.P.Pages c.args.pages.now c.account_of.new.pages c.args.tables.now.catalog c.args.name.now c.in-Some.def.now c.in-Some.ensures.found c.in_ok-account.ensures.runs.brings

@@ -17,8 +17,12 @@ returns-in-Stmt g c =
             steps = call.steps;
             may = call.may;
             keeps = call.commits;
+            keeps_work = call.keeps_work;
+            controls = call.controls;
+            built = call.built;
             leaves = λ ready. record { time = call.left ready; base = call.base ready };
             fetches = call.fetches;
+            lists = call.lists;
             refused = call.refused;
             unserved = call.unserved;
             damaged = call.damaged;

@@ -11,7 +11,7 @@ use Rattle.script_engine.proofs.engine.Engine.list_blocks.Goals as goal
 pub returns-in-Ok : goal.returns-in-Ok
 returns-in-Ok g c = record {
   executes = list_done g.S.Pages c.args.self.now c.list.new.pages c.args.name.now c.list.ensures.same c.in-Ok.outcome c.requires.may c.if-not-self.false c.in-Ok.ensures.runs c.in-Ok.ensures.absent
-      c.in-Ok.ensures.tells;
+      c.in-Ok.ensures.tells c.list.ensures.fetches;
 }
 
 pub returns-in-Err-Damaged : goal.returns-in-Err-Damaged
