@@ -4,5 +4,6 @@ pub mod CreateLemmas
 pub mod LeavingLemmas
 pub mod MadeFileLemmas
 pub mod NothingRunLemmas
+pub mod OriginLemmas
 pub mod RunsLemmas
 pub mod ToldLemmas

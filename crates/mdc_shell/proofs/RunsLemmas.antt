@@ -2,9 +2,9 @@
 use Rattle.std.proofs.Common.{◌≡◌, ◌⊎◌, ◌≤◌, ℕ, List, [], IsTrue, false, Option, Some, None, IfSome, Result, Ok, Err, length, length-append, refl, sym, ap, subst, ◌∙◌, inl, inr, arith, ◌<◌, ◌++◌}
 use Rattle.mdc_ast.specs.declared.reply.Outcome.{Outcome}
 use Rattle.mdc_ast.specs.Reading.{Item}
-use Rattle.mdc_words.specs.Time.{OverTime}
+use Rattle.mdc_words.specs.Time.{OverTime, ReachesBack}
 use Rattle.mdc_words.proofs.TimeLemmas.{over_time_then, over_time_wider}
-use Rattle.mdc_outside.specs.Disk.{Becomes, File, opened}
+use Rattle.mdc_outside.specs.Disk.{Becomes, File, IsImage, opened}
 use Rattle.mdc_outside.specs.Moments.{IsMoment, IsWithinCall}
 use Rattle.mdc_outside.specs.Outside.{Takes}
 use Rattle.mdc_outside.specs.declared.disk.Disk.{Ghosts}
@@ -25,17 +25,20 @@ use Rattle.std.specs.Option.{option_map}
 use Rattle.script_session.specs.Told.{TellsMore}
 use Rattle.file_session.specs.Breaking.{IsDamageOf}
 use Rattle.file_session.specs.Ending.{IsCauseIn, IsUnopened, end_of_session, IsRefused}
-use Rattle.file_session.specs.Serving.{RunsItems, RunsOnFile, TakesBySession}
-use Rattle.file_session.specs.Leaving.{WasTold}
+use Rattle.file_session.specs.Serving.{RepliesBySession, RunsItems, RunsOnFile, TakesBySession}
+use Rattle.file_session.specs.Leaving.{LeavesSince, StaysFormed}
 use Rattle.file_session.specs.Well.{IsWell}
 use Rattle.file_session.specs.declared.stop.FileStop.{FileStop}
 use Rattle.file_session.specs.declared.stop.FileStop.TheVariants.{Damaged, Device, Memory, NotMdc, TooLong, Unmade, Unread, Unsaid, Version}
+use Rattle.file_session.proofs.FileRunsLemmas.{TellsNow}
+use Rattle.file_session.proofs.FirstEndsLemmas.{replies_first}
 use Rattle.std.proofs.lemmas.List.{append-nil}
 use Rattle.script_session.specs.Ending.{script_limit}
 use Rattle.page_file.specs.Bound.{LeavesOf}
-use Rattle.mdc_shell.specs.Run.{IsComplete, IsStopBefore, IsWithinLimit, RefusesFile, RunsPath, RunsScratch, ServesPath, TakesByStatus}
+use Rattle.mdc_shell.specs.Run.{IsComplete, IsStopBefore, IsWithinLimit, RefusesFile, ReopensFile, RunsPath, RunsScratch, ServesPath, TakesByStatus}
 use Rattle.mdc_shell.specs.Status.{SaysEnd, line_of_end, status_of, status_of_stop}
 use Rattle.script_session.proofs.ToldLemmas.{same-tells_more, takes_nothing}
+use Rattle.mdc_shell.proofs.OriginLemmas.{left_unrested, rests-opened, rests_then_said}
 
 -- ---- how a run ends
 
@@ -83,18 +86,6 @@ could_be_left-quiet file tape before said is told image taken within =
     let moment : IsMoment before.since said [] image taken = within_call-told before said image taken is told within in
     (moment.left, nothing_said moment.said.0 moment.said.1 said taken moment.said.2 moment.said.3)
 
--- what was told since a time before an attach
-behind_attach : {D : Type 0} (g : Ghosts D) (before : File) (said : List ℕ) {Left : List ℕ → List ℕ → Type 0} (old mid new : D) → OverTime g.clock g.moment (LeavesImage (CouldBeLeft before) said) old mid
-    → ((t : ℕ) (image tape : List ℕ) → t ≤ g.clock mid → g.moment new t image tape → Left image tape ⊎ WasTold g t said mid tape)
-    → (t : ℕ) (image tape : List ℕ) → t ≤ g.clock old → g.moment new t image tape → Left image tape ⊎ WasTold g t said old tape
-behind_attach g before said old mid new attached behind t image tape early now = elim (behind t image tape (omega (arith, early, attached.later)) now) [
-  | inl left ↦ inl left
-  | inr told ↦ inr (elim told [
-    | inl same ↦ inl same
-    | inr other ↦ elim (attached.only t other.0 tape early other.1) [ inl was ↦ inr (other.0, was) | inr could ↦ inl could.1 ]
-  ])
-]
-
 -- a run on a file that an attach opened is one on the file as it was
 pub runs_path-opened : {D : Type 0} (g : Ghosts D) (before : File) (said : List ℕ) (script left : Option (List ℕ)) (old mid new : D) (status : ℕ)
     → OverTime g.clock g.moment (LeavesImage (CouldBeLeft before) said) old mid → RunsPath g (opened before) said script left mid new status → RunsPath g before said script left old new status
@@ -105,7 +96,7 @@ runs_path-opened g before said script left old mid new status attached run = rec
     states_extents = run.run.states_extents;
     run = run.run.run;
     leaves = elim run.run.leaves [
-      | inl rest ↦ inl (record { origin = rest.origin; until = over_time_then attached rest.until; later = rest.later; since = rest.since; behind = behind_attach g before said old mid new attached rest.behind })
+      | inl rest ↦ inl (rests-opened g before said old mid new attached rest)
       | inr meanwhile ↦ inr (over_time_then attached meanwhile)
     ];
   };
@@ -154,14 +145,27 @@ unopened-before (Damaged damage) before = tt
 undamaged-before : (stop : FileStop) (damage : Damage) → IsStopBefore stop → stop ≡ Damaged damage → ⊥
 undamaged-before stop damage before is = subst IsStopBefore is before
 
-pub serves_path-before : (file new_file : Option File) (script left tape new : Option (List ℕ)) (stop : FileStop) → IsStopBefore stop → new ≡ tape
-    → ServesPath file new_file script left tape new (status_of_stop stop)
-serves_path-before file new_file script left tape new stop before same = record {
+-- and nothing was told before them
+replies-before : (script tape : Option (List ℕ)) (stop : FileStop) → IsStopBefore stop → IsRefused (Err stop) ⊎ RepliesBySession script script tape tape (Err stop)
+replies-before script tape Device before = inr (Err session.Device, refl, replies_first script tape tape session.Device (λ e. cc) (λ e. cc) refl)
+replies-before script tape Memory before = inr (Err session.Memory, refl, replies_first script tape tape session.Memory (λ e. cc) (λ e. cc) refl)
+replies-before script tape Unmade before = absurd before
+replies-before script tape NotMdc before = absurd before
+replies-before script tape (Version version) before = absurd before
+replies-before script tape Unread before = absurd before
+replies-before script tape TooLong before = absurd before
+replies-before script tape Unsaid before = absurd before
+replies-before script tape (Damaged damage) before = absurd before
+
+pub serves_path-before : (file new_file : Option File) (script tape new : Option (List ℕ)) (stop : FileStop) → IsStopBefore stop → new ≡ tape
+    → ServesPath file new_file script script tape new (status_of_stop stop)
+serves_path-before file new_file script tape new stop before same = record {
   breaks = λ f is damage ends. let named : stop ≡ Damaged damage = cc in absurd (undamaged-before stop damage before named);
   end_ = Err stop;
   cause = λ f is. cause-before f.bytes stop before;
   before_line = tape;
   kept = same-tells_more tape tape refl;
+  replies = replies-before script tape stop before;
   ends = says_end-quiet tape new stop before same;
 }
 
@@ -173,6 +177,7 @@ serves_path-opened file mid new_file script left tape mid_tape new status is sam
   cause = λ f told. serves.cause (opened f) (is ∙ ap (option_map opened) told);
   before_line = serves.before_line;
   kept = subst (λ (t : Option (List ℕ)). TellsMore t serves.before_line) same serves.kept;
+  replies = subst (λ (t : Option (List ℕ)). IsRefused serves.end_ ⊎ RepliesBySession script left t serves.before_line serves.end_) same serves.replies;
   breaks = λ f told damage ends.
       subst (λ (t : Option (List ℕ)). IsDamageOf f.bytes script left t serves.before_line damage serves.end_ new_file) same (serves.breaks (opened f) (is ∙ ap (option_map opened) told) damage ends);
   ends = serves.ends;
@@ -253,6 +258,50 @@ refuses_file-opened g before said new_tape old mid new status attached refuses =
   ends = refuses.ends;
   time = λ not_failed. over_time_then (over_time_wider attached (could_be_left-moment before said (line_of_end refuses.end_))) (refuses.time not_failed);
 }
+
+-- ---- a formed file
+
+-- a run, and then the line of its end
+pub reopens_file-said : {D : Type 0} (g : Ghosts D) (before after : File) (said heard : List ℕ) (old mid new : D) (tape new_tape : Option (List ℕ)) (end_ : Result Served FileStop) (status : ℕ)
+    → TellsNow g old → TellsNow g mid → ReachesBack g.clock g.moment mid → g.file old ≡ Some before → (g.beside old).tape ≡ Some said → g.file mid ≡ Some after → IsImage after.since after.bytes
+    → (g.beside mid).tape ≡ Some heard → tape ≡ Some heard → IsCauseIn before.bytes end_ → SaysEnd tape new_tape status end_
+    → OverTime g.clock g.moment (IsWithinCall (g.file mid) tape (line_of_end end_)) mid new → LeavesSince g before said (λ image tape. StaysFormed before.bytes image) old mid
+    → ReopensFile g before said new_tape old new status
+reopens_file-said g before after said heard old mid new tape new_tape end_ status now_old now_mid back is told is_mid sound told_mid tape_is cause ends saying (inl rest) =
+    inl (rests_then_said g before after said heard (line_of_end end_) (StaysFormed before.bytes) old mid new tape now_mid back is_mid told_mid tape_is saying rest)
+reopens_file-said g before after said heard old mid new tape new_tape end_ status now_old now_mid back is told is_mid sound told_mid tape_is cause ends saying (inr meanwhile) =
+    let could = left_unrested g before after said heard old mid now_old now_mid back is told is_mid told_mid meanwhile in
+    let tape_was : tape ≡ Some said = tape_is ∙ ap Some (could after.bytes sound).1 in
+    inr (record {
+      end_ = end_;
+      cause = cause;
+      ends = subst (λ (t : Option (List ℕ)). SaysEnd t new_tape status end_) tape_was ends;
+      time = over_time_then (over_time_wider meanwhile (could_be_left-moment before said (line_of_end end_)))
+          (over_time_wider saying (λ image taken within.
+          let moment = within_call-told after said image taken is_mid tape_was within in
+          record { left = (could image moment.left).0; said = moment.said }));
+    })
+
+-- one behind an attach is one of the file as it was
+pub reopens_file-opened : {D : Type 0} (g : Ghosts D) (before : File) (said : List ℕ) (new_tape : Option (List ℕ)) (old mid new : D) (status : ℕ)
+    → OverTime g.clock g.moment (LeavesImage (CouldBeLeft before) said) old mid → ReopensFile g (opened before) said new_tape mid new status → ReopensFile g before said new_tape old new status
+reopens_file-opened g before said new_tape old mid new status attached (inl rest) = inl (rests-opened g before said old mid new attached rest)
+reopens_file-opened g before said new_tape old mid new status attached (inr stops) = inr (record {
+  end_ = stops.end_;
+  cause = stops.cause;
+  ends = stops.ends;
+  time = over_time_then (over_time_wider attached (could_be_left-moment before said (line_of_end stops.end_))) stops.time;
+})
+
+-- a stop before anything is taken comes before any origin
+pub reopens_file-before : {D : Type 0} (g : Ghosts D) (before : File) (said : List ℕ) (new_tape : Option (List ℕ)) (old new : D) (stop : FileStop) → IsStopBefore stop → new_tape ≡ Some said
+    → OverTime g.clock g.moment (LeavesImage (CouldBeLeft before) said) old new → ReopensFile g before said new_tape old new (status_of_stop stop)
+reopens_file-before g before said new_tape old new stop is_before same meanwhile = inr (record {
+  end_ = Err stop;
+  cause = cause-before before.bytes stop is_before;
+  ends = says_end-quiet (Some said) new_tape stop is_before same;
+  time = over_time_wider meanwhile (could_be_left-moment before said (line_of_end (Err stop)));
+})
 
 -- ---- what was taken
 

@@ -16,8 +16,9 @@ use Rattle.script_session.specs.Ending.{script_limit}
 use Rattle.script_session.specs.Told.{TellsMore}
 use Rattle.script_session.specs.declared.stop.Served.{Served}
 use Rattle.file_session.specs.Breaking.{IsDamageOf}
-use Rattle.file_session.specs.Ending.{IsCauseIn, IsUnopened}
-use Rattle.file_session.specs.Serving.{RunsItems, RunsOnFile}
+use Rattle.file_session.specs.Ending.{IsCauseIn, IsRefused, IsUnopened}
+use Rattle.file_session.specs.Leaving.{ComesToRest, StaysFormed}
+use Rattle.file_session.specs.Serving.{RepliesBySession, RunsItems, RunsOnFile}
 use Rattle.file_session.specs.Well.{StatesExtents}
 use Rattle.file_session.specs.declared.stop.FileStop.{FileStop}
 use Rattle.file_session.specs.declared.stop.FileStop.TheVariants.{Damaged, Device, Memory}
@@ -29,13 +30,14 @@ abbrev pub IsWithinLimit : Option (List ℕ) → Type 0
 IsWithinLimit None = ⊥
 IsWithinLimit (Some script) = length script ≤ script_limit
 
--- `run FILE` on any file: the end has its cause in it where it is told, and its line is said behind the replies. Damage that is named is
--- that of the file.
+-- `run FILE` on any file: the end has its cause in it where it is told, and its line is said behind the replies, which are those of the
+-- outcomes of the items that were taken. Damage that is named is that of the file.
 pub record ServesPath (file new_file : Option File) (script left tape new_tape : Option (List ℕ)) (status : ℕ) : Type 0 where
   pub end_ : Result Served FileStop
   pub cause : ForSome file (λ file. IsCauseIn file.bytes end_)
   pub before_line : Option (List ℕ)
   pub kept : TellsMore tape before_line
+  pub replies : IsRefused end_ ⊎ RepliesBySession script left tape before_line end_
   pub breaks : ForSome file (λ file. (damage : Damage) → end_ ≡ Err (Damaged damage) → IsDamageOf file.bytes script left tape before_line damage end_ new_file)
   pub ends : SaysEnd before_line new_tape status end_
 
@@ -53,6 +55,20 @@ pub record RefusesFile {D : Type 0} (g : Ghosts D) (before : File) (said : List 
   pub cause : IsCauseIn before.bytes end_
   pub ends : SaysEnd (Some said) new_tape status end_
   pub time : (status ≡ 3 → ⊥) → OverTime g.clock g.moment (IsMoment before.since said (line_of_end end_)) old new
+
+-- `run FILE` that stopped before any origin: the end has its cause in the file, nothing but its line is said, and a crash meanwhile
+-- leaves an image that could be left before.
+pub record StopsBeforeOrigin {D : Type 0} (g : Ghosts D) (before : File) (said : List ℕ) (new_tape : Option (List ℕ)) (old new : D) (status : ℕ) : Type 0 where
+  pub end_ : Result Served FileStop
+  pub cause : IsCauseIn before.bytes end_
+  pub ends : SaysEnd (Some said) new_tape status end_
+  pub time : OverTime g.clock g.moment (IsMoment before.since said (line_of_end end_)) old new
+
+-- `run FILE` on a formed file, whatever its pages are: from the run's origin on a crash leaves a formed image of the extents that the
+-- file states, also while the line of the end is said, or the run stopped before any origin.
+abbrev pub ReopensFile : {D : Type 0} → Ghosts D → File → List ℕ → Option (List ℕ) → D → D → ℕ → Type 0
+ReopensFile g before said new_tape old new status =
+    ComesToRest g before said (λ image tape. StaysFormed before.bytes image) old new ⊎ StopsBeforeOrigin g before said new_tape old new status
 
 -- What was taken of a script, by the status of its run, whatever the file is: all of it, one byte more than the limit, or a part
 -- within it.

@@ -6,11 +6,13 @@ ghost use Rattle.mdc_outside.specs.Moments.{IsMoment, IsWithinCall};
 ghost use Rattle.mdc_words.specs.Faults.{CountsFault, Rose};
 ghost use Rattle.mdc_words.specs.Time.{OverTime};
 ghost use Rattle.page_store.specs.Opening.{IsServed};
+ghost use Rattle.page_store.specs.Standing.{IsFormed};
 ghost use Rattle.script_session.specs.Told.{StaysTold};
+ghost use Rattle.file_session.specs.Leaving.{AreFormed};
 ghost use Rattle.file_session.specs.Well.{AreWell, IsWell};
 ghost use Rattle.mdc_shell.specs.Create.{Completes, Creates, MayAttach};
 ghost use Rattle.mdc_shell.specs.Leaving.{LeftByCreate};
-ghost use Rattle.mdc_shell.specs.Run.{IsComplete, IsWithinLimit, RefusesFile, RefusesScratch, RunsPath, RunsScratch, ServesPath, StandsForNothing, TakesByStatus};
+ghost use Rattle.mdc_shell.specs.Run.{IsComplete, IsWithinLimit, RefusesFile, RefusesScratch, ReopensFile, RunsPath, RunsScratch, ServesPath, StandsForNothing, TakesByStatus};
 ghost use Rattle.mdc_shell.specs.Status.{IsScriptStatus, IsStatus};
 ghost use Rattle.mdc_shell.specs.Untouched.{IsUntouched};
 ghost use Rattle.mdc_shell.specs.Words.{CreateFile, IsNoLine, RunFile, RunScratch, SaysUsage, SpellsLine, usage};
@@ -46,7 +48,8 @@ pub fn run<I: Source, H: Host>(
 ) -> Ended<H>
     ensures statuses { IsStatus result.status.0 }
 
-    // `run FILE`, on any file: the end has its cause in the file, and its line is said behind all else.
+    // `run FILE`, on any file: the replies are the texts of the outcomes of the items that were taken, the end has its cause in the
+    // file, and its line is said behind all else.
     ensures served { (path : List ℕ) → SpellsLine (map string_bytes words.now.items) (RunFile path)
         → ServesPath (H.file host) (H.file result.host) (I.left input.old) (I.left input.new) (H.tape host) (H.tape result.host) result.status.0
         × MayAttach (H.attaches host) path false (H.attaches result.host) × IsScriptStatus result.status.0 }
@@ -61,6 +64,15 @@ pub fn run<I: Source, H: Host>(
     ensures stays_well { (path : List ℕ) → SpellsLine (map string_bytes words.now.items) (RunFile path)
         → (before : File) (said : List ℕ) → H.file host ≡ Some before → H.tape host ≡ Some said → AreWell before
         → (after : File) × (H.file result.host ≡ Some after) × AreWell after }
+
+    // On a formed file, whatever its pages are: from the run's origin on a crash leaves a formed file of the same extents. Where each
+    // image that could be left was formed, each is so after the run.
+    ensures reopens { (path : List ℕ) → SpellsLine (map string_bytes words.now.items) (RunFile path)
+        → (before : File) (said : List ℕ) → H.file host ≡ Some before → H.tape host ≡ Some said → IsFormed before.bytes
+        → ReopensFile H.Disk before said (H.tape result.host) host result.host result.status.0 }
+    ensures stays_formed { (path : List ℕ) → SpellsLine (map string_bytes words.now.items) (RunFile path)
+        → (before : File) (said : List ℕ) → H.file host ≡ Some before → H.tape host ≡ Some said → AreFormed before
+        → (after : File) × (H.file result.host ≡ Some after) × AreFormed after }
 
     // On a file that can't be opened: the line of its cause, and nothing is read.
     ensures refuses { (path : List ℕ) → SpellsLine (map string_bytes words.now.items) (RunFile path)

@@ -3,10 +3,12 @@ ghost use Rattle.std.specs.Prelude.{◌≡◌, ◌⊎◌, ◌≤◌, ◌<◌, �
 ghost use Rattle.mdc_outside.specs.Disk.{File};
 ghost use Rattle.mdc_words.specs.Faults.{CountsFault};
 ghost use Rattle.page_store.specs.Opening.{IsServed};
+ghost use Rattle.page_store.specs.Standing.{IsFormed};
 ghost use Rattle.script_session.specs.Told.{StaysTold};
+ghost use Rattle.file_session.specs.Leaving.{AreFormed};
 ghost use Rattle.file_session.specs.Well.{AreWell, IsWell};
 ghost use Rattle.mdc_shell.specs.Create.{MayAttach};
-ghost use Rattle.mdc_shell.specs.Run.{RefusesFile, RefusesScratch, RunsPath, RunsScratch, ServesPath, TakesByStatus};
+ghost use Rattle.mdc_shell.specs.Run.{RefusesFile, RefusesScratch, ReopensFile, RunsPath, RunsScratch, ServesPath, TakesByStatus};
 ghost use Rattle.mdc_shell.specs.Status.{IsScriptStatus};
 ghost use Rattle.mdc_shell.specs.Untouched.{IsUntouched};
 
@@ -37,6 +39,10 @@ pub fn run_path<I: Source, H: Host>(alloc: Global, path: &str, input: &mut I, ho
         → RunsPath H.Disk before said (I.left input.old) (I.left input.new) host result.host result.status.0 }
     ensures stays_well { (before : File) (said : List ℕ) → H.file host ≡ Some before → H.tape host ≡ Some said → AreWell before
         → (after : File) × (H.file result.host ≡ Some after) × AreWell after }
+    ensures reopens { (before : File) (said : List ℕ) → H.file host ≡ Some before → H.tape host ≡ Some said → IsFormed before.bytes
+        → ReopensFile H.Disk before said (H.tape result.host) host result.host result.status.0 }
+    ensures stays_formed { (before : File) (said : List ℕ) → H.file host ≡ Some before → H.tape host ≡ Some said → AreFormed before
+        → (after : File) × (H.file result.host ≡ Some after) × AreFormed after }
     ensures refuses { (before : File) (said : List ℕ) → H.file host ≡ Some before → H.tape host ≡ Some said → (IsServed before.bytes → ⊥)
         → RefusesFile H.Disk before said (H.tape result.host) host result.host result.status.0 × (input.new ≡ input.old) }
     ensures keeps_refused { (before : File) → H.file host ≡ Some before → (IsServed before.bytes → ⊥) → (result.status.0 ≡ 3 → ⊥)
@@ -117,6 +123,10 @@ fn run_attached<I: Source, H: Host>(alloc: Global, input: &mut I, host: H) -> En
         → RunsPath H.Disk before said (I.left input.old) (I.left input.new) host result.host result.status.0 }
     ensures stays_well { (before : File) (said : List ℕ) → H.file host ≡ Some before → H.tape host ≡ Some said → AreWell before
         → (after : File) × (H.file result.host ≡ Some after) × AreWell after }
+    ensures reopens { (before : File) (said : List ℕ) → H.file host ≡ Some before → H.tape host ≡ Some said → IsFormed before.bytes
+        → ReopensFile H.Disk before said (H.tape result.host) host result.host result.status.0 }
+    ensures stays_formed { (before : File) (said : List ℕ) → H.file host ≡ Some before → H.tape host ≡ Some said → AreFormed before
+        → (after : File) × (H.file result.host ≡ Some after) × AreFormed after }
     ensures refuses { (before : File) (said : List ℕ) → H.file host ≡ Some before → H.tape host ≡ Some said → (IsServed before.bytes → ⊥)
         → RefusesFile H.Disk before said (H.tape result.host) host result.host result.status.0 × (input.new ≡ input.old) }
     ensures keeps_refused { (before : File) → H.file host ≡ Some before → (IsServed before.bytes → ⊥) → (result.status.0 ≡ 3 → ⊥)

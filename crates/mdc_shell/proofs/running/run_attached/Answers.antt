@@ -1,12 +1,15 @@
-use Rattle.std.proofs.Common.{◌≡◌, ℕ, List, Option, Err, sym, subst, ◌∙◌, ap}
+use Rattle.std.proofs.Common.{◌≡◌, ◌⊎◌, ◌++◌, ℕ, List, Option, Err, sym, subst, ◌∙◌, ap}
 use Rattle.mdc_outside.specs.Disk.{File}
+use Rattle.page_file.proofs.LeavesLemmas.{sound_image}
 use Rattle.page_store.specs.Opened.{file_bytes}
 use Rattle.script_session.specs.Told.{TellsMore}
 use Rattle.file_session.specs.Breaking.{IsDamageOf}
+use Rattle.file_session.specs.Ending.{IsRefused}
+use Rattle.file_session.specs.Serving.{RepliesBySession}
 use Rattle.file_session.specs.declared.stop.FileStop.TheVariants.{Device}
 use Rattle.mdc_shell.specs.Status.{SaysEnd, line_of_end, status_of}
-use Rattle.mdc_shell.proofs.RunsLemmas.{file_of_bytes, refused_time, runs_items-quiet, runs_path-ended, status_either, takes_by_status}
-use Rattle.script_session.proofs.ToldLemmas.{same-told, tells_more-told, told_then}
+use Rattle.mdc_shell.proofs.RunsLemmas.{file_of_bytes, refused_time, reopens_file-said, runs_items-quiet, runs_path-ended, status_either, takes_by_status}
+use Rattle.script_session.proofs.ToldLemmas.{same-told, tells_more-told, told_behind, told_then}
 use Rattle.mdc_shell.proofs.running.run_attached.Goals as goal
 
 pub returns-clause-runs : goal.returns-clause-runs
@@ -29,6 +32,8 @@ returns-clause-served g c =
       cause = c.serve_file-ended.ensures.cause;
       before_line = line_tape;
       kept = subst (λ (t : Option (List ℕ)). TellsMore t line_tape) (lies c.args.host).0 (subst (λ (t : Option (List ℕ)). TellsMore first t) (lies mid).0 c.serve_file-ended.ensures.told.1);
+      replies = subst (λ (t : Option (List ℕ)). IsRefused end_ ⊎ RepliesBySession script left t line_tape end_) (lies c.args.host).0
+          (subst (λ (t : Option (List ℕ)). IsRefused end_ ⊎ RepliesBySession script left first t end_) (lies mid).0 c.serve_file-ended.ensures.replies);
       breaks = λ before is damage ends.
           subst (λ (t : Option (List ℕ)). IsDamageOf before.bytes script left t line_tape damage end_ (g.H.Disk.file c.end_run.result.host)) (lies c.args.host).0
           (subst (λ (t : Option (List ℕ)). IsDamageOf before.bytes script left first t damage end_ (g.H.Disk.file c.end_run.result.host)) (lies mid).0
@@ -39,6 +44,24 @@ returns-clause-served g c =
 pub returns-clause-stays_well : goal.returns-clause-stays_well
 returns-clause-stays_well g c = λ before said is told well.
     let after = c.serve_file-ended.ensures.stays_well before said is ((g.met.H.Host.lies_beside c.args.host).0 ∙ told) well in
+    (after.0, c.end_run.ensures.disk.same_file ∙ after.1, after.2)
+
+pub returns-clause-reopens : goal.returns-clause-reopens
+returns-clause-reopens g c = λ before said is told formed.
+    let lies = g.met.H.Host.lies_beside in
+    let disk = g.met.H.Disk in
+    let mid = c.serve_file-ended.result.host in
+    let served = c.serve_file-ended.ensures in
+    let beside = (lies c.args.host).0 ∙ told in
+    let after = served.told.0 before is in
+    let heard = told_behind (g.H.Disk.beside c.args.host).tape (g.H.Disk.beside mid).tape served.told.1.0 said beside served.told.1.1 in
+    reopens_file-said g.H.Disk before after.0 said (said ++ served.told.1.0) c.args.host mid c.end_run.result.host (g.H.Host.tape mid) (g.H.Host.tape c.end_run.result.host) c.serve_file-ended.result.end
+    c.end_run.result.status.0 (disk.only_now c.args.host) (disk.only_now mid) (disk.earlier mid) is beside after.1 (sound_image (g.H.Disk.file mid) after.0 (disk.sound mid) after.1) heard
+    (sym (lies mid).0 ∙ heard) (served.cause before is) c.end_run.ensures.ends c.end_run.ensures.time (served.reopens before said is beside formed)
+
+pub returns-clause-stays_formed : goal.returns-clause-stays_formed
+returns-clause-stays_formed g c = λ before said is told formed.
+    let after = c.serve_file-ended.ensures.stays_formed before said is ((g.met.H.Host.lies_beside c.args.host).0 ∙ told) formed in
     (after.0, c.end_run.ensures.disk.same_file ∙ after.1, after.2)
 
 pub returns-clause-refuses : goal.returns-clause-refuses
