@@ -9,7 +9,7 @@ use Rattle.node_page.specs.Looked.{SeenNode, seen_node, entries_in, children_in,
 use Rattle.store_api.specs.StoreState.{StoreState, page_at}
 use Rattle.entry_tree.specs.HeldTrees.{nodes_in}
 use Rattle.entry_tree.specs.EntryBounds.{Climbs, Rises, IsLeafPlace}
-use Rattle.entry_tree.specs.Spots.{MeetsOnWay, fence_before, fence_behind}
+use Rattle.entry_tree.specs.Spots.{LendsLeaf, MeetsOnWay, fence_before, fence_behind}
 use Rattle.entry_tree.specs.TreePlaces.{IsChildPlace}
 use Rattle.entry_tree.specs.declared.spot.Fence.{Fence}
 use Rattle.entry_tree.specs.declared.spot.Passed.{Passed}
@@ -110,6 +110,11 @@ inner_passed w bytes seen view page x at child before behind l e k p c b d = go 
 
 pub same_some : (hand : Option (List ℕ)) (one other : List ℕ) → hand ≡ Some one → hand ≡ Some other → one ≡ other
 same_some hand one other e k = cc
+
+-- a look at the page at hand shows the leaf that it lends
+pub lent_look : (width : ℕ) (hand : Option (List ℕ)) (page : List ℕ) (seen : Option SeenNode) (items : List Entry) → LendsLeaf width hand items → hand ≡ Some page
+    → ((entries : List Entry) → node_of width page ≡ LeafNode entries → seen ≡ Some (seen_node width (LeafNode entries))) → seen ≡ Some (seen_node width (LeafNode items))
+lent_look width hand page seen items lent is leaf = leaf items (subst (λ (b : List ℕ). node_of width b ≡ LeafNode items) (same_some hand lent.bytes page lent.there is) lent.leaf)
 
 -- the same of the page at hand
 pub passes_told : (w : ℕ) (state : StoreState) (p : ℕ) (x : Entry) (now : List ℕ) (passed : Passed) → (IsTrue state.is_told → now ≡ page_at state.work p) → MeetsOnWay (node_of w now) p x passed

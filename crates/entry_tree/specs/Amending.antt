@@ -55,6 +55,7 @@ pub record MovesLow (low : Option Fence) (x : Entry) (moved : Fence) : Type 0 wh
   pub moved_is : moved ≡ record { page = fence.page; at = fence.at; bound = x }
   pub over : below x fence.bound ≡ true
 
+-- the other of the two: the high separator goes up to the lowest entry behind it, since x is not below it
 pub record MovesHigh {S : Type 0} (g : Ghosts S) (s : S) (tree : Tree) (low high : Option Fence) (x : Entry) (moved : Fence) : Type 0 where
   pub fence : Fence
   pub there : high ≡ Some fence
@@ -64,6 +65,7 @@ pub record MovesHigh {S : Type 0} (g : Ghosts S) (s : S) (tree : Tree) (low high
   pub over : below x fence.bound ≡ false
   pub first : (t : Forest) → HoldsTree g s tree t → IsFirstFrom (leaf_entries t) fence.bound moved.bound
 
+-- no separator has to be moved, since x lies between the nearest two, or the one that has to be is this
 abbrev pub MakesRoom : {S : Type 0} → Ghosts S → S → Tree → Option Fence → Option Fence → Entry → Option Fence → Type 0
 MakesRoom g s tree low high x None = AtLeast (fence_bound low) x × Under (fence_bound high) x
 MakesRoom g s tree low high x (Some moved) = MovesLow low x moved ⊎ MovesHigh g s tree low high x moved
@@ -86,10 +88,12 @@ abbrev pub SetsMoved : {S : Type 0} → Ghosts S → S → S → ℕ → Option 
 SetsMoved g old new width None = (g.state new).work ≡ (g.state old).work
 SetsMoved g old new width (Some moved) = SetsAt g old new width moved.page moved.at moved.bound
 
+-- p is the page of the separator that has to be moved, if one has to
 abbrev pub IsMovedPage : Option Fence → ℕ → Type 0
 IsMovedPage None p = ⊥
 IsMovedPage (Some moved) p = p ≡ moved.page
 
+-- the separator that has to be moved is at no place of its page
 abbrev pub BreaksMoved : {S : Type 0} → Ghosts S → S → Tree → Option Fence → Damage → Type 0
 BreaksMoved g s tree None damage = ⊥
 BreaksMoved g s tree (Some moved) damage = BreaksSlot g s tree moved.page moved.at damage

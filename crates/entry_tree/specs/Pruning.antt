@@ -114,6 +114,7 @@ abbrev pub IsDroppableLeaf : {S : Type 0} → Ghosts S → S → Tree → ℕ �
 IsDroppableLeaf g s tree leaf page at =
     (was : ℕ → Node) × (t : Forest) × (frame : Frame) × (above : List Frame) × IsEmptied was (nodes_in tree.width (g.state s)) tree.root t frame above leaf page at
 
+-- damage that is met while a leaf leaves its tree: the leaf is none of it, or a page that it gives back is not in use
 abbrev pub BreaksDrop : {S : Type 0} → Ghosts S → Extents → S → Tree → ℕ → ℕ → ℕ → Damage → Type 0
 BreaksDrop g ext s tree leaf page at damage =
     BreaksWhere tree (IsDroppableLeaf g s tree leaf page at) damage

@@ -24,6 +24,7 @@ pub record HasInnerSlot (width : ℕ) (page : List ℕ) (at : ℕ) : Type 0 wher
   pub fits : stated_entries page * fork_width width ≤ 4080
   pub no_leaf : (items : List Entry) → node_of width page ≡ LeafNode items → ⊥
 
+-- what is at a place of a page: nothing, an entry of a leaf, or a separator of an inner node
 abbrev pub IsSlot : ℕ → List ℕ → ℕ → Slot → Type 0
 IsSlot width page at Nowhere = HasNoSlot width page at
 IsSlot width page at OfLeaf = HasLeafSlot width page at

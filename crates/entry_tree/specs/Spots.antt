@@ -12,10 +12,11 @@ use Rattle.entry_tree.specs.declared.spot.Fence.{Fence}
 use Rattle.entry_tree.specs.declared.spot.Passed.{Passed}
 use Rattle.entry_tree.specs.declared.spot.Passed.TheVariants.{NoNodeThere, LeafThere, ChildThere}
 
--- the separator before child i of a node, and the one behind it
+-- the separator before child i of a node
 abbrev pub fence_before : ℕ → List Entry → ℕ → Option Fence
 fence_before page seps i = if nat_lt 0 i then Some (record { page = page; at = i - 1; bound = get_or seps (i - 1) [] }) else None
 
+-- the separator behind child i of a node
 abbrev pub fence_behind : ℕ → List Entry → ℕ → Option Fence
 fence_behind page seps i = if nat_lt i (length seps) then Some (record { page = page; at = i; bound = get_or seps i [] }) else None
 
@@ -24,20 +25,22 @@ abbrev pub nearer_fence : Option Fence → Option Fence → Option Fence
 nearer_fence None far = far
 nearer_fence (Some near) far = Some near
 
--- the nearest separator left of a place
+-- the nearest separator left of a place: in this node, or else one further up
 abbrev pub low_fence_in : Frame → List Entry → Option Fence → Option Fence
 low_fence_in f [] far = far
 low_fence_in f (l ∷ lows) far = Some (record { page = f.page; at = length lows; bound = get_or (l ∷ lows) (length lows) [] })
 
+-- the nearest separator left of a place, whose way down is given from its end
 abbrev pub low_fence : List Frame → Option Fence
 low_fence [] = None
 low_fence (f ∷ fs) = low_fence_in f f.lows (low_fence fs)
 
--- and the nearest one right of it
+-- the nearest separator right of a place: in this node, or else one further up
 abbrev pub high_fence_in : Frame → List Entry → Option Fence → Option Fence
 high_fence_in f [] far = far
 high_fence_in f (h ∷ highs) far = Some (record { page = f.page; at = length f.lows; bound = h })
 
+-- the nearest separator right of a place, whose way down is given from its end
 abbrev pub high_fence : List Frame → Option Fence
 high_fence [] = None
 high_fence (f ∷ fs) = high_fence_in f f.highs (high_fence fs)
@@ -52,6 +55,7 @@ abbrev pub FenceFits : ℕ → Option Fence → Type 0
 FenceFits width None = ⊤
 FenceFits width (Some fence) = length fence.bound ≡ width
 
+-- the separators between which a way goes on are as wide as entries
 abbrev pub PassedFits : ℕ → Passed → Type 0
 PassedFits width NoNodeThere = ⊤
 PassedFits width (LeafThere at there) = ⊤

@@ -1,5 +1,5 @@
 // An entry more.
-ghost use Rattle.std.specs.Prelude.{◌≡◌, ◌<◌, ℕ, List, length, reverse, false, IfOk, IfErr, OnOk, All, MatchBool};
+ghost use Rattle.std.specs.Prelude.{◌≡◌, ◌<◌, List, length, reverse, false, IfOk, IfErr, OnOk, All, MatchBool};
 ghost use Rattle.store_api.specs.Causes.{fault_of, store_fault_in};
 ghost use Rattle.store_api.specs.RunsOverPages.{RunsOverPages};
 ghost use Rattle.extent_map.specs.Damages.{IfFull, store_part_of};

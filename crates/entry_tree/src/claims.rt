@@ -1,5 +1,5 @@
 // Several index pages that are claimed before a tree changes.
-ghost use Rattle.std.specs.Prelude.{◌≡◌, ◌<◌, ℕ, List, length, false, IfOk, IfErr, All};
+ghost use Rattle.std.specs.Prelude.{◌≡◌, ◌<◌, List, length, false, IfOk, IfErr, All};
 ghost use Rattle.store_api.specs.Causes.{store_fault_in};
 ghost use Rattle.store_api.specs.RunsOverPages.{RunsOverPages};
 ghost use Rattle.extent_map.specs.Damages.{BreaksSpace, IfFull, store_part_of};

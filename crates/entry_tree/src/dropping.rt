@@ -5,12 +5,12 @@ ghost use Rattle.store_api.specs.Causes.{fault_of};
 ghost use Rattle.store_api.specs.RunsOverPages.{RunsOverPages};
 ghost use Rattle.extent_map.specs.Damages.{BreaksUsedPage};
 ghost use Rattle.extent_map.specs.Map.{HoldsMap, IsMapPage};
-ghost use Rattle.extent_map.specs.Owners.{AreRightNotes, IsUsedPage, IsSameShape, without_page};
+ghost use Rattle.extent_map.specs.Owners.{AreRightNotes, IsSameShape, without_page};
 ghost use Rattle.extent_map.specs.declared.kind.Kind.{Kind};
-ghost use Rattle.entry_tree.specs.Forest.{Forest, times};
+ghost use Rattle.entry_tree.specs.Forest.{Forest};
 ghost use Rattle.entry_tree.specs.HeldTrees.{nodes_in};
 ghost use Rattle.entry_tree.specs.TreePlaces.{Frame};
-ghost use Rattle.entry_tree.specs.Pruning.{IsEmptied, DropsLeaf, IsDropPage, IsDropLook, BreaksDrop, IsDropping};
+ghost use Rattle.entry_tree.specs.Pruning.{DropsLeaf, IsDropPage, IsDropLook, BreaksDrop, IsDropping};
 
 use crate::Tree;
 use crate::pruning::{other_child, take_content, take_from_inner};

@@ -1,5 +1,5 @@
 // Nodes of a tree that are changed in place, and cut in two.
-ghost use Rattle.std.specs.Prelude.{◌≡◌, ◌≢◌, ◌+◌, ◌<◌, ℕ, List, [], ◌∷◌, ◌++◌, take, drop, length, true, false, IsTrue, OnOk};
+ghost use Rattle.std.specs.Prelude.{◌≡◌, ◌≢◌, ◌+◌, ◌<◌, ℕ, List, ◌∷◌, ◌++◌, take, drop, length, true, false, IsTrue, OnOk};
 ghost use Rattle.mdc_words.specs.ByteOrder.{Entry};
 ghost use Rattle.node_page.specs.Node.Node.{LeafNode, InnerNode};
 ghost use Rattle.store_api.specs.Frame.{OnlyPage};

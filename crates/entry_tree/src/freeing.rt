@@ -1,5 +1,5 @@
 // Giving all pages of a tree back.
-ghost use Rattle.std.specs.Prelude.{◌≡◌, ◌+◌, ◌<◌, ◌++◌, ℕ, List, length, true, false, IfOk, OnOk};
+ghost use Rattle.std.specs.Prelude.{◌≡◌, ◌+◌, ◌<◌, ℕ, List, length, true, false, IfOk, OnOk};
 ghost use Rattle.mdc_words.specs.ByteOrder.{Entry};
 ghost use Rattle.node_page.specs.Node.{node_of};
 ghost use Rattle.node_page.specs.Node.Node.{LeafNode, InnerNode};

@@ -1,5 +1,5 @@
 // The way up of an addition, from a leaf that was cut in two.
-ghost use Rattle.std.specs.Prelude.{◌≡◌, ◌≢◌, ◌<◌, ◌+◌, ℕ, List, length, reverse, slice_index, false, OnOk, All};
+ghost use Rattle.std.specs.Prelude.{◌≡◌, ◌<◌, ◌+◌, ℕ, length, reverse, slice_index, false, OnOk, All};
 ghost use Rattle.mdc_words.specs.ByteOrder.{Entry};
 ghost use Rattle.node_page.specs.Node.{Node};
 ghost use Rattle.store_api.specs.Causes.{fault_of};

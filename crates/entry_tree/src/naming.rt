@@ -1,5 +1,5 @@
 // Entries of one leaf that name a block of a set.
-ghost use Rattle.std.specs.Prelude.{◌≡◌, ◌+◌, ◌<◌, ◌≤◌, ℕ, List, length, false, IsTrue, IfOk, IfSome, OnOk};
+ghost use Rattle.std.specs.Prelude.{◌≡◌, ◌+◌, ◌<◌, ◌≤◌, List, length, false, IsTrue, IfOk, IfSome, OnOk};
 ghost use Rattle.mdc_words.specs.ByteOrder.{Entry};
 ghost use Rattle.node_page.specs.Entries.{without_blocks};
 ghost use Rattle.node_page.specs.Node.{node_of};

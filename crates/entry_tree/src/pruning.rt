@@ -1,9 +1,9 @@
 // Nodes of a tree that lose an entry or a child, in place.
-ghost use Rattle.std.specs.Prelude.{Option, ◌≡◌, ◌≢◌, ◌+◌, ◌-◌, ◌*◌, ◌<◌, ◌≤◌, ℕ, List, length, false, IsTrue, IfOk, OnOk};
+ghost use Rattle.std.specs.Prelude.{Option, ◌≡◌, ◌≢◌, ◌-◌, ◌*◌, ◌<◌, ◌≤◌, ℕ, List, length, false, IsTrue, IfOk, OnOk};
 ghost use Rattle.std.specs.List.{remove};
 ghost use Rattle.mdc_words.specs.ByteOrder.{Entry};
 ghost use Rattle.node_page.specs.Looked.{fork_width};
-ghost use Rattle.node_page.specs.Node.{Node, node_of, stated_entries};
+ghost use Rattle.node_page.specs.Node.{node_of, stated_entries};
 ghost use Rattle.node_page.specs.Node.Node.{LeafNode, InnerNode, NoNode};
 ghost use Rattle.store_api.specs.Frame.{NoPage, OnlyPage};
 ghost use Rattle.store_api.specs.Causes.{fault_of};

@@ -1,5 +1,5 @@
 // The entries of a tree, a leaf at a time.
-ghost use Rattle.std.specs.Prelude.{◌≡◌, ◌≤◌, ◌+◌, ◌-◌, ◌*◌, ℕ, List, [], length, drop, false, IsSome, OnOk, OnErr, IfOk};
+ghost use Rattle.std.specs.Prelude.{◌≡◌, ◌≤◌, ◌+◌, ◌-◌, ◌*◌, List, [], length, drop, false, IsSome, OnOk, OnErr, IfOk};
 ghost use Rattle.mdc_words.specs.ByteOrder.{Entry};
 ghost use Rattle.store_api.specs.Frame.{NoPage};
 ghost use Rattle.store_api.specs.Causes.{fault_of};
@@ -8,7 +8,7 @@ ghost use Rattle.node_page.specs.Node.{bytes_in};
 ghost use Rattle.entry_tree.specs.Entries.{AreOfWidth};
 ghost use Rattle.entry_tree.specs.Forest.{Forest, leaf_entries};
 ghost use Rattle.entry_tree.specs.HeldTrees.{HoldsTree, IsTreePage, BreaksTree};
-ghost use Rattle.entry_tree.specs.Reading.{IsLeafFrom, IsReadAt, BoundFits, IsFirstOr, first_entry};
+ghost use Rattle.entry_tree.specs.Reading.{IsLeafFrom, IsReadAt, BoundFits, IsFirstOr};
 ghost use Rattle.entry_tree.specs.Spots.{LendsLeaf, fence_bound};
 
 use crate::spot::{Fence, find_spot};

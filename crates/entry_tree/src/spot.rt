@@ -1,5 +1,5 @@
 // The way down to the leaf of an entry, with the separators nearest to it.
-ghost use Rattle.std.specs.Prelude.{◌≡◌, ◌<◌, ◌≤◌, ℕ, List, length, false, IsSome, IfOk, IfSome, OnOk};
+ghost use Rattle.std.specs.Prelude.{◌≡◌, ◌<◌, ◌≤◌, List, length, false, IsSome, IfOk, IfSome, OnOk};
 ghost use Rattle.mdc_words.specs.ByteOrder.{Entry};
 ghost use Rattle.store_api.specs.Frame.{NoPage, OnlyPage};
 ghost use Rattle.store_api.specs.Causes.{fault_of, NoDamage};
@@ -9,7 +9,7 @@ ghost use Rattle.node_page.specs.Node.Node.{LeafNode};
 ghost use Rattle.node_page.specs.Looked.{entries_in};
 ghost use Rattle.entry_tree.specs.Forest.{Forest};
 ghost use Rattle.entry_tree.specs.HeldTrees.{nodes_in, HoldsTree, IsTreePage, BreaksTree};
-ghost use Rattle.entry_tree.specs.Spots.{nearer_fence, fence_before, fence_behind, MeetsOnWay, PassedFits, FenceFits, LendsLeaf, IsSpotBelow, IsSpot};
+ghost use Rattle.entry_tree.specs.Spots.{nearer_fence, fence_before, fence_behind, MeetsOnWay, PassedFits, FenceFits, LendsLeaf, IsSpotBelow};
 
 use crate::{Entry, Tree};
 use node_page::NodeView;

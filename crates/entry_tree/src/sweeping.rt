@@ -1,5 +1,5 @@
 // Entries leave a leaf of a tree because they name a block of a set.
-ghost use Rattle.std.specs.Prelude.{◌≡◌, ◌+◌, ◌<◌, ◌≤◌, List, length, true, false, IfOk, IfSome, OnOk};
+ghost use Rattle.std.specs.Prelude.{◌≡◌, ◌+◌, ◌<◌, ◌≤◌, List, length, false, IfOk, IfSome, OnOk};
 ghost use Rattle.mdc_words.specs.ByteOrder.{Entry};
 ghost use Rattle.node_page.specs.Entries.{count_named, without_blocks};
 ghost use Rattle.node_page.specs.Node.Node.{LeafNode};

@@ -136,6 +136,10 @@ module _ {S : Type 0} {g : Ghosts S} where
   pub zeros_none : {Mine : ℕ → Type 0} {old new : S} → length (g.state new).work ≤ length (g.state old).work → BringsZeros g Mine old new
   zeros_none shorter = record { zeros = λ told p other behind within. absurd (omega (arith, shorter, behind, within)) }
 
+  -- they came behind a time in which the work stayed
+  pub zeros_after : {Mine : ℕ → Type 0} {old middle new : S} → (g.state middle).is_told ≡ (g.state old).is_told → (g.state middle).work ≡ (g.state old).work → BringsZeros g Mine middle new → BringsZeros g Mine old new
+  zeros_after told same run = record { zeros = λ is p other behind within. run.zeros (told ∙ is) p other (omega (arith, ap length same, behind)) within }
+
   pub zeros_grown : {old new : S} (n : ℕ) → GrowsBy g n old new → BringsZeros g NoPage old new
   zeros_grown n grows = record { zeros = λ told p other behind within. grows.zeros told p behind (omega (arith, within, grows.count)) }
 

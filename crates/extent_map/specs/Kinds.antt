@@ -21,10 +21,11 @@ IsKindOf extent_pages (Index used) = (0 < used) × (used < 2 ^ extent_pages)
 abbrev pub free_stated : ℕ → ℕ → Option Kind
 free_stated owner used = if owner == 0 && used == 0 then Some Free else None
 
--- the same of a block, and of an index extent
+-- the same of a block: it has the number of its table, and no bit
 abbrev pub block_stated : ℕ → ℕ → Option Kind
 block_stated owner used = if used == 0 then Some (Block owner) else None
 
+-- the same of an index extent: it has no owner, a bit at least, and none for a page that it doesn't have
 abbrev pub index_stated : ℕ → ℕ → ℕ → Option Kind
 index_stated extent_pages owner used = if owner == 0 && nat_lt 0 used && nat_lt used (2 ^ extent_pages) then Some (Index used) else None
 

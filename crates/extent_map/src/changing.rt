@@ -6,7 +6,7 @@ ghost use Rattle.store_api.specs.Causes.{fault_of, NoDamage};
 ghost use Rattle.store_api.specs.RunsOverPages.{RunsOverPages};
 ghost use Rattle.extent_map.specs.Damages.{BreaksSpace};
 ghost use Rattle.extent_map.specs.Kinds.{kind_bytes};
-ghost use Rattle.extent_map.specs.Map.{ChangesCount, StatesGrowth, BringsZeros, KeepsMapForm, map_page_of, entry_place};
+ghost use Rattle.extent_map.specs.Map.{ChangesCount, StatesGrowth, BringsZeros, map_page_of, entry_place};
 
 use crate::Extents;
 use crate::kind::{Kind, kind_bytes};

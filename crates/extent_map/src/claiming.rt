@@ -5,7 +5,7 @@ ghost use Rattle.store_api.specs.Causes.{fault_of};
 ghost use Rattle.store_api.specs.RunsOverPages.{RunsOverPages};
 ghost use Rattle.extent_map.specs.Claims.{ClaimsExtent, HasNoneFrom, TakesPage};
 ghost use Rattle.extent_map.specs.Damages.{BreaksSpace};
-ghost use Rattle.extent_map.specs.Kinds.{IsKindOf, with_used_place};
+ghost use Rattle.extent_map.specs.Kinds.{IsKindOf};
 ghost use Rattle.extent_map.specs.Map.{HoldsMap, IsSpacePage, ChangesCount, BringsZeros, KeepsMapForm, map_page_of};
 ghost use Rattle.extent_map.specs.Searches.{IsFound, ShowsOwner};
 ghost use Rattle.extent_map.specs.declared.kind.Kind.{Kind};

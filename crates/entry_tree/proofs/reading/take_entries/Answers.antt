@@ -1,11 +1,13 @@
-use Rattle.std.proofs.Common.{◌≡◌, ◌+◌, ◌-◌, ◌*◌, arith, ap, subst, ◌∙◌, length, List, ℕ}
+use Rattle.std.proofs.Common.{◌≡◌, ◌+◌, ◌-◌, ◌*◌, arith, ap, subst, sym, ◌∙◌, length, List, ℕ}
+use Rattle.std.proofs.lemmas.List.{drop_all}
 use Rattle.std.proofs.lemmas.Result.{on_ok_weaker}
 use Rattle.node_page.specs.Node.{bytes_in, node_of}
 use Rattle.node_page.specs.Node.Node.{LeafNode}
-use Rattle.node_page.specs.Looked.{SeenNode, entries_in, seen_node}
+use Rattle.node_page.specs.Looked.{SeenNode, entries_in, is_leaf_node, seen_node}
 use Rattle.entry_tree.specs.Entries.{AreOfWidth, strings_in}
-use Rattle.entry_tree.proofs.PassedLemmas.{same_some}
+use Rattle.entry_tree.proofs.PassedLemmas.{lent_look, same_some}
 use Rattle.entry_tree.proofs.StringsLemmas.{taken, taken_width}
+use Rattle.entry_tree.proofs.reading.take_entries.Goals.{then-not-is_leaf-via-then-not-is_leaf, then-not-is_leaf-via-else-not-is_leaf+then-at-count}
 use Rattle.entry_tree.proofs.reading.take_entries.Goals as goal
 
 pub returns-clause-taken : goal.returns-clause-taken
@@ -22,3 +24,17 @@ pub returns-clause-width : goal.returns-clause-width
 returns-clause-width g c =
     subst (λ (w : ℕ). AreOfWidth w c.fill.new.self) c.from-width.ensures
     (taken_width c.fill.result c.from-width.result (c.len-count.result - c.args.at) c.part_of.result.now c.fill.new.self c.fill.ensures.ok c.fill.ensures.err c.part_of.ensures.len)
+
+pub returns-in_default-clause-taken : goal.returns-in_default-clause-taken
+returns-in_default-clause-taken g c items l = let s = lent_look _ _ c.page-page.result.now c.look.result items l c.page-page.ensures c.look.ensures.leaf in cc (s, c.in_default.is)
+
+pub returns-then-not-is_leaf-clause-taken : goal.returns-then-not-is_leaf-clause-taken
+returns-then-not-is_leaf-clause-taken g c items l =
+    let same : c.in-Some.view ≡ seen_node c.args.tree.now.width (LeafNode items) =
+    let s = lent_look _ _ c.page-page.result.now c.look.result items l c.page-page.ensures c.look.ensures.leaf in cc (s, c.in-Some.is) in
+    elim c.then-not-is_leaf.branch [
+      | then-not-is_leaf-via-then-not-is_leaf w ↦ let leaf = c.is_leaf.ensures.leaf ∙ ap (λ (v : SeenNode). is_leaf_node v.node) same in cc (leaf, w.if-not-is_leaf.true)
+      | then-not-is_leaf-via-else-not-is_leaf+then-at-count w ↦
+          let count : c.len-count.result ≡ length items = c.len-count.ensures ∙ ap (λ (v : SeenNode). length (entries_in v.node)) same in
+          c.clear.ensures ∙ sym (drop_all c.args.at items (omega (arith, count, w.if-at-count.true)))
+    ]

@@ -1,17 +1,20 @@
-use Rattle.std.proofs.Common.{◌≡◌, ◌<◌, List, None, IfSome, IfNone, inl, inr, refl, subst, arith}
+use Rattle.std.proofs.Common.{◌≡◌, ◌<◌, ◌+◌, ◌∙◌, List, None, IfSome, IfNone, ap, inl, inr, length, max, refl, subst, sym, arith, ℕ}
+use Rattle.store_api.specs.Extents.{first_page_of}
 use Rattle.store_api.specs.RunsOverPages.{RunsOverPages}
 use Rattle.store_api.proofs.RunsOverPagesLemmas.{runs_then, runs_wider, runs_exit_as}
 use Rattle.extent_map.specs.Claims.{ClaimsExtent, HasNoneFrom}
 use Rattle.extent_map.specs.Damages.{BreaksSpace, store_part_of}
 use Rattle.extent_map.specs.Map.{HoldsMap, IsSpacePage}
+use Rattle.extent_map.specs.Owners.{IsExtentPage, extent_of}
 use Rattle.extent_map.specs.Searches.{IsFound, FindsWanted}
 use Rattle.extent_map.specs.declared.finding.Wanted.TheVariants.{UnusedPage}
 use Rattle.extent_map.specs.declared.kind.Kind.{Kind}
 use Rattle.extent_map.specs.declared.kind.Kind.TheVariants.{Index}
 use Rattle.extent_map.proofs.BitsLemmas.{lowest_unused_below}
-use Rattle.extent_map.proofs.ClaimsLemmas.{on_err, changes_count_after, changes_count_still}
+use Rattle.extent_map.proofs.ClaimsLemmas.{on_err, changes_count_after, changes_count_still, counted_same}
 use Rattle.extent_map.proofs.DamagesLemmas.{breaks_space_same}
-use Rattle.extent_map.proofs.GrowthLemmas.{growth_same, growth_then}
+use Rattle.extent_map.proofs.ExtentsLemmas.{extent_limits, extent_of-page, is_extent_page}
+use Rattle.extent_map.proofs.GrowthLemmas.{growth_same, growth_still, growth_then, zeros_after, zeros_none}
 use Rattle.extent_map.proofs.MapFormLemmas.{forms_same, forms_then}
 use Rattle.extent_map.proofs.HoldsMapLemmas.{is_map_page, holds_map_along, holds_map_same}
 use Rattle.extent_map.proofs.IndexPagesLemmas.{are_kinds, taken_unused, taken_lowest, taken_list, taken_notes, begun_claimable, begun_lowest, begun_list, begun_notes, has_no_free, has_no_unused, full_notes, none_behind}
@@ -185,3 +188,90 @@ returns-clause-stated g c =
 
 pub returns-clause-forms : goal.returns-clause-forms
 returns-clause-forms g c = forms_then (forms_same c.find.ensures.runs.works.steady.is_told c.find.ensures.same) c.claim_extent.ensures.forms
+
+pub returns-in-Some-clause-within : goal.returns-in-Some-clause-within
+returns-in-Some-clause-within g c =
+    let ext = c.args.self.now in
+    let takes = c.in_ok-p.ensures.takes in
+    let less = lowest_unused_below ext.extent_pages takes.place c.in-Some.kind takes.lowest in
+    let found = subst (λ f. IfSome f (IsFound UnusedPage ext.extent_pages ext.unused_from c.whole_extents-to.result)) c.in-Some.is c.in_ok-found.ensures.fits in
+    let below : c.in-Some.e < ext.cap = omega (arith, found.within, c.whole_extents-to.ensures.within) in
+    subst (IsExtentPage ext) (sym takes.page) (is_extent_page ext c.in-Some.e takes.place below less)
+
+pub returns-in-Some-clause-there : goal.returns-in-Some-clause-there
+returns-in-Some-clause-there g c =
+    let ext = c.args.self.now in
+    let takes = c.in_ok-p.ensures.takes in
+    let less = lowest_unused_below ext.extent_pages takes.place c.in-Some.kind takes.lowest in
+    omega (arith, less, takes.page, takes.there, takes.count)
+
+pub returns-in-Some-clause-count : goal.returns-in-Some-clause-count
+returns-in-Some-clause-count g c =
+    let ext = c.args.self.now in
+    let takes = c.in_ok-p.ensures.takes in
+    let less = lowest_unused_below ext.extent_pages takes.place c.in-Some.kind takes.lowest in
+    let there : extent_of ext c.in_ok-p.p ≡ c.in-Some.e = subst (λ (q : ℕ). extent_of ext q ≡ c.in-Some.e) (sym takes.page) (extent_of-page ext c.in-Some.e takes.place less) in
+    subst (λ (e : ℕ). length (g.P.Pages.state c.take_page.new.pages).work ≡ max (length (g.P.Pages.state c.args.pages.now).work) (first_page_of ext.cap ext.extent_pages (e + 1))) (sym there)
+    (omega (arith, takes.count, takes.there, ap length c.find.ensures.same))
+
+pub returns-in-Some-clause-counted : goal.returns-in-Some-clause-counted
+returns-in-Some-clause-counted g c = λ counted. c.in_ok-p.ensures.takes.counted (counted_same c.find.ensures.runs.works.steady.is_told c.find.ensures.same counted)
+
+pub returns-in-Some-clause-stated : goal.returns-in-Some-clause-stated
+returns-in-Some-clause-stated g c =
+    growth_then c.find.ensures.runs.works.no_shorter c.take_page.ensures.runs.works.no_shorter (growth_same c.find.ensures.runs.works.steady.is_told c.find.ensures.same) (growth_still c.take_page.ensures.runs.touches (omega arith) c.in_ok-p.ensures.takes.count)
+
+pub returns-in-Some-clause-zeros : goal.returns-in-Some-clause-zeros
+returns-in-Some-clause-zeros g c = zeros_none (omega (arith, c.in_ok-p.ensures.takes.count, ap length c.find.ensures.same))
+
+pub returns-clause-within : goal.returns-clause-within
+returns-clause-within g c =
+    let ext = c.args.self.now in
+    let claim = subst (λ f. IfSome f (λ e. ClaimsExtent g.P.Pages ext (Index 1) c.find.new.pages c.claim_extent.new.pages e)) c.in-Some-2.is c.in_ok-e.ensures.claims in
+    let some = (extent_limits ext).0 in
+    let at : c.first_page.result ≡ first_page_of ext.cap ext.extent_pages c.in-Some-2.e + 0 = omega (arith, c.first_page.ensures) in
+    subst (IsExtentPage ext) (sym at) (is_extent_page ext c.in-Some-2.e 0 claim.within (omega (arith, some)))
+
+pub returns-clause-there : goal.returns-clause-there
+returns-clause-there g c =
+    let ext = c.args.self.now in
+    let claim = subst (λ f. IfSome f (λ e. ClaimsExtent g.P.Pages ext (Index 1) c.find.new.pages c.claim_extent.new.pages e)) c.in-Some-2.is c.in_ok-e.ensures.claims in
+    let some = (extent_limits ext).0 in omega (arith, some, claim.count, c.first_page.ensures)
+
+pub returns-clause-count : goal.returns-clause-count
+returns-clause-count g c =
+    let ext = c.args.self.now in
+    let claim = subst (λ f. IfSome f (λ e. ClaimsExtent g.P.Pages ext (Index 1) c.find.new.pages c.claim_extent.new.pages e)) c.in-Some-2.is c.in_ok-e.ensures.claims in
+    let some = (extent_limits ext).0 in
+    let at : c.first_page.result ≡ first_page_of ext.cap ext.extent_pages c.in-Some-2.e + 0 = omega (arith, c.first_page.ensures) in
+    let there : extent_of ext c.first_page.result ≡ c.in-Some-2.e = subst (λ (q : ℕ). extent_of ext q ≡ c.in-Some-2.e) (sym at) (extent_of-page ext c.in-Some-2.e 0 (omega (arith, some))) in
+    subst (λ (e : ℕ). length (g.P.Pages.state c.claim_extent.new.pages).work ≡ max (length (g.P.Pages.state c.args.pages.now).work) (first_page_of ext.cap ext.extent_pages (e + 1))) (sym there)
+    (omega (arith, claim.count, ap length c.find.ensures.same))
+
+pub returns-clause-counted : goal.returns-clause-counted
+returns-clause-counted g c =
+    let ext = c.args.self.now in
+    let claim = subst (λ f. IfSome f (λ e. ClaimsExtent g.P.Pages ext (Index 1) c.find.new.pages c.claim_extent.new.pages e)) c.in-Some-2.is c.in_ok-e.ensures.claims in
+    λ counted. claim.counted (counted_same c.find.ensures.runs.works.steady.is_told c.find.ensures.same counted)
+
+pub returns-clause-zeros : goal.returns-clause-zeros
+returns-clause-zeros g c = zeros_after c.find.ensures.runs.works.steady.is_told c.find.ensures.same c.claim_extent.ensures.zeros
+
+pub returns-in_err-p-clause-zeros : goal.returns-in_err-p-clause-zeros
+returns-in_err-p-clause-zeros g c = zeros_none (omega (arith, ap length c.in_err-p.ensures.kept, ap length c.find.ensures.same))
+
+pub returns-in_err-p-clause-root : goal.returns-in_err-p-clause-root
+returns-in_err-p-clause-root g c = changes_count_still c.find.ensures.runs.works.steady.is_told c.find.ensures.same c.take_page.ensures.runs.touches (omega arith)
+
+pub returns-in_err-e-clause-zeros : goal.returns-in_err-e-clause-zeros
+returns-in_err-e-clause-zeros g c = zeros_after c.find.ensures.runs.works.steady.is_told c.find.ensures.same c.claim_extent.ensures.zeros
+
+pub returns-in_default-2-clause-zeros : goal.returns-in_default-2-clause-zeros
+returns-in_default-2-clause-zeros g c = zeros_after c.find.ensures.runs.works.steady.is_told c.find.ensures.same c.claim_extent.ensures.zeros
+
+pub returns-in_default-2-clause-root : goal.returns-in_default-2-clause-root
+returns-in_default-2-clause-root g c = changes_count_after c.find.ensures.runs.works.steady.is_told c.find.ensures.same c.in_ok-e.ensures.root
+
+pub returns-in_default-2-clause-full : goal.returns-in_default-2-clause-full
+returns-in_default-2-clause-full g c =
+    (refl, subst (λ f. IfNone f ((g.P.Pages.state c.claim_extent.new.pages).work ≡ (g.P.Pages.state c.find.new.pages).work)) c.in_default-2.is c.in_ok-e.ensures.none_same ∙ c.find.ensures.same)

@@ -1,14 +1,15 @@
-use Rattle.std.proofs.Common.{◌/◌, length, ◌∙◌, None, inl, inr, refl, sym, ap, subst, arith}
+use Rattle.std.proofs.Common.{◌≡◌, ◌/◌, ℕ, length, ◌∙◌, None, inl, inr, refl, sym, ap, subst, arith}
 use Rattle.store_api.specs.Frame.{OnlyPage, PatchesPage}
 use Rattle.store_api.specs.RunsOverPages.{RunsOverPages}
 use Rattle.store_api.proofs.RunsOverPagesLemmas.{runs_damage, runs_exit, runs_more, runs_wider}
 use Rattle.extent_map.specs.Damages.{BreaksUsedPage}
 use Rattle.extent_map.specs.Kinds.{without_place, kind_bytes}
 use Rattle.extent_map.specs.Map.{HoldsMap, HoldsMapPage, map_page_of, entry_place}
-use Rattle.extent_map.specs.Owners.{extent_of}
+use Rattle.extent_map.specs.Owners.{extent_of, owner_of}
 use Rattle.extent_map.proofs.BitsLemmas.{is_kind-without_place}
 use Rattle.extent_map.proofs.ExtentsLemmas.{used_by_parts, without_page-parts}
 use Rattle.extent_map.proofs.MapFormLemmas.{forms_same, forms_set, forms_then}
+use Rattle.extent_map.proofs.OwnersLemmas.{right_notes-set}
 use Rattle.extent_map.proofs.HoldsMapLemmas.{holds_map_along, holds_map_same, holds_map_set}
 use Rattle.extent_map.proofs.extents.Extents.give_index_page.Goals as goal
 
@@ -74,3 +75,20 @@ returns-clause-forms g c =
     (forms_set e (without_place j kind) (is_kind-without_place ext.extent_pages j kind c.in_ok-kind.ensures.form)
     (λ owned. omega (arith, c.in_ok-kind.ensures.there (λ free. owned (ap (without_place j) free)), c.set_kind.ensures.count, ap length c.kind.ensures.same))
     (omega (arith, c.set_kind.ensures.count)) patches c.set_kind.ensures.runs.touches)
+
+pub returns-clause-notes : goal.returns-clause-notes
+returns-clause-notes g c = λ owners is notes.
+    let ext = c.args.self.now in
+    right_notes-set _ owners (extent_of ext c.args.p) _ (λ below. absurd (omega (arith, below, c.min-self.ensures, c.extent_of-e.ensures.value))) (λ below. absurd (omega (arith, below, c.min-self-2.ensures, c.extent_of-e.ensures.value)))
+    (λ i below within other. notes.free i (omega (arith, below, c.min-self.ensures)) within) (λ i j below less other. notes.unused i j (omega (arith, below, c.min-self-2.ensures)) less)
+
+pub returns-clause-used : goal.returns-clause-used
+returns-clause-used g c = λ owners is. record {
+  page = c.requires.page;
+  used =
+      let here = subst (λ (e : ℕ). c.in_ok-kind.kind ≡ owner_of owners e) c.extent_of-e.ensures.value (c.in_ok-kind.ensures.value owners is) in
+      let place = c.place_of-place.ensures.value in
+      let is_used = c.is_used_place.ensures in
+      let so = c.if-not-is_used_place.false in
+      cc;
+}
