@@ -34,10 +34,12 @@ closed_lines lines = lines.text ++ decimal lines.rows ++ codes " ROWS\n"
 
 -- ---- what may be shown
 
+-- a column as it is, and no COUNT, SUM, MIN or MAX
 abbrev pub is_column_out : BoundOut → Bool
 is_column_out (out.Column column) = true
 is_column_out aggregate = false
 
+-- an empty list, as GROUP BY and ORDER BY have where they aren't written
 abbrev pub is_nothing : {X : Type 0} → List X → Bool
 is_nothing [] = true
 is_nothing (x ∷ xs) = false

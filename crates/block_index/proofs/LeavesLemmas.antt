@@ -1,6 +1,6 @@
 -- A walk over the entries of an index, leaf by leaf.
 use Rattle.std.proofs.Common.{◌≡◌, ◌<◌, ◌≤◌, ◌+◌, ◌*◌, ◌^◌, ℕ, suc, List, [], ◌∷◌, ◌++◌, refl, ap, arith, sym, ◌∙◌, subst, append-nil, length, take, nat_cmp}
-use Rattle.std.specs.Prelude.{Bool, true, false, Some, None, nat_lt, if◌then◌else◌}
+use Rattle.std.specs.Prelude.{true, Some, None, nat_lt}
 use Rattle.std.specs.Cmp.{ranks}
 use Rattle.std.specs.Ordering.{is_lt, MatchOrdering}
 use Rattle.std.specs.declared.cmp.Ordering.{Ordering}

@@ -16,7 +16,7 @@ use Rattle.entry_tree.specs.Reading.{entries_from}
 use Rattle.key_codec.specs.Keys.{ArePartsOf, part_bytes, part_width, type_of_column, type_or_none, width_of_parts}
 use Rattle.key_codec.proofs.PartLemmas.{has_key-is_of_type, length-part_bytes}
 use Rattle.table_trees.specs.TableTrees.{rising_parts}
-use Rattle.table_trees.proofs.TableTreesLemmas.{AreColumns, dim_next, place_next, place_within, places_in}
+use Rattle.table_trees.proofs.TableTreesLemmas.{AreColumns, dim_next, place_next, places_in}
 use Rattle.block_index.specs.Cells.{entry_under, key_of_values}
 use Rattle.block_index.specs.ListedCells.{AreCellEntries, AreOfTypes, IsCellEntry, IsListedTo, IsReadTo}
 use Rattle.block_index.specs.Reading.{entries_left}

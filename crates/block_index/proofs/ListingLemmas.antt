@@ -1,5 +1,5 @@
 -- Listing a block index by index: what one entry more or less makes of what was done so far.
-use Rattle.std.proofs.Common.{◌≡◌, ◌≤◌, ◌+◌, arith, ℕ, zero, suc, List, [], ◌∷◌, IsTrue, length, take, drop, set, sum_by, refl, ap, sym, ◌∙◌, subst}
+use Rattle.std.proofs.Common.{◌≡◌, ◌+◌, arith, ℕ, zero, suc, List, [], ◌∷◌, IsTrue, length, set, refl, sym, ◌∙◌, subst}
 use Rattle.std.specs.Prelude.{Bool, true, false, MatchBool, Option, Some, None, slice_get}
 use Rattle.std.proofs.lemmas.Option.{same_Some}
 use Rattle.mdc_words.specs.ByteOrder.{Entry}
@@ -16,7 +16,7 @@ use Rattle.extent_map.specs.declared.extents.Extents.{Extents}
 use Rattle.extent_map.specs.declared.fault.SpaceFault.{SpaceFault}
 use Rattle.extent_map.specs.declared.fault.SpaceFault.TheVariants.{Full, Store}
 use Rattle.extent_map.specs.declared.kind.Kind.{Kind}
-use Rattle.entry_tree.specs.Forest.{Forest, times}
+use Rattle.entry_tree.specs.Forest.{Forest}
 use Rattle.entry_tree.specs.Pruning.{IsTreeOrMapPage, RemovesEntry, without_pages}
 use Rattle.entry_tree.specs.Standing.{AddsEntry, FindsFull, IsTreeSpace, StandsTree, with_pages}
 use Rattle.entry_tree.specs.declared.tree.Tree.{Tree}
@@ -26,7 +26,6 @@ use Rattle.table_trees.specs.TableTrees.{block_index_places, place_of_tree}
 use Rattle.table_trees.specs.TreesBeside.{GrowsPages, IsSpaceOfTrees, IsTreesOrMapPage, StandTrees}
 use Rattle.table_trees.proofs.PageCountLemmas.{grows_pages_none, grows_pages_then, grows_pages_with}
 use Rattle.table_trees.proofs.SideBySideLemmas.{changes_none, changes_then, place_space, place_trees_or_map, space_back, sum_no_less, sum_no_more, tree_among, trees_or_map_back}
-use Rattle.table_trees.proofs.TreeListsLemmas.{cut_at, set_at_cut, times-one, times-parts}
 use Rattle.table_trees.proofs.TreesBesideLemmas.{adds_beside, removes_beside, space_of_tree, trees_or_map_of_removal}
 use Rattle.block_index.specs.Cells.{cell_entries, index_listings}
 use Rattle.block_index.specs.Listing.{BreaksEntering, BreaksLeaving, BreaksListing, BreaksUnlisting, ChangesFirst, ComesTo, FillsListing, GainsEntry, GainsFirst, LosesEntry, LosesFirst, ListsBlock, MoveFirst, UnlistsBlock}

@@ -1,6 +1,6 @@
 -- Entries under one key: how they are ordered, and what the lowest from a bound on says of their blocks.
-use Rattle.std.proofs.Common.{◌≡◌, ◌≢◌, ◌<◌, ◌≤◌, ◌+◌, ◌*◌, ◌/◌, ◌%◌, ◌^◌, ℕ, zero, suc, List, [], ◌∷◌, ◌++◌, refl, ap, arith, sym, ◌∙◌, subst, length, take, drop, ◌⊎◌, inl, inr, Ordering, get_or}
-use Rattle.std.specs.Prelude.{Bool, true, false, Contains, Option, Some, None, nat_lt, if◌then◌else◌}
+use Rattle.std.proofs.Common.{◌≡◌, ◌≢◌, ◌<◌, ◌≤◌, ◌+◌, ◌%◌, ◌^◌, ℕ, zero, suc, List, [], ◌∷◌, ◌++◌, refl, ap, arith, sym, ◌∙◌, subst, length, take, drop, inl, inr, Ordering, get_or}
+use Rattle.std.specs.Prelude.{false, Contains, Option, Some, None, nat_lt}
 use Rattle.std.specs.declared.cmp.Ordering.TheVariants.{Less, Equal, Greater}
 use Rattle.std.specs.Ordering.{is_lt, nat_cmp, ordering_then}
 use Rattle.std.specs.Cmp.Lexicographic.{slice_cmp}
@@ -16,7 +16,7 @@ use Rattle.mdc_values.specs.Rising.{IsLower, LastIsBefore}
 use Rattle.node_page.proofs.JudgeLemmas.{reprinted}
 use Rattle.key_codec.proofs.OrderLemmas.{slice_cmp-append, slice_cmp-big_bytes, slice_cmp-same}
 use Rattle.entry_tree.specs.EntryBounds.{IsEntryOf}
-use Rattle.entry_tree.specs.Reading.{AreAtLeast, IsFirstFrom, IsFirstOr, entries_from}
+use Rattle.entry_tree.specs.Reading.{IsFirstFrom, IsFirstOr, entries_from}
 use Rattle.entry_tree.proofs.EntryBoundsLemmas.{exact_entries}
 use Rattle.entry_tree.proofs.ReadingLemmas.{from_entries_from, in_entries_from, least_of}
 use Rattle.block_index.specs.Cells.{entry_under}

@@ -1,7 +1,6 @@
 -- The cells that the composite index lists, each with a block.
 use Rattle.std.specs.Prelude.{◌≡◌, ◌<◌, ◌^◌, ◌++◌, ℕ, List, IsTrue}
 use Rattle.std.specs.List.{AllZip}
-use Rattle.byteorder.specs.Endian.{big_bytes}
 use Rattle.mdc_words.specs.ByteOrder.{Entry}
 use Rattle.mdc_values.specs.declared.value.Value.{Value}
 use Rattle.mdc_ast.specs.declared.definition.ColumnDef.{ColumnDef}

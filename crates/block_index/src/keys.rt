@@ -1,6 +1,6 @@
 // The values of a cell as bytes of a key.
 ghost use Rattle.std.specs.Prelude.{◌≡◌, ◌+◌, ◌≤◌, ◌++◌, drop, false, length, take, IsTrue, IfErr, IfOk, OnOk};
-ghost use Rattle.key_codec.specs.Keys.{ArePartsOf, has_key, key_bytes, part_bytes, width_of_parts};
+ghost use Rattle.key_codec.specs.Keys.{ArePartsOf, has_key, key_bytes, part_bytes};
 ghost use Rattle.table_trees.specs.RowCells.{cell_places};
 ghost use Rattle.table_trees.specs.TableTrees.{cell_parts, rising_parts};
 ghost use Rattle.block_index.specs.Cells.{FitPlaces, FitsCell, HaveKeys, key_of_values};

@@ -1,5 +1,5 @@
 // A block comes into the block indexes.
-ghost use Rattle.std.specs.Prelude.{◌≡◌, ℕ, List, false, length, IfErr, IsTrue, OnOk};
+ghost use Rattle.std.specs.Prelude.{◌≡◌, List, false, length, IfErr, IsTrue, OnOk};
 ghost use Rattle.store_api.specs.Causes.{store_fault_in};
 ghost use Rattle.store_api.specs.RunsOverPages.{RunsOverPages};
 ghost use Rattle.extent_map.specs.Damages.{IfFull, store_part_of};

@@ -1,5 +1,5 @@
 // A block leaves the block indexes.
-ghost use Rattle.std.specs.Prelude.{◌≡◌, ℕ, List, false, length, IsTrue, OnOk};
+ghost use Rattle.std.specs.Prelude.{◌≡◌, List, false, length, IsTrue, OnOk};
 ghost use Rattle.store_api.specs.Causes.{fault_of};
 ghost use Rattle.store_api.specs.RunsOverPages.{RunsOverPages};
 ghost use Rattle.extent_map.specs.Owners.{IsSameShape};

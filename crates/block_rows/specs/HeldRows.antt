@@ -1,4 +1,4 @@
--- The rows that a block is told to hold: the slots of its pages, one page behind the other (docs/FORMAT.md, "Row pages").
+-- The rows that a block is told to hold: the slots of its pages, one page behind the other (docs/FORMAT.md, "Rows").
 use Rattle.std.specs.Prelude.{◌≡◌, ◌⊎◌, ◌≤◌, ◌<◌, ◌+◌, ℕ, Bool, IsTrue, List, length, Option, Some, None, Contains, is_some, slice_index_or, slice_set}
 use Rattle.std.specs.List.{All, filter}
 use Rattle.mdc_values.specs.declared.rid.Rid.{Rid}

@@ -5,7 +5,6 @@ ghost use Rattle.mdc_ast.specs.meaning.Database.{fits_all};
 ghost use Rattle.store_api.specs.Causes.{fault_of};
 ghost use Rattle.store_api.specs.RunsOverPages.{RunsOverPages};
 ghost use Rattle.row_page.specs.Row.{AreRowColumns};
-ghost use Rattle.row_page.specs.RowPage.{slot_count};
 ghost use Rattle.mdc_sound.specs.Placing.{block_slot_count};
 ghost use Rattle.mdc_sound.specs.StandingTable.{IsPageOfBlock};
 ghost use Rattle.block_rows.specs.HeldRows.{BreaksExtent, BreaksRows, ClearsSlot, HoldsRows, PutsFirst};

@@ -1,5 +1,5 @@
 // What one page of a block holds.
-ghost use Rattle.std.specs.Prelude.{◌≡◌, ◌<◌, ◌+◌, [], ◌∷◌, ◌++◌, ℕ, List, Option, Some, None, false, map, length, slice_index_or, IsTrue, IfOk, IfErr, IfSome, OnOk};
+ghost use Rattle.std.specs.Prelude.{◌≡◌, ◌<◌, ◌+◌, [], ◌∷◌, ◌++◌, List, Option, Some, None, false, map, length, slice_index_or, IsTrue, IfOk, IfErr, IfSome, OnOk};
 ghost use Rattle.mdc_ast.specs.declared.row.Row.{Row};
 ghost use Rattle.store_api.specs.Causes.{fault_of};
 ghost use Rattle.store_api.specs.Fetching.{BringsOnce};

@@ -1,5 +1,5 @@
 // A catalog in memory.
-ghost use Rattle.std.specs.Prelude.{◌≡◌, ◌<◌, length, slice_set, None, Some, IfOk, IfSome, IsSome, MatchOption, is_none};
+ghost use Rattle.std.specs.Prelude.{◌≡◌, ◌<◌, length, None, Some, IfOk, IfSome, IsSome, MatchOption, is_none};
 ghost use Rattle.mdc_ast.specs.meaning.Definitions.{def_at, def_named, empty_place, is_defined, no_tables, place_of, with_def, without_def};
 
 use mdc_ast::{Name, TableDef};

@@ -1,7 +1,6 @@
 -- Which blocks of a cell have room, as a walk over the blocks of its key meets them.
-use Rattle.std.proofs.Common.{◌≡◌, ◌<◌, ◌≤◌, ◌+◌, ◌*◌, ◌^◌, ◌%◌, ℕ, List, [], ◌∷◌, ◌++◌, refl, ap, arith, sym, ◌∙◌, subst, length, map, ◌⊎◌, inl, inr}
+use Rattle.std.proofs.Common.{◌≡◌, ◌<◌, ◌≤◌, ◌+◌, ◌*◌, ◌^◌, ◌%◌, ℕ, List, [], ◌++◌, refl, ap, arith, sym, ◌∙◌, subst, length, map, inl, inr}
 use Rattle.std.specs.Prelude.{Contains, IsTrue, Option, Some, None, slice_index_or}
-use Rattle.std.specs.List.{AllByRecursion}
 use Rattle.std.proofs.Math.Nat.{mod-eq_of_lt}
 use Rattle.std.proofs.lemmas.Bool.{cases_eq, cases_lt}
 use Rattle.byteorder.specs.Endian.{big_bytes}
@@ -19,13 +18,12 @@ use Rattle.key_codec.proofs.KeyLemmas.{length-key_bytes}
 use Rattle.entry_tree.specs.EntryBounds.{IsEntryOf}
 use Rattle.entry_tree.specs.Forest.{Forest, leaf_entries}
 use Rattle.block_map.specs.BlockMaps.{FindsBlock, HasRow}
-use Rattle.block_map.specs.MapLines.{MapLine, map_entry, map_line, mapped_blocks, used_blocks}
+use Rattle.block_map.specs.MapLines.{map_entry, map_line, mapped_blocks, used_blocks}
 use Rattle.block_map.specs.MapRows.{row_entry, state_number}
 use Rattle.block_map.specs.declared.row.BlockRow.{BlockRow}
-use Rattle.block_map.specs.declared.state.BlockState.{BlockState}
 use Rattle.block_map.specs.declared.state.BlockState.TheVariants as state
 use Rattle.block_map.proofs.MapFormLemmas.{form_one}
-use Rattle.block_map.proofs.MapLinesLemmas.{contains_cases, contains_more, entry_small, row_block, row_state}
+use Rattle.block_map.proofs.MapLinesLemmas.{entry_small, row_block, row_state}
 use Rattle.block_index.specs.Cells.{entry_under}
 use Rattle.block_index.specs.Reading.{FindsUnder, IsLowestUnder}
 use Rattle.table_trees.specs.TableTrees.{cell_parts, composite_place}

@@ -1,7 +1,6 @@
 -- Runs of calls that read the block map and the composite index of a table that stands, and the damage that they may name.
-use Rattle.std.proofs.Common.{◌≡◌, ◌≤◌, ℕ, List, [], ◌∷◌, ◌++◌, arith, sym, ◌∙◌, subst, inl, inr}
+use Rattle.std.proofs.Common.{◌≡◌, ℕ, List, ◌∷◌, ◌++◌, arith, sym, ◌∙◌, subst, inl, inr}
 use Rattle.std.specs.Prelude.{Contains, Option, Some, None}
-use Rattle.std.specs.List.{AllByRecursion}
 use Rattle.std.proofs.lemmas.List.Sums.{sum_by-cons}
 use Rattle.store_api.specs.Frame.{NoPage}
 use Rattle.store_api.specs.RunsOverPages.{RunsOverPages}
@@ -13,15 +12,14 @@ use Rattle.store_api.proofs.RunsOverPagesLemmas.{runs_damage, runs_then, runs_wi
 use Rattle.extent_map.specs.declared.extents.Extents.{Extents}
 use Rattle.extent_map.specs.declared.kind.Kind.{Kind}
 use Rattle.mdc_ast.specs.declared.definition.TableDef.{TableDef}
-use Rattle.entry_tree.specs.Forest.{Forest, times}
+use Rattle.entry_tree.specs.Forest.{times}
 use Rattle.entry_tree.specs.HeldTrees.{HoldsTree, IsTreePage}
 use Rattle.entry_tree.specs.declared.tree.Tree.{Tree}
-use Rattle.block_map.specs.BlockMaps.{AnyMap, BreaksMapTree, IsMapForm}
-use Rattle.block_map.specs.MapLines.{MapLine, map_lines, used_blocks}
+use Rattle.block_map.specs.BlockMaps.{AnyMap, BreaksMapTree}
+use Rattle.block_map.specs.MapLines.{used_blocks}
 use Rattle.table_trees.specs.TableTrees.{composite_place, map_place, place_of_tree}
 use Rattle.table_trees.specs.TreesBeside.{BreaksTreeAt, HoldsTreeAt, IsTreePageAt}
 use Rattle.table_trees.proofs.TableTreesLemmas.{same_tree_place}
-use Rattle.mdc_sound.specs.SpaceRules.{IsBlockMapSound, IsMapLineSound}
 use Rattle.mdc_sound.specs.StandingTable.{BreaksExpected, BreaksTable, IsTableTreePage, NamesTablePart, StandsTable, TableForests}
 use Rattle.mdc_sound.proofs.MappedBlocksLemmas.{map_form}
 use Rattle.mdc_sound.proofs.StandingTableLemmas.{stands_same}

@@ -1,5 +1,5 @@
 // The notes of which block of a cell may be the first with room.
-ghost use Rattle.std.specs.Prelude.{◌≡◌, ◌≤◌, ℕ, IsTrue};
+ghost use Rattle.std.specs.Prelude.{◌≡◌, ◌≤◌, IsTrue};
 ghost use Rattle.std.specs.HashMap.{hash_map_len};
 
 use std::alloc::Global;

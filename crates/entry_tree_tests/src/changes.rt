@@ -1,5 +1,5 @@
 // Many changes of a tree beside a list that says for each number whether its entry should be there.
-ghost use Rattle.std.specs.Prelude.{◌≡◌, ◌≤◌, ◌<◌, false, None, length};
+ghost use Rattle.std.specs.Prelude.{◌≡◌, ◌<◌, false, None};
 
 use crate::numbers::{NUMBERS, Order, block_of, entry_of, number_at};
 use crate::reading::lowest;

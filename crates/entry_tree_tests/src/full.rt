@@ -1,5 +1,5 @@
 // A file that is full when a tree asks for pages.
-ghost use Rattle.std.specs.Prelude.{◌≡◌, false, None, OnOk};
+ghost use Rattle.std.specs.Prelude.{◌≡◌, false, None};
 
 use crate::changes::add_some;
 use crate::numbers::{NUMBERS, Order, entry_of};

@@ -1,5 +1,5 @@
 // What a tree and the pages of a store hold.
-ghost use Rattle.std.specs.Prelude.{◌≡◌, false, None, length, OnOk, IfOk};
+ghost use Rattle.std.specs.Prelude.{◌≡◌, false, None, length};
 
 use crate::numbers::entry_of;
 use entry_tree::{Entries, Entry, Leaf, MAX_WIDTH, Tree};

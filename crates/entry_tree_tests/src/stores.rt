@@ -1,5 +1,5 @@
 // Stores in memory.
-ghost use Rattle.std.specs.Prelude.{◌≡◌, ◌≤◌, false, length, None, IfOk, OnOk};
+ghost use Rattle.std.specs.Prelude.{◌≡◌, false, None, IfOk, OnOk};
 
 use extent_map::Extents;
 use std::alloc::{AllocError, Global};

@@ -1,5 +1,5 @@
 // What claims and returns answer over several calls.
-ghost use Rattle.std.specs.Prelude.{◌≡◌, ◌<◌, ◌≤◌, length, false, None};
+ghost use Rattle.std.specs.Prelude.{◌≡◌, ◌<◌, false, None};
 
 use extent_map::{Extents, Kind, SpaceFault};
 use store_api::{Pages, Store, StoreFault, bring, stated_count};

@@ -1,5 +1,5 @@
 // The count of faults.
-ghost use Rattle.std.specs.Prelude.{◌≡◌, Ok, IfOk, IsErr, OnOk, OnErr};
+ghost use Rattle.std.specs.Prelude.{◌≡◌, Ok, IfOk, IsErr, OnErr};
 ghost use Rattle.mdc_words.specs.Faults.{CountsFault};
 
 use mdc_outside::Failed;

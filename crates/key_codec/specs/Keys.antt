@@ -42,6 +42,7 @@ turned false bytes = bytes
 abbrev pub part_bytes : ColType → Bool → Value → List ℕ
 part_bytes ty descending value = turned descending (null_byte value ∷ sort_bytes ty value)
 
+-- how many bytes a part has: one that tells a null, and those of the value, which a null has too
 abbrev pub part_width : ColType → ℕ
 part_width ty = 1 + width ty
 
@@ -56,6 +57,7 @@ has_key ty value = false
 
 -- ---- all parts
 
+-- the type of a column that is there, and else INTEGER, so that each place has a type
 abbrev pub type_or_none : Option ColumnDef → ColType
 type_or_none None = column.Integer
 type_or_none (Some column) = column.ty

@@ -35,12 +35,14 @@ has_kind_of column.Date (Day day) = true
 has_kind_of ty Null = true
 has_kind_of ty value = false
 
+-- the value that a cut stands beside is of that kind; the first and the last cut have none
 abbrev pub cut_has_kind_of : ColType → Cut → Bool
 cut_has_kind_of ty First = true
 cut_has_kind_of ty (Before value) = has_kind_of ty value
 cut_has_kind_of ty (After value) = has_kind_of ty value
 cut_has_kind_of ty Last = true
 
+-- both cuts of a span are so
 abbrev pub span_has_kind_of : ColType → Span → Bool
 span_has_kind_of ty span = cut_has_kind_of ty span.low && cut_has_kind_of ty span.high
 
@@ -60,6 +62,7 @@ abbrev pub first_column : List KeyPart → ℕ
 first_column [] = 0
 first_column (part ∷ parts) = part.column
 
+-- the first part is descending, so that greater values have lower keys
 abbrev pub is_first_descending : List KeyPart → Bool
 is_first_descending [] = false
 is_first_descending (part ∷ parts) = part.descending

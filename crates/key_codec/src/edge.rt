@@ -1,5 +1,5 @@
 // A cut in a column as a place between the column's keys.
-ghost use Rattle.std.specs.Prelude.{true, false, ◌≡◌, ◌<◌, ◌∷◌, [], not, IfOk, IsTrue, length, if◌then◌else◌};
+ghost use Rattle.std.specs.Prelude.{true, false, ◌≡◌, ◌<◌, ◌∷◌, [], not, IfOk, IsTrue, if◌then◌else◌};
 ghost use Rattle.key_codec.specs.Edges as edges;
 
 use crate::Key;
@@ -20,9 +20,9 @@ impl Edge {
     ghost use Rattle.mdc_values.specs.Order.{order};
     ghost use Rattle.mdc_values.specs.declared.value.ColType.TheVariants as column;
     ghost use Rattle.mdc_values.specs.declared.value.Value.TheVariants as value;
-    ghost use Rattle.key_codec.specs.Keys.{AreBytes, has_key, part_bytes, turned};
-    ghost use Rattle.key_codec.specs.Spans.{cut_has_kind_of, has_kind_of, is_above, reaches};
-    ghost use Rattle.key_codec.specs.Edges.{IsEdge, behind_front, front_order, is_past, side_of_blanks};
+    ghost use Rattle.key_codec.specs.Keys.{has_key, turned};
+    ghost use Rattle.key_codec.specs.Spans.{cut_has_kind_of, has_kind_of, is_above};
+    ghost use Rattle.key_codec.specs.Edges.{IsEdge, behind_front, is_past, side_of_blanks};
 
     /// The place of a cut among the ascending keys of a column.
     pub(crate) fn at(alloc: Global, ty: ColType, cut: &Cut) -> Result<Edge, Memory>

@@ -1,9 +1,8 @@
 // A value as a part of a key.
-ghost use Rattle.std.specs.Prelude.{true, false, ◌∷◌, ◌-◌, ◌≡◌, ◌+◌, ◌≤◌, ◌<◌, ◌++◌, ℕ, IsTrue, length, map, replicate, drop, pos};
-ghost use Rattle.mdc_values.specs.Fitting.{in_integer};
+ghost use Rattle.std.specs.Prelude.{true, false, ◌∷◌, ◌-◌, ◌≡◌, ◌+◌, ◌≤◌, ◌<◌, ◌++◌, IsTrue, length, drop};
 ghost use Rattle.mdc_values.specs.Order.{padded};
 ghost use Rattle.mdc_ast.specs.meaning.Definitions.{width};
-ghost use Rattle.key_codec.specs.Keys.{AreBytes, HasByteText, has_key, moved_up, part_bytes, sort_bytes, turned};
+ghost use Rattle.key_codec.specs.Keys.{AreBytes, HasByteText, has_key, part_bytes, sort_bytes, turned};
 ghost use Rattle.key_codec.specs.Keys as spec;
 
 use crate::width::part_width;

@@ -1,5 +1,5 @@
 // How many bytes keys have.
-ghost use Rattle.std.specs.Prelude.{◌≡◌, ◌<◌, IsTrue, length};
+ghost use Rattle.std.specs.Prelude.{◌≡◌, ◌<◌, length};
 ghost use Rattle.mdc_ast.specs.meaning.Definitions.{width};
 ghost use Rattle.key_codec.specs.Keys as spec;
 

@@ -1,5 +1,5 @@
 // What holds of the pages of every database that was just made.
-ghost use Rattle.std.specs.Prelude.{◌≡◌, IsTrue, List, ℕ};
+ghost use Rattle.std.specs.Prelude.{◌≡◌, IsTrue, ℕ};
 ghost use Rattle.mdc_ast.specs.meaning.Database.{empty_database};
 ghost use Rattle.mdc_ast.specs.meaning.Definitions.{AreValidDefs, no_tables};
 ghost use Rattle.store_api.specs.Extents.{is_shape};

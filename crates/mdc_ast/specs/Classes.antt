@@ -1,4 +1,4 @@
--- What a statement may want of a token (docs/SQL.md, "Tokens").
+-- What a statement may want of a token (docs/GRAMMAR.md, "Tokens").
 use Rattle.std.specs.Prelude.{ℕ, List, [], ◌∷◌, Bool, true, false, not, codes}
 use Rattle.std.specs.List.{list_any}
 use Rattle.std.specs.Str.{bytes_eq}
@@ -13,6 +13,7 @@ reserved =
     ∷ codes "IS" ∷ codes "NOT" ∷ codes "NULL" ∷ codes "ON" ∷ codes "OR" ∷ codes "ORDER" ∷ codes "ORGANIZE"
     ∷ codes "SELECT" ∷ codes "SET" ∷ codes "UPDATE" ∷ codes "VALUES" ∷ codes "WHERE" ∷ []
 
+-- the word may name a table, a column or an index, for it isn't reserved
 abbrev pub is_name : List ℕ → Bool
 is_name word = not (list_any (bytes_eq word) reserved)
 
@@ -52,17 +53,21 @@ fits AnyText (Text text) = true
 fits AnyText (Symbol bytes) = false
 fits AnyText Stray = false
 
+-- `(`, which each production closes again
 abbrev pub opening : Class
 opening = S (codes "(")
 
+-- `)`, with which each production closes what it opened
 abbrev pub closing : Class
 closing = S (codes ")")
 
+-- `,` between two of a list
 abbrev pub comma : Class
 comma = S (codes ",")
 
 -- what a token of a class says
 
+-- a word's bytes, in upper case; nothing else has any
 abbrev pub word_in : Kind → List ℕ
 word_in (Word word) = word
 word_in (Number n) = []
@@ -70,6 +75,7 @@ word_in (Text text) = []
 word_in (Symbol bytes) = []
 word_in Stray = []
 
+-- a number, which is 2^64 - 1 at most; anything else has 0
 abbrev pub kind_number : Kind → ℕ
 kind_number (Word word) = 0
 kind_number (Number n) = n
@@ -77,6 +83,7 @@ kind_number (Text text) = 0
 kind_number (Symbol bytes) = 0
 kind_number Stray = 0
 
+-- a text without its quotes; nothing else has one
 abbrev pub text_of : Kind → List ℕ
 text_of (Word word) = []
 text_of (Number n) = []
@@ -84,11 +91,14 @@ text_of (Text text) = text
 text_of (Symbol bytes) = []
 text_of Stray = []
 
+-- the name that a word is
 abbrev pub name_in : Token → Name
 name_in t = record { 0 = word_in t.kind }
 
+-- the number that a token of digits says
 abbrev pub number_in : Token → ℕ
 number_in t = kind_number t.kind
 
+-- the bytes that a text says
 abbrev pub text_in : Token → List ℕ
 text_in t = text_of t.kind

@@ -1,4 +1,4 @@
--- How statements are spelled (docs/SQL.md, "Statements"). Each production stands once.
+-- How statements are spelled (docs/GRAMMAR.md, "Statements"). Each production stands once.
 use Rattle.std.specs.Prelude.{ℕ, zero, suc, List, [], ◌∷◌, Bool, true, false, codes, Option, Some, None}
 use Rattle.mdc_values.specs.declared.literal.Literal.{Literal}
 use Rattle.mdc_values.specs.declared.literal.Literal.TheVariants as literal
@@ -39,29 +39,37 @@ use Rattle.mdc_ast.specs.Classes.{Class, W, S, AnyName, AnyNumber, AnyText, open
 use Rattle.mdc_ast.specs.Phrases.{Phrase}
 use Rattle.mdc_ast.specs.Rules.{Rule, Spelled, nothing, token, behind, pair, seen, choice, forked, perhaps, closed, separated, listed, stated}
 
+-- `+` before a number, between two operands, and behind the base of a generated column
 abbrev pub plus : Class
 plus = S (codes "+")
 
+-- `-` before a number and between two operands
 abbrev pub minus : Class
 minus = S (codes "-")
 
+-- `*` for all columns or all rows, and between two operands
 abbrev pub star : Class
 star = S (codes "*")
 
+-- `/`, behind what a generated column is made from
 abbrev pub slash : Class
 slash = S (codes "/")
 
+-- `=` in a test and in a SET
 abbrev pub equals : Class
 equals = S (codes "=")
 
 -- ---- NAMES AND LITERALS
 
+-- a word that isn't reserved, however long
 abbrev pub name_rule : Rule Name
 name_rule = token AnyName name_in
 
+-- digits without a sign
 abbrev pub number_rule : Rule ℕ
 number_rule = token AnyNumber number_in
 
+-- what stands between two quotes
 abbrev pub text_rule : Rule (List ℕ)
 text_rule = token AnyText text_in
 
@@ -78,6 +86,7 @@ plain_rule =
 unfoldable pub literal_rule : Rule Literal
 literal_rule = choice (behind (W (codes "DATE")) (seen literal.Date text_rule)) plain_rule
 
+-- DATE and a text, as an operand; whether it names a day isn't asked yet
 abbrev pub of_date : List ℕ → Operand
 of_date text = operand.Literal (literal.Date text)
 
@@ -87,6 +96,7 @@ operand_rule = choice (seen operand.Literal plain_rule) (forked (W (codes "DATE"
 
 -- ---- CREATE TABLE, CREATE INDEX
 
+-- CHAR without a number is CHAR ( 1 )
 abbrev pub length_of : Option ℕ → TypeText
 length_of None = type_text.Char 1
 length_of (Some n) = type_text.Char n
@@ -109,6 +119,7 @@ type_rule =
 unfoldable pub call_rule : Rule Name
 call_rule = behind opening (closed name_rule closing)
 
+-- INTEGER ( name ) without a number is divided by 1
 abbrev pub divided : Name × Option ℕ → GenText
 divided (base, None) = record { kind = gen.IntegerOver; base = base; negative = false; k = 1 }
 divided (base, Some k) = record { kind = gen.IntegerOver; base = base; negative = false; k = k }
@@ -117,18 +128,23 @@ divided (base, Some k) = record { kind = gen.IntegerOver; base = base; negative 
 unfoldable pub divided_rule : Rule GenText
 divided_rule = seen divided (pair call_rule (perhaps (behind slash number_rule)))
 
+-- YEAR or MONTH of a column, for which no number is written
 abbrev pub part_of : GenKind → Name → GenText
 part_of kind base = record { kind = kind; base = base; negative = false; k = 0 }
 
+-- what stands behind the base: the kind, whether a minus sign stands before the number, and the number
 abbrev pub Change : Type 0
 Change = GenKind × Bool × ℕ
 
+-- name / number, which has no sign
 abbrev pub over : ℕ → Change
 over k = (gen.Over, false, k)
 
+-- name + number, or name + - number
 abbrev pub added : Bool → ℕ → Change
 added negative k = (gen.Plus, negative, k)
 
+-- what a generated column is made from: a base, and what stands behind it
 abbrev pub changed : Name × Change → GenText
 changed p = record { kind = p.1.0; base = p.0; negative = p.1.1; k = p.1.2 }
 
@@ -155,15 +171,19 @@ generated_rule = behind (W (codes "GENERATED")) (behind (W (codes "ALWAYS")) (be
 unfoldable pub not_null_rule : Rule Bool
 not_null_rule = choice (behind (W (codes "NOT")) (behind (W (codes "NULL")) (nothing true))) (nothing false)
 
+-- whether NOT NULL is written, and what the column is generated from, if it is
 abbrev pub Options : Type 0
 Options = Bool × Option GenText
 
+-- NOT NULL, and then GENERATED or nothing
 abbrev pub null_first : Option GenText → Options
 null_first made = (true, made)
 
+-- GENERATED, and then NOT NULL or nothing
 abbrev pub made_first : GenText × Bool → Options
 made_first p = (p.1, Some p.0)
 
+-- neither of them: the column is given its values, and may have nulls
 abbrev pub no_options : Options
 no_options = (false, None)
 
@@ -174,6 +194,7 @@ options_rule =
     (choice (seen made_first (pair generated_rule not_null_rule))
     (nothing no_options))
 
+-- a column: its name and its type, and then what is written behind them
 abbrev pub typed : (Name × TypeText) × Options → ColumnText
 typed p = record { name = p.0.0; ty = p.0.1; not_null = p.1.0; made = p.1.1 }
 
@@ -181,6 +202,7 @@ typed p = record { name = p.0.0; ty = p.0.1; not_null = p.1.0; made = p.1.1 }
 unfoldable pub column_rule : Rule ColumnText
 column_rule = seen typed (pair (pair name_rule type_rule) options_rule)
 
+-- a dimension of one column, which needs no parentheses
 abbrev pub alone : Name → List Name
 alone name = name ∷ []
 
@@ -188,6 +210,7 @@ alone name = name ∷ []
 unfoldable pub dim_rule : Rule (List Name)
 dim_rule = choice (listed name_rule) (seen alone name_rule)
 
+-- CREATE TABLE: the name, the columns, and the dimensions
 abbrev pub make_table : (Name × List ColumnText) × List (List Name) → Stmt
 make_table p = stmt.CreateTable p.0.0 p.0.1 p.1
 
@@ -203,6 +226,7 @@ table_rule = seen make_table (pair (pair name_rule (listed column_rule)) (behind
 unfoldable pub descending_rule : Rule Bool
 descending_rule = choice (behind (W (codes "ASC")) (nothing false)) (choice (behind (W (codes "DESC")) (nothing true)) (nothing false))
 
+-- a column of an index or of an ORDER BY, which falls where DESC is written
 abbrev pub key_of : Name × Bool → KeyText
 key_of p = record { column = p.0; descending = p.1 }
 
@@ -210,6 +234,7 @@ key_of p = record { column = p.0; descending = p.1 }
 unfoldable pub key_rule : Rule KeyText
 key_rule = seen key_of (pair name_rule descending_rule)
 
+-- CREATE INDEX: its name, the table and the columns, and whether UNIQUE stands before
 abbrev pub make_index : Bool → (Name × Name) × List KeyText → Stmt
 make_index unique p = stmt.CreateIndex p.0.0 unique p.0.1 p.1
 
@@ -217,6 +242,7 @@ make_index unique p = stmt.CreateIndex p.0.0 unique p.0.1 p.1
 unfoldable pub index_rule : Bool → Rule Stmt
 index_rule unique = behind (W (codes "INDEX")) (seen (make_index unique) (pair (pair name_rule (behind (W (codes "ON")) name_rule)) (listed key_rule)))
 
+-- TABLE .. | UNIQUE INDEX .. | INDEX ..
 unfoldable pub create_rule : Rule Stmt
 create_rule =
     choice (behind (W (codes "TABLE")) table_rule)
@@ -225,6 +251,7 @@ create_rule =
 
 -- ---- DROP, INSERT
 
+-- TABLE name | INDEX name
 unfoldable pub drop_rule : Rule Stmt
 drop_rule = choice (behind (W (codes "TABLE")) (seen stmt.DropTable name_rule)) (behind (W (codes "INDEX")) (seen stmt.DropIndex name_rule))
 
@@ -232,6 +259,7 @@ drop_rule = choice (behind (W (codes "TABLE")) (seen stmt.DropTable name_rule)) 
 unfoldable pub value_rule : Rule InsertItem
 value_rule = choice (behind (W (codes "DEFAULT")) (nothing insert_item.Default)) (seen insert_item.Literal literal_rule)
 
+-- INSERT: the table, the list of columns, if there is one, and the tuples
 abbrev pub put_rows : (Name × Option (List Name)) × List (List InsertItem) → Stmt
 put_rows p = stmt.Insert p.0.0 p.0.1 p.1
 
@@ -245,6 +273,7 @@ insert_rule = behind (W (codes "INTO")) (seen put_rows (pair (pair name_rule col
 
 -- ---- PREDICATES
 
+-- BETWEEN low AND high, whichever of them is greater
 abbrev pub between : Literal × Literal → TestText
 between p = test.Between p.0 p.1
 
@@ -265,12 +294,15 @@ plain_test_rule =
     (choice (behind (S (codes ">=")) (seen (test.Compare op.AtLeast) operand_rule))
     range_rule)))))
 
+-- whether NOT stands within the test, and the test without it
 abbrev pub Tested : Type 0
 Tested = Bool × TestText
 
+-- a test without NOT
 abbrev pub held : TestText → Tested
 held t = (false, t)
 
+-- a test with NOT within it, as NOT IN or IS NOT NULL
 abbrev pub denied : TestText → Tested
 denied t = (true, t)
 
@@ -287,6 +319,7 @@ test_rule =
     (choice (behind (W (codes "IS")) null_rule)
     (seen held plain_test_rule))
 
+-- a test of one column, whose name stands first
 abbrev pub atom_of : Name × Tested → PredText
 atom_of p = pred.Atom (record { column = p.0; negated = p.1.0; test = p.1.1 })
 
@@ -314,9 +347,11 @@ conj_rule factor = seen all_of (separated (W (codes "AND")) factor)
 abbrev pub pred_rule : Rule PredText → Rule PredText
 pred_rule factor = seen any_of (separated (W (codes "OR")) (conj_rule factor))
 
+-- a factor begins with NOT, a parenthesis or a name
 abbrev pub factor_starts : List Class
 factor_starts = W (codes "NOT") ∷ opening ∷ AnyName ∷ []
 
+-- where a factor could end, only a text goes on with it: behind DATE, which may be a name too
 abbrev pub factor_more : List Class
 factor_more = AnyText ∷ []
 
@@ -328,6 +363,7 @@ factor_body (suc n) =
     (choice (behind opening (closed (pred_rule (stated factor_starts factor_more (factor_body n))) closing))
     atom_rule)
 
+-- the same, with the classes stated that it begins and goes on with
 abbrev pub factor_rule : ℕ → Rule PredText
 factor_rule n = stated factor_starts factor_more (factor_body n)
 
@@ -337,9 +373,11 @@ where_rule n = perhaps (behind (W (codes "WHERE")) (pred_rule (factor_rule n)))
 
 -- ---- UPDATE, DELETE
 
+-- what stands behind the first operand: a sign and a second one, or nothing
 abbrev pub Rest : Type 0
 Rest = Option (Sign × Operand)
 
+-- a sign and the operand behind it
 abbrev pub with_sign : Sign → Operand → Rest
 with_sign sign operand = Some (sign, operand)
 
@@ -351,6 +389,7 @@ rest_rule =
     (choice (behind star (seen (with_sign sign.Times) operand_rule))
     (nothing None)))
 
+-- one operand alone, or two with a sign between them
 abbrev pub computed : Operand × Rest → SetItem
 computed (first, None) = set_item.One first
 computed (first, Some p) = set_item.Two first p.0 p.1
@@ -359,6 +398,7 @@ computed (first, Some p) = set_item.Two first p.0 p.1
 unfoldable pub item_rule : Rule SetItem
 item_rule = seen computed (pair operand_rule rest_rule)
 
+-- a column that is set, and what it is set to
 abbrev pub set_of : Name × SetItem → SetText
 set_of p = record { column = p.0; item = p.1 }
 
@@ -366,9 +406,11 @@ set_of p = record { column = p.0; item = p.1 }
 unfoldable pub set_rule : Rule SetText
 set_rule = seen set_of (pair name_rule (behind equals item_rule))
 
+-- UPDATE: the table, what is set, and the predicate, if there is one
 abbrev pub change_rows : (Name × List SetText) × Option PredText → Stmt
 change_rows p = stmt.Update p.0.0 p.0.1 p.1
 
+-- SET name = item { , name = item }
 abbrev pub sets_rule : Rule (List SetText)
 sets_rule = behind (W (codes "SET")) (separated comma set_rule)
 
@@ -376,6 +418,7 @@ sets_rule = behind (W (codes "SET")) (separated comma set_rule)
 unfoldable pub update_rule : ℕ → Rule Stmt
 update_rule n = seen change_rows (pair (pair name_rule sets_rule) (where_rule n))
 
+-- DELETE: the table, and the predicate, if there is one
 abbrev pub remove_rows : Name × Option PredText → Stmt
 remove_rows p = stmt.Delete p.0 p.1
 
@@ -410,6 +453,7 @@ group_rule = choice (behind (W (codes "GROUP")) (behind (W (codes "BY")) (separa
 unfoldable pub order_rule : Rule (List KeyText)
 order_rule = choice (behind (W (codes "ORDER")) (behind (W (codes "BY")) (separated comma key_rule))) (nothing [])
 
+-- ONLY, which ends FETCH FIRST and says nothing
 abbrev pub only : Rule (Unit {0})
 only = behind (W (codes "ONLY")) (nothing tt)
 
@@ -417,6 +461,7 @@ only = behind (W (codes "ONLY")) (nothing tt)
 unfoldable pub rows_rule : Rule (Unit {0})
 rows_rule = choice (behind (W (codes "ROW")) only) (behind (W (codes "ROWS")) only)
 
+-- how many rows FETCH FIRST gives at most
 abbrev pub fetch_count : ℕ × Unit {0} → Option ℕ
 fetch_count p = Some p.0
 
@@ -426,6 +471,7 @@ first_rule =
     choice (behind (W (codes "FETCH")) (behind (W (codes "FIRST")) (seen fetch_count (pair (choice number_rule (nothing 1)) rows_rule))))
     (nothing None)
 
+-- a query: what is shown, the table, and the other clauses in the order of the text
 abbrev pub selected : (((((OutList × Name) × Option PredText) × List Name) × List KeyText) × Option ℕ) → Select
 selected p = record { list = p.0.0.0.0.0; table = p.0.0.0.0.1; pred = p.0.0.0.1; group = p.0.0.1; order = p.0.1; first = p.1 }
 
@@ -436,12 +482,14 @@ query_rule n = behind (W (codes "SELECT"))
 
 -- ---- SETTINGS AND UPKEEP
 
+-- NONE | IMMEDIATE | DEFERRED
 unfoldable pub rollout_rule : Rule RolloutMode
 rollout_rule =
     choice (behind (W (codes "NONE")) (nothing rollout.None))
     (choice (behind (W (codes "IMMEDIATE")) (nothing rollout.Immediate))
     (behind (W (codes "DEFERRED")) (nothing rollout.Deferred)))
 
+-- AUTO | SCAN | BLOCK | RECORD
 unfoldable pub plan_rule : Rule PlanMode
 plan_rule =
     choice (behind (W (codes "AUTO")) (nothing plan.Auto))
@@ -497,6 +545,7 @@ statement_rule n =
     (choice (behind (W (codes "EXPLAIN")) (seen stmt.Explain (query_rule n)))
     other_rule))))
 
+-- tokens spell a statement of that rule, up to the tokens behind it
 abbrev pub SpellsIn : ℕ → Phrase Stmt
 SpellsIn n = Spelled (statement_rule n)
 

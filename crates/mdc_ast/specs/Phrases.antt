@@ -3,6 +3,7 @@ use Rattle.std.specs.Prelude.{◌≡◌, ◌⊎◌, List, [], ◌∷◌, IsTrue,
 use Rattle.mdc_ast.specs.Tokens.{Token}
 use Rattle.mdc_ast.specs.Classes.{Class, fits, opening, closing, comma}
 
+-- which tokens spell something, what they say, and which tokens are left behind them
 abbrev pub Phrase : Type 0 → Type 1
 Phrase X = List Token → X → List Token → Type 0
 
@@ -26,6 +27,7 @@ Both A B tokens pair rest = (mid : List Token) × A tokens pair.0 mid × B mid p
 abbrev pub Map : {X Y : Type 0} → (X → Y) → Phrase X → Phrase Y
 Map {X} f A tokens y rest = (x : X) × A tokens x rest × (f x ≡ y)
 
+-- what A or B spells; tokens that both spell may say two things
 abbrev pub Either : {X : Type 0} → Phrase X → Phrase X → Phrase X
 Either A B tokens x rest = A tokens x rest ⊎ B tokens x rest
 
@@ -42,6 +44,7 @@ Closed {X} A c = Map (λ (p : X × Unit {0}). p.0) (Both A (Then c (Nothing tt))
 abbrev pub Perhaps : {X : Type 0} → Phrase X → Phrase (Option X)
 Perhaps A = Either (Map Some A) (Nothing None)
 
+-- the first of a list before the others
 abbrev pub front_of : {X : Type 0} → X × List X → List X
 front_of p = p.0 ∷ p.1
 

@@ -1,4 +1,4 @@
--- What a script says: its items, one for each statement (docs/SQL.md, "Statements").
+-- What a script says: its items, one for each statement (docs/GRAMMAR.md, "What can't be read").
 use Rattle.std.specs.Prelude.{◌≡◌, ◌<◌, ◌≤◌, ℕ, ◌+◌, ◌-◌, List, [], ◌∷◌, ◌++◌, length, false, Some, None}
 use Rattle.mdc_ast.specs.declared.statement.Stmt.{Stmt}
 use Rattle.mdc_ast.specs.declared.refusal.Refusal.{Refusal}

@@ -4,6 +4,7 @@ use Rattle.mdc_ast.specs.Tokens.{Token}
 use Rattle.mdc_ast.specs.Classes.{Class}
 use Rattle.mdc_ast.specs.Phrases.{Phrase, Nothing, One, Then, Both, Map, Either, Closed, Perhaps, Separated, Listed}
 
+-- a production of the grammar as data, so that spelling and reading are told of one and the same rule
 pub data Rule : Type 0 → Type 1 where
   nothing : {X : Type 0} → X → Rule X
   token : {X : Type 0} → Class → (Token → X) → Rule X
@@ -20,6 +21,7 @@ pub data Rule : Type 0 → Type 1 where
   -- it begins with no more than these and goes on with no more than those
   stated : {X : Type 0} → List Class → List Class → Rule X → Rule X
 
+-- what a rule spells; what is stated of its first classes changes nothing
 abbrev pub Spelled : {X : Type 0} → Rule X → Phrase X
 Spelled (nothing x) = Nothing x
 Spelled (token c f) = One c f

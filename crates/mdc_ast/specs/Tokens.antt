@@ -1,4 +1,4 @@
--- How the bytes of a statement are tokens (docs/SQL.md, "Tokens").
+-- How the bytes of a statement are tokens (docs/GRAMMAR.md, "Tokens").
 use Rattle.std.specs.Prelude.{◌≡◌, ◌≢◌, ℕ, ◌+◌, ◌-◌, ◌*◌, min, map, List, [], ◌∷◌, ◌++◌, length, Bool, true, false, not, ◌==◌, ◌||◌, ◌&&◌, nat_le, if◌then◌else◌, IsTrue, Option, Some, None}
 use Rattle.mdc_ast.specs.Cutting.{Lacks, Passes, BeginsNoComment, is_blank}
 use Rattle.mdc_values.specs.Calendar.{is_digit}
@@ -18,9 +18,11 @@ pub record Token : Type 0 where
   pub kind : Kind
   pub left : ℕ
 
+-- a to z
 abbrev pub is_lower : ℕ → Bool
 is_lower b = nat_le 97 b && nat_le b 122
 
+-- a to z, or A to Z
 abbrev pub is_letter : ℕ → Bool
 is_letter b = is_lower b || (nat_le 65 b && nat_le b 90)
 
@@ -41,9 +43,11 @@ abbrev pub StandsAlone : ℕ → List ℕ → Type 0
 StandsAlone b [] = Unit {0}
 StandsAlone b (c ∷ bytes) = (is_pair b c || ((b == 45) && (c == 45))) ≡ false
 
+-- a byte with which a word, a number, a symbol or a text begins
 abbrev pub begins_token : ℕ → Bool
 begins_token b = is_letter b || is_digit b || is_symbol b || (b == 39)
 
+-- a small letter as a capital one, and any other byte as it is
 abbrev pub upper : ℕ → ℕ
 upper b = if is_lower b then b - 32 else b
 

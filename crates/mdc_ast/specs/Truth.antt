@@ -1,4 +1,4 @@
--- Whether a row qualifies: truth with three values (docs/SQL.md, "Values").
+-- Whether a row qualifies: truth with three values (docs/SQL.md, "SELECT").
 use Rattle.std.specs.Prelude.{ℕ, List, [], ◌∷◌, map, length, Bool, true, false, ◌&&◌, nat_lt, slice_get, unwrap_or}
 use Rattle.std.specs.List.{list_all}
 use Rattle.mdc_values.specs.declared.truth.Op.TheVariants.{Equal, AtMost, AtLeast}
@@ -39,10 +39,12 @@ or_of False b = b
 or_of Unknown True = True
 or_of Unknown b = Unknown
 
+-- AND of all, which is true where there is none
 abbrev pub all_of : List Truth → Truth
 all_of [] = True
 all_of (t ∷ ts) = and_of t (all_of ts)
 
+-- OR of all, which is false where there is none
 abbrev pub any_of : List Truth → Truth
 any_of [] = False
 any_of (t ∷ ts) = or_of t (any_of ts)
@@ -52,6 +54,7 @@ abbrev pub negated_if : Bool → Truth → Truth
 negated_if true t = not_of t
 negated_if false t = t
 
+-- true alone, so that what is unknown doesn't qualify
 abbrev pub is_true : Truth → Bool
 is_true True = true
 is_true t = false
@@ -67,6 +70,7 @@ abbrev pub value_of : List Value → Right → Value
 value_of values (right.Value value) = value
 value_of values (right.Column column) = value_at values column
 
+-- a null, of whatever type the column is
 abbrev pub is_null : Value → Bool
 is_null value.Null = true
 is_null value = false
@@ -78,6 +82,7 @@ test_truth values value (Between low high) = and_of (compared AtLeast value low)
 test_truth values value (Within others) = any_of (map (compared Equal value) others)
 test_truth values value IsNull = told (is_null value)
 
+-- one test on the values of a row, turned around where NOT stands within it
 abbrev pub atom_truth : List Value → Atom → Truth
 atom_truth values atom = negated_if atom.negated (test_truth values (value_at values atom.column) atom.test)
 
@@ -105,18 +110,22 @@ abbrev pub meets : List Value → Value → Right → Bool
 meets values value (right.Value other) = are_alike value other
 meets values value (right.Column column) = has_column values column && are_alike value (value_at values column)
 
+-- what a test compares with is there and of one kind with the value; IS NULL may always be asked
 abbrev pub may_test : List Value → Value → Test → Bool
 may_test values value (Compare op right) = meets values value right
 may_test values value (Between low high) = are_alike value low && are_alike value high
 may_test values value (Within others) = list_all (are_alike value) others
 may_test values value IsNull = true
 
+-- the column of a test is there, and may be tested so
 abbrev pub may_test_atom : List Value → Atom → Bool
 may_test_atom values atom = has_column values atom.column && may_test values (value_at values atom.column) atom.test
 
+-- each of them is true
 abbrev pub all_true : List Bool → Bool
 all_true = list_all (λ b. b)
 
+-- one layer of a predicate, told of each of its parts whether it may be judged
 abbrev pub layer_may_test : List Value → Pred-F Bool → Bool
 layer_may_test values (layer.Atom atom) = may_test_atom values atom
 layer_may_test values (layer.All tests) = all_true tests

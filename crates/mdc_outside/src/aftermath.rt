@@ -1,5 +1,5 @@
 // What a crash in the midst of recorded calls leaves.
-ghost use Rattle.std.specs.Prelude.{◌≡◌, ◌≤◌, ◌||◌, ℕ, true, length, take, drop, fold, ◌∷◌, [], IsTrue, IsFalse, IfOk, OnOk};
+ghost use Rattle.std.specs.Prelude.{◌≡◌, ◌≤◌, ◌||◌, true, length, take, drop, fold, ◌∷◌, [], IsTrue, IsFalse, IfOk, OnOk};
 ghost use Rattle.std.specs.List.{list_any};
 ghost use Rattle.mdc_outside.specs.Aftermath.{filled, torn_by, torn_bytes, bytes_after, tape_after, EndsSynced, PutsNothing, MayBeLeft, IsLeftByCalls, makes_file};
 ghost use Rattle.mdc_outside.specs.declared.call.Event.TheVariants.{Sync};

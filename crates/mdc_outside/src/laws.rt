@@ -1,5 +1,5 @@
 // What holds of every disk, and of every host in memory.
-ghost use Rattle.std.specs.Prelude.{◌≡◌, ◌↔◌, ◌≤◌, ℕ, List};
+ghost use Rattle.std.specs.Prelude.{◌↔◌, ◌≤◌, ℕ, List};
 ghost use Rattle.mdc_outside.specs.Moments.{WhereTold};
 ghost use Rattle.mdc_outside.specs.Points.{IsLeftAt};
 ghost use Rattle.mdc_outside.specs.declared.mem_host.MemHost.{MemHost};

@@ -1,5 +1,5 @@
 // A host in memory, for tests.
-ghost use Rattle.std.specs.Prelude.{◌≡◌, ◌≢◌, ◌≤◌, ◌-◌, slice_get, ◌++◌, ◌∷◌, [], true, false, Ok, Some, length, IsErr, IsTrue, IsFalse, IfOk, OnOk, OnErr, vec_items};
+ghost use Rattle.std.specs.Prelude.{◌≡◌, ◌≢◌, ◌≤◌, ◌-◌, slice_get, [], true, false, Ok, Some, length, IsErr, IsTrue, IsFalse, IfOk, OnOk, OnErr, vec_items};
 ghost use Rattle.std.specs.Option.{option_map};
 
 use crate::call::{Call, Entry, Event};

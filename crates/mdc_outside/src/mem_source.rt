@@ -1,5 +1,5 @@
 // A script in memory, for tests.
-ghost use Rattle.std.specs.Prelude.{◌≡◌, ◌≤◌, ◌<◌, [], ℕ, List, Some, drop, take, length};
+ghost use Rattle.std.specs.Prelude.{◌≡◌, ◌≤◌, ◌<◌, [], Some, drop, take, length};
 
 use crate::{Failed, Source};
 use mdc_words::count_fault;

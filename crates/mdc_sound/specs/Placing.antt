@@ -41,10 +41,11 @@ abbrev pub AfterReturns : Spot → Spot → Type 0
 AfterReturns IndexExtent FreeExtent = Unit {0}
 AfterReturns a b = a ≡ b
 
--- so is each spot
+-- each spot is the same, but that trees may have taken free extents
 abbrev pub SpotsAfterClaims : List Spot → List Spot → Type 0
 SpotsAfterClaims = AllZip AfterClaims
 
+-- each spot is the same, but that trees may have given extents back
 abbrev pub SpotsAfterReturns : List Spot → List Spot → Type 0
 SpotsAfterReturns = AllZip AfterReturns
 
@@ -183,11 +184,12 @@ abbrev pub rows_from_spot : ℕ → List Spot → List PlacedRow
 rows_from_spot block [] = []
 rows_from_spot block (spot ∷ spots) = rows_in_spot block spot ++ rows_from_spot (block + 1) spots
 
--- the row that lies in a place, if any
+-- the slots of a Used block; nothing else has any
 abbrev pub slots_of_spot : Spot → List (Option Row)
 slots_of_spot (UsedBlock slots) = slots
 slots_of_spot spot = []
 
+-- the row that lies in a place, if any
 abbrev pub row_at_spot : List Spot → Rid → Option Row
 row_at_spot spots rid = slice_index_or (slots_of_spot (slice_index_or spots rid.block OtherBlock)) rid.slot None
 

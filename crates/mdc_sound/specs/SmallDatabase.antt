@@ -50,16 +50,19 @@ def_u = record {
   roots = record { map = 22; composite = 23; dims = 24 ∷ [] };
 }
 
--- the rows: (1, 10) and (1, null) in block 4 of T, (null, 7) in its block 5, and (5) in block 6 of U
+-- row 1 of T, (1, 10), in the first slot of block 4
 abbrev pub row_ten : Row
 row_ten = record { number = 1; values = Int (pos 1) ∷ Int (pos 10) ∷ [] }
 
+-- row 3 of T, (1, null), in the second slot of block 4
 abbrev pub row_without : Row
 row_without = record { number = 3; values = Int (pos 1) ∷ Null ∷ [] }
 
+-- row 2 of T, (null, 7), in block 5: its number lies between those in block 4
 abbrev pub row_null : Row
 row_null = record { number = 2; values = Null ∷ Int (pos 7) ∷ [] }
 
+-- row 1 of U, (5), in block 6
 abbrev pub row_five : Row
 row_five = record { number = 1; values = Int (pos 5) ∷ [] }
 
@@ -78,10 +81,11 @@ abbrev pub rows_t : List Entry
 rows_t = (0 ∷ 128 ∷ 0 ∷ 0 ∷ 7 ∷ 0 ∷ 0 ∷ 0 ∷ 5 ∷ 0 ∷ 0 ∷ []) ∷ (0 ∷ 128 ∷ 0 ∷ 0 ∷ 10 ∷ 0 ∷ 0 ∷ 0 ∷ 4 ∷ 0 ∷ 0 ∷ [])
     ∷ (1 ∷ 0 ∷ 0 ∷ 0 ∷ 0 ∷ 0 ∷ 0 ∷ 0 ∷ 4 ∷ 0 ∷ 1 ∷ []) ∷ []
 
--- block 6 is Used with one row, and stands under 5
+-- block 6 is Used, with one row
 abbrev pub lines_u : List Entry
 lines_u = (0 ∷ 0 ∷ 0 ∷ 6 ∷ 1 ∷ 0 ∷ 1 ∷ []) ∷ []
 
+-- block 6 under 5
 abbrev pub cells_u : List Entry
 cells_u = (0 ∷ 128 ∷ 0 ∷ 0 ∷ 5 ∷ 0 ∷ 0 ∷ 0 ∷ 6 ∷ []) ∷ []
 
@@ -103,6 +107,7 @@ page_of_u rows bits slots = filled_page ((82 ∷ 80 ∷ 1 ∷ 32 ∷ 0 ∷ rows 
 abbrev pub slot_of : ℕ → ℕ → List ℕ → List ℕ
 slot_of number nulls columns = (0 ∷ 0 ∷ 0 ∷ 0 ∷ 0 ∷ 0 ∷ 0 ∷ number ∷ 0 ∷ nulls ∷ []) ++ columns
 
+-- the root page, 16 table pages, the map, seven leaves that are roots, an unused index page, and two pages a block
 abbrev pub small_pages : PageList
 small_pages =
     stated_root 32 ∷ table_page def_t ∷ table_page def_u ∷ replicate 14 zero_page
@@ -115,6 +120,7 @@ small_pages =
 
 -- ---- what they show, and stand for
 
+-- table T, each of its four trees a single leaf
 abbrev pub view_t : TableView
 view_t = record {
   def = def_t;
@@ -124,6 +130,7 @@ view_t = record {
   indexes = Leaf 21 rows_t Nil ∷ [];
 }
 
+-- table U, each of its three trees a single leaf
 abbrev pub view_u : TableView
 view_u = record {
   def = def_u;
@@ -133,9 +140,11 @@ view_u = record {
   indexes = [];
 }
 
+-- the owners, T in place 0 and U in place 1, and no table in the other places
 abbrev pub small_view : DatabaseView
 small_view = record { owners = small_owners; places = Some view_t ∷ Some view_u ∷ replicate 14 None }
 
+-- the rows of T by rising number and not by block, and the row of U
 abbrev pub small_database : Database
 small_database =
     Some (record { def = rootless def_t; rows = row_ten ∷ row_null ∷ row_without ∷ [] })

@@ -1,5 +1,5 @@
 -- The digits of a text of the form YYYY-MM-DD.
-use Rattle.std.proofs.Common.{◌≡◌, ℕ, ◌+◌, ◌*◌, ◌<◌, ℤ, pos, Bool, true, false, Option, None, List, get_or, refl, sym, ap, ◌∙◌, subst}
+use Rattle.std.proofs.Common.{◌≡◌, ℕ, ◌+◌, ◌*◌, ◌<◌, ℤ, pos, Bool, true, false, Option, None, List, get_or, refl, sym, subst}
 use Rattle.std.specs.Prelude.{IsTrue, ◌&&◌, ◌==◌, length, slice_index, if◌then◌else◌}
 use Rattle.std.specs.List.{list_all}
 use Rattle.std.proofs.lemmas.Bool.{false≢true}

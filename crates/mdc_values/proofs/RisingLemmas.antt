@@ -1,5 +1,5 @@
 -- A rising list stays one where an element behind its last is put last.
-use Rattle.std.specs.Prelude.{◌≡◌, List, [], ◌∷◌, ◌++◌}
+use Rattle.std.specs.Prelude.{List, [], ◌∷◌, ◌++◌}
 use Rattle.mdc_values.specs.Rising.{IsRising, LastIsBefore}
 
 pub IsRising-push : {X : Type 0} (Before : X → X → Type 0) (xs : List X) (new : X) → IsRising Before xs → LastIsBefore Before new xs → IsRising Before (xs ++ new ∷ [])

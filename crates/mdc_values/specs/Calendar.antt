@@ -25,6 +25,7 @@ digit_at text place = slice_index text place - 48
 abbrev pub two_digits_at : List ℕ → ℕ → ℕ
 two_digits_at text place = 10 * digit_at text place + digit_at text (place + 1)
 
+-- the byte of a digit, 0 to 9
 abbrev pub is_digit : ℕ → Bool
 is_digit byte = nat_le 48 byte && nat_le byte 57
 

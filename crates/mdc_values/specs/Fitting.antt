@@ -1,5 +1,5 @@
 -- Which literals fit a column (docs/SQL.md, "Values").
-use Rattle.std.specs.Prelude.{◌≡◌, ℕ, ◌-◌, ◌^◌, ℤ, pos, neg_ℤ, int_le, List, length, Bool, true, false, ◌&&◌, nat_le, if◌then◌else◌, Option, Some, None, Result, Ok, Err}
+use Rattle.std.specs.Prelude.{◌≡◌, ℕ, ℤ, pos, neg_ℤ, int_le, List, length, Bool, true, false, ◌&&◌, nat_le, if◌then◌else◌, Option, Some, None, Result, Ok, Err}
 use Rattle.mdc_values.specs.declared.fitting.ValueFault.{ValueFault}
 use Rattle.mdc_values.specs.declared.fitting.ValueFault.TheVariants.{WrongType, OutOfRange, TooLong, NoDate, Memory}
 use Rattle.mdc_values.specs.declared.literal.Literal.{Literal}
@@ -24,9 +24,11 @@ in_integer n = int_le (neg_ℤ (pos 2147483648)) n && int_le n (pos 2147483647)
 abbrev pub in_bigint : ℤ → Bool
 in_bigint n = int_le (neg_ℤ (pos 9223372036854775808)) n && int_le n (pos 9223372036854775807)
 
+-- the number where its column may hold it, else the fault that is told as 31
 abbrev pub number_if : Bool → ℤ → Result Value ValueFault
 number_if fits n = if fits then Ok (Int n) else Err OutOfRange
 
+-- the day that a text names, else the fault that is told as 34
 abbrev pub day_if : Option ℕ → Result Value ValueFault
 day_if None = Err NoDate
 day_if (Some day) = Ok (Day day)

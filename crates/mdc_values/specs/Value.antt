@@ -1,7 +1,7 @@
 -- Values (docs/SQL.md, "Values").
 use Rattle.std.specs.Prelude.{ℕ, List, [], ◌∷◌, ◌==◌, if◌then◌else◌}
 use Rattle.mdc_values.specs.declared.value.Value.{Value}
-use Rattle.mdc_values.specs.declared.value.Value.TheVariants.{Null, Int, Text, Day}
+use Rattle.mdc_values.specs.declared.value.Value.TheVariants.{Text}
 
 -- the value is a text
 abbrev pub IsText : Value → Type 0

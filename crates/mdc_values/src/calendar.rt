@@ -1,5 +1,5 @@
 // Days of the calendar: which dates exist, and the texts that name them.
-ghost use Rattle.std.specs.Prelude.{◌≡◌, ◌+◌, ◌<◌, ◌≤◌, pos, length, slice_index, IsTrue};
+ghost use Rattle.std.specs.Prelude.{◌≡◌, ◌+◌, ◌<◌, pos, length, slice_index, IsTrue};
 ghost use Rattle.mdc_values.specs.Calendar.{day_named, day_of, is_day_text, is_digit, two_digits_at};
 
 use jiff::civil::Date;

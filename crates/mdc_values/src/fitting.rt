@@ -1,5 +1,5 @@
 // Which literal fits which column.
-ghost use Rattle.std.specs.Prelude.{◌≡◌, ◌≤◌, ℕ, length, IfOk, IsErr, MatchResult};
+ghost use Rattle.std.specs.Prelude.{◌≡◌};
 ghost use Rattle.mdc_values.specs.Fitting.{AnswersFit, fit_of, in_bigint, in_integer, number_if, signed, text_within};
 ghost use Rattle.mdc_values.specs.Value.{trimmed};
 

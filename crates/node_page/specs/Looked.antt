@@ -15,11 +15,13 @@ entries_in (LeafNode entries) = entries
 entries_in (InnerNode separators children) = separators
 entries_in NoNode = []
 
+-- the children of an inner node; nothing else has any
 abbrev pub children_in : Node → List ℕ
 children_in (LeafNode entries) = []
 children_in (InnerNode separators children) = children
 children_in NoNode = []
 
+-- a leaf, with or without entries; a page that is no node isn't one
 abbrev pub is_leaf_node : Node → Bool
 is_leaf_node (LeafNode entries) = true
 is_leaf_node (InnerNode separators children) = false
@@ -36,9 +38,11 @@ pub record SeenNode : Type 0 where
   pub width : ℕ
   pub node : Node
 
+-- this node, whose entries have this width
 abbrev pub seen_node : ℕ → Node → SeenNode
 seen_node width node = record { width = width; node = node }
 
+-- the same of a leaf or an inner node, and nothing where the page is no node
 abbrev pub seen_if : ℕ → Node → Option SeenNode
 seen_if width (LeafNode entries) = Some (seen_node width (LeafNode entries))
 seen_if width (InnerNode separators children) = Some (seen_node width (InnerNode separators children))

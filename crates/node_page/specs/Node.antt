@@ -38,17 +38,19 @@ node_bytes width (InnerNode separators children) =
     filled_page (node_head 73 width (length separators) (first_child children) ++ fork_items separators (drop 1 children))
 node_bytes width NoNode = []
 
--- how many entries fit into a leaf, and how many separators into an inner node
+-- how many entries fit into a leaf, behind the head
 abbrev pub leaf_room : ℕ → ℕ
 leaf_room width = 4080 / width
 
+-- how many separators fit into an inner node, each with a child of four bytes
 abbrev pub inner_room : ℕ → ℕ
 inner_room width = 4080 / (width + 4)
 
--- the number in n bytes from a place on, and the bytes there
+-- the number in n bytes from a place on, the highest byte first
 abbrev pub number_within : ℕ → ℕ → List ℕ → ℕ
 number_within at n page = big_number n (drop at page)
 
+-- n bytes from a place on
 abbrev pub bytes_in : ℕ → ℕ → List ℕ → List ℕ
 bytes_in at n page = take n (drop at page)
 
@@ -56,15 +58,17 @@ bytes_in at n page = take n (drop at page)
 abbrev pub stated_entries : List ℕ → ℕ
 stated_entries page = number_within 4 2 page
 
--- what the fields of a page say that it is
+-- a leaf of n entries, one behind the other from byte 16 on
 abbrev pub stated_leaf : ℕ → ℕ → List ℕ → Node
 stated_leaf width n page = LeafNode (listed n (λ i. bytes_in (16 + i * width) width page))
 
+-- an inner node of n separators from byte 16 on, each with the child behind it, and the first child from byte 8 on
 abbrev pub stated_inner : ℕ → ℕ → List ℕ → Node
 stated_inner width n page =
     InnerNode (listed n (λ i. bytes_in (16 + i * (width + 4)) width page))
     (number_within 8 4 page ∷ listed n (λ i. number_within (16 + i * (width + 4) + width) 4 page))
 
+-- what the mark and the number of entries say that a page is, where so many entries fit
 abbrev pub stated_node : ℕ → List ℕ → Node
 stated_node width page =
     if (number_within 0 1 page == 76) && nat_le (stated_entries page * width) 4080 then stated_leaf width (stated_entries page) page

@@ -1,7 +1,7 @@
 // A page seen as a node, by a look at its head.
 ghost use Rattle.std.specs.Prelude.{◌≡◌, ◌+◌, ◌*◌, ◌<◌, ◌≤◌, ℕ, List, [], true, false, length, get_or, IfSome};
 ghost use Rattle.mdc_words.specs.ByteOrder.{Entry};
-ghost use Rattle.node_page.specs.Node.{Node, node_of, number_within, stated_entries, is_full};
+ghost use Rattle.node_page.specs.Node.{node_of, stated_entries, is_full};
 ghost use Rattle.node_page.specs.Node.Node.{LeafNode, InnerNode};
 ghost use Rattle.node_page.specs.Looked.{looked, seen_node, entries_in, children_in, is_leaf_node, fork_width, item_width};
 

@@ -1,5 +1,5 @@
 // The calls of a disk, by what they may tear.
-ghost use Rattle.std.specs.Prelude.{◌≡◌, ◌≤◌, ◌+◌, ℕ, length, take, drop, IsErr, IsTrue, OnOk, IfOk};
+ghost use Rattle.std.specs.Prelude.{◌≡◌, ◌≤◌, ◌+◌, length, take, drop, IsErr, IsTrue, OnOk, IfOk};
 ghost use Rattle.std.specs.Option.{option_map, ForSome};
 ghost use Rattle.mdc_outside.specs.Disk.{torn, written, settled};
 ghost use Rattle.mdc_words.specs.Faults.{CountsFault};

@@ -1,9 +1,9 @@
 // What a store has in memory beside its host: its changes, clean pages, and where the page at hand lies.
-ghost use Rattle.std.specs.Prelude.{◌≡◌, ◌<◌, ◌≤◌, ◌+◌, IsTrue, IsSome, Option, None, Some, [], false, length, slice_index_or, IfOk, IsOk, OnOk, OnErr, IsErrOf, IsErr};
+ghost use Rattle.std.specs.Prelude.{◌≡◌, ◌<◌, ◌≤◌, ◌+◌, IsTrue, IsSome, Option, None, Some, false, length, slice_index_or, IfOk, IsOk, OnOk, OnErr, IsErrOf, IsErr};
 ghost use Rattle.std.specs.Option.{ForSome};
 ghost use Rattle.std.specs.Borrow.{sem};
 ghost use Rattle.store_api.specs.Calls.{Fetches, FetchesCommitted, LosesHand, LosesReadiness, Writes, Grows, Marks, Keeps, Undoes, Prepares, Commits, Ends, RollsBack};
-ghost use Rattle.store_api.specs.StoreState.{stated_count, zero_page, differing};
+ghost use Rattle.store_api.specs.StoreState.{stated_count, differing};
 ghost use Rattle.mdc_outside.specs.Disk.{File};
 ghost use Rattle.mdc_words.specs.Faults.{CountsFault};
 ghost use Rattle.page_file.specs.Bound.{RunsOf};

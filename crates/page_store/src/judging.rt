@@ -1,5 +1,5 @@
 // Whether a file can be served, by what was read of it.
-ghost use Rattle.std.specs.Prelude.{◌≡◌, ◌≤◌, ◌<◌, ◌+◌, ◌-◌, ◌*◌, ◌/◌, ℕ, List, IfOk, IfErr, MatchOption, MatchResult};
+ghost use Rattle.std.specs.Prelude.{◌≡◌, ◌≤◌, ◌<◌, ◌+◌, ◌-◌, ◌/◌, ℕ, List, IfOk, IfErr, MatchOption, MatchResult};
 ghost use Rattle.page_store.specs.Faults.{IsUnserved};
 ghost use Rattle.page_store.specs.Opening.{IsServed, Refuses};
 ghost use Rattle.page_store.specs.Reading.{WasRead};

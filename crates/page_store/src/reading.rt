@@ -1,5 +1,5 @@
 // What is read of a file before it is judged. It changes nothing.
-ghost use Rattle.std.specs.Prelude.{◌≡◌, ◌≢◌, ◌≤◌, length, IsTrue, IfOk, IfErr, IsErrOf, MatchOption, IsErr};
+ghost use Rattle.std.specs.Prelude.{◌≡◌, ◌≢◌, length, IsTrue, IfOk, IfErr, IsErrOf, MatchOption, IsErr};
 ghost use Rattle.std.specs.Option.{ForSome};
 ghost use Rattle.mdc_words.specs.Faults.{CountsFault};
 ghost use Rattle.page_file.specs.Bound.{RunsOf};

@@ -1,5 +1,5 @@
 // Tables in memory: what each is, and its rows.
-ghost use Rattle.std.specs.Prelude.{◌≡◌, ◌<◌, ◌^◌, [], None, Some, IfOk, IfSome, IsSome, option_map};
+ghost use Rattle.std.specs.Prelude.{◌≡◌, ◌<◌, [], None, Some, IfOk, IfSome, IsSome, option_map};
 ghost use Rattle.mdc_ast.specs.meaning.Database.{changed_at, defs_of, empty_database, table_at, with_place};
 ghost use Rattle.mdc_ast.specs.meaning.Definitions.{empty_place};
 ghost use Rattle.mdc_ast.specs.meaning.Doing.{entered};

@@ -6,7 +6,7 @@ use Rattle.mdc_ast.specs.declared.predicate.Pred.{Pred}
 use Rattle.mdc_ast.specs.declared.predicate.Pred.TheFolds.{fold-roll-Pred}
 use Rattle.mdc_ast.specs.declared.predicate.Pred.TheOpen as layer
 use Rattle.mdc_ast.specs.declared.predicate.Pred.TheVariants as pred
-use Rattle.mdc_ast.specs.declared.predicate.Pred.TheVariants.{All, Any, rolls-All, rolls-Any, rolls-Atom, rolls-Not}
+use Rattle.mdc_ast.specs.declared.predicate.Pred.TheVariants.{All, Any, rolls-All, rolls-Any, rolls-Atom}
 use Rattle.mdc_ast.specs.Truth.{all_true}
 use Rattle.mdc_ast.proofs.TestsLemmas.{both}
 use Rattle.predicate.specs.Pushed.{is_pushed, is_pushed_test, layer_is_pushed}

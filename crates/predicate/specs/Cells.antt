@@ -1,4 +1,4 @@
--- Whether a predicate may be true of a row of a cell: of its values in the dimension columns alone (docs/SQL.md, "Values").
+-- Whether a predicate may be true of a row of a cell: of its values in the dimension columns alone (docs/SQL.md, "SELECT").
 use Rattle.std.specs.Prelude.{ℕ, ◌==◌, ◌&&◌, if◌then◌else◌, List, [], ◌∷◌, flat_map, map, not, Bool, true, false, Option, Some, None}
 use Rattle.std.specs.List.{list_any}
 use Rattle.mdc_values.specs.declared.value.Value.{Value}

@@ -17,6 +17,7 @@ is_pushed_test negated (Compare op right) = not negated
 is_pushed_test negated IsNull = true
 is_pushed_test negated test = false
 
+-- such a test, or an AND or OR of which each part is so already, and no NOT
 abbrev pub layer_is_pushed : Pred-F Bool → Bool
 layer_is_pushed (layer.Atom atom) = is_pushed_test atom.negated atom.test
 layer_is_pushed (layer.All parts) = all_true parts

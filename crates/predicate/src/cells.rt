@@ -1,6 +1,5 @@
 // Whether a predicate may be true of a row of a cell.
-ghost use Rattle.std.specs.Prelude.{◌≡◌, ◌&&◌, [], flat_map, false, length, map, MatchOption, Some};
-ghost use Rattle.std.specs.List.{list_all};
+ghost use Rattle.std.specs.Prelude.{◌≡◌, ◌&&◌, [], flat_map, false, MatchOption, Some};
 ghost use Rattle.mdc_values.specs.Order.{are_alike};
 ghost use Rattle.mdc_ast.specs.Truth.{may_test};
 ghost use Rattle.predicate.specs.Cells as spec;

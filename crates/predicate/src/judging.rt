@@ -1,8 +1,8 @@
 // The truth of a predicate on a row.
-ghost use Rattle.std.specs.Prelude.{◌≡◌, ◌<◌, length, map, IsTrue};
+ghost use Rattle.std.specs.Prelude.{◌≡◌, ◌<◌, map, IsTrue};
 ghost use Rattle.std.specs.List.{list_all};
 ghost use Rattle.mdc_ast.specs.Truth as spec;
-ghost use Rattle.mdc_ast.specs.Truth.{all_of, any_of, atom_truth, is_null, may_judge, may_test, may_test_atom, test_truth, value_at};
+ghost use Rattle.mdc_ast.specs.Truth.{any_of, atom_truth, is_null, may_judge, may_test, may_test_atom, test_truth};
 ghost use Rattle.mdc_values.specs.Order.{are_alike, compared, told};
 ghost use Rattle.mdc_values.specs.declared.truth.Op.TheVariants.{Equal};
 

@@ -2,7 +2,7 @@
 ghost use Rattle.std.specs.Prelude.{◌≡◌, List, IfOk, IsTrue};
 ghost use Rattle.mdc_values.specs.declared.value.Value.{Value};
 ghost use Rattle.mdc_ast.specs.Truth.{may_judge, truth};
-ghost use Rattle.predicate.specs.Pushed.{ArePushedFrom, IsPushedFrom, is_pushed};
+ghost use Rattle.predicate.specs.Pushed.{IsPushedFrom, is_pushed};
 
 use crate::comparing::{joined, test_as_comparisons};
 use mdc_ast::Pred;

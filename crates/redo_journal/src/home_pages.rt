@@ -1,8 +1,6 @@
 // The home pages: where the pages of the store lie in the file.
 ghost use Rattle.std.specs.Prelude.{◌≡◌, IsErr, IsTrue, OnOk};
 ghost use Rattle.std.specs.Option.{ForSome};
-ghost use Rattle.std.specs.List.{All};
-ghost use Rattle.mdc_outside.specs.Disk.{all_synced};
 ghost use Rattle.mdc_words.specs.Faults.{CountsFault};
 ghost use Rattle.page_file.specs.Bound.{RunsOf, LeavesOf};
 ghost use Rattle.page_file.specs.Layout.{IsReady, FrontStays};

@@ -6,7 +6,7 @@ ghost use Rattle.mdc_words.specs.Faults.{CountsFault};
 ghost use Rattle.page_file.specs.Bound.{RunsOf};
 ghost use Rattle.redo_journal.specs.Faults.{IsDamaged};
 ghost use Rattle.redo_journal.specs.Images.{AreRising};
-ghost use Rattle.redo_journal.specs.Layout.{FindsJournal, IsJournal, entries, index_pages, is_open};
+ghost use Rattle.redo_journal.specs.Layout.{FindsJournal, IsJournal, entries, is_open};
 ghost use Rattle.page_file.specs.Runs.{IsCovered};
 
 use crate::Images;

@@ -1,4 +1,4 @@
--- A page of rows: slots, each empty or with a row (docs/FORMAT.md, "Row pages").
+-- A page of rows: slots, each empty or with a row (docs/FORMAT.md, "Rows").
 use Rattle.std.specs.Prelude.{◌≡◌, ℕ, ◌+◌, ◌-◌, ◌*◌, ◌/◌, ◌%◌, ◌^◌, ◌==◌, ◌≤◌, ◌<◌, Bool, true, false, IsTrue, if◌then◌else◌, List, [], ◌∷◌, ◌++◌, take, drop, replicate, slice_index, Option, Some, None, is_some}
 use Rattle.std.specs.List.{count_by}
 use Rattle.byteorder.specs.Endian.{big_bytes, big_number}
@@ -21,10 +21,11 @@ slot_bit_bytes slots = (slots + 7) / 8
 abbrev pub bytes_for_slots : ℕ → ℕ → ℕ
 bytes_for_slots width slots = 16 + slot_bit_bytes slots + slots * width
 
--- where the slots begin, and where they end
+-- where the slots begin, behind the head and the bits
 abbrev pub slots_start : List ColumnDef → ℕ
 slots_start columns = 16 + slot_bit_bytes (slot_count columns)
 
+-- where the slots end; what is behind them in the page is spare
 abbrev pub slots_end : List ColumnDef → ℕ
 slots_end columns = bytes_for_slots (row_width_of columns) (slot_count columns)
 

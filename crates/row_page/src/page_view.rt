@@ -1,5 +1,5 @@
 // A page of rows, seen slot by slot.
-ghost use Rattle.std.specs.Prelude.{◌≡◌, ◌≤◌, ◌<◌, ℕ, List, Option, false, is_some, not, true, IsSome, IfSome, IsTrue, ◌↔◌, MatchOption, Some};
+ghost use Rattle.std.specs.Prelude.{◌≡◌, ◌≤◌, ◌<◌, List, Option, false, is_some, not, true, IsSome, IfSome, IsTrue, ◌↔◌, MatchOption, Some};
 ghost use Rattle.mdc_ast.specs.declared.row.Row.{Row};
 ghost use Rattle.row_page.specs.Layout.{IsLayoutOf};
 ghost use Rattle.row_page.specs.Row.{AreRowColumns};

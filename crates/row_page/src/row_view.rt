@@ -2,7 +2,6 @@
 ghost use Rattle.std.specs.Prelude.{◌≡◌, ◌≤◌, ◌<◌, ◌+◌, ℕ, length, slice_get, slice_index, drop, replicate, false, true, IfOk, IsErr, IsTrue, ◌↔◌, MatchOption, Some};
 ghost use Rattle.mdc_values.specs.Value.{IsText};
 ghost use Rattle.mdc_values.specs.declared.value.Value.{Value};
-ghost use Rattle.mdc_ast.specs.meaning.Definitions.{width};
 ghost use Rattle.row_page.specs.Row.{AreNullsBlank, is_stored_null, nulls_in, row_in, row_width_of, stored_bytes};
 ghost use Rattle.row_page.specs.RowPage.{IsWrittenRow};
 

@@ -1,5 +1,5 @@
 // The bits of a page's slots, and the count of its rows.
-ghost use Rattle.std.specs.Prelude.{◌≡◌, ◌+◌, ◌-◌, ◌/◌, ◌%◌, ◌^◌, ◌≤◌, ◌<◌, ℕ, false, true, drop, take, IsTrue, ◌↔◌, slice_index, slice_set};
+ghost use Rattle.std.specs.Prelude.{◌≡◌, ◌+◌, ◌-◌, ◌/◌, ◌%◌, ◌^◌, ◌≤◌, ◌<◌, ℕ, false, true, take, IsTrue, ◌↔◌, slice_index, slice_set};
 ghost use Rattle.byteorder.specs.Endian.{big_bytes};
 ghost use Rattle.store_api.specs.StoreState.{patched};
 ghost use Rattle.row_page.specs.Slots.{TurnsSlot};

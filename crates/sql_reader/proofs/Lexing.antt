@@ -4,7 +4,7 @@ use Rattle.std.specs.Prelude.{IsTrue, ◌==◌, ◌||◌, ◌&&◌}
 use Rattle.std.proofs.lemmas.Bool.{cases_Bool, cases_eq, eqb-true, ne_eqb}
 use Rattle.std.proofs.lemmas.Bool.Decides.{nat_tests}
 use Rattle.mdc_ast.specs.Cutting.{Passes, is_blank}
-use Rattle.mdc_ast.specs.Tokens.{Kind, Word, Number, Text, Symbol, Stray, Token, Tokens, Quoted, Unquoted, Stops, StandsAlone, is_letter, is_symbol, is_pair, is_word_byte, begins_token, upper, kept_number}
+use Rattle.mdc_ast.specs.Tokens.{Kind, Word, Number, Text, Symbol, Token, Tokens, Quoted, Unquoted, Stops, StandsAlone, is_letter, is_symbol, is_pair, is_word_byte, begins_token, upper, kept_number}
 use Rattle.mdc_values.specs.Calendar.{is_digit}
 use Rattle.mdc_ast.specs.Tokens as tokens
 use Rattle.sql_reader.specs.declared.token.Token.{Token as Lexed}

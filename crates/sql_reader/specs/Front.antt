@@ -22,6 +22,7 @@ token_told (Some kind) left = record { kind = kind; left = left } ∷ []
 abbrev pub PutsFront : List Lexed → List Lexed → ℕ → Found → List ℕ → Type 0
 PutsFront old new left found rest = (tokens_of new ≡ tokens_of old ++ token_told found.0 left) × (rest ≡ found.1)
 
+-- the bytes of the symbol that was found, none where none was
 abbrev pub shown_symbol : Option Mark → Option (List ℕ)
 shown_symbol None = None
 shown_symbol (Some symbol) = Some (bytes_of symbol)

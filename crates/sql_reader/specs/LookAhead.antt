@@ -38,6 +38,7 @@ abbrev pub among : List Class → Kind → Bool
 among [] kind = false
 among (c ∷ cs) kind = fits c kind || among cs kind
 
+-- some token may be of the class and of one of these
 abbrev pub crosses : Class → List Class → Bool
 crosses c [] = false
 crosses c (d ∷ ds) = overlap c d || crosses c ds
@@ -75,6 +76,7 @@ within AnyText AnyName = false
 within AnyText AnyNumber = false
 within AnyText AnyText = true
 
+-- one of these classes has every token of the class
 abbrev pub inside : Class → List Class → Bool
 inside c [] = false
 inside c (d ∷ ds) = within c d || inside c ds
@@ -99,6 +101,7 @@ empty (separated c g) = false
 empty (listed g) = false
 empty (stated s m g) = false
 
+-- the base classes, and the extra ones too where the flag says that the part between may spell no token
 abbrev pub joined : Bool → List Class → List Class → List Class
 joined true extra base = extra ++ base
 joined false extra base = base

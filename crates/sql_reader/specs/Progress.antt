@@ -9,9 +9,11 @@ pub record Progress : Type 0 where
   pub past : ℕ
   pub finished : Bool
 
+-- no byte is taken, and no piece is done with
 abbrev pub at_start : Progress
 at_start = record { taken = []; past = 0; finished = false }
 
+-- all items of a finished script; before its end those that semicolons close in the bytes done with
 abbrev pub IsGivenAt : Bool → List ℕ → ℕ → List Item → Type 0
 IsGivenAt true taken past items = Reads taken items
 IsGivenAt false taken past items = Closes (take past taken) items

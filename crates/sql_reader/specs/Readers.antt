@@ -6,17 +6,21 @@ use Rattle.mdc_ast.specs.Phrases.{front_of}
 use Rattle.mdc_ast.specs.Rules.{Rule, nothing, token, behind, pair, seen, choice, forked, perhaps, closed, separated, listed, stated}
 use Rattle.sql_reader.specs.LookAhead.{among, starts}
 
+-- what stands at the front and the tokens behind it, or else the tokens from the first that doesn't fit
 abbrev pub Reader : Type 0 → Type 0
 Reader X = List Token → Result (X × List Token) (List Token)
 
 infixl 10 ◌>>=◌
+-- goes on with what the first step gave, and stops where that stopped
 abbrev pub ◌>>=◌ : {A B E : Type 0} → Result A E → (A → Result B E) → Result B E
 (Ok x) >>= f = f x
 (Err e) >>= f = Err e
 
+-- says x, and takes no token
 abbrev pub read_as : {X : Type 0} → X → Reader X
 read_as x tokens = Ok (x, tokens)
 
+-- a token of this class, seen by f
 abbrev pub one : {X : Type 0} → Class → (Token → X) → Reader X
 one c f [] = Err []
 one c f (t ∷ rest) = if fits c t.kind then Ok (f t, rest) else Err (t ∷ rest)
@@ -26,12 +30,15 @@ abbrev pub skip : Class → List Token → Result (List Token) (List Token)
 skip c [] = Err []
 skip c (t ∷ rest) = if fits c t.kind then Ok rest else Err (t ∷ rest)
 
+-- a, behind a token of this class, which itself says nothing
 abbrev pub then_read : {X : Type 0} → Class → Reader X → Reader X
 then_read c a tokens = skip c tokens >>= a
 
+-- a and then b, behind the tokens that a took
 abbrev pub both : {X Y : Type 0} → Reader X → Reader Y → Reader (X × Y)
 both a b tokens = a tokens >>= λ p. b p.1 >>= λ q. Ok ((p.0, q.0), q.1)
 
+-- the same tokens as a, and what f makes of what they say
 abbrev pub map_read : {X Y : Type 0} → (X → Y) → Reader X → Reader Y
 map_read f a tokens = a tokens >>= λ p. Ok (f p.0, p.1)
 
@@ -50,6 +57,7 @@ many_at cs a zero tokens = Ok ([], tokens)
 many_at cs a (suc n) tokens =
     if begins cs tokens then (a tokens >>= λ p. many_at cs a n p.1 >>= λ q. Ok (p.0 ∷ q.0, q.1)) else Ok ([], tokens)
 
+-- the same in as many rounds as there are tokens, which is enough where each takes one
 abbrev pub many : {X : Type 0} → List Class → Reader X → Reader (List X)
 many cs a tokens = many_at cs a (length tokens) tokens
 
@@ -67,12 +75,15 @@ behind_first (t ∷ rest) = rest
 abbrev pub fork : {X : Type 0} → Class → List Class → Reader X → Reader X → Reader X
 fork w cs a b tokens = if forks w cs tokens then a (behind_first tokens) else b tokens
 
+-- a, and behind it a token of this class, which itself says nothing
 abbrev pub closed_at : {X : Type 0} → Reader X → Class → Reader X
 closed_at {X} a c = map_read (λ (p : X × Unit {0}). p.0) (both a (then_read c (read_as tt)))
 
+-- one or more of a, with a token of this class between each two
 unfoldable pub separated_at : {X : Type 0} → Class → Reader X → Reader (List X)
 separated_at c a = map_read front_of (both a (many (c ∷ []) (then_read c a)))
 
+-- one or more of a between parentheses, with commas between each two
 unfoldable pub listed_at : {X : Type 0} → Reader X → Reader (List X)
 listed_at a = then_read opening (closed_at (separated_at comma a) closing)
 

@@ -13,6 +13,7 @@ is_plain_kind (Text text) = false
 is_plain_kind (Symbol bytes) = true
 is_plain_kind Stray = false
 
+-- a dash stands first, so that a dash before these bytes begins a comment where no text is open
 abbrev pub begins_dash : List ℕ → Bool
 begins_dash [] = false
 begins_dash (b ∷ bytes) = b == 45

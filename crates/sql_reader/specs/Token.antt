@@ -30,6 +30,7 @@ undoubled behind_quote [] = []
 undoubled true (b ∷ bytes) = undoubled false bytes
 undoubled false (b ∷ bytes) = b ∷ undoubled (b == 39) bytes
 
+-- a word is folded to upper case, a text has one quote for two, and a symbol is its bytes
 abbrev pub grammar_kind : Kind → ast.Kind
 grammar_kind (kind.Word word) = ast.Word (map upper word.now)
 grammar_kind (kind.Number number) = ast.Number number
@@ -37,8 +38,10 @@ grammar_kind (kind.Text text) = ast.Text (undoubled false text.now)
 grammar_kind (kind.Symbol symbol) = ast.Symbol (bytes_of symbol)
 grammar_kind kind.Stray = ast.Stray
 
+-- the kind that the grammar knows, at the same byte of the statement
 abbrev pub token_of : Token → ast.Token
 token_of token = record { kind = grammar_kind token.kind; left = token.left }
 
+-- token by token, none left out
 abbrev pub tokens_of : List Token → List ast.Token
 tokens_of tokens = map token_of tokens

@@ -1,5 +1,5 @@
 // Where in a script a byte stands, and the scan for a semicolon that cuts.
-ghost use Rattle.std.specs.Prelude.{◌≡◌, ◌≤◌, ◌<◌, length, take, slice_index, true, Some};
+ghost use Rattle.std.specs.Prelude.{◌≡◌, ◌≤◌, ◌<◌, length, take, slice_index, Some};
 ghost use Rattle.sql_reader.specs.Scan.{behind_plain, place_after, place_behind};
 ghost use Rattle.sql_reader.specs.declared.place.Place.TheVariants.{Outside};
 

@@ -1,5 +1,4 @@
 // Queries.
-ghost use Rattle.std.specs.Prelude.{◌≡◌};
 ghost use Rattle.mdc_ast.specs.Grammar as grammar;
 ghost use Rattle.mdc_ast.specs.Rules.{choice, nothing};
 ghost use Rattle.sql_reader.specs.Parses.{Parses};

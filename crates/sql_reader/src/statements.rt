@@ -1,5 +1,5 @@
 // The items of a script, as its bytes come in.
-ghost use Rattle.std.specs.Prelude.{◌≡◌, ◌<◌, ◌≤◌, [], ◌∷◌, ◌++◌, ◌+◌, List, ℕ, drop, length, slice_range, vec_len, vec_capacity, Some, None, true, false, ◌⊎◌, IfOk, IfErr, IfSome, IfNone, IsErrOf};
+ghost use Rattle.std.specs.Prelude.{◌≡◌, ◌<◌, ◌≤◌, [], ◌∷◌, ◌++◌, ◌+◌, List, ℕ, drop, length, slice_range, vec_len, vec_capacity, Some, None, true, false, ◌⊎◌, IfOk, IfErr, IfSome, IsErrOf};
 ghost use Rattle.mdc_words.specs.Faults.{Rose};
 ghost use Rattle.sql_reader.specs.Holding.{nothing_held, work_left};
 ghost use Rattle.sql_reader.specs.Items.{IsItemIn};

@@ -1,5 +1,5 @@
 // Bytes that no statement has.
-ghost use Rattle.std.specs.Prelude.{◌≡◌, ◌∷◌, List, ℕ, false, length, MatchOption, Some, None, Bool, slice_index};
+ghost use Rattle.std.specs.Prelude.{◌≡◌, false, Some, None};
 ghost use Rattle.std.specs.List.{list_all};
 ghost use Rattle.mdc_ast.specs.Tokens.{Tokens, is_plain};
 ghost use Rattle.sql_reader.specs.Strange.{begins_dash, is_plain_kind, is_strange, within_after, IsFoundIn};

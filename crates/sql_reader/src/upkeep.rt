@@ -1,5 +1,4 @@
 // Settings, upkeep and transactions.
-ghost use Rattle.std.specs.Prelude.{◌≡◌};
 ghost use Rattle.mdc_ast.specs.Grammar as grammar;
 ghost use Rattle.sql_reader.specs.Parses.{Parses};
 ghost use Rattle.sql_reader.specs.Readers.{read};

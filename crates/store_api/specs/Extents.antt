@@ -1,5 +1,5 @@
 -- How large a database may grow: how many extents it has, and how many pages each extent (docs/FORMAT.md, "Extents").
-use Rattle.std.specs.Prelude.{ℕ, ◌+◌, ◌-◌, ◌*◌, ◌/◌, ◌%◌, Bool, ◌&&◌, ◌||◌, ◌==◌, nat_le}
+use Rattle.std.specs.Prelude.{ℕ, ◌+◌, ◌*◌, ◌/◌, Bool, ◌&&◌, ◌||◌, ◌==◌, nat_le}
 
 -- an extent has 2, 4, 8, 16 or 32 pages
 abbrev pub is_extent_size : ℕ → Bool

@@ -1,7 +1,7 @@
 // A ledger: page 0 is its head, which begins with 77, and each entry is a page.
 ghost use Rattle.std.specs.Prelude.{◌≡◌, ◌+◌, ◌-◌, ◌<◌, ◌≤◌, ◌⊎◌, ℕ, List, [], ◌∷◌, length, false, OnOk, IfOk};
 ghost use Rattle.store_api.specs.StoreState.{patched};
-ghost use Rattle.store_api.specs.Frame.{Part, HoldsPage, OnlyPage, NoPage};
+ghost use Rattle.store_api.specs.Frame.{Part, HoldsPage, OnlyPage};
 ghost use Rattle.store_api.specs.RunsOverPages.{RunsOverPages};
 ghost use Rattle.store_api.specs.Fetching.{PagesBetween};
 ghost use Rattle.store_api.specs.Causes.{fault_of, NoDamage};

@@ -1,5 +1,5 @@
 // A commit of one page.
-ghost use Rattle.std.specs.Prelude.{◌≡◌, ◌<◌, ℕ, length, false, None, OnOk};
+ghost use Rattle.std.specs.Prelude.{◌≡◌, ◌<◌, length, false, None, OnOk};
 ghost use Rattle.mdc_words.specs.Time.{OverTime};
 ghost use Rattle.store_api.specs.Frame.{WritesPage, IsCounted};
 ghost use Rattle.store_api.specs.Moments.{BaseOrNow};

@@ -1,5 +1,5 @@
 // A structure that owns its pages.
-ghost use Rattle.std.specs.Prelude.{◌≡◌, ◌+◌, ◌-◌, ◌<◌, ◌≤◌, ℕ, length, false, OnOk, IfOk};
+ghost use Rattle.std.specs.Prelude.{◌≡◌, ◌+◌, ◌-◌, ◌<◌, ◌≤◌, length, false, OnOk, IfOk};
 ghost use Rattle.store_api.specs.Frame.{Part, NoPage, WritesPage};
 ghost use Rattle.store_api.specs.Fetching.{PagesBetween};
 ghost use Rattle.store_api.specs.Causes.{fault_of, NoDamage};

@@ -1,5 +1,5 @@
 // A caller with a fault of its own.
-ghost use Rattle.std.specs.Prelude.{◌≡◌, ◌+◌, ◌<◌, ◌≤◌, length, false, IsErrOf};
+ghost use Rattle.std.specs.Prelude.{◌≡◌, ◌<◌, ◌≤◌, length, false, IsErrOf};
 ghost use Rattle.store_api.specs.Frame.{OnlyPage};
 ghost use Rattle.store_api.specs.Causes.{store_fault_in};
 ghost use Rattle.store_api.specs.RunsOverPages.{RunsOverPages};

@@ -1,4 +1,4 @@
--- The definitions of a database's tables on its table pages (docs/FORMAT.md, "Table page"): page 1 + t has that of table t, and
+-- The definitions of a database's tables on its table pages (docs/FORMAT.md, "Table pages"): page 1 + t has that of table t, and
 -- zeros alone where there is no table.
 use Rattle.std.specs.Prelude.{◌≡◌, ◌≢◌, ◌≤◌, ◌<◌, ◌⊎◌, ℕ, ◌+◌, List, length, Option, Some, None, slice_set}
 use Rattle.std.specs.List.{AllZip, range_with_len}

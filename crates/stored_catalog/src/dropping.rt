@@ -1,5 +1,5 @@
 // A table less.
-ghost use Rattle.std.specs.Prelude.{◌≡◌, ◌+◌, ◌<◌, ◌∷◌, [], ℕ, List, length, false, None, IsTrue, IsSome, IfSome, OnErr, OnOk};
+ghost use Rattle.std.specs.Prelude.{◌≡◌, ◌+◌, ◌<◌, ◌∷◌, [], List, length, false, None, IsTrue, IsSome, IfSome, OnErr, OnOk};
 ghost use Rattle.mdc_ast.specs.meaning.Database.{Database, with_place};
 ghost use Rattle.mdc_ast.specs.meaning.Definitions.{def_at, without_def};
 ghost use Rattle.store_api.specs.Causes.{fault_of};

@@ -62,11 +62,12 @@ printed_flag flag = if flag then 1 else 0
 abbrev pub printed_name : Name → List ℕ
 printed_name name = padded 18 name.0
 
--- a column in 31 bytes: name, type, length, whether it is not null, and what it is made from
+-- the parts of a column: name, type, length, whether it is not null, and what it is made from
 abbrev pub column_parts : ColumnDef → List (List ℕ)
 column_parts column =
     printed_name column.name ∷ (type_code column.ty ∷ char_length column.ty ∷ printed_flag column.not_null ∷ []) ∷ printed_made column.made ∷ []
 
+-- a column in 31 bytes: its parts one behind the other
 abbrev pub printed_column : ColumnDef → List ℕ
 printed_column column = in_a_row (column_parts column)
 
@@ -78,12 +79,13 @@ printed_dimension dim = zero_filled 17 (length dim ∷ dim)
 abbrev pub printed_part : KeyPart → List ℕ
 printed_part part = part.column ∷ printed_flag part.descending ∷ []
 
--- a record index in 56 bytes: name, whether it is unique, how many parts, the parts, and its root
+-- the parts of a record index: name, whether it is unique, how many key parts, these in 32 bytes, and its root
 abbrev pub index_parts : IndexDef → List (List ℕ)
 index_parts index =
     printed_name index.name ∷ (printed_flag index.unique ∷ length index.parts ∷ [])
     ∷ zero_filled 32 (flat_map printed_part index.parts) ∷ big_bytes 4 index.root ∷ []
 
+-- a record index in 56 bytes: its parts one behind the other
 abbrev pub printed_index : IndexDef → List ℕ
 printed_index index = in_a_row (index_parts index)
 

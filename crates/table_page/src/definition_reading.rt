@@ -1,5 +1,5 @@
 // What a page is read as, whatever it holds. Each list is as long as is stated, but no longer than it may be.
-ghost use Rattle.std.specs.Prelude.{◌≡◌, ◌*◌, IfOk, length, min, slice_index};
+ghost use Rattle.std.specs.Prelude.{◌≡◌, ◌*◌, IfOk, length, min};
 ghost use Rattle.byteorder.specs.Endian.{big_number};
 ghost use Rattle.table_page.specs.ReadingBack.{column_in_page, definition_in_page, dimension_in_page, entries_in_page, index_in_page, roots_in_page};
 

@@ -1,7 +1,7 @@
 // What the entries of a table page are read as: names, columns, dimensions, indexes.
-ghost use Rattle.std.specs.Prelude.{◌≡◌, IfOk, length, slice_index};
+ghost use Rattle.std.specs.Prelude.{◌≡◌, IfOk, length};
 ghost use Rattle.table_page.specs.ReadingBack as spec;
-ghost use Rattle.table_page.specs.ReadingBack.{column_in_page, dimension_in_page, entries_in_page, expression_in_page, index_in_page, made_in_page, name_in_page, part_in_page};
+ghost use Rattle.table_page.specs.ReadingBack.{column_in_page, dimension_in_page, entries_in_page, index_in_page, made_in_page, name_in_page, part_in_page};
 
 use crate::layout::{
     MADE_BYTES, MOST_PARTS, NAME_BYTES, PART_BYTES, PARTS_BYTES, ROOT_BYTES, part,

@@ -1,5 +1,5 @@
 // Bytes, names and zeros put into a page at a place.
-ghost use Rattle.std.specs.Prelude.{◌≡◌, ◌≤◌, ◌+◌, ◌-◌, length, replicate};
+ghost use Rattle.std.specs.Prelude.{◌≤◌, ◌+◌, ◌-◌, length, replicate};
 ghost use Rattle.byteorder.specs.Endian.{big_bytes};
 ghost use Rattle.mdc_ast.specs.meaning.Definitions.{IsShort};
 ghost use Rattle.table_page.specs.Printing.{PrintsBytes};

@@ -26,10 +26,11 @@ use Rattle.table_trees.specs.ToldPages.{HasTree, PageList, telling, told_pages}
 abbrev pub free_extents : List Kind → ℕ
 free_extents owners = count_by is_free_kind owners
 
--- how many pages of index extents are used, and how many aren't
+-- how many pages of index extents are used
 abbrev pub used_index_pages : Extents → List Kind → ℕ
 used_index_pages ext owners = sum_by (λ owner. count_by (λ j. is_used_place j owner) (range_with_len 0 ext.extent_pages)) owners
 
+-- how many pages of index extents aren't used; trees take these before a free extent
 abbrev pub unused_index_pages : Extents → List Kind → ℕ
 unused_index_pages ext owners = sum_by (λ owner. count_by (λ j. is_unused_place j owner) (range_with_len 0 ext.extent_pages)) owners
 
@@ -172,9 +173,10 @@ pub record MakesChanges (ext : Extents) (old : PageList) (changes : List SpaceCh
   pub goes : FoldsTo (MakesChange ext) old changes reached
   pub same : IsSameSpace ext reached new
 
--- each of these entries is added, or removed
+-- each of these entries is added, one after the other
 abbrev pub added_entries : List (TreePlace × Entry) → List SpaceChange
 added_entries listings = map (λ listing. AddEntry listing.0 listing.1) listings
 
+-- each of these entries is taken out, one after the other, which asks for no space
 abbrev pub removed_entries : List (TreePlace × Entry) → List SpaceChange
 removed_entries listings = map (λ listing. RemoveEntry listing.0 listing.1) listings

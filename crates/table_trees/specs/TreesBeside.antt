@@ -51,11 +51,6 @@ abbrev pub IsTreesOrMapPage : {S : Type 0} → Ghosts S → Extents → S → Li
 IsTreesOrMapPage g ext s places p =
     (owners : List Kind) (trees : List Forest) → StandTrees g ext s owners places trees → 0 < sum_by (times p) trees ⊎ IsMapPage ext p
 
--- the pages that calls on these trees bring to hand: the same ones, without page 0 and idle ones where nothing is claimed
-abbrev pub IsPageOfTrees : {S : Type 0} → Ghosts S → Extents → S → List TreePlace → ℕ → Type 0
-IsPageOfTrees g ext s places p =
-    (owners : List Kind) (trees : List Forest) → StandTrees g ext s owners places trees → 0 < sum_by (times p) trees
-
 -- ---- what calls on them change
 
 -- the table of a block

@@ -66,12 +66,14 @@ abbrev pub bound_right : List ColumnDef → (Literal → Value) → Operand → 
 bound_right columns read (operand.Column name) = right.Column (the_place columns name)
 bound_right columns read (operand.Literal literal) = right.Value (read literal)
 
+-- a test with places for names and values for literals
 abbrev pub bound_test : List ColumnDef → (Literal → Value) → TestText → Test
 bound_test columns read (Compare op operand) = test.Compare op (bound_right columns read operand)
 bound_test columns read (Between low high) = test.Between (read low) (read high)
 bound_test columns read (Within literals) = test.Within (map read literals)
 bound_test columns read IsNull = test.IsNull
 
+-- a test of a column by its place, each literal a value that may be compared with that column
 abbrev pub bound_atom : List ColumnDef → AtomText → Atom
 bound_atom columns atom = record {
   column = the_place columns atom.column;
@@ -79,17 +81,20 @@ bound_atom columns atom = record {
   test = bound_test columns (λ literal. judged_value (fit_compared (the_type columns atom.column) literal)) atom.test;
 }
 
+-- one layer of a predicate: a test is bound, and AND, OR and NOT stay
 abbrev pub bound_layer : List ColumnDef → PredText-F Pred → Pred
 bound_layer columns (layer.Atom atom) = pred.Atom (bound_atom columns atom)
 bound_layer columns (layer.All parts) = pred.All parts
 bound_layer columns (layer.Any parts) = pred.Any parts
 bound_layer columns (layer.Not part) = pred.Not part
 
+-- the predicate of a WHERE, if there is one
 abbrev pub bound_where : List ColumnDef → Option PredText → Option Pred
 bound_where columns text = option_map (fold-PredText Pred (bound_layer columns)) text
 
 -- ---- UPDATE
 
+-- an operand: the place of a column, or a literal as a value of this type
 abbrev pub bound_side : List ColumnDef → ColType → Operand → BoundOperand
 bound_side columns ty (operand.Column name) = bound_operand.Column (the_place columns name)
 bound_side columns ty (operand.Literal literal) = bound_operand.Value (judged_value (fit_of ty literal))
@@ -99,11 +104,13 @@ abbrev pub bound_set_item : List ColumnDef → ColType → SetItem → BoundItem
 bound_set_item columns ty (One operand) = bound_item.One (bound_side columns ty operand)
 bound_set_item columns ty (Two a sign b) = bound_item.Two (bound_side columns Bigint a) sign (bound_side columns Bigint b)
 
+-- a column that is set, by its place, and its item
 abbrev pub bound_set : List ColumnDef → SetText → BoundSet
 bound_set columns set = record { column = the_place columns set.column; item = bound_set_item columns (the_type columns set.column) set.item }
 
 -- ---- INSERT
 
+-- what an item of a tuple gives to a column: DEFAULT gives null
 abbrev pub item_value : ColType → InsertItem → Value
 item_value ty item.Default = Null
 item_value ty (item.Literal literal) = judged_value (fit_of ty literal)
@@ -115,14 +122,17 @@ given_for column (name ∷ names) [] = Null
 given_for column (name ∷ names) (item ∷ items) =
     if is_same name column.name then item_value column.ty item else given_for column names items
 
+-- the row that a tuple is: a value for each column, in table order
 abbrev pub bound_tuple : List ColumnDef → List Name → List InsertItem → List Value
 bound_tuple columns names items = map (λ column. given_for column names items) columns
 
 -- ---- CREATE TABLE
 
+-- the place of a name among the columns of a CREATE TABLE
 abbrev pub text_place : List ColumnText → Name → ℕ
 text_place columns name = unwrap_or (position_from (λ column. is_same name column.name) 0 columns) 0
 
+-- a column of a CREATE TABLE; the forms that are built make no generated one
 abbrev pub bound_column : ColumnText → ColumnDef
 bound_column column = record { name = column.name; ty = type_of column.ty; not_null = column.not_null; made = None }
 
@@ -140,6 +150,7 @@ bound_table name columns dims = record {
 
 -- ---- queries
 
+-- what a query shows in one place of a line, by the place of its column
 abbrev pub bound_out_of : List ColumnDef → Out → BoundOut
 bound_out_of columns (out.Column name) = bound_out.Column (the_place columns name)
 bound_out_of columns out.CountAll = bound_out.CountAll
@@ -155,6 +166,7 @@ shown columns (Outs outs) = map (bound_out_of columns) outs
 
 -- ---- any statement that is built
 
+-- the columns of a table; where there is no table, none
 abbrev pub columns_of : Option TableDef → List ColumnDef
 columns_of None = []
 columns_of (Some def) = def.columns
@@ -164,9 +176,11 @@ abbrev pub on_place : Option ℕ → List ColumnDef → (ℕ → List ColumnDef 
 on_place None columns bind = bound.Begin
 on_place (Some place) columns bind = bind place columns
 
+-- a statement on the table of that name, by its place and its columns
 abbrev pub bound_on : Definitions → Name → (ℕ → List ColumnDef → Bound) → Bound
 bound_on defs name bind = on_place (place_of defs name) (columns_of (def_named defs name)) bind
 
+-- a statement in places and values; each other form, and one on no table, is BEGIN, which does nothing here
 abbrev pub bound_of : Definitions → Stmt → Bound
 bound_of defs (stmt.CreateTable name columns dims) = bound.CreateTable (bound_table name columns dims)
 bound_of defs (stmt.DropTable name) = bound_on defs name (λ place columns. bound.DropTable place)

@@ -4,6 +4,7 @@ use Rattle.std.specs.Fmt.{decimal}
 use Rattle.mdc_ast.specs.declared.name.Name.{Name}
 use Rattle.mdc_ast.specs.declared.refusal.Refusal.{Refusal}
 
+-- what is said against a statement, with the name, the number or the place that its text tells
 pub data Cause : Type 0 where
   Syntax : (place : ℕ) → Cause
   TooLong : Cause
@@ -31,16 +32,19 @@ pub data Cause : Type 0 where
   FileFull : (extents : ℕ) → Cause
   NumbersUsedUp : (next : ℕ) → Cause
 
+-- no letters, where a refusal keeps no name
 abbrev pub no_name : Name
 no_name = record { 0 = [] }
 
--- a refusal that keeps nothing, a name, or a number
+-- a refusal that keeps nothing beside its number
 abbrev pub bare : ℕ → Refusal
 bare number = record { number = number; place = 0; name = no_name; kept = 0 }
 
+-- a refusal that keeps the name of a table, a column or an index
 abbrev pub naming : ℕ → Name → Refusal
 naming number name = record { number = number; place = 0; name = name; kept = 0 }
 
+-- a refusal that keeps a number, as a limit
 abbrev pub keeping : ℕ → ℕ → Refusal
 keeping number kept = record { number = number; place = 0; name = no_name; kept = kept }
 
@@ -116,6 +120,7 @@ numbered_causes =
     ∷ (33, λ r. TextTooLong r.name) ∷ (34, λ r. NoDate r.name) ∷ (35, λ r. WrongCount) ∷ (36, λ r. GivenGenerated r.name)
     ∷ (37, λ r. Overflow r.name) ∷ (40, λ r. DuplicateKey r.name) ∷ (41, λ r. BadExpression r.name) ∷ (70, λ r. FileFull r.kept) ∷ (71, λ r. NumbersUsedUp r.kept) ∷ []
 
+-- the first of these causes whose number the refusal has
 abbrev pub cause_among : List (ℕ × (Refusal → Cause)) → Refusal → Option Cause
 cause_among [] r = None
 cause_among ((number, cause) ∷ causes) r = if number == r.number then Some (cause r) else cause_among causes r
@@ -124,6 +129,7 @@ cause_among ((number, cause) ∷ causes) r = if number == r.number then Some (ca
 abbrev pub cause_of : Refusal → Option Cause
 cause_of r = cause_among numbered_causes r
 
+-- the line that is said, and nothing where there is no cause
 abbrev pub line_of_cause : Option Cause → List ℕ
 line_of_cause None = []
 line_of_cause (Some cause) = cause_line cause

@@ -19,9 +19,11 @@ pub record PlainTable : Type 0 where
   pub def : TableDef
   pub rows : List Row
 
+-- places, each empty or with a table
 abbrev pub Database : Type 0
 Database = List (Option PlainTable)
 
+-- 16 empty places
 abbrev pub empty_database : Database
 empty_database = replicate 16 None
 
@@ -64,6 +66,7 @@ is_of_type column.Date (Day day) = is_day_number day
 is_of_type ty Null = true
 is_of_type ty value = false
 
+-- a null, which a NOT NULL column doesn't hold
 abbrev pub is_null : Value → Bool
 is_null Null = true
 is_null value = false
@@ -88,10 +91,12 @@ pub record IsValidTable (table : PlainTable) : Type 0 where
   pub rising : RiseFrom 0 table.rows table.def.next
   pub fitting : AllByRecursion (λ row. IsTrue (fits_all table.def.columns row.values)) table.rows
 
+-- the rows of a table that is there rise and fit it; an empty place has none
 abbrev pub AreValidRows : Option PlainTable → Type 0
 AreValidRows None = Unit {0}
 AreValidRows (Some table) = IsValidTable table
 
+-- the definitions are within the limits, and the rows of each table rise and fit it
 pub record IsValid (db : Database) : Type 0 where
   pub defs : AreValidDefs (defs_of db)
   pub tables : AllByRecursion AreValidRows db

@@ -8,6 +8,7 @@ use Rattle.mdc_ast.specs.declared.definition.ColumnDef.{ColumnDef}
 use Rattle.mdc_ast.specs.declared.definition.TableDef.{TableDef}
 use Rattle.mdc_ast.specs.declared.name.Name.{Name}
 
+-- places, each empty or with the definition of a table
 abbrev pub Definitions : Type 0
 Definitions = List (Option TableDef)
 
@@ -17,9 +18,11 @@ no_tables = replicate 16 None
 
 -- ---- looking up
 
+-- two names have the same bytes; words are in upper case
 abbrev pub is_same : Name → Name → Bool
 is_same a b = bytes_eq a.0 b.0
 
+-- the place has a table of that name
 abbrev pub is_defined : Name → Option TableDef → Bool
 is_defined name None = false
 is_defined name (Some def) = is_same def.name name
@@ -44,6 +47,7 @@ empty_place defs = position_from is_none 0 defs
 abbrev pub column_place : List ColumnDef → Name → Option ℕ
 column_place columns name = position_from (λ column. is_same column.name name) 0 columns
 
+-- the column of that name, if there is one
 abbrev pub column_named : List ColumnDef → Name → Option ColumnDef
 column_named columns name = option_and_then (slice_get columns) (column_place columns name)
 
@@ -82,6 +86,7 @@ key_width (ty ∷ types) = 1 + width ty + key_width types
 abbrev pub IsShort : Name → Type 0
 IsShort name = length name.0 ≤ 18
 
+-- a name is one of these
 abbrev pub is_among : Name → List Name → Bool
 is_among name names = list_any (is_same name) names
 
@@ -90,10 +95,12 @@ abbrev pub AllNamesDiffer : List Name → Type 0
 AllNamesDiffer [] = Unit {0}
 AllNamesDiffer (name ∷ names) = (is_among name names ≡ false) × AllNamesDiffer names
 
+-- the names of columns in table order
 abbrev pub column_names : List ColumnDef → List Name
 column_names [] = []
 column_names (column ∷ columns) = column.name ∷ column_names columns
 
+-- the types of columns in table order
 abbrev pub column_types : List ColumnDef → List ColType
 column_types [] = []
 column_types (column ∷ columns) = column.ty ∷ column_types columns
@@ -143,6 +150,7 @@ pub record IsValidDef (place : ℕ) (def : TableDef) : Type 0 where
   pub no_indexes : def.indexes ≡ []
   pub few_rows : def.next < 18446744073709551616
 
+-- a place is empty, or has a definition of its number within the limits
 abbrev pub IsValidPlace : ℕ → Option TableDef → Type 0
 IsValidPlace place None = Unit {0}
 IsValidPlace place (Some def) = IsValidDef place def
@@ -158,6 +166,7 @@ AllDefsDiffer [] = Unit {0}
 AllDefsDiffer (None ∷ defs) = AllDefsDiffer defs
 AllDefsDiffer (Some def ∷ defs) = (list_any (is_defined def.name) defs ≡ false) × AllDefsDiffer defs
 
+-- 16 places, no table name twice, and each definition within the limits
 pub record AreValidDefs (defs : Definitions) : Type 0 where
   pub places : length defs ≡ 16
   pub differ : AllDefsDiffer defs

@@ -39,6 +39,7 @@ qualifies (Some pred) values = is_true (truth values pred)
 
 -- ---- rows as they will be
 
+-- the exact sum, difference or product, whatever its size
 abbrev pub computed_number : Sign → ℤ → ℤ → ℤ
 computed_number Plus a b = a +ℤ b
 computed_number Minus a b = a -ℤ b
@@ -49,6 +50,7 @@ abbrev pub computed : Sign → Value → Value → Value
 computed sign (Int a) (Int b) = Int (computed_number sign a b)
 computed sign a b = Null
 
+-- what an operand is on a row: the value in its column, or the value that it says
 abbrev pub operand_on : List Value → BoundOperand → Value
 operand_on values (operand.Column column) = value_at values column
 operand_on values (operand.Value value) = value
@@ -90,9 +92,11 @@ null_causes (column ∷ columns) [] = []
 null_causes (column ∷ columns) (value ∷ values) =
     cause_if (column.not_null && is_null value) (NullIn column.name) ++ null_causes columns values
 
+-- 37 or 33 of one item of an UPDATE at a row
 abbrev pub set_causes : List ColumnDef → List Value → BoundSet → List Cause
 set_causes columns was set = of_some (slice_get columns set.column) (λ column. outgrows column (item_on was set.item))
 
+-- 37 and 33 of a row's items and then 32 of its nulls; a row that doesn't qualify says nothing
 abbrev pub changed_causes : List ColumnDef → List BoundSet → Option Pred → Row → List Cause
 changed_causes columns sets pred row =
     if qualifies pred row.values
@@ -131,19 +135,23 @@ abbrev pub numbered : ℕ → List (List Value) → List Row
 numbered n [] = []
 numbered n (values ∷ tuples) = record { number = n; values = values } ∷ numbered (n + 1) tuples
 
+-- the table with rows of these values behind its own, and the next row number behind theirs
 abbrev pub appended : List (List Value) → PlainTable → PlainTable
 appended tuples table = record {
   def = record table.def { next = table.def.next + length tuples };
   rows = table.rows ++ numbered table.def.next tuples;
 }
 
+-- a row that qualifies has its columns set and keeps its number; any other stays
 abbrev pub changed_row : List BoundSet → Option Pred → Row → Row
 changed_row sets pred row =
     if qualifies pred row.values then record row { values = set_on row.values sets row.values } else row
 
+-- the table with its qualifying rows changed, in the same order
 abbrev pub changed_table : List BoundSet → Option Pred → PlainTable → PlainTable
 changed_table sets pred table = record table { rows = map (changed_row sets pred) table.rows }
 
+-- the table without its qualifying rows
 abbrev pub left_table : Option Pred → PlainTable → PlainTable
 left_table pred table = record table { rows = filter (λ row. not (qualifies pred row.values)) table.rows }
 
@@ -158,6 +166,7 @@ line [] = 10 ∷ []
 line (text ∷ []) = text ++ 10 ∷ []
 line (text ∷ next ∷ texts) = text ++ 124 ∷ line (next ∷ texts)
 
+-- the name of a column that is there
 abbrev pub name_of : Option ColumnDef → List ℕ
 name_of None = []
 name_of (Some column) = column.name.0
@@ -178,6 +187,7 @@ lines_of columns outs rows =
     line (map (heading columns) outs) ++ flat_map (λ row. line (map (entry row.values) outs)) rows
     ++ decimal (length rows) ++ codes " ROWS\n"
 
+-- the columns of the table in a place, and none of an empty place
 abbrev pub columns_at : Option PlainTable → List ColumnDef
 columns_at None = []
 columns_at (Some table) = table.def.columns

@@ -29,9 +29,11 @@ use Rattle.mdc_ast.specs.meaning.Judging.{Judged, no_fault, of_some, on_table, l
 
 -- ---- CREATE TABLE
 
+-- the names of the columns of a CREATE TABLE
 abbrev pub text_names : List ColumnText → List Name
 text_names columns = map (λ column. column.name) columns
 
+-- the first column of that name
 abbrev pub text_named : List ColumnText → Name → Option ColumnText
 text_named [] name = None
 text_named (column ∷ columns) name = if is_among name (column.name ∷ []) then Some column else text_named columns name
@@ -69,6 +71,7 @@ types_named columns (name ∷ names) = with_type (text_named columns name) (type
     with_type None types = types
     with_type (Some column) types = type_of column.ty ∷ types
 
+-- the types of all columns of a CREATE TABLE
 abbrev pub text_types : List ColumnText → List ColType
 text_types columns = map (λ column. type_of column.ty) columns
 
@@ -78,6 +81,7 @@ column_limits i all [] = cause_if (nat_lt 1000 (row_width (text_types all))) (Li
 column_limits i all (column ∷ columns) =
     cause_if (i == 16) (Limit 16) ++ long_name column.name ++ bad_length column.ty ++ column_limits (i + 1) all columns
 
+-- 26 where the columns of these names make a key of more than 128 bytes
 abbrev pub long_key : List ColumnText → List Name → List Cause
 long_key columns names = cause_if (nat_lt 128 (key_width (types_named columns names))) (Limit 128)
 
@@ -87,6 +91,7 @@ dim_limits i columns all [] = long_key columns all
 dim_limits i columns all (dim ∷ dims) =
     cause_if (i == 4) (Limit 4) ++ long_key columns dim ++ dim_limits (i + 1) columns all dims
 
+-- CREATE TABLE: 20, then 23 and 22, then the limits of its name, the places, the columns and the dimensions
 abbrev pub create_judged : Definitions → Name → List ColumnText → List (List Name) → Judged
 create_judged defs name columns dims = record {
   names = cause_if (is_some (place_of defs name)) (TableExists name);
@@ -104,11 +109,13 @@ abbrev pub targets : List ColumnDef → Option (List Name) → List Name
 targets columns None = column_names columns
 targets columns (Some names) = names
 
+-- 36 of a literal for a generated column, and 30 of one that is of another type
 abbrev pub given_to : ColumnDef → InsertItem → List Cause
 given_to column item.Default = []
 given_to column (item.Literal literal) =
     if is_some column.made then GivenGenerated column.name ∷ [] else type_cause column.name (fit_of column.ty literal)
 
+-- 31, 33 or 34 of a literal that the column can't hold
 abbrev pub given_value : ColumnDef → InsertItem → List Cause
 given_value column item.Default = []
 given_value column (item.Literal literal) = value_cause column.name (fit_of column.ty literal)
@@ -120,10 +127,12 @@ each_item columns judge (name ∷ names) [] = []
 each_item columns judge (name ∷ names) (item ∷ items) =
     of_some (column_named columns name) (λ column. judge column item) ++ each_item columns judge names items
 
+-- 35 alone of a tuple of a wrong length, and else 36 or 30 of each item
 abbrev pub tuple_types : List ColumnDef → List Name → List InsertItem → List Cause
 tuple_types columns names items =
     if length items == length names then each_item columns given_to names items else WrongCount ∷ []
 
+-- INSERT: 22 and 23 of its list, then the types of all tuples, and then their values
 abbrev pub insert_judged : Option (List Name) → List (List InsertItem) → List ColumnDef → Judged
 insert_judged listed tuples columns = record no_fault {
   columns = of_some listed (listed_names (column_names columns) []);
@@ -133,6 +142,7 @@ insert_judged listed tuples columns = record no_fault {
 
 -- ---- UPDATE
 
+-- 22 of the columns that an item is computed from
 abbrev pub item_columns : List ColumnDef → SetItem → List Cause
 item_columns columns (One operand) = operand_columns columns operand
 item_columns columns (Two a sign b) = operand_columns columns a ++ operand_columns columns b
@@ -144,6 +154,7 @@ set_columns columns earlier (set ∷ sets) =
     used_name columns set.column ++ cause_if (is_among set.column earlier) (ColumnTwice set.column)
     ++ item_columns columns set.item ++ set_columns columns (set.column ∷ earlier) sets
 
+-- a column of numbers, or one that isn't there, of which 22 is said
 abbrev pub is_number_or_absent : Option ColumnDef → Bool
 is_number_or_absent None = true
 is_number_or_absent (Some column) = is_number column.ty
@@ -155,6 +166,7 @@ counts columns (operand.Literal (literal.Number negative size)) = true
 counts columns (operand.Literal literal.Null) = true
 counts columns (operand.Literal literal) = false
 
+-- 30: a lone operand of another type or kind than the column set; two are numbers or NULL and set a number
 abbrev pub item_types : List ColumnDef → ColumnDef → SetItem → List Cause
 item_types columns target (One (operand.Literal literal)) = type_cause target.name (fit_of target.ty literal)
 item_types columns target (One (operand.Column name)) = of_some (column_named columns name) (kinds_meet target.name target)
@@ -166,18 +178,22 @@ abbrev pub wide_number : Name → Operand → List Cause
 wide_number name (operand.Literal (literal.Number negative size)) = cause_if (not (in_bigint (signed negative size))) (OutOfRange name)
 wide_number name operand = []
 
+-- 31, 33 and 34 of the literals of an item; what is copied or computed is judged at each row
 abbrev pub item_values : ColumnDef → SetItem → List Cause
 item_values target (One (operand.Literal literal)) = value_cause target.name (fit_of target.ty literal)
 item_values target (One (operand.Column name)) = []
 item_values target (Two a sign b) = wide_number target.name a ++ wide_number target.name b
 
+-- 36 where the column set is generated, and 30 of its item
 abbrev pub set_types : List ColumnDef → SetText → List Cause
 set_types columns set = of_some (column_named columns set.column) (λ target.
     cause_if (is_some target.made) (GivenGenerated target.name) ++ item_types columns target set.item)
 
+-- 31, 33 and 34 of the literals that a column is set to
 abbrev pub set_values : List ColumnDef → SetText → List Cause
 set_values columns set = of_some (column_named columns set.column) (λ target. item_values target set.item)
 
+-- the SET of an UPDATE: 22 and 23 of all items, then 36 and 30, and then 31, 33 and 34
 abbrev pub sets_judged : List SetText → List ColumnDef → Judged
 sets_judged sets columns = record no_fault {
   columns = set_columns columns [] sets;
@@ -187,20 +203,24 @@ sets_judged sets columns = record no_fault {
 
 -- ---- queries
 
+-- 22 of a column that is shown; no aggregate is built
 abbrev pub out_columns : List ColumnDef → Out → List Cause
 out_columns columns (out.Column name) = used_name columns name
 out_columns columns aggregate = []
 
+-- 22 of what a query shows, of which `*` says nothing
 abbrev pub shown_columns : List ColumnDef → OutList → List Cause
 shown_columns columns Star = []
 shown_columns columns (Outs outs) = flat_map (out_columns columns) outs
 
+-- a query: what it shows, and then its predicate
 abbrev pub query_judged : Select → List ColumnDef → Judged
 query_judged select columns =
     then_judged (record no_fault { columns = shown_columns columns select.list }) (where_judged columns select.pred)
 
 -- ---- any statement that is built
 
+-- what is said against a statement by its text and the definitions alone
 abbrev pub judged_of : Definitions → Stmt → Judged
 judged_of defs (CreateTable name columns dims) = create_judged defs name columns dims
 judged_of defs (DropTable name) = on_table name (def_named defs name) (λ columns. no_fault)

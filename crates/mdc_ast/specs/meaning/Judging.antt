@@ -38,6 +38,7 @@ pub record Judged : Type 0 where
 abbrev pub in_order : Judged → List Cause
 in_order j = j.names ++ j.columns ++ j.types ++ j.limits ++ j.values
 
+-- nothing is said in any class
 abbrev pub no_fault : Judged
 no_fault = record { names = []; columns = []; types = []; limits = []; values = [] }
 
@@ -70,6 +71,7 @@ listed_names columns earlier (name ∷ names) =
     cause_if (not (is_among name columns)) (NoColumn name) ++ cause_if (is_among name earlier) (ColumnTwice name)
     ++ listed_names columns (name ∷ earlier) names
 
+-- 22 of a name that is no column
 abbrev pub used_name : List ColumnDef → Name → List Cause
 used_name columns name = cause_if (is_none (column_named columns name)) (NoColumn name)
 
@@ -86,11 +88,12 @@ abbrev pub judged_value : Result Value ValueFault → Value
 judged_value (Ok value) = value
 judged_value (Err fault) = value.Null
 
--- the type of a literal, and its value, are two classes
+-- 30: the literal is of another type than the column
 abbrev pub type_cause : Name → Result Value ValueFault → List Cause
 type_cause name (Err fault.WrongType) = WrongType name ∷ []
 type_cause name fitted = []
 
+-- 31, 33 or 34: the literal is of the column's type, and the column can't hold it
 abbrev pub value_cause : Name → Result Value ValueFault → List Cause
 value_cause name (Err fault.OutOfRange) = OutOfRange name ∷ []
 value_cause name (Err fault.TooLong) = TextTooLong name ∷ []
@@ -99,23 +102,27 @@ value_cause name fitted = []
 
 -- ---- kinds
 
+-- numbers, texts and days: two columns are compared or copied within one kind alone
 pub data Kind : Type 0 where
   Numbers : Kind
   Texts : Kind
   Days : Kind
 
+-- INTEGER and BIGINT are of one kind, and so is CHAR of any length
 abbrev pub kind_of : ColType → Kind
 kind_of Integer = Numbers
 kind_of Bigint = Numbers
 kind_of (Char n) = Texts
 kind_of Date = Days
 
+-- both are numbers, both texts, or both days
 abbrev pub same_kind : Kind → Kind → Bool
 same_kind Numbers Numbers = true
 same_kind Texts Texts = true
 same_kind Days Days = true
 same_kind a b = false
 
+-- INTEGER or BIGINT
 abbrev pub is_number : ColType → Bool
 is_number ty = same_kind (kind_of ty) Numbers
 
@@ -125,6 +132,7 @@ kinds_meet name column other = cause_if (not (same_kind (kind_of column.ty) (kin
 
 -- ---- predicates
 
+-- the tests of one layer of a predicate, those of its parts one behind the other
 abbrev pub layer_atoms : PredText-F (List AtomText) → List AtomText
 layer_atoms (layer.Atom atom) = atom ∷ []
 layer_atoms (layer.All atoms) = flat_map (λ part. part) atoms
@@ -136,14 +144,17 @@ abbrev pub atoms_of : Option PredText → List AtomText
 atoms_of None = []
 atoms_of (Some pred) = fold-PredText (List AtomText) layer_atoms pred
 
+-- 22 of an operand that is a name
 abbrev pub operand_columns : List ColumnDef → Operand → List Cause
 operand_columns columns (operand.Column name) = used_name columns name
 operand_columns columns (operand.Literal literal) = []
 
+-- 22 of the other column of a comparison; all other tests have literals alone
 abbrev pub test_columns : List ColumnDef → TestText → List Cause
 test_columns columns (Compare op operand) = operand_columns columns operand
 test_columns columns test = []
 
+-- 22 of the column that is tested, and then of the one that it is compared with
 abbrev pub atom_columns : List ColumnDef → AtomText → List Cause
 atom_columns columns atom = used_name columns atom.column ++ test_columns columns atom.test
 
@@ -160,15 +171,18 @@ abbrev pub other_column : List ColumnDef → TestText → Option ColumnDef
 other_column columns (Compare op (operand.Column name)) = column_named columns name
 other_column columns test = None
 
+-- 30 of a test, where its column is there: the other column is of another kind, or a literal of another type
 abbrev pub atom_types : List ColumnDef → AtomText → List Cause
 atom_types columns atom = of_some (column_named columns atom.column) (λ column.
     of_some (other_column columns atom.test) (kinds_meet atom.column column)
     ++ flat_map (λ literal. type_cause atom.column (fit_compared column.ty literal)) (literals_of atom.test))
 
+-- 31 and 34 of the literals of a test; no text is too long to be compared
 abbrev pub atom_values : List ColumnDef → AtomText → List Cause
 atom_values columns atom = of_some (column_named columns atom.column) (λ column.
     flat_map (λ literal. value_cause atom.column (fit_compared column.ty literal)) (literals_of atom.test))
 
+-- the predicate of a WHERE: in each class all its tests, in the order of the text
 abbrev pub where_judged : List ColumnDef → Option PredText → Judged
 where_judged columns pred = record no_fault {
   columns = flat_map (atom_columns columns) (atoms_of pred);

@@ -23,6 +23,7 @@ use Rattle.mdc_ast.specs.meaning.Database.{Database, PlainTable, empty_database}
 use Rattle.mdc_ast.specs.meaning.Rows.{answers, column, into, named, null, number, query, t_of_numbers, text}
 use Rattle.mdc_ast.specs.meaning.Step.{faults}
 
+-- a column of a table, which isn't generated
 abbrev defined : String → ColType → Bool → ColumnDef
 defined s ty not_null = record { name = named s; ty = ty; not_null = not_null; made = None }
 
@@ -41,18 +42,23 @@ t = record {
   rows = record { number = 7; values = Int (pos 2147483647) ∷ Text (codes "x") ∷ Day 20030115 ∷ Int (pos 9223372036854775807) ∷ [] } ∷ [];
 }
 
+-- T in place 0, and no other table
 abbrev db : Database
 db = Some t ∷ replicate 15 None
 
+-- what one column is set to
 abbrev set : String → SetItem → SetText
 set s item = record { column = named s; item = item }
 
+-- a column as an operand
 abbrev of_column : String → Operand
 of_column s = operand.Column (named s)
 
+-- a number without a sign as an operand
 abbrev of_number : ℕ → Operand
 of_number n = operand.Literal (literal.Number false n)
 
+-- an UPDATE of T without a predicate
 abbrev update : List SetText → Stmt
 update sets = Update (named "T") sets None
 
@@ -97,10 +103,11 @@ swapped : answers (t_of_numbers ∷ into ((number 1 ∷ number 10 ∷ []) ∷ []
 unfolding digits
 swapped = refl
 
+-- eighteen columns, of which only the name of the last has more than 18 characters
 abbrev many : List ColumnText
 many = map (λ s. column s Integer false) ("A" ∷ "B" ∷ "C" ∷ "D" ∷ "E" ∷ "F" ∷ "G" ∷ "H" ∷ "I" ∷ "J" ∷ "K" ∷ "L" ∷ "M" ∷ "N" ∷ "O" ∷ "P" ∷ "SEVENTEENTHOFTHEMS" ∷ "EIGHTEENTHOFTHEMALL" ∷ [])
 
--- the seventeenth column is refused before its own name, and the fifth dimension before the key of all
+-- more columns than 16 are refused before the name of the last of them, and that before the fifth dimension
 too_many : faults empty_database (CreateTable (named "T") many ((named "A" ∷ []) ∷ (named "B" ∷ []) ∷ (named "C" ∷ []) ∷ (named "D" ∷ []) ∷ (named "E" ∷ []) ∷ [])) ≡ Limit 16 ∷ Limit 18 ∷ Limit 4 ∷ []
 too_many = refl
 

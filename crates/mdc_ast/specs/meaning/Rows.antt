@@ -23,21 +23,27 @@ use Rattle.mdc_ast.specs.Reading.{Statement}
 use Rattle.mdc_ast.specs.meaning.Session.{outcomes_from, session_on}
 use Rattle.mdc_ast.specs.meaning.Texts.{texts}
 
+-- a name of these letters
 abbrev pub named : String → Name
 named s = record { 0 = codes s }
 
+-- a number without a sign in a tuple
 abbrev pub number : ℕ → InsertItem
 number n = item.Literal (literal.Number false n)
 
+-- a number with a minus sign in a tuple
 abbrev pub below_zero : ℕ → InsertItem
 below_zero n = item.Literal (literal.Number true n)
 
+-- a text in a tuple
 abbrev pub text : String → InsertItem
 text s = item.Literal (literal.Text (codes s))
 
+-- NULL in a tuple
 abbrev pub null : InsertItem
 null = item.Literal literal.Null
 
+-- a column of a CREATE TABLE, which isn't generated
 abbrev pub column : String → TypeText → Bool → ColumnText
 column s ty not_null = record { name = named s; ty = ty; not_null = not_null; made = None }
 
@@ -49,12 +55,15 @@ t_of_numbers = CreateTable (named "T") (column "A" Integer false ∷ column "B" 
 abbrev t_of_dates : Stmt
 t_of_dates = CreateTable (named "T") (column "A" Date true ∷ column "B" (Char 3) false ∷ []) ((named "A" ∷ []) ∷ [])
 
+-- an INSERT into T without a list of columns
 abbrev pub into : List (List InsertItem) → Stmt
 into tuples = Insert (named "T") None tuples
 
+-- a query on T without GROUP BY, ORDER BY and FETCH FIRST
 abbrev pub query : OutList → Option PredText → Stmt
 query list where_ = Query (record { list = list; table = named "T"; pred = where_; group = []; order = []; first = None })
 
+-- one column is shown
 abbrev only : String → OutList
 only s = Outs (out.Column (named s) ∷ [])
 
@@ -62,6 +71,7 @@ only s = Outs (out.Column (named s) ∷ [])
 abbrev up_by_one : Stmt
 up_by_one = Update (named "T") (record { column = named "A"; item = Two (operand.Column (named "A")) Plus (operand.Literal (literal.Number false 1)) } ∷ []) None
 
+-- all that is said to these statements, run one after another on a database without tables
 abbrev pub answers : List Stmt → List ℕ
 answers stmts = texts (outcomes_from (session_on empty_database) (map Statement stmts))
 

@@ -19,6 +19,7 @@ pub record Settings : Type 0 where
   pub plan : PlanMode
   pub pace : ℕ
 
+-- IMMEDIATE, AUTO and a pace of 1, as each run begins with
 abbrev pub first_settings : Settings
 first_settings = record { rollout = Immediate; plan = Auto; pace = 1 }
 
@@ -37,6 +38,7 @@ session_on db = record { kept = db; working = db; open_ = false; settings = firs
 abbrev pub working_on : Session → Database → Session
 working_on session db = record session { kept = if session.open_ then session.kept else db; working = db }
 
+-- the session on the database that a statement leaves, with the statement's answer
 abbrev pub stepped : Session → Database × Answer → Session × Answer
 stepped session (db, answer) = (working_on session db, answer)
 
@@ -94,6 +96,7 @@ abbrev pub outcome_of : Answer → Outcome
 outcome_of (Replied reply) = outcome.Done reply
 outcome_of (Refused refusal) = outcome.Refused refusal
 
+-- what is said to each item, judged in the session that the items before it left
 abbrev pub outcomes_from : Session → List Item → List Outcome
 outcomes_from session [] = []
 outcomes_from session (first ∷ items) = outcome_of (item_turn session first).1 ∷ outcomes_from (item_turn session first).0 items
@@ -103,6 +106,7 @@ abbrev pub session_after : Session → List Item → Session
 session_after session [] = session
 session_after session (first ∷ items) = session_after (item_turn session first).0 items
 
+-- a refusal, and not a reply
 abbrev pub is_refusal : Outcome → Bool
 is_refusal (outcome.Done reply) = false
 is_refusal (outcome.Refused refusal) = true

@@ -20,14 +20,17 @@ use Rattle.mdc_ast.specs.meaning.Judging.{in_order}
 
 -- ---- which forms are built
 
+-- a column, and no COUNT, SUM, MIN or MAX
 abbrev pub is_plain_out : Out → Bool
 is_plain_out (out.Column name) = true
 is_plain_out aggregate = false
 
+-- `*`, or columns alone
 abbrev pub shows_columns : OutList → Bool
 shows_columns Star = true
 shows_columns (Outs outs) = list_all is_plain_out outs
 
+-- an empty list, as a clause has that isn't written
 abbrev pub is_empty : {X : Type 0} → List X → Bool
 is_empty [] = true
 is_empty (x ∷ xs) = false
@@ -40,6 +43,7 @@ is_plain_query select = shows_columns select.list && is_empty select.group && is
 abbrev pub has_no_generated : List ColumnText → Bool
 has_no_generated columns = list_all (λ column. is_none column.made) columns
 
+-- a form that is built, whose answer a database alone gives; transactions and LIST BLOCKS aren't judged here
 abbrev pub is_built : Stmt → Bool
 is_built (CreateTable name columns dims) = has_no_generated columns
 is_built (DropTable name) = true
@@ -67,5 +71,6 @@ abbrev pub step_by : Database → List Cause → Database × Reply → Database 
 step_by db [] (new, reply) = (new, Replied reply)
 step_by db (cause ∷ causes) done = (db, Refused (refusal_of cause))
 
+-- a statement on a database: the first cause against it, which changes nothing, or else its effect
 abbrev pub step : Database → Stmt → Database × Answer
 step db stmt = step_by db (faults db stmt) (effect db (bound_of (defs_of db) stmt))

@@ -1,6 +1,5 @@
 // The way back to the mark.
-ghost use Rattle.std.specs.Prelude.{◌≡◌, ◌⊎◌, ◌<◌, ℕ, [], nat_eq, IsSome, OnErr, OnOk, true, length, take};
-ghost use Rattle.std.specs.Map.{lookup};
+ghost use Rattle.std.specs.Prelude.{◌≡◌, ◌<◌, ℕ, [], IsSome, OnOk, true, take};
 ghost use Rattle.page_changes.specs.Table.{LiesAt};
 ghost use Rattle.page_changes.specs.ChangesView.{written_over, written_before, is_free_in, Saves};
 

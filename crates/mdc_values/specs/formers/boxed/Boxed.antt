@@ -22,19 +22,24 @@ use Rattle.mdc_values.specs.declared.boxed.Boxed.TheView.{view, invariant}
 use Rattle.mdc_values.specs.contracts.boxed.Boxed as C
 use Rattle.mdc_values.specs.contracts.boxed.Boxed.TheInside as I
 
+-- what g shapes, as it is: contracts see of a box only what lies in it
 abbrev pub the_former : Former {0} → Former {0}
 the_former g = g
 
+-- a box goes as deep as what lies in it
 abbrev pub the_weighed : {g : Former {0}} → Weighed g → Weighed (the_former g)
 the_weighed w = w
 
+-- what is stored: a pointer, its allocator, and the value there
 abbrev fields : Former {0}
 fields = via (pair (const (Ptr × Global)) this) Inside (λ X a. ((a.inner.ptr, a.inner.alloc), a.inner.value))
     (λ X v. record { inner = record { ptr = v.0.0; alloc = v.0.1; value = v.1 } }) (λ X a. refl) (λ X v. refl)
 
+-- the same box with another value in it
 abbrev with_value : {X Y : Type 0} → Box X Global → Y → Box Y Global
 with_value b y = record { ptr = b.ptr; alloc = b.alloc; value = y }
 
+-- the type of a box on the heap that holds values of R
 abbrev box_of : RattleType → RattleType
 box_of R = box.the_row R heap.the_row ghosts
 

@@ -19,21 +19,27 @@ use Rattle.mdc_values.specs.declared.list.List.TheView.{view, invariant}
 use Rattle.mdc_values.specs.contracts.list.List as C
 use Rattle.mdc_values.specs.contracts.list.List.TheInside as I
 
+-- lists of what g shapes, so that a type may hold lists of its own values
 abbrev pub the_former : Former {0} → Former {0}
 the_former g = list g
 
+-- such a list goes as deep as its deepest element
 abbrev pub the_weighed : {g : Former {0}} → Weighed g → Weighed (the_former g)
 the_weighed w = w_list w
 
+-- a list that holds no value, so that a type of such lists has a first value
 pub the_empty : List ⊥
 the_empty = []
 
+-- its elements in order, which are the list itself
 abbrev pub the_items : (X : Type 0) → List X → List X
 the_items X d = d
 
+-- what is held in a list, from left to right, are its elements
 pub the_items_listed : (X : Type 0) (d : List X) → listed _ (children (the_former this) X d) ≡ the_items X d
 the_items_listed X d = list-listed X d
 
+-- what is stored: the vector of the elements
 abbrev fields : Former {0}
 fields = via (vec.the_former this Global) Inside (λ X a. a.elements) (λ X v. record { elements = v }) (λ X a. refl) (λ X v. refl)
 

@@ -1,5 +1,5 @@
 use Rattle.std.proofs.Common.{sym, subst}
-use Rattle.mdc_values.specs.Rising.{IsLower, IsRising, LastIsBefore}
+use Rattle.mdc_values.specs.Rising.{IsLower, IsRising}
 use Rattle.mdc_values.proofs.RisingLemmas.{IsRising-push}
 use Rattle.mdc_values.proofs.blocks.Blocks.push.Goals as goal
 

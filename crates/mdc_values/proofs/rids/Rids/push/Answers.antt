@@ -1,5 +1,5 @@
 use Rattle.std.proofs.Common.{sym, subst}
-use Rattle.mdc_values.specs.Rising.{IsEarlier, IsRising, LastIsBefore}
+use Rattle.mdc_values.specs.Rising.{IsEarlier, IsRising}
 use Rattle.mdc_values.proofs.RisingLemmas.{IsRising-push}
 use Rattle.mdc_values.proofs.rids.Rids.push.Goals as goal
 
