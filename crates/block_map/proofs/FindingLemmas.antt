@@ -1,15 +1,14 @@
 -- What the lowest entry from a block on says of that block.
-use Rattle.std.proofs.Common.{◌≡◌, ◌≢◌, ◌<◌, ◌≤◌, ◌+◌, ◌%◌, ◌^◌, ℕ, List, [], ◌∷◌, ◌++◌, refl, ap, arith, sym, ◌∙◌, subst, length, ◌⊎◌, inl, inr}
-use Rattle.std.specs.Prelude.{Bool, true, false, Option, Some, None, if◌then◌else◌}
+use Rattle.std.proofs.Common.{◌≡◌, ◌≢◌, ◌<◌, ◌^◌, ℕ, [], ap, arith, sym, ◌∙◌, subst, inl, inr}
+use Rattle.std.specs.Prelude.{true, false, Option, Some, None}
 use Rattle.std.proofs.lemmas.Bool.{cases_lt}
-use Rattle.std.proofs.Math.Nat.{mod-eq_of_lt}
 use Rattle.mdc_words.specs.ByteOrder.{Entry, below}
 use Rattle.entry_tree.specs.EntryBounds.{IsEntryOf}
 use Rattle.entry_tree.specs.Forest.{Forest, leaf_entries}
-use Rattle.entry_tree.specs.Reading.{AreAtLeast, IsFirstFrom, IsFirstOr, entries_from}
+use Rattle.entry_tree.specs.Reading.{IsFirstFrom, IsFirstOr, entries_from}
 use Rattle.entry_tree.proofs.ReadingLemmas.{from_entries_from, in_entries_from, least_of}
 use Rattle.block_map.specs.BlockMaps.{FindsBlock, IsMapForm, NamesBlock}
-use Rattle.block_map.specs.MapLines.{AreMapEntries, IsMapEntry, map_entry, map_line}
+use Rattle.block_map.specs.MapLines.{IsMapEntry, map_entry, map_line}
 use Rattle.block_map.specs.MapRows.{row_entry, state_number}
 use Rattle.block_map.specs.declared.row.BlockRow.{BlockRow}
 use Rattle.block_map.proofs.MapFormLemmas.{form_state}

@@ -1,5 +1,5 @@
 -- What calls on the tree of a block map say of the map.
-use Rattle.std.proofs.Common.{◌≡◌, ◌<◌, ◌^◌, ℕ, List, refl, ap, sym, ◌∙◌, subst, take, inl, inr}
+use Rattle.std.proofs.Common.{◌≡◌, ℕ, List, ap, sym, ◌∙◌, subst, take, inl, inr}
 use Rattle.std.specs.Prelude.{Bool, true, false, MatchBool, Option, Some, None}
 use Rattle.mdc_words.specs.ByteOrder.{Entry}
 use Rattle.store_api.specs.Frame.{NoPage}
@@ -21,7 +21,7 @@ use Rattle.entry_tree.specs.declared.tree.Tree.{Tree}
 use Rattle.entry_tree.proofs.ReadLeafLemmas.{holds_still, tree_page_still}
 use Rattle.entry_tree.proofs.RemoveLemmas.{breaks_held, breaks_same, page_same, stands_same, tree_page}
 use Rattle.block_map.specs.BlockMaps.{AnyMap, BreaksMapTree, FindsBlock, HasRow, IsMapForm, NamesBlock}
-use Rattle.block_map.specs.MapChanges.{BreaksLeaving, BreaksStandingMap, ChangesRowTo, LeavesMap, SetsRow}
+use Rattle.block_map.specs.MapChanges.{BreaksLeaving, ChangesRowTo, LeavesMap, SetsRow}
 use Rattle.block_map.specs.MapRows.{row_entry}
 use Rattle.block_map.specs.declared.row.BlockRow.{BlockRow}
 use Rattle.block_map.proofs.MapFormLemmas.{stands_alone}

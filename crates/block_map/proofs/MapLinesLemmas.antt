@@ -1,17 +1,16 @@
 -- What the entries of a block map say.
-use Rattle.std.proofs.Common.{◌≡◌, ◌≢◌, ◌<◌, ◌≤◌, ◌+◌, ◌*◌, ◌%◌, ◌^◌, ◌==◌, ℕ, zero, suc, List, [], ◌∷◌, ◌++◌, refl, ap, arith, sym, ◌∙◌, subst, length, get_or, drop, map, ◌⊎◌, inl, inr}
+use Rattle.std.proofs.Common.{◌≡◌, ◌<◌, ◌+◌, ◌*◌, ◌%◌, ◌^◌, ◌==◌, ℕ, zero, suc, List, [], ◌∷◌, ◌++◌, refl, ap, arith, sym, ◌∙◌, subst, length, get_or, drop, map, ◌⊎◌, inl, inr}
 use Rattle.std.proofs.Common.{w16, w32}
 use Rattle.std.specs.Prelude.{Bool, true, false, cond, Contains}
-use Rattle.std.specs.List.{AllByRecursion, filter}
+use Rattle.std.specs.List.{filter}
 use Rattle.std.specs.Int.{from_be_bytes}
 use Rattle.std.proofs.Math.Nat.{mod-eq_of_lt, mod-lt}
 use Rattle.std.proofs.lemmas.List.{get_or-drop}
 use Rattle.std.proofs.lemmas.Nat.{be_bytes_2, be_bytes_4}
-use Rattle.byteorder.specs.Endian.{big_bytes, big_number}
+use Rattle.byteorder.specs.Endian.{big_bytes}
 use Rattle.byteorder.specs.Numbers.{big_from-bytes}
 use Rattle.mdc_words.specs.ByteOrder.{Entry}
 use Rattle.key_codec.proofs.OrderLemmas.{AreBytes-none}
-use Rattle.node_page.specs.Node.{number_within}
 use Rattle.entry_tree.specs.EntryBounds.{IsEntryOf}
 use Rattle.block_map.specs.MapLines.{IsMapEntry, MapLine, blocks_in_state, map_entry, map_line}
 use Rattle.block_map.specs.MapRows.{row_entry, state_number}

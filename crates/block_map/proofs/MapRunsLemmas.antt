@@ -1,5 +1,5 @@
 -- Runs of calls on a block map, and the damage that they may name.
-use Rattle.std.proofs.Common.{◌≡◌, ℕ, List, refl, ap, sym, ◌∙◌, subst, length, ◌⊎◌, inl, inr}
+use Rattle.std.proofs.Common.{◌≡◌, ℕ, refl, sym, subst, inl, inr}
 use Rattle.std.specs.Prelude.{Option, Some, None}
 use Rattle.store_api.specs.Frame.{NoPage}
 use Rattle.store_api.specs.RunsOverPages.{RunsOverPages}
@@ -13,7 +13,7 @@ use Rattle.entry_tree.specs.Forest.{Forest}
 use Rattle.entry_tree.specs.HeldTrees.{BreaksTree, HoldsTree, IsTreePage}
 use Rattle.entry_tree.specs.declared.tree.Tree.{Tree}
 use Rattle.entry_tree.proofs.ReadLeafLemmas.{breaks_still, holds_still, tree_page_still}
-use Rattle.block_map.specs.BlockMaps.{BreaksBlockMap, BreaksMapTree, IsMapForm}
+use Rattle.block_map.specs.BlockMaps.{BreaksMapTree, IsMapForm}
 
 module _ {S : Type 0} {g : Ghosts S} where
   -- a run that meets damage

@@ -1,5 +1,5 @@
 -- A walk over the rows of a block map: how it begins, its steps, and what it can't meet.
-use Rattle.std.proofs.Common.{◌≡◌, ◌≢◌, ◌<◌, ◌≤◌, ◌+◌, ◌^◌, ℕ, zero, suc, List, [], ◌∷◌, ◌++◌, refl, ap, arith, sym, ◌∙◌, subst, append-nil, append_assoc, add-one, length, get_or, drop, drop-cons, ◌⊎◌, inl, inr}
+use Rattle.std.proofs.Common.{◌≡◌, ◌<◌, ◌≤◌, ◌+◌, ◌^◌, ℕ, zero, suc, List, [], ◌∷◌, ◌++◌, refl, ap, arith, sym, ◌∙◌, subst, append-nil, append_assoc, add-one, length, get_or, drop, drop-cons, ◌⊎◌, inl, inr}
 use Rattle.std.specs.Prelude.{Bool, true, false, cond, ◌==◌, nat_lt, Contains, Some, None, if◌then◌else◌}
 use Rattle.std.proofs.lemmas.Bool.{cases_lt}
 use Rattle.std.proofs.lemmas.Bool.Decides.{nat_tests}
@@ -18,7 +18,7 @@ use Rattle.entry_tree.proofs.ReadingLemmas.{from_entries_from, in_entries_from}
 use Rattle.block_map.specs.BlockMaps.{FindsFree, IsLowestFreeBlock, IsMapForm}
 use Rattle.block_map.specs.MapLines.{AreMapEntries, IsMapEntry, blocks_in_state, free_blocks, map_entry, map_line}
 use Rattle.block_map.specs.MapRows.{row_entry, state_number}
-use Rattle.block_map.specs.Walking.{EndsBelow, GivesNext, IsBehindRow, IsWalking, IsWalkingFrom, entries_behind_bound, left_of_walk}
+use Rattle.block_map.specs.Walking.{EndsBelow, GivesNext, IsWalking, IsWalkingFrom, entries_behind_bound, left_of_walk}
 use Rattle.block_map.specs.declared.row.BlockRow.{BlockRow}
 use Rattle.block_map.specs.declared.state.BlockState.{BlockState}
 use Rattle.block_map.specs.declared.state.BlockState.TheVariants.{Free, Used, Pending}

@@ -17,7 +17,7 @@ entries_behind_bound all (Some bound) = entries_from bound all
 abbrev pub left_of_walk : List Entry → Walk → List Entry
 left_of_walk all walk = drop walk.at walk.leaf.entries ++ entries_behind_bound all walk.leaf.next
 
--- the last of the entries is a row of the block just below this number; where the number is 0, nothing is said
+-- the last of the entries is a row of the block just below this number
 pub record IsBehindRow (given : List Entry) (lowest : ℕ) : Type 0 where
   pub front : List Entry
   pub row : BlockRow
@@ -25,6 +25,7 @@ pub record IsBehindRow (given : List Entry) (lowest : ℕ) : Type 0 where
   pub small : row.block < 2 ^ 32
   pub next : lowest ≡ row.block + 1
 
+-- the same, or the number is 0, as before the first row, and says nothing
 abbrev pub EndsBelow : List Entry → ℕ → Type 0
 EndsBelow given lowest = (lowest ≡ 0) ⊎ IsBehindRow given lowest
 

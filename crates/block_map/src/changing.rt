@@ -40,13 +40,13 @@ impl BlockMap {
     pub(crate) fn replace_found<P: Pages>(
         &self,
         pages: &mut P,
-        was: FoundRow,
+        was: &FoundRow,
         is: BlockRow,
     ) -> Result<(), StoreFault>
-        requires found { IsRowFound P.Pages pages.old self.now.tree was }
-        requires alike { was.row.block ≡ is.block }
+        requires found { IsRowFound P.Pages pages.old self.now.tree was.now }
+        requires alike { was.now.row.block ≡ is.block }
         requires going { (P.state pages.old).ended ≡ false }
-        ensures changes { OnOk result ((t : Forest) → HoldsTree P.Pages pages.old self.now.tree t → IsMapForm t → ChangesRowTo P.Pages pages.new self.now.tree was.row is t) }
+        ensures changes { OnOk result ((t : Forest) → HoldsTree P.Pages pages.old self.now.tree t → IsMapForm t → ChangesRowTo P.Pages pages.new self.now.tree was.now.row is t) }
         ensures count { length (P.state pages.new).work ≡ length (P.state pages.old).work }
         ensures runs { RunsOverPages P.Pages (IsTreePage P.Pages pages.old self.now.tree) (IsTreePage P.Pages pages.old self.now.tree)
             (BreaksTree P.Pages pages.old self.now.tree) pages.old pages.new (fault_of result) }
@@ -67,6 +67,6 @@ impl BlockMap {
         let Some(was) = self.find_row(pages, row.block)? else {
             return Err(self.damaged());
         };
-        self.replace_found(pages, was, row)
+        self.replace_found(pages, &was, row)
     }
 }

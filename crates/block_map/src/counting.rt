@@ -47,7 +47,7 @@ impl BlockMap {
         }
         let state = BlockState::Used;
         let rows = had + 1;
-        self.replace_found(pages, found, BlockRow { block, state, rows })?;
+        self.replace_found(pages, &found, BlockRow { block, state, rows })?;
         Ok(Some(had))
     }
 
@@ -79,7 +79,7 @@ impl BlockMap {
         }
         let state = BlockState::Used;
         let rows = had - 1;
-        self.replace_found(pages, found, BlockRow { block, state, rows })?;
+        self.replace_found(pages, &found, BlockRow { block, state, rows })?;
         Ok(Some(had))
     }
 

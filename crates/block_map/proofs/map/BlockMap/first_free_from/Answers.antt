@@ -1,4 +1,4 @@
-use Rattle.std.proofs.Common.{◌≡◌, ◌<◌, ◌≤◌, ◌+◌, ◌^◌, ◌==◌, ℕ, [], arith, rules, ap, sym, subst, ◌∙◌, Option, None, Some, true, false}
+use Rattle.std.proofs.Common.{◌≡◌, ◌<◌, ◌≤◌, ◌+◌, ◌^◌, ◌==◌, [], arith, rules, sym, subst, ◌∙◌, Option, None, false}
 use Rattle.std.specs.Prelude.{IfSome}
 use Rattle.std.proofs.lemmas.Grind.{common_steps}
 use Rattle.store_api.proofs.RunsOverPagesLemmas.{runs_exit}
@@ -10,7 +10,6 @@ use Rattle.block_map.specs.MapLines.{map_entry}
 use Rattle.block_map.specs.MapRows.{state_number}
 use Rattle.block_map.specs.Walking.{GivesNext, IsWalking}
 use Rattle.block_map.specs.declared.row.BlockRow.{BlockRow}
-use Rattle.block_map.specs.declared.state.BlockState.{BlockState}
 use Rattle.block_map.specs.declared.state.BlockState.TheVariants.{Free}
 use Rattle.block_map.proofs.MapRunsLemmas.{runs_map_on}
 use Rattle.block_map.proofs.WalkingLemmas.{same_states, seeking_ends, seeking_finds, seeking_goes}

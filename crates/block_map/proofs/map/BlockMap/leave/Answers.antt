@@ -1,4 +1,4 @@
-use Rattle.std.proofs.Common.{◌≡◌, refl, sym, subst, inr, Option}
+use Rattle.std.proofs.Common.{refl, subst, inr, Option}
 use Rattle.store_api.proofs.RunsOverPagesLemmas.{runs_exit}
 use Rattle.block_map.specs.BlockMaps.{FindsBlock}
 use Rattle.block_map.specs.declared.row.BlockRow.{BlockRow}

@@ -1,4 +1,4 @@
-use Rattle.std.proofs.Common.{◌≡◌, ◌<◌, ◌≤◌, ◌+◌, ◌^◌, ◌==◌, ◌++◌, ◌∷◌, ℕ, List, [], refl, arith, ap, sym, subst, ◌∙◌, append-nil, Option, None, Some, true, false}
+use Rattle.std.proofs.Common.{◌≡◌, ◌<◌, ◌≤◌, ◌+◌, ◌^◌, ◌==◌, ◌++◌, ◌∷◌, ℕ, [], refl, arith, ap, sym, subst, ◌∙◌, append-nil, Option, Some, true, false}
 use Rattle.std.specs.Prelude.{Bool, IfSome, cond}
 use Rattle.mdc_values.specs.Rising.{IsLower, LastIsBefore}
 use Rattle.store_api.specs.Frame.{NoPage}

@@ -1,4 +1,3 @@
-use Rattle.std.proofs.Common.{◌≡◌, sym, inl, inr}
 use Rattle.store_api.proofs.RunsOverPagesLemmas.{runs_exit}
 use Rattle.block_map.specs.BlockMaps.{HasRow}
 use Rattle.block_map.proofs.MapChangesLemmas.{amended_absent, amended_changes, amended_there, same_front}

@@ -1,4 +1,4 @@
-use Rattle.std.proofs.Common.{◌≡◌, ◌<◌, ℕ, sym, subst, arith, Option, None}
+use Rattle.std.proofs.Common.{◌≡◌, ◌<◌, ℕ, sym, subst, arith, Option}
 use Rattle.std.specs.Prelude.{MatchOption}
 use Rattle.block_map.specs.MapLines.{map_line}
 use Rattle.block_map.specs.MapRows.{row_entry, state_number}

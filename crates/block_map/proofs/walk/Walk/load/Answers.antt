@@ -1,4 +1,4 @@
-use Rattle.std.proofs.Common.{◌≡◌, ◌≤◌, ◌++◌, drop, length, arith, ap, sym, subst, ◌∙◌, Some, None}
+use Rattle.std.proofs.Common.{arith, ap, sym, ◌∙◌, Some}
 use Rattle.mdc_words.specs.ByteOrder.{Entry}
 use Rattle.entry_tree.specs.Forest.{leaf_entries}
 use Rattle.block_map.proofs.WalkingLemmas.{load_ends, load_goes, load_none, none_more}

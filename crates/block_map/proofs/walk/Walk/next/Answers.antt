@@ -1,4 +1,4 @@
-use Rattle.std.proofs.Common.{◌≡◌, ◌<◌, ◌+◌, drop, get_or, [], arith, ap, sym, subst, length, ◌∙◌, None}
+use Rattle.std.proofs.Common.{◌<◌, get_or, [], arith, ap, sym, subst, length, ◌∙◌, None}
 use Rattle.mdc_words.specs.ByteOrder.{Entry}
 use Rattle.entry_tree.specs.Forest.{Forest, leaf_entries}
 use Rattle.entry_tree.proofs.LeafFromLemmas.{Fits-entries}
