@@ -1,6 +1,6 @@
 -- An index is judged by the entries that were noted, and those that it has.
 use Rattle.std.proofs.Common.{◌≡◌, ◌+◌, ◌<◌, ◌⊎◌, ◌==◌, ◌||◌, Bool, ℕ, zero, suc, List, [], ◌∷◌, ◌++◌, refl, sym, ap, subst, ◌∙◌, arith, length, get_or, take, inl, inr, true, false, ne_eqb, eq-eqb}
-use Rattle.std.specs.Prelude.{IsTrue, Contains, MatchBool, flat_map, map}
+use Rattle.std.specs.Prelude.{IsTrue, Contains, MatchBool, None, Option, flat_map, map}
 use Rattle.std.specs.List.{list_any}
 use Rattle.std.proofs.lemmas.Bool.{cases_eq}
 use Rattle.std.proofs.lemmas.List.{flat_map_more, map-append, take_more}
@@ -8,26 +8,32 @@ use Rattle.std.proofs.lemmas.List.Elements.{Contains-append_cases, Contains-appe
 use Rattle.mdc_words.specs.ByteOrder.{Entry}
 use Rattle.mdc_ast.specs.declared.definition.KeyPart.{KeyPart}
 use Rattle.mdc_ast.specs.declared.definition.TableDef.{TableDef}
+use Rattle.store_api.specs.Frame.{NoPage}
+use Rattle.store_api.specs.RunsOverPages.{RunsOverPages}
 use Rattle.store_api.specs.declared.fault.Damage.{Damage}
+use Rattle.store_api.specs.declared.fault.StoreFault.{StoreFault}
 use Rattle.store_api.specs.declared.pages.Pages.{Ghosts}
+use Rattle.store_api.proofs.RunsOverPagesLemmas.{runs_then, runs_wider}
 use Rattle.extent_map.specs.declared.extents.Extents.{Extents}
 use Rattle.node_page.specs.Node.{number_within}
 use Rattle.entry_tree.specs.Entries.{AreOfWidth}
 use Rattle.entry_tree.specs.Forest.{Forest}
+use Rattle.entry_tree.specs.HeldTrees.{BreaksTree, HoldsTree}
 use Rattle.entry_tree.specs.declared.tree.Tree.{Tree}
 use Rattle.block_map.specs.BlockMaps.{AnyMap, BreaksMapTree}
 use Rattle.block_map.specs.MapLines.{used_blocks}
 use Rattle.block_map.proofs.MapLinesLemmas.{contains_cases, contains_more}
 use Rattle.table_trees.specs.TableTrees.{TreePlace, map_place, place_of_tree}
 use Rattle.table_trees.specs.ToldPages.{HasTree, PageList}
+use Rattle.table_trees.proofs.TableTreesLemmas.{same_tree_place}
 use Rattle.mdc_sound.specs.TableRows.{rows_in_block}
 use Rattle.mdc_sound.proofs.ElementsLemmas.{contains_flat, from_map, in_map}
 use Rattle.file_check.specs.Known.{BlockHasRowPages}
-use Rattle.file_check.specs.Looking.{Unless}
+use Rattle.file_check.specs.Looking.{AnyPage, Unless}
 use Rattle.file_check.specs.declared.entry_set.EntrySet.{EntrySet}
 use Rattle.file_check.specs.declared.table_index.IndexKind.{IndexKind}
-use Rattle.file_check.specs.TableIndexes.{AreReadable, AreSoundEntries, HasIndexes, LacksOne, NotesEntries, PlacedIndex, UnlessMap, UnlessReadable, UnlessTree, entries_of_blocks, entry_of_kind, indexes_of_kind, noted_entries}
-use Rattle.file_check.proofs.RowEntriesLemmas.{holds_told}
+use Rattle.file_check.specs.TableIndexes.{AreSoundEntries, HasIndexes, LacksOne, NotesEntries, UnlessMap, UnlessReadable, UnlessTree, entries_of_blocks, entry_of_kind, noted_entries, spare_blocks}
+use Rattle.file_check.proofs.RowEntriesLemmas.{holds_told, unless_tree}
 
 -- ---- numbers and lists
 
@@ -149,38 +155,72 @@ noted_as_sound wanted entries read spare old new key at notes same key_is sound 
 
 -- ---- damage
 
--- damage of a block, and of a tree, in a later state that tells the same
-pub unless_block : {S : Type 0} (g : Ghosts S) (ext : Extents) (old now : S) (def : TableDef) (blocks : List ℕ) (block : ℕ) (place : TreePlace) (damage : Damage) → (g.state now).is_told ≡ (g.state old).is_told
-    → (g.state now).work ≡ (g.state old).work → Contains blocks block → Unless g now (λ told. BlockHasRowPages ext told def block) damage → UnlessReadable g ext old def blocks place damage
-unless_block g ext old now def blocks block place damage tells same there unless told readable tree has =
-    unless (tells ∙ told) (subst (λ (pages : PageList). BlockHasRowPages ext pages def block) (sym same) (readable block there).1)
+-- A block of a list is to be read, behind calls that looked at rows and at an index.
+pub record ReadsListed {S : Type 0} (g : Ghosts S) (ext : Extents) (def : TableDef) (blocks : List ℕ) (place : TreePlace) (old now : S) (block : ℕ) : Type 0 where
+  pub there : Contains blocks block
+  pub same : (g.state now).work ≡ (g.state old).work
+  pub runs : RunsOverPages g NoPage AnyPage (UnlessReadable g ext old def blocks place) old now None
 
-pub unless_later_tree : {S : Type 0} (g : Ghosts S) (ext : Extents) (old now : S) (def : TableDef) (blocks : List ℕ) (place : TreePlace) (damage : Damage) → (g.state now).is_told ≡ (g.state old).is_told
-    → (g.state now).work ≡ (g.state old).work → UnlessTree g now place damage → UnlessReadable g ext old def blocks place damage
-unless_later_tree g ext old now def blocks place damage tells same unless told readable tree has =
-    unless (tells ∙ told) tree (subst (λ (pages : PageList). HasTree pages place tree) (sym same) has)
+-- it is read
+pub runs_listed : {S : Type 0} {g : Ghosts S} {ext : Extents} {def : TableDef} {blocks : List ℕ} {place : TreePlace} {old now new : S} {block : ℕ} {fault : Option StoreFault} → ReadsListed g ext def blocks place old now block
+    → RunsOverPages g NoPage AnyPage (Unless g now (λ told. BlockHasRowPages ext told def block)) now new fault → RunsOverPages g NoPage AnyPage (UnlessReadable g ext old def blocks place) old new fault
+runs_listed {ext = ext} {def = def} {block = block} is run =
+    runs_then is.runs run (λ p there mine. mine) (λ p any. any)
+    (λ damage unless told readable tree has. unless (is.runs.works.steady.is_told ∙ told) (subst (λ (pages : PageList). BlockHasRowPages ext pages def block) (sym is.same) (readable block is.there).1))
 
-pub unless_readable_later : {S : Type 0} (g : Ghosts S) (ext : Extents) (old now : S) (def : TableDef) (blocks : List ℕ) (place : TreePlace) (damage : Damage) → (g.state now).is_told ≡ (g.state old).is_told
-    → (g.state now).work ≡ (g.state old).work → UnlessReadable g ext now def blocks place damage → UnlessReadable g ext old def blocks place damage
-unless_readable_later g ext old now def blocks place damage tells same unless told readable tree has =
-    unless (tells ∙ told) (subst (λ (pages : PageList). AreReadable ext pages def blocks) (sym same) readable) tree (subst (λ (pages : PageList). HasTree pages place tree) (sym same) has)
+-- the index is looked at
+pub runs_in_tree : {S : Type 0} {g : Ghosts S} {old now new : S} {fault : Option StoreFault} (ext : Extents) (def : TableDef) (blocks : List ℕ) (place : TreePlace)
+    → RunsOverPages g NoPage AnyPage (UnlessReadable g ext old def blocks place) old now None → (g.state now).work ≡ (g.state old).work
+    → RunsOverPages g NoPage AnyPage (UnlessTree g now place) now new fault → RunsOverPages g NoPage AnyPage (UnlessReadable g ext old def blocks place) old new fault
+runs_in_tree ext def blocks place first same run =
+    runs_then first run (λ p there mine. mine) (λ p any. any)
+    (λ damage unless told readable tree has. unless (first.works.steady.is_told ∙ told) tree (subst (λ (pages : PageList). HasTree pages place tree) (sym same) has))
+
+-- it is read whole
+pub runs_entries : {S : Type 0} {g : Ghosts S} {old now new : S} {fault : Option StoreFault} (ext : Extents) (def : TableDef) (blocks : List ℕ) (tree : Tree)
+    → RunsOverPages g NoPage AnyPage (UnlessReadable g ext old def blocks (place_of_tree tree)) old now None → (g.state now).work ≡ (g.state old).work
+    → RunsOverPages g NoPage AnyPage (BreaksTree g now tree) now new fault → RunsOverPages g NoPage AnyPage (UnlessReadable g ext old def blocks (place_of_tree tree)) old new fault
+runs_entries {now = now} ext def blocks tree first same run =
+    runs_in_tree ext def blocks (place_of_tree tree) first same (runs_wider run (λ p there mine. mine) (λ p any. any) (λ damage b. unless_tree now now tree damage refl refl b))
 
 -- damage of a block map
 pub unless_map : {S : Type 0} (g : Ghosts S) (s : S) (tree : Tree) (damage : Damage) → BreaksMapTree g s tree AnyMap damage → UnlessMap g s (place_of_tree tree) damage
 unless_map g s tree damage (inl b) told map_tree has form = b.broken map_tree (holds_told s (g.state s).work tree map_tree told refl has)
 unless_map g s tree damage (inr b) told map_tree has form = b.broken map_tree (holds_told s (g.state s).work tree map_tree told refl has) form tt
 
--- the same, of a table whose indexes stand
-pub unless_map_later : {S : Type 0} (g : Ghosts S) (kind : IndexKind) (ext : Extents) (old now : S) (def : TableDef) (tree : Tree) (damage : Damage) → (g.state now).is_told ≡ (g.state old).is_told
-    → (g.state now).work ≡ (g.state old).work → place_of_tree tree ≡ map_place def → UnlessMap g now (place_of_tree tree) damage → Unless g old (λ told. (map_tree : Forest) × HasIndexes kind ext told def map_tree) damage
-unless_map_later g kind ext old now def tree damage tells same is_map unless told (map_tree, has) =
-    unless (tells ∙ told) map_tree (subst (λ (pages : PageList). HasTree pages (place_of_tree tree) map_tree) (sym same) (subst (λ (place : TreePlace). HasTree (g.state old).work place map_tree) (sym is_map) has.map)) has.form
+-- ---- the indexes of a table
 
-pub unless_indexes : {S : Type 0} (g : Ghosts S) (kind : IndexKind) (ext : Extents) (old now : S) (def : TableDef) (used : List ℕ) (index : PlacedIndex) (damage : Damage) → (g.state now).is_told ≡ (g.state old).is_told
-    → (g.state now).work ≡ (g.state old).work → Contains (indexes_of_kind kind def) index
-    → (IsTrue (g.state old).is_told → (map_tree : Forest) → HasTree (g.state old).work (map_place def) map_tree → used ≡ used_blocks map_tree)
-    → UnlessReadable g ext now def used index.place damage → Unless g old (λ told. (map_tree : Forest) × HasIndexes kind ext told def map_tree) damage
-unless_indexes g kind ext old now def used index damage tells same there used_is unless told (map_tree, has) =
-    let tree = has.trees index there in
-    unless (tells ∙ told) (subst (λ (blocks : List ℕ). AreReadable ext (g.state now).work def blocks) (sym (used_is told map_tree has.map)) (subst (λ (pages : PageList). AreReadable ext pages def (used_blocks map_tree)) (sym same) has.used))
-    tree.0 (subst (λ (pages : PageList). HasTree pages index.place tree.0) (sym same) tree.1)
+-- pages tell a table's indexes of a kind
+abbrev pub TellsIndexes : IndexKind → Extents → TableDef → PageList → Type 0
+TellsIndexes kind ext def pages = (map_tree : Forest) × HasIndexes kind ext pages def map_tree
+
+-- its block map, in hand
+map_in_hand : (def : TableDef) (tree : Tree) → tree.root ≡ def.roots.map → tree.width ≡ 7 → (pages : PageList) (map_tree : Forest) → HasTree pages (map_place def) map_tree → HasTree pages (place_of_tree tree) map_tree
+map_in_hand def tree root width pages map_tree = subst (λ (place : TreePlace). HasTree pages place map_tree) (sym (same_tree_place (place_of_tree tree) (map_place def) root width))
+
+module _ {S : Type 0} {g : Ghosts S} (kind : IndexKind) (ext : Extents) (def : TableDef) {old : S} (tree : Tree) (root : tree.root ≡ def.roots.map) (width : tree.width ≡ 7) where
+  -- the Used blocks are listed
+  pub runs_used : {Kind : ℕ → Type 0} {new : S} {fault : Option StoreFault} → RunsOverPages g NoPage Kind (BreaksMapTree g old tree AnyMap) old new fault
+      → RunsOverPages g NoPage AnyPage (Unless g old (TellsIndexes kind ext def)) old new fault
+  runs_used run =
+      runs_wider run (λ p there mine. mine) (λ p is. tt)
+      (λ damage b told tells. unless_map g old tree damage b told tells.0 (map_in_hand def tree root width (g.state old).work tells.0 tells.1.map) tells.1.form)
+
+  pub used_listed : (used : List ℕ) → ((map_tree : Forest) → HoldsTree g old tree map_tree → used ≡ used_blocks map_tree)
+      → IsTrue (g.state old).is_told → (map_tree : Forest) → HasTree (g.state old).work (map_place def) map_tree → used ≡ used_blocks map_tree
+  used_listed used listed told map_tree has = listed map_tree (holds_told old (g.state old).work tree map_tree told refl (map_in_hand def tree root width (g.state old).work map_tree has))
+
+  module _ {now : S} (first : RunsOverPages g NoPage AnyPage (Unless g old (TellsIndexes kind ext def)) old now None) (same : (g.state now).work ≡ (g.state old).work) where
+    still_in_place : (map_tree : Forest) → HasTree (g.state old).work (map_place def) map_tree → HasTree (g.state now).work (place_of_tree tree) map_tree
+    still_in_place map_tree has = subst (λ (pages : PageList). HasTree pages (place_of_tree tree) map_tree) (sym same) (map_in_hand def tree root width (g.state old).work map_tree has)
+
+    -- and then the spare ones
+    pub runs_spare : {new : S} {fault : Option StoreFault} → RunsOverPages g NoPage AnyPage (UnlessMap g now (place_of_tree tree)) now new fault
+        → RunsOverPages g NoPage AnyPage (Unless g old (TellsIndexes kind ext def)) old new fault
+    runs_spare run =
+        runs_then first run (λ p there mine. mine) (λ p is. is)
+        (λ damage unless told tells. unless (first.works.steady.is_told ∙ told) tells.0 (still_in_place tells.0 tells.1.map) tells.1.form)
+
+    pub spare_listed : (spare : List ℕ) → (IsTrue (g.state now).is_told → (map_tree : Forest) → HasTree (g.state now).work (place_of_tree tree) map_tree → spare ≡ spare_blocks kind map_tree)
+        → IsTrue (g.state old).is_told → (map_tree : Forest) → HasTree (g.state old).work (map_place def) map_tree → spare ≡ spare_blocks kind map_tree
+    spare_listed spare listed told map_tree has = listed (first.works.steady.is_told ∙ told) map_tree (still_in_place map_tree has)

@@ -1,5 +1,5 @@
 -- The indexes of a table are judged one after the other, and those of all tables.
-use Rattle.std.proofs.Common.{◌≡◌, ◌+◌, ◌<◌, ◌⊎◌, Bool, ℕ, List, [], ◌∷◌, ◌++◌, refl, sym, ap, subst, ◌∙◌, arith, take, inl, inr}
+use Rattle.std.proofs.Common.{◌≡◌, ◌+◌, ◌<◌, ◌⊎◌, Bool, ℕ, List, [], ◌∷◌, ◌++◌, refl, sym, ap, subst, ◌∙◌, arith, take, inl, inr, true, false}
 use Rattle.std.specs.Prelude.{IsTrue, Contains, ◌↔◌, Option, Some, None, map, slice_get, zip}
 use Rattle.std.specs.List.{AllByRecursion, AllZip}
 use Rattle.std.proofs.lemmas.List.{take_more}
@@ -7,6 +7,12 @@ use Rattle.std.proofs.lemmas.List.Elements.{Contains-append_left, Contains-appen
 use Rattle.std.proofs.lemmas.Option.{get_or_from_slice_get, slice_get_within}
 use Rattle.mdc_ast.specs.declared.definition.TableDef.{TableDef}
 use Rattle.mdc_ast.specs.meaning.Definitions.{Definitions}
+use Rattle.store_api.specs.Frame.{NoPage}
+use Rattle.store_api.specs.RunsOverPages.{RunsOverPages}
+use Rattle.store_api.specs.declared.fault.Damage.{Damage}
+use Rattle.store_api.specs.declared.fault.StoreFault.{StoreFault}
+use Rattle.store_api.specs.declared.pages.Pages.{Ghosts}
+use Rattle.store_api.proofs.RunsOverPagesLemmas.{runs_then}
 use Rattle.extent_map.specs.declared.extents.Extents.{Extents}
 use Rattle.key_codec.specs.Keys.{width_of_parts}
 use Rattle.entry_tree.specs.Forest.{Forest, leaf_entries}
@@ -23,29 +29,31 @@ use Rattle.mdc_sound.proofs.SpaceRulesLemmas.{there_at}
 use Rattle.mdc_sound.proofs.StandsForLemmas.{one_tree_at}
 use Rattle.file_check.specs.Judging.{Judges, JudgesEach, lower}
 use Rattle.file_check.specs.Known.{ViewHasCells}
+use Rattle.file_check.specs.Looking.{AnyPage, Unless}
+use Rattle.file_check.proofs.IndexJudgingLemmas.{TellsIndexes}
 use Rattle.file_check.proofs.JudgingLemmas.{judges_next}
 use Rattle.file_check.specs.declared.table_index.IndexKind.{IndexKind}
 use Rattle.file_check.specs.declared.table_index.IndexKind.TheVariants.{Blocks, Rows}
 use Rattle.file_check.specs.declared.table_index.TableIndex.{TableIndex}
-use Rattle.file_check.specs.TableIndexes.{AreReadable, AreSoundEntries, BreaksPlace, HasIndexes, IsPlaceSound, IsSoundTree, PlacedIndex, entries_of_blocks, index_of_dimension, indexes_of_kind, place_of_index, spare_blocks}
+use Rattle.file_check.specs.TableIndexes.{AreReadable, AreSoundEntries, BreaksPlace, HasIndexes, IsPlaceSound, IsSoundTree, PlacedIndex, UnlessReadable, entries_of_blocks, index_of_dimension, indexes_of_kind, place_of_index, spare_blocks}
 
 -- ---- one index
 
 module _ (kind : IndexKind) (ext : Extents) (pages : PageList) (def : TableDef) (map_tree : Forest) (index : PlacedIndex) (tree : Forest) (here : HasTree pages index.place tree) where
-  pub judged_sound : IsSoundTree kind ext pages def map_tree index tree → Judges (IsPlaceSound kind ext pages def map_tree index) (BreaksPlace kind ext pages def map_tree index) None
+  judged_sound : IsSoundTree kind ext pages def map_tree index tree → Judges (IsPlaceSound kind ext pages def map_tree index) (BreaksPlace kind ext pages def map_tree index) None
   judged_sound sound = record {
     holds = λ other has. subst (IsSoundTree kind ext pages def map_tree index) (one_tree_at pages index.place tree other here has) sound;
     unbroken = λ p breaks. breaks.1 tree here sound;
   }
 
-  pub judged_broken : (IsSoundTree kind ext pages def map_tree index tree → ⊥) → Judges (IsPlaceSound kind ext pages def map_tree index) (BreaksPlace kind ext pages def map_tree index) (Some index.place.root)
+  judged_broken : (IsSoundTree kind ext pages def map_tree index tree → ⊥) → Judges (IsPlaceSound kind ext pages def map_tree index) (BreaksPlace kind ext pages def map_tree index) (Some index.place.root)
   judged_broken broken = record {
     breaks = (refl, λ other has sound. broken (subst (IsSoundTree kind ext pages def map_tree index) (one_tree_at pages index.place other tree has here) sound));
     lowest = λ p breaks. omega (arith, breaks.0);
   }
 
 -- what was found of the index in hand is said of the one in its place
-pub found_in_place : (kind : IndexKind) (ext : Extents) (pages work : PageList) (def : TableDef) (map_tree : Forest) (index : TableIndex) (used spare : List ℕ) (sound : Bool)
+found_in_place : (kind : IndexKind) (ext : Extents) (pages work : PageList) (def : TableDef) (map_tree : Forest) (index : TableIndex) (used spare : List ℕ) (sound : Bool)
     → index.kind ≡ kind → work ≡ pages → used ≡ used_blocks map_tree → spare ≡ spare_blocks kind map_tree
     → (AreReadable ext work def used → (tree : Forest) → HasTree work (place_of_tree index.tree) tree
     → IsTrue sound ↔ AreSoundEntries (entries_of_blocks index.kind ext work def index.parts used) spare (width_of_parts def.columns index.parts) (leaf_entries tree))
@@ -61,19 +69,76 @@ found_in_place kind ext pages work def map_tree index used spare sound kind_is s
 
 -- ---- one of a list after the other
 
-pub lower-none : (found : Option ℕ) → lower found None ≡ found
+lower-none : (found : Option ℕ) → lower found None ≡ found
 lower-none None = refl
 lower-none (Some page) = refl
 
-pub place_next : {X : Type 0} (P : X → Type 0) (B : X → ℕ → Type 0) (xs : List X) (i : ℕ) (x : X) (found here : Option ℕ) → slice_get xs i ≡ Some x
+place_next : {X : Type 0} (P : X → Type 0) (B : X → ℕ → Type 0) (xs : List X) (i : ℕ) (x : X) (found here : Option ℕ) → slice_get xs i ≡ Some x
     → JudgesEach P B (take i xs) found → Judges (P x) (B x) here → JudgesEach P B (take (i + 1) xs) (lower found here)
 place_next {X} P B xs i x found here at before this =
     let low = slice_get_within xs i x at in
     let more : take (i + 1) xs ≡ take i xs ++ x ∷ [] = take_more xs i x low ∙ ap (λ y. take i xs ++ y ∷ []) (get_or_from_slice_get xs i x x at) in
     subst (λ (ys : List X). JudgesEach P B ys (lower found here)) (sym more) (judges_next P B (take i xs) x found here before this)
 
-pub member_at : {X : Type 0} (xs : List X) (i : ℕ) (x : X) → slice_get xs i ≡ Some x → Contains xs x
+member_at : {X : Type 0} (xs : List X) (i : ℕ) (x : X) → slice_get xs i ≡ Some x → Contains xs x
 member_at xs i x at = (i, slice_get_within xs i x at, get_or_from_slice_get xs i x x at)
+
+-- ---- the next one is judged
+
+-- The index in a place is in hand, and so are the Used blocks and the spare ones.
+pub record IndexInHand {S : Type 0} (g : Ghosts S) (kind : IndexKind) (ext : Extents) (def : TableDef) (old now : S) (i : ℕ) (index : TableIndex) (used spare : List ℕ) : Type 0 where
+  pub kind_is : index.kind ≡ kind
+  pub place_is : slice_get (indexes_of_kind kind def) i ≡ Some (place_of_index index)
+  pub used_are : IsTrue (g.state old).is_told → (map_tree : Forest) → HasTree (g.state old).work (map_place def) map_tree → used ≡ used_blocks map_tree
+  pub spare_are : IsTrue (g.state old).is_told → (map_tree : Forest) → HasTree (g.state old).work (map_place def) map_tree → spare ≡ spare_blocks kind map_tree
+  pub same : (g.state now).work ≡ (g.state old).work
+  pub runs : RunsOverPages g NoPage AnyPage (Unless g old (TellsIndexes kind ext def)) old now None
+
+module _ {S : Type 0} {g : Ghosts S} {kind : IndexKind} {ext : Extents} {def : TableDef} {old now : S} {i : ℕ} {index : TableIndex} {used spare : List ℕ} (is : IndexInHand g kind ext def old now i index used spare) where
+  tree_there : (map_tree : Forest) → HasIndexes kind ext (g.state old).work def map_tree → (tree : Forest) × HasTree (g.state old).work (place_of_tree index.tree) tree
+  tree_there map_tree has = has.trees (place_of_index index) (member_at (indexes_of_kind kind def) i (place_of_index index) is.place_is)
+
+  -- it is read
+  pub runs_index : {new : S} {fault : Option StoreFault} → RunsOverPages g NoPage AnyPage (UnlessReadable g ext now def used (place_of_tree index.tree)) now new fault
+      → RunsOverPages g NoPage AnyPage (Unless g old (TellsIndexes kind ext def)) old new fault
+  runs_index run = runs_then is.runs run (λ p there mine. mine) (λ p any. any) (λ damage unless told tells. damaged damage unless told tells.0 tells.1)
+    where
+      damaged : (damage : Damage) → UnlessReadable g ext now def used (place_of_tree index.tree) damage → IsTrue (g.state old).is_told → (map_tree : Forest) → HasIndexes kind ext (g.state old).work def map_tree → ⊥
+      damaged damage unless told map_tree has =
+          let tree = tree_there map_tree has in
+          unless (is.runs.works.steady.is_told ∙ told)
+          (subst (λ (blocks : List ℕ). AreReadable ext (g.state now).work def blocks) (sym (is.used_are told map_tree has.map)) (subst (λ (pages : PageList). AreReadable ext pages def (used_blocks map_tree)) (sym is.same) has.used))
+          tree.0 (subst (λ (pages : PageList). HasTree pages (place_of_tree index.tree) tree.0) (sym is.same) tree.1)
+
+  -- and found to be sound, or not to be
+  module _ (sound : Bool)
+      (found : IsTrue (g.state now).is_told → AreReadable ext (g.state now).work def used → (tree : Forest) → HasTree (g.state now).work (place_of_tree index.tree) tree
+      → IsTrue sound ↔ AreSoundEntries (entries_of_blocks index.kind ext (g.state now).work def index.parts used) spare (width_of_parts def.columns index.parts) (leaf_entries tree))
+      (told : IsTrue (g.state old).is_told) (map_tree : Forest) (has : HasIndexes kind ext (g.state old).work def map_tree) (lowest : Option ℕ)
+      (before : JudgesEach (IsPlaceSound kind ext (g.state old).work def map_tree) (BreaksPlace kind ext (g.state old).work def map_tree) (take i (indexes_of_kind kind def)) lowest) where
+    of_tree : IsTrue sound ↔ IsSoundTree kind ext (g.state old).work def map_tree (place_of_index index) (tree_there map_tree has).0
+    of_tree =
+        found_in_place kind ext (g.state old).work (g.state now).work def map_tree index used spare sound is.kind_is is.same (is.used_are told map_tree has.map) (is.spare_are told map_tree has.map)
+        (found (is.runs.works.steady.is_told ∙ told)) has.used (tree_there map_tree has).0 (tree_there map_tree has).1
+
+    next : (here lower_now : Option ℕ) → lower_now ≡ lower lowest here → Judges (IsPlaceSound kind ext (g.state old).work def map_tree (place_of_index index)) (BreaksPlace kind ext (g.state old).work def map_tree (place_of_index index)) here
+        → JudgesEach (IsPlaceSound kind ext (g.state old).work def map_tree) (BreaksPlace kind ext (g.state old).work def map_tree) (take (i + 1) (indexes_of_kind kind def)) lower_now
+    next here lower_now lowered judged =
+        let P = IsPlaceSound kind ext (g.state old).work def map_tree in
+        let B = BreaksPlace kind ext (g.state old).work def map_tree in
+        subst (λ (page : Option ℕ). JudgesEach P B (take (i + 1) (indexes_of_kind kind def)) page) (sym lowered) (place_next P B (indexes_of_kind kind def) i (place_of_index index) lowest here is.place_is before judged)
+
+    pub sound_next : sound ≡ true → JudgesEach (IsPlaceSound kind ext (g.state old).work def map_tree) (BreaksPlace kind ext (g.state old).work def map_tree) (take (i + 1) (indexes_of_kind kind def)) lowest
+    sound_next is_sound =
+        let tree = tree_there map_tree has in
+        next None lowest (sym (lower-none lowest)) (judged_sound kind ext (g.state old).work def map_tree (place_of_index index) tree.0 tree.1 (of_tree.0 is_sound))
+
+    pub broken_next : sound ≡ false → (lower_now : Option ℕ) → lower_now ≡ lower lowest (Some index.tree.root)
+        → JudgesEach (IsPlaceSound kind ext (g.state old).work def map_tree) (BreaksPlace kind ext (g.state old).work def map_tree) (take (i + 1) (indexes_of_kind kind def)) lower_now
+    broken_next is_none lower_now lowered =
+        let tree = tree_there map_tree has in
+        next (Some index.tree.root) lower_now lowered
+        (judged_broken kind ext (g.state old).work def map_tree (place_of_index index) tree.0 tree.1 (λ holds. (let is_sound = of_tree.1 holds in absurd (cc (is_sound, is_none)))))
 
 -- ---- what is known of a table
 

@@ -1,5 +1,6 @@
 -- Runs of calls that name no damage where the pages are told and hold what they should, and how they end.
 use Rattle.std.proofs.Common.{◌≡◌, ◌∙◌, ℕ, Option, Some, None, subst, sym}
+use Rattle.std.specs.Prelude.{IsTrue}
 use Rattle.store_api.specs.Frame.{NoPage}
 use Rattle.store_api.specs.RunsOverPages.{RunsOverPages}
 use Rattle.store_api.specs.Causes.{NoDamage}
@@ -7,7 +8,7 @@ use Rattle.store_api.specs.declared.fault.Damage.{Damage}
 use Rattle.store_api.specs.declared.fault.StoreFault.{StoreFault}
 use Rattle.store_api.specs.declared.fault.StoreFault.TheVariants.{Damaged, Memory}
 use Rattle.store_api.specs.declared.pages.Pages.{Ghosts}
-use Rattle.store_api.proofs.RunsOverPagesLemmas.{runs_damage, runs_memory, runs_then, runs_wider}
+use Rattle.store_api.proofs.RunsOverPagesLemmas.{runs_damage, runs_memory, runs_on, runs_then, runs_wider}
 use Rattle.table_trees.specs.ToldPages.{PageList}
 use Rattle.file_check.specs.Looking.{AnyPage, Unless}
 
@@ -18,6 +19,14 @@ module _ {S : Type 0} {g : Ghosts S} where
       → RunsOverPages g NoPage AnyPage (Unless g old Holds) old new fault
   runs_unless Holds same first second =
       runs_then first second (λ p there mine. mine) (λ p kind. tt) (λ damage breaks told holds. breaks (first.works.steady.is_told ∙ told) (subst Holds (sym same) holds))
+
+  -- the same, where what it rests on follows from what is known
+  pub runs_known : {First : Damage → Type 0} {old mid new : S} {fault : Option StoreFault} (Known Next : PageList → Type 0) → RunsOverPages g NoPage AnyPage First old mid None
+      → (g.state mid).work ≡ (g.state old).work → (IsTrue (g.state old).is_told → Known (g.state old).work → Next (g.state old).work)
+      → RunsOverPages g NoPage AnyPage (Unless g mid Next) mid new fault → RunsOverPages g NoPage AnyPage (Unless g old Known) old new fault
+  runs_known Known Next first same now second =
+      runs_then (runs_on first) second (λ p there mine. mine) (λ p is. is)
+      (λ damage none told known. none (first.works.steady.is_told ∙ told) (subst Next (sym same) (now told known)))
 
   -- calls that name no damage at all
   pub runs_undamaged : (Holds : PageList → Type 0) {Kind : ℕ → Type 0} {old new : S} {fault : Option StoreFault}
@@ -33,8 +42,3 @@ module _ {S : Type 0} {g : Ghosts S} where
       → Breaks damage → RunsOverPages g Mine Kind Breaks old new (Some fault)
   runs_to_damage {Mine} {Kind} {Breaks} {old} {new} damage fault is run breaks =
       subst (λ (f : StoreFault). RunsOverPages g Mine Kind Breaks old new (Some f)) (sym is) (runs_damage run breaks)
-
--- damage that is named in a later state that tells the same
-pub unless_still : {S : Type 0} (g : Ghosts S) (old now : S) (Held Holds : PageList → Type 0) (damage : Damage) → (g.state now).is_told ≡ (g.state old).is_told → (g.state now).work ≡ (g.state old).work
-    → (Holds (g.state old).work → Held (g.state old).work) → Unless g now Held damage → Unless g old Holds damage
-unless_still g old now Held Holds damage tells works holds b told is = b (tells ∙ told) (subst Held (sym works) (holds is))

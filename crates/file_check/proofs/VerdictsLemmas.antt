@@ -13,7 +13,7 @@ use Rattle.store_api.specs.declared.fault.Damage.{Damage}
 use Rattle.store_api.specs.declared.fault.StoreFault.{StoreFault}
 use Rattle.store_api.specs.declared.fault.StoreFault.TheVariants.{Damaged, Device}
 use Rattle.store_api.specs.declared.pages.Pages.{Ghosts}
-use Rattle.store_api.proofs.RunsOverPagesLemmas.{runs_on, runs_then}
+use Rattle.store_api.proofs.RunsOverPagesLemmas.{runs_none, runs_on, runs_then, runs_wider}
 use Rattle.table_trees.specs.ToldPages.{PageList}
 use Rattle.mdc_sound.specs.Breaks.{BreaksRule, IsFirstBreak}
 use Rattle.file_check.specs.Judging.{HoldsUnbroken, IsLowestBreak, Judges, JudgesRule}
@@ -21,6 +21,7 @@ use Rattle.file_check.specs.Kept.{NoneBreaksBefore}
 use Rattle.file_check.specs.Looking.{AnyPage, Unless, UnlessTold}
 use Rattle.file_check.specs.Verdicts.{IsVerdictOf}
 use Rattle.file_check.specs.declared.verdict.Verdict.{Verdict}
+use Rattle.file_check.proofs.UnlessLemmas.{runs_known}
 
 -- ---- the numbers of rules
 
@@ -87,44 +88,60 @@ pub holds_unbroken : (Holds : Type 0) (Breaks : ℕ → Type 0) (found : Option 
 holds_unbroken Holds Breaks None none judged = judged
 holds_unbroken Holds Breaks (Some page) none judged = absurd (none page refl)
 
--- ---- what is said of later pages that are the same
+-- ---- one judge after another
 
--- what a judge answered later, of the pages as they were
-pub still_says : {S : Type 0} (g : Ghosts S) (old mid : S) (Says : PageList → Type 0) → (g.state mid).is_told ≡ (g.state old).is_told → (g.state mid).work ≡ (g.state old).work
-    → (IsTrue (g.state mid).is_told → Says (g.state mid).work) → IsTrue (g.state old).is_told → Says (g.state old).work
-still_says g old mid Says tells same says told = subst Says same (says (tells ∙ told))
+-- any pages
+abbrev pub AnyPages : PageList → Type 0
+AnyPages pages = Unit {0}
 
--- the verdict of the rules that are judged later, where what they rest on follows from what is known
-pub verdict_behind : {S : Type 0} (g : Ghosts S) (old mid : S) (ext : Extents) (Known Next : PageList → Type 0) (result : Result Verdict StoreFault) → (g.state mid).is_told ≡ (g.state old).is_told
-    → (g.state mid).work ≡ (g.state old).work → (IsTrue (g.state old).is_told → Known (g.state old).work → Next (g.state old).work)
-    → IfOk result (λ verdict. IsTrue (g.state mid).is_told → Next (g.state mid).work → IsVerdictOf ext (g.state mid).work verdict)
-    → IfOk result (λ verdict. IsTrue (g.state old).is_told → Known (g.state old).work → IsVerdictOf ext (g.state old).work verdict)
-verdict_behind g old mid ext Known Next result tells same now later =
-    IfOk-weaker result _ _ (λ verdict says told known. still_says g old mid (λ pages. Next pages → IsVerdictOf ext pages verdict) tells same says told (now told known)) later
+-- Judges changed no page, and where this was known before them, that is known behind them.
+pub record Learns {S : Type 0} (g : Ghosts S) (Known Next : PageList → Type 0) (old now : S) : Type 0 where
+  pub runs : RunsOverPages g NoPage AnyPage NoDamage old now None
+  pub same : (g.state now).work ≡ (g.state old).work
+  pub next : IsTrue (g.state old).is_told → Known (g.state old).work → Next (g.state old).work
 
 module _ {S : Type 0} {g : Ghosts S} where
+  -- none was asked yet
+  pub learns_nothing : {Known : PageList → Type 0} {s : S} → Learns g Known Known s s
+  learns_nothing = record { runs = runs_none; same = refl; next = λ told known. known }
+
   -- a judge behind others that ended well
   pub runs_judge : {First Second Breaks : Damage → Type 0} {old mid new : S} → RunsOverPages g NoPage AnyPage First old mid None → RunsOverPages g NoPage AnyPage Second mid new None
       → RunsOverPages g NoPage AnyPage Breaks old new None
   runs_judge first second = runs_then (runs_on first) (runs_on second) (λ p there mine. mine) (λ p is. is) (λ damage b. b)
 
-  -- one that may have failed: what it rests on follows from what is known
-  pub runs_known : {First : Damage → Type 0} {old mid new : S} {fault : Option StoreFault} (Known Next : PageList → Type 0) → RunsOverPages g NoPage AnyPage First old mid None
-      → (g.state mid).work ≡ (g.state old).work → (IsTrue (g.state old).is_told → Known (g.state old).work → Next (g.state old).work)
-      → RunsOverPages g NoPage AnyPage (Unless g mid Next) mid new fault → RunsOverPages g NoPage AnyPage (Unless g old Known) old new fault
-  runs_known Known Next first same now second =
-      runs_then (runs_on first) second (λ p there mine. mine) (λ p is. is)
-      (λ damage none told known. none (first.works.steady.is_told ∙ told) (subst Next (sym same) (now told known)))
+  module _ {Known Next : PageList → Type 0} {old mid : S} (so_far : Learns g Known Next old mid) where
+    -- what it says, of the pages as they were
+    pub says_next : (Says : PageList → Type 0) → (IsTrue (g.state mid).is_told → Says (g.state mid).work) → IsTrue (g.state old).is_told → Known (g.state old).work
+        → Next (g.state old).work × Says (g.state old).work
+    says_next Says says told known = (so_far.next told known, subst Says so_far.same (says (so_far.runs.works.steady.is_told ∙ told)))
 
-  -- the same, where nothing has to be known before
-  pub runs_told : {First : Damage → Type 0} {old mid new : S} {fault : Option StoreFault} (Next : PageList → Type 0) → RunsOverPages g NoPage AnyPage First old mid None
-      → (g.state mid).work ≡ (g.state old).work → (IsTrue (g.state old).is_told → Next (g.state old).work) → RunsOverPages g NoPage AnyPage (Unless g mid Next) mid new fault
-      → RunsOverPages g NoPage AnyPage (UnlessTold g old) old new fault
-  runs_told Next first same now second =
-      runs_then (runs_on first) second (λ p there mine. mine) (λ p is. is)
-      (λ damage none told. none (first.works.steady.is_told ∙ told) (subst Next (sym same) (now told)))
+    -- and what is known by it
+    pub learns_next : {Breaks : Damage → Type 0} {new : S} (Says More : PageList → Type 0) → RunsOverPages g NoPage AnyPage Breaks mid new None → (g.state new).work ≡ (g.state mid).work
+        → (IsTrue (g.state mid).is_told → Says (g.state mid).work) → (Next (g.state old).work → Says (g.state old).work → More (g.state old).work) → Learns g Known More old new
+    learns_next Says More run same says step = record {
+      runs = runs_judge so_far.runs run;
+      same = same ∙ so_far.same;
+      next = λ told known. (let both = says_next Says says told known in step both.0 both.1);
+    }
 
-  -- damage is named of pages that aren't told alone, and is no fault of the store then
+    -- one that may have failed rests on what is known
+    pub runs_next : {new : S} {fault : Option StoreFault} (Needs : PageList → Type 0) → (Next (g.state old).work → Needs (g.state old).work) → RunsOverPages g NoPage AnyPage (Unless g mid Needs) mid new fault
+        → RunsOverPages g NoPage AnyPage (Unless g old Known) old new fault
+    runs_next Needs enough run = runs_known Known Needs so_far.runs so_far.same (λ told known. enough (so_far.next told known)) run
+
+    -- the verdict of the rules that are judged later
+    pub verdict_behind : (ext : Extents) (result : Result Verdict StoreFault)
+        → IfOk result (λ verdict. IsTrue (g.state mid).is_told → Next (g.state mid).work → IsVerdictOf ext (g.state mid).work verdict)
+        → IfOk result (λ verdict. IsTrue (g.state old).is_told → Known (g.state old).work → IsVerdictOf ext (g.state old).work verdict)
+    verdict_behind ext result later =
+        IfOk-weaker result _ _ (λ verdict says told known. (let both = says_next (λ pages. Next pages → IsVerdictOf ext pages verdict) says told known in both.1 both.0)) later
+
+  -- where nothing has to be known, damage is named of pages that aren't told alone
+  pub runs_untold : {old new : S} {fault : Option StoreFault} → RunsOverPages g NoPage AnyPage (Unless g old AnyPages) old new fault → RunsOverPages g NoPage AnyPage (UnlessTold g old) old new fault
+  runs_untold run = runs_wider run (λ p there mine. mine) (λ p is. is) (λ damage unless told. unless told tt)
+
+  -- such damage is no fault of the store then
   pub damage_untold : {old new : S} (fault : StoreFault) (damage : Damage) → fault ≡ Damaged damage → RunsOverPages g NoPage AnyPage (UnlessTold g old) old new (Some fault) → IsTrue (g.state old).is_told → ⊥
   damage_untold fault damage is run told = run.cause.damaged damage (ap Some is) told
 

@@ -1,5 +1,5 @@
 // What the entries of a block map name.
-ghost use Rattle.std.specs.Prelude.{◌≡◌, ◌<◌, ◌≤◌, ◌^◌, ◌⊎◌, None, length, IfOk, IfErr, MatchOption};
+ghost use Rattle.std.specs.Prelude.{◌≡◌, ◌<◌, ◌≤◌, ◌⊎◌, None, length, IfOk, MatchOption};
 ghost use Rattle.entry_tree.specs.Entries.{AreOfWidth};
 ghost use Rattle.entry_tree.specs.EntryBounds.{Rises};
 ghost use Rattle.block_map.specs.MapLines.{IsMapEntry, map_line};

@@ -1,5 +1,5 @@
 // A page of the extent map, entry by entry.
-ghost use Rattle.std.specs.Prelude.{◌≡◌, ◌≤◌, ◌<◌, ◌+◌, ◌↔◌, length, false, IsTrue, IsFalse, List, slice_index_or};
+ghost use Rattle.std.specs.Prelude.{◌≡◌, ◌<◌, ◌+◌, ◌↔◌, length, false, IsTrue, IsFalse, List, slice_index_or};
 ghost use Rattle.store_api.specs.Extents.{first_page_of, map_pages};
 ghost use Rattle.store_api.specs.StoreState.{page_at};
 ghost use Rattle.extent_map.specs.declared.kind.Kind.{Kind};

@@ -1,5 +1,5 @@
 // Whether blocks are those of a table.
-ghost use Rattle.std.specs.Prelude.{◌≡◌, ◌≢◌, ◌<◌, ◌≤◌, length, slice_index, true, false};
+ghost use Rattle.std.specs.Prelude.{◌≡◌, ◌≢◌, ◌<◌, length, slice_index, true, false};
 ghost use Rattle.extent_map.specs.declared.kind.Kind.{Kind};
 ghost use Rattle.file_check.specs.BlockMapsJudged.{AreBlocksOf, AreNoBlocksOf, RiseFrom};
 

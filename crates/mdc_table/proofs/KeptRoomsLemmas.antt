@@ -398,91 +398,63 @@ module _ {S : Type 0} {g : Ghosts S} (before ext : Extents) (old new : S) (def :
             right.full b r all was there (omega (arith, low, kept (cell_key_of def r.values))) empty
       ]
 
-  -- a row was taken out of a block that had room before, and others are left in it: the notes are right as they were
-  pub rooms_left : (rid : Rid) (row : Row) (slots : List (Option Row)) → IsRowAt (spots_of g before old def owners forests) rid row slots
-      → AllZip AfterReturns (slice_set (spots_of g before old def owners forests) rid.block (left_with (slice_set slots rid.slot None))) (spots_of g ext new def owners_now forests_now)
-      → Contains slots None → 0 < count_rows (slice_set slots rid.slot None) → AreRightRooms def from (spots_of g ext new def owners_now forests_now)
-  rooms_left rid row slots lies turned empty others = record { full = full; of_cell = of_cell }
+  -- the rows of a block changed within their cell, and it has room only if it had: the notes are right as they were
+  rooms_kept : (After : Spot → Spot → Type 0) → KeepsUsed After → (block : ℕ) (slots left : List (Option Row)) → slice_index_or (spots_of g before old def owners forests) block OtherBlock ≡ UsedBlock slots
+      → AllZip After (slice_set (spots_of g before old def owners forests) block (UsedBlock left)) (spots_of g ext new def owners_now forests_now)
+      → (row other : Row) → Contains slots (Some row) → Contains left (Some other) → AreOfOneCell def row.values other.values → (Contains left None → Contains slots None)
+      → AreRightRooms def from (spots_of g ext new def owners_now forests_now)
+  rooms_kept After keeps block slots left was turned row other row_there other_there one less = record { full = full; of_cell = of_cell }
     where
-      left : List (Option Row)
-      left = slice_set slots rid.slot None
-
-      is_used : left_with left ≡ UsedBlock left
-      is_used = left_used left others
-
-      -- a row that is left lay there before
-      was_there : (r : Row) → Contains left (Some r) → Contains slots (Some r)
-      was_there r there = elim (of_set slots rid.slot None (Some r) there) [ inl wrong ↦ absurd (cc (wrong)) | inr c ↦ c ]
-
       of_cell : (key : Entry) → IsTrue (from key).is_of_cell → HoldsKey def key (slice_index_or (spots_of g ext new def owners_now forests_now) (from key).from OtherBlock)
-      of_cell key known = elim (cases_eq (from key).from rid.block) [
+      of_cell key known = elim (cases_eq (from key).from block) [
         | inl same ↦
-            let there : HoldsKey def key (slice_index_or (spots_of g before old def owners forests) rid.block OtherBlock) =
+            let there : HoldsKey def key (slice_index_or (spots_of g before old def owners forests) block OtherBlock) =
             subst (λ (n : ℕ). HoldsKey def key (slice_index_or (spots_of g before old def owners forests) n OtherBlock)) same (right.of_cell key known) in
-            let holds : HoldsKey def key (UsedBlock slots) = subst (HoldsKey def key) (lies.block OtherBlock) there in
-            let other = some_row left others in
-            let one = same_cell before old def owners forests st rid.block slots other.0 holds.0 (lies.block OtherBlock) (was_there other.0 other.1) holds.1 in
-            let key_is : cell_key_of def other.0.values ≡ key = cell_key_of-same def other.0.values holds.0.values one ∙ holds.2 in
+            let holds : HoldsKey def key (UsedBlock slots) = subst (HoldsKey def key) was there in
+            let both = same_cell before old def owners forests st block slots row holds.0 was row_there holds.1 in
+            let key_is : cell_key_of def other.values ≡ key = sym (cell_key_of-same def row.values other.values one) ∙ cell_key_of-same def row.values holds.0.values both ∙ holds.2 in
             subst (λ (n : ℕ). HoldsKey def key (slice_index_or (spots_of g ext new def owners_now forests_now) n OtherBlock)) (sym same)
-            (holds_there AfterReturns returns_keep (spots_of g before old def owners forests) (spots_of g ext new def owners_now forests_now) rid.block (left_with left) turned def key
-            (used_below (spots_of g before old def owners forests) rid.block slots (lies.block OtherBlock)) (subst (HoldsKey def key) (sym is_used) (other.0, other.1, key_is)))
-        | inr other ↦
-            holds_elsewhere AfterReturns returns_keep (spots_of g before old def owners forests) (spots_of g ext new def owners_now forests_now) rid.block (left_with left) turned def key (from key).from
-            other (right.of_cell key known)
+            (holds_there After keeps (spots_of g before old def owners forests) (spots_of g ext new def owners_now forests_now) block (UsedBlock left) turned def key
+            (used_below (spots_of g before old def owners forests) block slots was) (other, other_there, key_is))
+        | inr differ ↦
+            holds_elsewhere After keeps (spots_of g before old def owners forests) (spots_of g ext new def owners_now forests_now) block (UsedBlock left) turned def key (from key).from
+            differ (right.of_cell key known)
       ]
 
       full : (b : ℕ) (r : Row) (all : List (Option Row)) → slice_index_or (spots_of g ext new def owners_now forests_now) b OtherBlock ≡ UsedBlock all → Contains all (Some r)
           → b < (from (cell_key_of def r.values)).from → Contains all None → ⊥
-      full b r all is there low none = elim (cases_eq b rid.block) [
+      full b r all is there low empty = elim (cases_eq b block) [
         | inl same ↦
-            let here : slice_index_or (spots_of g ext new def owners_now forests_now) rid.block OtherBlock ≡ UsedBlock all =
+            let here : slice_index_or (spots_of g ext new def owners_now forests_now) block OtherBlock ≡ UsedBlock all =
             subst (λ (n : ℕ). slice_index_or (spots_of g ext new def owners_now forests_now) n OtherBlock ≡ UsedBlock all) same is in
-            let e = used_there AfterReturns returns_keep (spots_of g before old def owners forests) (spots_of g ext new def owners_now forests_now) rid.block (left_with left) turned all here in
-            let in_now : Contains left (Some r) = subst (λ (xs : List (Option Row)). Contains xs (Some r)) (sym (slots_left left all e)) there in
-            right.full rid.block r slots (lies.block OtherBlock) (was_there r in_now) (subst (λ (n : ℕ). n < (from (cell_key_of def r.values)).from) same low) empty
-        | inr other ↦
-            let was = used_elsewhere AfterReturns returns_keep (spots_of g before old def owners forests) (spots_of g ext new def owners_now forests_now) rid.block (left_with left) turned b all other is in
-            right.full b r all was there low none
+            let e = used_there After keeps (spots_of g before old def owners forests) (spots_of g ext new def owners_now forests_now) block (UsedBlock left) turned all here in
+            let slots_are : left ≡ all = cc (e) in
+            let both = same_cell ext new def owners_now forests_now now_st block all r other here there (subst (λ (xs : List (Option Row)). Contains xs (Some other)) slots_are other_there) in
+            let key = cell_key_of-same def r.values row.values (both ∙ sym one) in
+            let below : block < (from (cell_key_of def row.values)).from = subst (λ (n : ℕ). n < (from (cell_key_of def row.values)).from) same (subst (λ (k : Entry). b < (from k).from) key low) in
+            right.full block row slots was row_there below (less (subst (λ (xs : List (Option Row)). Contains xs None) (sym slots_are) empty))
+        | inr differ ↦
+            let before_it = used_elsewhere After keeps (spots_of g before old def owners forests) (spots_of g ext new def owners_now forests_now) block (UsedBlock left) turned b all differ is in
+            right.full b r all before_it there low empty
       ]
+
+  -- a row was taken out of a block that had room before, and others are left in it
+  pub rooms_left : (rid : Rid) (row : Row) (slots : List (Option Row)) → IsRowAt (spots_of g before old def owners forests) rid row slots
+      → AllZip AfterReturns (slice_set (spots_of g before old def owners forests) rid.block (left_with (slice_set slots rid.slot None))) (spots_of g ext new def owners_now forests_now)
+      → Contains slots None → 0 < count_rows (slice_set slots rid.slot None) → AreRightRooms def from (spots_of g ext new def owners_now forests_now)
+  rooms_left rid row slots lies turned empty others =
+      let left = slice_set slots rid.slot None in
+      let other = some_row left others in
+      let was_there : Contains slots (Some other.0) = elim (of_set slots rid.slot None (Some other.0) other.1) [ inl wrong ↦ absurd (cc (wrong)) | inr c ↦ c ] in
+      rooms_kept AfterReturns returns_keep rid.block slots left (lies.block OtherBlock)
+      (subst (λ (spot : Spot). AllZip AfterReturns (slice_set (spots_of g before old def owners forests) rid.block spot) (spots_of g ext new def owners_now forests_now)) (left_used left others) turned)
+      other.0 other.0 was_there other.1 refl (λ still. empty)
 
   -- a row became another of its cell
   pub rooms_overwritten : (rid : Rid) (row now : Row) (slots : List (Option Row)) → IsRowAt (spots_of g before old def owners forests) rid row slots → AreOfOneCell def row.values now.values
       → AllZip SameSpot (slice_set (spots_of g before old def owners forests) rid.block (UsedBlock (slice_set slots rid.slot (Some now)))) (spots_of g ext new def owners_now forests_now)
       → AreRightRooms def from (spots_of g ext new def owners_now forests_now)
-  rooms_overwritten rid row now slots lies one turned = record { full = full; of_cell = of_cell }
-    where
-      of_cell : (key : Entry) → IsTrue (from key).is_of_cell → HoldsKey def key (slice_index_or (spots_of g ext new def owners_now forests_now) (from key).from OtherBlock)
-      of_cell key known = elim (cases_eq (from key).from rid.block) [
-        | inl same ↦
-            let there : HoldsKey def key (slice_index_or (spots_of g before old def owners forests) rid.block OtherBlock) =
-            subst (λ (n : ℕ). HoldsKey def key (slice_index_or (spots_of g before old def owners forests) n OtherBlock)) same (right.of_cell key known) in
-            let holds : HoldsKey def key (UsedBlock slots) = subst (HoldsKey def key) (lies.block OtherBlock) there in
-            let both = same_cell before old def owners forests st rid.block slots holds.0 row (lies.block OtherBlock) holds.1 (in_slot slots rid.slot row lies.slot) in
-            let key_is : cell_key_of def now.values ≡ key = sym (cell_key_of-same def holds.0.values now.values (both ∙ one)) ∙ holds.2 in
-            subst (λ (n : ℕ). HoldsKey def key (slice_index_or (spots_of g ext new def owners_now forests_now) n OtherBlock)) (sym same)
-            (holds_there SameSpot same_keeps (spots_of g before old def owners forests) (spots_of g ext new def owners_now forests_now) rid.block (UsedBlock (slice_set slots rid.slot (Some now))) turned def key
-            (used_below (spots_of g before old def owners forests) rid.block slots (lies.block OtherBlock)) (now, in_set slots rid.slot (Some now) (filled_below slots rid.slot row lies.slot), key_is))
-        | inr other ↦
-            holds_elsewhere SameSpot same_keeps (spots_of g before old def owners forests) (spots_of g ext new def owners_now forests_now) rid.block (UsedBlock (slice_set slots rid.slot (Some now))) turned def key (from key).from
-            other (right.of_cell key known)
-      ]
-
-      full : (b : ℕ) (r : Row) (all : List (Option Row)) → slice_index_or (spots_of g ext new def owners_now forests_now) b OtherBlock ≡ UsedBlock all → Contains all (Some r)
-          → b < (from (cell_key_of def r.values)).from → Contains all None → ⊥
-      full b r all is there low empty = elim (cases_eq b rid.block) [
-        | inl same ↦
-            let here : slice_index_or (spots_of g ext new def owners_now forests_now) rid.block OtherBlock ≡ UsedBlock all =
-            subst (λ (n : ℕ). slice_index_or (spots_of g ext new def owners_now forests_now) n OtherBlock ≡ UsedBlock all) same is in
-            let e = used_there SameSpot same_keeps (spots_of g before old def owners forests) (spots_of g ext new def owners_now forests_now) rid.block (UsedBlock (slice_set slots rid.slot (Some now))) turned all here in
-            let slots_are : slice_set slots rid.slot (Some now) ≡ all = cc (e) in
-            let now_there : Contains all (Some now) = subst (λ (xs : List (Option Row)). Contains xs (Some now)) slots_are (in_set slots rid.slot (Some now) (filled_below slots rid.slot row lies.slot)) in
-            let empty_now : Contains (slice_set slots rid.slot (Some now)) None = subst (λ (xs : List (Option Row)). Contains xs None) (sym slots_are) empty in
-            let was_empty : Contains slots None = elim (of_set slots rid.slot (Some now) None empty_now) [ inl wrong ↦ absurd (cc (wrong)) | inr c ↦ c ] in
-            let both = same_cell ext new def owners_now forests_now now_st rid.block all r now here there now_there in
-            let key = cell_key_of-same def r.values row.values (both ∙ sym one) in
-            let below : rid.block < (from (cell_key_of def row.values)).from = subst (λ (n : ℕ). n < (from (cell_key_of def row.values)).from) same (subst (λ (k : Entry). b < (from k).from) key low) in
-            right.full rid.block row slots (lies.block OtherBlock) (in_slot slots rid.slot row lies.slot) below was_empty
-        | inr other ↦
-            let was = used_elsewhere SameSpot same_keeps (spots_of g before old def owners forests) (spots_of g ext new def owners_now forests_now) rid.block (UsedBlock (slice_set slots rid.slot (Some now))) turned b all other is in
-            right.full b r all was there low empty
-      ]
+  rooms_overwritten rid row now slots lies one turned =
+      rooms_kept SameSpot same_keeps rid.block slots (slice_set slots rid.slot (Some now)) (lies.block OtherBlock) turned
+      row now (in_slot slots rid.slot row lies.slot) (in_set slots rid.slot (Some now) (filled_below slots rid.slot row lies.slot)) one
+      (λ still. elim (of_set slots rid.slot (Some now) None still) [ inl wrong ↦ absurd (cc (wrong)) | inr c ↦ c ])

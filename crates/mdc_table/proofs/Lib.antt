@@ -5,5 +5,6 @@ pub mod LaterPlacesLemmas
 pub mod NextBlocksLemmas
 pub mod PlacingRowsLemmas
 pub mod RowSpaceLemmas
+pub mod SearchedRoomLemmas
 pub mod StandingBlocksLemmas
 pub mod TakingRowsLemmas

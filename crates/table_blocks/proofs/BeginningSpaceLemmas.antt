@@ -1,5 +1,5 @@
 -- What a block that comes into use changes of space: its entries in the block indexes, behind its line where it was Free.
-use Rattle.std.proofs.Common.{◌≡◌, ◌<◌, ◌^◌, ℕ, List, [], ◌∷◌, length, ◌∙◌, subst}
+use Rattle.std.proofs.Common.{◌≡◌, ◌<◌, ℕ, List, [], ◌∷◌, length, ◌∙◌, subst}
 use Rattle.std.specs.Prelude.{Contains, IsTrue, None}
 use Rattle.mdc_words.specs.ByteOrder.{Entry}
 use Rattle.mdc_ast.specs.declared.definition.TableDef.{TableDef}
@@ -25,12 +25,10 @@ use Rattle.block_map.specs.MapChanges.{ChangesRowTo}
 use Rattle.block_map.specs.MapLines.{free_blocks, map_entry}
 use Rattle.block_map.specs.MapRows.{row_entry}
 use Rattle.block_map.specs.declared.row.BlockRow.{BlockRow}
-use Rattle.table_trees.specs.RowCells.{IsCellOf}
 use Rattle.table_trees.specs.SpaceChanges.{IsSameSpace, MakesChange, MakesChanges, RunsFull, SpaceChange, added_entries}
 use Rattle.table_trees.specs.SpaceChanges.SpaceChange.{AmendEntry}
 use Rattle.table_trees.specs.TableTrees.{TreePlace, block_index_places, map_place}
 use Rattle.table_trees.specs.TreesBeside.{StandTrees}
-use Rattle.mdc_sound.specs.FittingRows.{RowFits}
 use Rattle.mdc_sound.specs.Placing.Spot.{FreeBlock}
 use Rattle.mdc_sound.specs.RunningFull.{block_changes, block_listings}
 use Rattle.mdc_sound.specs.StandingTable.{StandsTable, TableForests, pages_of}
@@ -49,8 +47,7 @@ use Rattle.table_trees.proofs.SpaceChainsLemmas.{changes_from, changes_then, ful
 
 -- ---- its first row, and its entries
 
-module _ {S : Type 0} {g : Ghosts S} (ext : Extents) (def : TableDef) (block : ℕ) (old mid new : S) (row : Row) (is : PutsFirstRow g ext old mid new def block row)
-    (cell : Cell) (small : block < 2 ^ 32) (defined : IsTableDef def.number def) (fits : RowFits def row) (of_row : IsCellOf def cell row.values) where
+module _ {S : Type 0} {g : Ghosts S} {ext : Extents} {old mid new : S} {def : TableDef} {block : ℕ} {row : Row} {cell : Cell} (is : PutsFirstRow g ext old mid new def block row cell) where
   -- rows alone are written before the listing
   rows_put : (owners : List Kind) (forests : TableForests) → StandsAround g ext old def owners forests block → IsOwnBlock ext owners def block → IsSameSpace ext (pages_of g old) (pages_of g new)
   rows_put owners forests st own =
@@ -60,8 +57,8 @@ module _ {S : Type 0} {g : Ghosts S} (ext : Extents) (def : TableDef) (block : �
   indexes_put : (owners : List Kind) (forests : TableForests) → StandsAround g ext old def owners forests block → IsOwnBlock ext owners def block
       → IsTrue (g.state new).is_told × StandTrees g ext new owners (block_index_places def) (forests.composite ∷ forests.dims)
   indexes_put owners forests st own =
-      let put = changes_put ext def block old mid new row is owners forests st own in
-      (put.stands.told, indexes_around def cell row.values block small (has_block_indexes def.number def defined) of_row (row_keys def row defined fits) ext new owners forests put.stands)
+      let put = changes_put is owners forests st own in
+      (put.stands.told, indexes_around def cell row.values block is.small (has_block_indexes def.number def is.defined) is.of_row (row_keys def row is.defined is.fits) ext new owners forests put.stands)
 
   -- the block is listed
   pub filling_makes : (now : S)
@@ -73,7 +70,7 @@ module _ {S : Type 0} {g : Ghosts S} (ext : Extents) (def : TableDef) (block : �
       let at = indexes_put owners forests st own in
       let listed = makes owners (forests.composite ∷ forests.dims) at.1 at.0 notes in
       changes_from ext (pages_of g old) (pages_of g new) (pages_of g now) (added_entries (block_listings def row block)) (rows_put owners forests st own)
-      (subst (λ (listings : List (TreePlace × Entry)). MakesChanges ext (pages_of g new) (added_entries listings) (pages_of g now)) (listings_are def cell row block of_row) listed)
+      (subst (λ (listings : List (TreePlace × Entry)). MakesChanges ext (pages_of g new) (added_entries listings) (pages_of g now)) (listings_are def cell row block is.of_row) listed)
 
   -- or an entry asks for too much
   pub filling_full : (fault : SpaceFault)
@@ -85,7 +82,7 @@ module _ {S : Type 0} {g : Ghosts S} (ext : Extents) (def : TableDef) (block : �
       let at = indexes_put owners forests st own in
       let listed = full owners (forests.composite ∷ forests.dims) at.1 at.0 notes in
       full_then ext (pages_of g old) (pages_of g new) [] (added_entries (block_listings def row block)) (no_changes ext (pages_of g old) (pages_of g new) (rows_put owners forests st own))
-      (subst (λ (listings : List (TreePlace × Entry)). RunsFull ext (pages_of g new) (added_entries listings)) (listings_are def cell row block of_row) listed)
+      (subst (λ (listings : List (TreePlace × Entry)). RunsFull ext (pages_of g new) (added_entries listings)) (listings_are def cell row block is.of_row) listed)
   filling_full (Store fault) full = tt
 
 -- ---- a Free block

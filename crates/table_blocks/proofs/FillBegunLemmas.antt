@@ -55,8 +55,8 @@ Unlisted def block owners forests = IsUnlisted def forests block
 abbrev HasRows : {S : Type 0} → Ghosts S → Extents → S → TableDef → ℕ → List Kind → TableForests → Type 0
 HasRows g ext s def block owners forests = (slots : List (Option Row)) × HoldsRows g ext s def block slots
 
--- The block was wiped and has a row in its lowest slot.
-pub record PutsFirstRow {S : Type 0} (g : Ghosts S) (ext : Extents) (old mid new : S) (def : TableDef) (block : ℕ) (row : Row) : Type 0 where
+-- The block was wiped and has a row in its lowest slot, a row that fits and whose cell this is.
+pub record PutsFirstRow {S : Type 0} (g : Ghosts S) (ext : Extents) (old mid new : S) (def : TableDef) (block : ℕ) (row : Row) (cell : Cell) : Type 0 where
   pub low : block < ext.cap
   pub wipes : RunsOverPages g (IsPageOfBlock ext block) (IsPageOfBlock ext block) (BreaksExtent g ext old block) old mid None
   pub wipe_count : length (g.state mid).work ≡ length (g.state old).work
@@ -64,6 +64,10 @@ pub record PutsFirstRow {S : Type 0} (g : Ghosts S) (ext : Extents) (old mid new
   pub puts : RunsOverPages g (IsPageOfBlock ext block) (IsPageOfBlock ext block) (BreaksRows g ext mid def block) mid new None
   pub put_count : length (g.state new).work ≡ length (g.state mid).work
   pub has : (slots : List (Option Row)) → HoldsRows g ext mid def block slots → HoldsRows g ext new def block (slice_set slots 0 (Some row))
+  pub small : block < 2 ^ 32
+  pub defined : IsTableDef def.number def
+  pub fits : RowFits def row
+  pub of_row : IsCellOf def cell row.values
 
 module _ {S : Type 0} {g : Ghosts S} (ext : Extents) (def : TableDef) (block : ℕ) where
   -- memory ran out before
@@ -109,72 +113,71 @@ module _ {S : Type 0} {g : Ghosts S} (ext : Extents) (def : TableDef) (block : �
         expects = λ unlisted. (no_rows ext def, empty st.told);
       }
 
-  module _ (old mid new : S) (row : Row) (is : PutsFirstRow g ext old mid new def block row) where
-    pub changes_put : (owners : List Kind) (forests : TableForests) → StandsAround g ext old def owners forests block → IsOwnBlock ext owners def block
-        → ChangesAround g AfterClaims ext ext old new def block owners forests owners forests
-    changes_put owners forests st own =
-        let first = step_on_rows old mid owners forests st own is.wipes is.wipe_count in
-        around_then claims_change ext ext ext old mid new def block owners owners owners forests forests forests first (step_on_rows mid new owners forests first.stands own is.puts is.put_count)
+module _ {S : Type 0} {g : Ghosts S} {ext : Extents} {old mid new : S} {def : TableDef} {block : ℕ} {row : Row} {cell : Cell} (is : PutsFirstRow g ext old mid new def block row cell) where
+  pub changes_put : (owners : List Kind) (forests : TableForests) → StandsAround g ext old def owners forests block → IsOwnBlock ext owners def block
+      → ChangesAround g AfterClaims ext ext old new def block owners forests owners forests
+  changes_put owners forests st own =
+      let first = step_on_rows ext def block old mid owners forests st own is.wipes is.wipe_count in
+      around_then claims_change ext ext ext old mid new def block owners owners owners forests forests forests first (step_on_rows ext def block mid new owners forests first.stands own is.puts is.put_count)
 
-    module _ (cell : Cell) (small : block < 2 ^ 32) (defined : IsTableDef def.number def) (fits : RowFits def row) (of_row : IsCellOf def cell row.values) where
-      indexes : HasBlockIndexes def
-      indexes = has_block_indexes def.number def defined
+  indexes : HasBlockIndexes def
+  indexes = has_block_indexes def.number def is.defined
 
-      keys : HaveKeys def.columns (cell_places def) row.values
-      keys = row_keys def row defined fits
+  keys : HaveKeys def.columns (cell_places def) row.values
+  keys = row_keys def row is.defined is.fits
 
-      -- it is listed then
-      pub fills_begun : (ext_now : Extents) (now : S) {Breaks : Damage → Type 0} → ((owners : List Kind) (trees : List Forest) → StandTrees g ext new owners (block_index_places def) trees → ListsBlock g ext ext_now now def cell.values block owners trees)
-          → ((owners : List Kind) (trees : List Forest) → StandTrees g ext new owners (block_index_places def) trees → GrowsPages g ext new now) → IsSameShape ext ext_now
-          → RunsOverPages g (IsSpaceOfTrees g ext new (block_index_places def)) (IsSpaceOfTrees g ext new (block_index_places def)) Breaks new now None
-          → (owners : List Kind) (forests : TableForests) → StandsAround g ext old def owners forests block → IsOwnBlock ext owners def block
-          → FillsBegun g ext ext_now old now def block row owners forests
-      fills_begun ext_now now lists grows shape run owners forests st own =
-          let first = changes_put owners forests st own in
-          let stand = indexes_around def cell row.values block small indexes of_row keys ext new owners forests first.stands in
-          let listed =
-          lists_entries def cell row.values block small indexes of_row keys ext ext_now new now owners forests first.stands own (lists owners (forests.composite ∷ forests.dims) stand)
-          (grows owners (forests.composite ∷ forests.dims) stand) shape run.touches run.works.steady.is_told run.works.no_shorter in
-          let moves = listed.0 in
-          record {
-            owners_now = moves.owners_now;
-            forests_now = moves.forests_now;
-            changes = around_then claims_change ext ext ext_now old new now def block owners owners moves.owners_now forests forests moves.forests_now first moves.changes;
-            same_map = moves.same_map;
-            rows = moves.rows (slice_set (no_rows ext def) 0 (Some row)) (is.has (no_rows ext def) (is.empty st.told));
-            listed = listed.1;
-          }
+  -- it is listed then
+  pub fills_begun : (ext_now : Extents) (now : S) {Breaks : Damage → Type 0} → ((owners : List Kind) (trees : List Forest) → StandTrees g ext new owners (block_index_places def) trees → ListsBlock g ext ext_now now def cell.values block owners trees)
+      → ((owners : List Kind) (trees : List Forest) → StandTrees g ext new owners (block_index_places def) trees → GrowsPages g ext new now) → IsSameShape ext ext_now
+      → RunsOverPages g (IsSpaceOfTrees g ext new (block_index_places def)) (IsSpaceOfTrees g ext new (block_index_places def)) Breaks new now None
+      → (owners : List Kind) (forests : TableForests) → StandsAround g ext old def owners forests block → IsOwnBlock ext owners def block
+      → FillsBegun g ext ext_now old now def block row owners forests
+  fills_begun ext_now now lists grows shape run owners forests st own =
+      let first = changes_put owners forests st own in
+      let stand = indexes_around def cell row.values block is.small indexes is.of_row keys ext new owners forests first.stands in
+      let listed =
+      lists_entries def cell row.values block is.small indexes is.of_row keys ext ext_now new now owners forests first.stands own (lists owners (forests.composite ∷ forests.dims) stand)
+      (grows owners (forests.composite ∷ forests.dims) stand) shape run.touches run.works.steady.is_told run.works.no_shorter in
+      let moves = listed.0 in
+      record {
+        owners_now = moves.owners_now;
+        forests_now = moves.forests_now;
+        changes = around_then claims_change ext ext ext_now old new now def block owners owners moves.owners_now forests forests moves.forests_now first moves.changes;
+        same_map = moves.same_map;
+        rows = moves.rows (slice_set (no_rows ext def) 0 (Some row)) (is.has (no_rows ext def) (is.empty st.told));
+        listed = listed.1;
+      }
 
-      pub run_listing : (now : S) (fault : Option StoreFault) → RunsOverPages g (IsSpaceOfTrees g ext new (block_index_places def)) (IsSpaceOfTrees g ext new (block_index_places def)) (BreaksListing g ext new def cell.values block) new now fault
-          → RunsOverPages g (IsSpaceAround g ext old def block) (IsSpaceAround g ext old def block) (BreaksAround g ext old def block (Unlisted def block)) old now fault
-      run_listing now fault run =
-          runs_around_then ext ext old new now def block (Unlisted def block) (Unlisted def block) fault (record { cap = refl; extent_pages = refl }) step (run_putting old mid new None is.low is.wipes is.wipe_count is.empty is.puts)
-          (runs_wider run (λ p there of. space_of_indexes def cell row.values block small indexes of_row keys ext new p of) (space_of_indexes def cell row.values block small indexes of_row keys ext new)
-          (breaks_listing def cell row.values block small indexes of_row keys ext new))
-        where
-          step : (owners : List Kind) (forests : TableForests) → StandsAround g ext old def owners forests block → IsOwnBlock ext owners def block → StepsTo g AfterClaims ext ext old new def block (Unlisted def block) (Unlisted def block) owners forests
-          step owners forests st own = record { owners_now = owners; forests_now = forests; changes = changes_put owners forests st own; expects = λ unlisted. unlisted }
+  pub run_listing : (now : S) (fault : Option StoreFault) → RunsOverPages g (IsSpaceOfTrees g ext new (block_index_places def)) (IsSpaceOfTrees g ext new (block_index_places def)) (BreaksListing g ext new def cell.values block) new now fault
+      → RunsOverPages g (IsSpaceAround g ext old def block) (IsSpaceAround g ext old def block) (BreaksAround g ext old def block (Unlisted def block)) old now fault
+  run_listing now fault run =
+      runs_around_then ext ext old new now def block (Unlisted def block) (Unlisted def block) fault (record { cap = refl; extent_pages = refl }) step (run_putting ext def block old mid new None is.low is.wipes is.wipe_count is.empty is.puts)
+      (runs_wider run (λ p there of. space_of_indexes def cell row.values block is.small indexes is.of_row keys ext new p of) (space_of_indexes def cell row.values block is.small indexes is.of_row keys ext new)
+      (breaks_listing def cell row.values block is.small indexes is.of_row keys ext new))
+    where
+      step : (owners : List Kind) (forests : TableForests) → StandsAround g ext old def owners forests block → IsOwnBlock ext owners def block → StepsTo g AfterClaims ext ext old new def block (Unlisted def block) (Unlisted def block) owners forests
+      step owners forests st own = record { owners_now = owners; forests_now = forests; changes = changes_put owners forests st own; expects = λ unlisted. unlisted }
 
-      -- or it met a full map
-      pub full_begun : (ext_now : Extents) (now : S) → FillsListing g ext ext_now new now def cell.values block → IsSameShape ext ext_now
-          → (owners : List Kind) (forests : TableForests) → StandsAround g ext old def owners forests block → IsOwnBlock ext owners def block → AreRightNotes ext owners → MeetsNoFree g ext_now now
-      full_begun ext_now now fills shape owners forests st own notes =
-          let first = changes_put owners forests st own in
-          full_listing def cell row.values block small indexes of_row keys ext ext_now new now owners forests fills first.stands notes shape
+  -- or it met a full map
+  pub full_begun : (ext_now : Extents) (now : S) → FillsListing g ext ext_now new now def cell.values block → IsSameShape ext ext_now
+      → (owners : List Kind) (forests : TableForests) → StandsAround g ext old def owners forests block → IsOwnBlock ext owners def block → AreRightNotes ext owners → MeetsNoFree g ext_now now
+  full_begun ext_now now fills shape owners forests st own notes =
+      let first = changes_put owners forests st own in
+      full_listing def cell row.values block is.small indexes is.of_row keys ext ext_now new now owners forests fills first.stands notes shape
 
-      -- both by what the listing answers
-      pub fills_listed : (ext_now : Extents) (now : S) (result : Result (Unit {0}) SpaceFault)
-          → OnOk result ((owners : List Kind) (trees : List Forest) → StandTrees g ext new owners (block_index_places def) trees → ListsBlock g ext ext_now now def cell.values block owners trees)
-          → OnOk result ((owners : List Kind) (trees : List Forest) → StandTrees g ext new owners (block_index_places def) trees → GrowsPages g ext new now) → IsSameShape ext ext_now
-          → RunsOverPages g (IsSpaceOfTrees g ext new (block_index_places def)) (IsSpaceOfTrees g ext new (block_index_places def)) (BreaksListing g ext new def cell.values block) new now (store_fault_in store_part_of result)
-          → OnOk result ((owners : List Kind) (forests : TableForests) → StandsAround g ext old def owners forests block → IsOwnBlock ext owners def block → FillsBegun g ext ext_now old now def block row owners forests)
-      fills_listed ext_now now (Ok done) lists grows shape run = fills_begun ext_now now lists grows shape run
-      fills_listed ext_now now (Err fault) lists grows shape run = tt
+  -- both by what the listing answers
+  pub fills_listed : (ext_now : Extents) (now : S) (result : Result (Unit {0}) SpaceFault)
+      → OnOk result ((owners : List Kind) (trees : List Forest) → StandTrees g ext new owners (block_index_places def) trees → ListsBlock g ext ext_now now def cell.values block owners trees)
+      → OnOk result ((owners : List Kind) (trees : List Forest) → StandTrees g ext new owners (block_index_places def) trees → GrowsPages g ext new now) → IsSameShape ext ext_now
+      → RunsOverPages g (IsSpaceOfTrees g ext new (block_index_places def)) (IsSpaceOfTrees g ext new (block_index_places def)) (BreaksListing g ext new def cell.values block) new now (store_fault_in store_part_of result)
+      → OnOk result ((owners : List Kind) (forests : TableForests) → StandsAround g ext old def owners forests block → IsOwnBlock ext owners def block → FillsBegun g ext ext_now old now def block row owners forests)
+  fills_listed ext_now now (Ok done) lists grows shape run = fills_begun ext_now now lists grows shape run
+  fills_listed ext_now now (Err fault) lists grows shape run = tt
 
-      pub full_listed : (ext_now : Extents) (now : S) (result : Result (Unit {0}) SpaceFault)
-          → IfErr result (λ fault. IfFull fault (λ cap. (cap ≡ ext.cap) × FillsListing g ext ext_now new now def cell.values block)) → IsSameShape ext ext_now
-          → IfErr result (λ fault. IfFull fault (λ cap. (cap ≡ ext.cap) × ((owners : List Kind) (forests : TableForests) → StandsAround g ext old def owners forests block → IsOwnBlock ext owners def block
-          → AreRightNotes ext owners → MeetsNoFree g ext_now now)))
-      full_listed ext_now now (Ok done) full shape = tt
-      full_listed ext_now now (Err (Full cap)) full shape = (full.0, full_begun ext_now now full.1 shape)
-      full_listed ext_now now (Err (Store fault)) full shape = tt
+  pub full_listed : (ext_now : Extents) (now : S) (result : Result (Unit {0}) SpaceFault)
+      → IfErr result (λ fault. IfFull fault (λ cap. (cap ≡ ext.cap) × FillsListing g ext ext_now new now def cell.values block)) → IsSameShape ext ext_now
+      → IfErr result (λ fault. IfFull fault (λ cap. (cap ≡ ext.cap) × ((owners : List Kind) (forests : TableForests) → StandsAround g ext old def owners forests block → IsOwnBlock ext owners def block
+      → AreRightNotes ext owners → MeetsNoFree g ext_now now)))
+  full_listed ext_now now (Ok done) full shape = tt
+  full_listed ext_now now (Err (Full cap)) full shape = (full.0, full_begun ext_now now full.1 shape)
+  full_listed ext_now now (Err (Store fault)) full shape = tt

@@ -4,7 +4,6 @@ use Rattle.std.specs.Prelude.{IfNone, IfSome, None, Option, Some, slice_index_or
 use Rattle.mdc_ast.specs.declared.definition.TableDef.{TableDef}
 use Rattle.mdc_ast.specs.declared.row.Row.{Row}
 use Rattle.store_api.specs.RunsOverPages.{RunsOverPages}
-use Rattle.store_api.specs.declared.fault.Damage.{Damage}
 use Rattle.store_api.specs.declared.fault.StoreFault.{StoreFault}
 use Rattle.store_api.specs.declared.pages.Pages.{Ghosts}
 use Rattle.extent_map.specs.declared.extents.Extents.{Extents}
@@ -13,7 +12,7 @@ use Rattle.row_page.specs.RowPage.{count_rows, slot_count}
 use Rattle.entry_tree.specs.Forest.{Forest}
 use Rattle.entry_tree.specs.HeldTrees.{HoldsTree, IsTreePage}
 use Rattle.entry_tree.specs.declared.tree.Tree.{Tree}
-use Rattle.block_map.specs.BlockMaps.{HasRow, IsMapForm}
+use Rattle.block_map.specs.BlockMaps.{AnyMap, BreaksMapTree, HasRow, IsMapForm}
 use Rattle.block_map.specs.Counting.{IfUsed, used_row}
 use Rattle.block_map.specs.MapChanges.{ChangesRowTo}
 use Rattle.block_rows.specs.HeldRows.{HoldsRows, PutsFirst}
@@ -34,6 +33,19 @@ use Rattle.table_blocks.proofs.MapOfTableLemmas.{form_of_table, map_of_table}
 use Rattle.table_blocks.proofs.OpeningLemmas.{used_spot_now}
 use Rattle.table_blocks.proofs.SpotChangesLemmas.{same_change}
 
+-- The line of a Used block with fewer rows than slots counts one more.
+pub record CountsRow {S : Type 0} (g : Ghosts S) (ext : Extents) (old new : S) (def : TableDef) (block : ℕ) (tree : Tree) (had : ℕ) : Type 0 where
+  pub defined : IsTableDef def.number def
+  pub low : block < ext.cap
+  pub root : tree.root ≡ def.roots.map
+  pub width : tree.width ≡ 7
+  pub few : had < 2 ^ 16
+  pub fewer : had < ext.extent_pages * slot_count def.columns
+  pub there : (t : Forest) → HoldsTree g old tree t → HasRow (used_row block had) t
+  pub changes : (t : Forest) → HoldsTree g old tree t → IsMapForm t → ChangesRowTo g new tree (used_row block had) (used_row block (had + 1)) t
+  pub count : length (g.state new).work ≡ length (g.state old).work
+  pub run : RunsOverPages g (IsTreePage g old tree) (IsTreePage g old tree) (BreaksMapTree g old tree AnyMap) old new None
+
 -- a block that wasn't counted has no room
 pub full_room : {S : Type 0} {g : Ghosts S} (ext : Extents) (s : S) (def : TableDef) (block : ℕ) (defined : IsTableDef def.number def) (tree : Tree) (root : tree.root ≡ def.roots.map) (width : tree.width ≡ 7) (each : ℕ)
     → each ≡ slot_count def.columns → (counted : Option ℕ) → counted ≡ None
@@ -53,36 +65,43 @@ full_room {g = g} ext s def block defined tree root width each slots counted is 
       | inr highest ↦ omega (arith, highest, fewer, least)
     ]
 
-module _ {S : Type 0} {g : Ghosts S} {Any : Damage → Type 0} (ext : Extents) (old mid : S) (def : TableDef) (block : ℕ) (defined : IsTableDef def.number def) (low : block < ext.cap) (tree : Tree)
-    (root : tree.root ≡ def.roots.map) (width : tree.width ≡ 7) (each : ℕ) (slots : each ≡ slot_count def.columns) (counted : Option ℕ) (had : ℕ) (is : counted ≡ Some had) (few : had < 2 ^ 16)
-    (room : IfSome counted (λ n. n < ext.extent_pages * each)) (there : IfSome counted (λ n. (t : Forest) → HoldsTree g old tree t → HasRow (used_row block n) t))
-    (more : IfSome counted (λ n. (t : Forest) → HoldsTree g old tree t → IsMapForm t → ChangesRowTo g mid tree (used_row block n) (used_row block (n + 1)) t))
-    (count : length (g.state mid).work ≡ length (g.state old).work) (run : RunsOverPages g (IsTreePage g old tree) (IsTreePage g old tree) Any old mid None) where
-  fewer : had < ext.extent_pages * slot_count def.columns
-  fewer = subst (λ (k : ℕ). had < ext.extent_pages * k) slots (subst (λ (o : Option ℕ). IfSome o (λ n. n < ext.extent_pages * each)) is room)
+-- a block that was counted
+pub counts_row : {S : Type 0} {g : Ghosts S} (ext : Extents) (old new : S) (def : TableDef) (block : ℕ) → IsTableDef def.number def → block < ext.cap → (tree : Tree) → tree.root ≡ def.roots.map → tree.width ≡ 7
+    → (each : ℕ) → each ≡ slot_count def.columns → (counted : Option ℕ) (had : ℕ) → counted ≡ Some had → had < 2 ^ 16 → IfSome counted (λ n. n < ext.extent_pages * each)
+    → IfSome counted (λ n. (t : Forest) → HoldsTree g old tree t → HasRow (used_row block n) t)
+    → IfSome counted (λ n. (t : Forest) → HoldsTree g old tree t → IsMapForm t → ChangesRowTo g new tree (used_row block n) (used_row block (n + 1)) t)
+    → length (g.state new).work ≡ length (g.state old).work → RunsOverPages g (IsTreePage g old tree) (IsTreePage g old tree) (BreaksMapTree g old tree AnyMap) old new None
+    → CountsRow g ext old new def block tree had
+counts_row {g = g} ext old new def block defined low tree root width each slots counted had is few room there more count run = record {
+  defined = defined;
+  low = low;
+  root = root;
+  width = width;
+  few = few;
+  fewer = subst (λ (k : ℕ). had < ext.extent_pages * k) slots (subst (λ (o : Option ℕ). IfSome o (λ n. n < ext.extent_pages * each)) is room);
+  there = subst (λ (o : Option ℕ). IfSome o (λ n. (t : Forest) → HoldsTree g old tree t → HasRow (used_row block n) t)) is there;
+  changes = subst (λ (o : Option ℕ). IfSome o (λ n. (t : Forest) → HoldsTree g old tree t → IsMapForm t → ChangesRowTo g new tree (used_row block n) (used_row block (n + 1)) t)) is more;
+  count = count;
+  run = run;
+}
 
-  row_there : (t : Forest) → HoldsTree g old tree t → HasRow (used_row block had) t
-  row_there = subst (λ (o : Option ℕ). IfSome o (λ n. (t : Forest) → HoldsTree g old tree t → HasRow (used_row block n) t)) is there
-
-  row_changes : (t : Forest) → HoldsTree g old tree t → IsMapForm t → ChangesRowTo g mid tree (used_row block had) (used_row block (had + 1)) t
-  row_changes = subst (λ (o : Option ℕ). IfSome o (λ n. (t : Forest) → HoldsTree g old tree t → IsMapForm t → ChangesRowTo g mid tree (used_row block n) (used_row block (n + 1)) t)) is more
-
+module _ {S : Type 0} {g : Ghosts S} {ext : Extents} {old mid : S} {def : TableDef} {block : ℕ} {tree : Tree} {had : ℕ} (is : CountsRow g ext old mid def block tree had) where
   pub runs_room : {fault : Option StoreFault} (new : S)
       → RunsOverPages g (IsPageOfBlock ext block) (IsPageOfBlock ext block) (BreaksAround g ext mid def block (HasEmptySlot g ext mid def block)) mid new fault
       → RunsOverPages g (IsBlockOrMapPage g ext old def block) (IsBlockOrMapPage g ext old def block) (BreaksTable g ext old def) old new fault
-  runs_room new behind = runs_counted ext old def (used_row block had) defined low few tree root width mid (had + 1) row_there row_changes count run refl fewer new behind
+  runs_room new behind = runs_counted ext old def (used_row block had) is.defined is.low is.few tree is.root is.width mid (had + 1) is.there is.changes is.count is.run refl is.fewer new behind
 
   room_found : (row : Row) (owners : List Kind) (forests : TableForests) → StandsTable g ext old def owners forests → IsBlockOfCell g ext old def block row owners forests
       → HasRoomAt g ext old def (used_row block had) row owners forests
   room_found row owners forests st cell =
-      room_at ext old def (used_row block had) defined low few row refl fewer owners forests st (row_there forests.map (map_of_table ext old def defined tree root width owners forests st)) cell
+      room_at ext old def (used_row block had) is.defined is.low is.few row refl is.fewer owners forests st (is.there forests.map (map_of_table ext old def is.defined tree is.root is.width owners forests st)) cell
 
   pub puts_used : (row : Row) (new : S) (slot : ℕ) → ((slots : List (Option Row)) → HoldsRows g ext mid def block slots → PutsFirst g ext mid new def block row slots (Some slot))
       → (owners : List Kind) (forests : TableForests) → StandsTable g ext old def owners forests → PutsInUsed g ext old new def (record { block = block; slot = slot }) row owners forests
   puts_used row new slot puts owners forests st =
       let line = used_row block had in
-      let here = (opens_counted ext old def line defined low few refl fewer owners forests st (row_there forests.map (map_of_table ext old def defined tree root width owners forests st))).here in
-      let put = puts here.slots (rows_between same_change ext old mid def line (had + 1) defined low tree root width row_there row_changes count run owners forests st here.slots here.now.rows) in
+      let here = (opens_counted ext old def line is.defined is.low is.few refl is.fewer owners forests st (is.there forests.map (map_of_table ext old def is.defined tree is.root is.width owners forests st))).here in
+      let put = puts here.slots (rows_between same_change ext old mid def line (had + 1) is.defined is.low tree is.root is.width is.there is.changes is.count is.run owners forests st here.slots here.now.rows) in
       record { slots = here.slots; was = here.was OtherBlock; lowest = put.0; held = put.1 }
 
   module _ (row : Row) (new : S) (slot : ℕ)
@@ -93,10 +112,10 @@ module _ {S : Type 0} {g : Ghosts S} {Any : Damage → Type 0} (ext : Extents) (
         → HasRoomFor def row (slice_index_or (spots_of g ext old def owners forests) block OtherBlock) × FillsSlot g ext old new def (record { block = block; slot = slot }) row owners forests
     fills_room fits puts owners forests st cell =
         let at = room_found row owners forests st cell in
-        (at.room, fills ext old def (used_row block had) defined low few tree root width mid (had + 1) row_there row_changes count run row new slot refl fits behind same_count puts owners forests st at)
+        (at.room, fills ext old def (used_row block had) is.defined is.low is.few tree is.root is.width mid (had + 1) is.there is.changes is.count is.run row new slot refl fits behind same_count puts owners forests st at)
 
     pub room_space : (owners : List Kind) (forests : TableForests) → StandsTable g ext old def owners forests → IsBlockOfCell g ext old def block row owners forests
         → MakesChanges ext (pages_of g old) (block_changes def row block (slice_index_or (spots_of g ext old def owners forests) block OtherBlock)) (pages_of g new)
     room_space owners forests st cell =
-        filling_space ext old def (used_row block had) defined low few tree root width mid (had + 1) row_there row_changes count run row new refl refl behind same_count owners forests st
+        filling_space ext old def (used_row block had) is.defined is.low is.few tree is.root is.width mid (had + 1) is.there is.changes is.count is.run row new refl refl behind same_count owners forests st
         (room_found row owners forests st cell)

@@ -11,7 +11,7 @@ use Rattle.store_api.specs.declared.pages.Pages.{Ghosts}
 use Rattle.store_api.proofs.RunsOverPagesLemmas.{runs_then, runs_wider}
 use Rattle.extent_map.specs.Damages.{BreaksSpace, IfFull}
 use Rattle.extent_map.specs.Map.{HoldsMap, IsSpacePage, StatesGrowth}
-use Rattle.extent_map.specs.Owners.{AreRightNotes, IsSameShape, owner_of, with_block}
+use Rattle.extent_map.specs.Owners.{AreRightNotes, IsLowestFree, IsSameShape, owner_of, with_block}
 use Rattle.extent_map.specs.declared.extents.Extents.{Extents}
 use Rattle.extent_map.specs.declared.fault.SpaceFault.{SpaceFault}
 use Rattle.extent_map.specs.declared.fault.SpaceFault.TheVariants.{Full, Store}
@@ -43,6 +43,24 @@ use Rattle.table_blocks.proofs.ClaimStepLemmas.{breaks_claiming, breaks_since_cl
 use Rattle.table_blocks.proofs.LineStepLemmas.{breaks_entering, enters_line, map_around, space_of_map}
 use Rattle.table_blocks.proofs.SpotChangesLemmas.{claims_change}
 
+-- An extent was claimed as a block of the table, and this is its line.
+pub record ClaimsNewBlock {S : Type 0} (g : Ghosts S) (before ext : Extents) (old new : S) (def : TableDef) (block : ℕ) (tree : Tree) (line : BlockRow) : Type 0 where
+  pub defined : IsTableDef def.number def
+  pub shape : IsSameShape before ext
+  pub claims : (owners : List Kind) (forests : TableForests) → StandsTable g before old def owners forests → ClaimsBlock g before ext old new def block owners forests
+  pub lowest : (owners : List Kind) → HoldsMap g before old owners → AreRightNotes before owners → IsLowestFree owners block
+  pub count : length (g.state new).work ≡ max (length (g.state old).work) (first_page_of before.cap before.extent_pages (block + 1))
+  pub run : RunsOverPages g (IsSpacePage before) (IsSpacePage before) (BreaksSpace g before old) old new None
+  pub root : tree.root ≡ def.roots.map
+  pub width : tree.width ≡ 7
+  pub line_is : line ≡ used_row block 1
+
+-- That line came into the block map.
+pub record EntersNewBlock {S : Type 0} (g : Ghosts S) (before ext : Extents) (old new : S) (tree : Tree) (line : BlockRow) : Type 0 where
+  pub shape : IsSameShape before ext
+  pub adds : (owners : List Kind) (t : Forest) → StandsTree g before old tree owners t → AddsEntry g before ext old new tree (row_entry line) owners t
+  pub run : RunsOverPages g (IsTreeSpace g before old tree) (IsTreeSpace g before old tree) (BreaksEntering g before old tree line) old new None
+
 -- ---- the claim
 
 module _ {S : Type 0} {g : Ghosts S} (before mid_ext : Extents) (old mid : S) (def : TableDef) (block : ℕ) where
@@ -64,32 +82,29 @@ module _ {S : Type 0} {g : Ghosts S} (before : Extents) (old : S) (def : TableDe
 
 -- ---- the line
 
-module _ {S : Type 0} {g : Ghosts S} (before mid_ext : Extents) (old mid : S) (def : TableDef) (block : ℕ) (defined : IsTableDef def.number def)
-    (shape : IsSameShape before mid_ext) (claims : (owners : List Kind) (forests : TableForests) → StandsTable g before old def owners forests → ClaimsBlock g before mid_ext old mid def block owners forests)
-    (tree : Tree) (root : tree.root ≡ def.roots.map) (width : tree.width ≡ 7) (line : BlockRow) (is : line ≡ used_row block 1) where
+module _ {S : Type 0} {g : Ghosts S} {before mid_ext : Extents} {old mid : S} {def : TableDef} {block : ℕ} {tree : Tree} {line : BlockRow} (is : ClaimsNewBlock g before mid_ext old mid def block tree line) where
   own_line : line.block ≡ block
-  own_line = ap (λ (other : BlockRow). other.block) is
+  own_line = ap (λ (other : BlockRow). other.block) is.line_is
 
-  pub enter_run : {two : S} {fault : Option StoreFault} → RunsOverPages g (IsTreeSpaceOfTable g before old def) (IsTreeSpaceOfTable g before old def) (BreaksTable g before old def) old mid None
-      → RunsOverPages g (IsTreeSpace g mid_ext mid tree) (IsTreeSpace g mid_ext mid tree) (BreaksEntering g mid_ext mid tree line) mid two fault
+  pub enter_run : {two : S} {fault : Option StoreFault} → RunsOverPages g (IsTreeSpace g mid_ext mid tree) (IsTreeSpace g mid_ext mid tree) (BreaksEntering g mid_ext mid tree line) mid two fault
       → RunsOverPages g (IsTreeSpaceOfTable g before old def) (IsTreeSpaceOfTable g before old def) (BreaksTable g before old def) old two fault
-  enter_run first second =
-      runs_then first second (λ p low mine. space p mine) space
-      (λ damage breaks. breaks_since_claim g before mid_ext old mid def block (λ owners forests. IsUnnamed forests.map block) damage shape claims (λ owners forests st. (claims owners forests st).unnamed)
-      (breaks_entering tree def root width mid_ext mid block line damage own_line breaks))
+  enter_run second =
+      runs_then (claim_run before old def {fault = None} is.run) second (λ p low mine. space p mine) space
+      (λ damage breaks. breaks_since_claim g before mid_ext old mid def block (λ owners forests. IsUnnamed forests.map block) damage is.shape is.claims (λ owners forests st. (is.claims owners forests st).unnamed)
+      (breaks_entering tree def is.root is.width mid_ext mid block line damage own_line breaks))
     where
       space : (p : ℕ) → IsTreeSpace g mid_ext mid tree p → IsTreeSpaceOfTable g before old def p
-      space p mine owners forests st = space_since_claim before mid_ext old mid def block owners forests defined st p (claims owners forests st) (space_of_map tree def root width mid_ext mid block p mine)
+      space p mine owners forests st = space_since_claim before mid_ext old mid def block owners forests is.defined st p (is.claims owners forests st) (space_of_map tree def is.root is.width mid_ext mid block p mine)
 
   -- the tree met no free extent
   pub enter_full : (ext : Extents) (new : S) (fault : SpaceFault)
       → IfFull fault (λ cap. (cap ≡ mid_ext.cap) × ((owners : List Kind) (t : Forest) → StandsTree g mid_ext mid tree owners t → FindsFull g mid_ext ext mid new tree (row_entry line) owners t))
       → IfFull fault (λ cap. (cap ≡ before.cap) × ((owners : List Kind) (forests : TableForests) → StandsTable g before old def owners forests → AreRightNotes before owners → MeetsNoFree g ext new))
   enter_full ext new (Full cap) found = (
-    found.0 ∙ shape.cap,
+    found.0 ∙ is.shape.cap,
     λ owners forests st notes.
-        let claim = claims owners forests st in
-        let finds = found.1 (with_block owners block def.number) forests.map (map_around tree def root width mid_ext mid (with_block owners block def.number) forests block claim.stands) in
+        let claim = is.claims owners forests st in
+        let finds = found.1 (with_block owners block def.number) forests.map (map_around tree def is.root is.width mid_ext mid (with_block owners block def.number) forests block claim.stands) in
         record {
           owners = with_pages mid_ext (with_block owners block def.number) finds.meets.claimed;
           map = finds.meets.claims.map;
@@ -100,37 +115,35 @@ module _ {S : Type 0} {g : Ghosts S} (before mid_ext : Extents) (old mid : S) (d
 
   -- ---- the first row
 
-  module _ (two_ext : Extents) (two : S) (same : IsSameShape mid_ext two_ext)
-      (adds : (owners : List Kind) (t : Forest) → StandsTree g mid_ext mid tree owners t → AddsEntry g mid_ext two_ext mid two tree (row_entry line) owners t)
-      (run : RunsOverPages g (IsTreeSpace g mid_ext mid tree) (IsTreeSpace g mid_ext mid tree) (BreaksEntering g mid_ext mid tree line) mid two None) where
+  module _ {two_ext : Extents} {two : S} (enters : EntersNewBlock g mid_ext two_ext mid two tree line) where
     pub where_entered : (owners : List Kind) (forests : TableForests) → StandsTable g before old def owners forests → MovesLine g AfterClaims mid_ext two_ext mid two def block line (with_block owners block def.number) forests
     where_entered owners forests st =
-        let claim = claims owners forests st in
-        enters_line tree def root width mid_ext two_ext mid two block line (with_block owners block def.number) forests claim.stands claim.own own_line claim.unnamed
-        (adds (with_block owners block def.number) forests.map (map_around tree def root width mid_ext mid (with_block owners block def.number) forests block claim.stands))
-        same run.touches run.works.steady.is_told run.works.no_shorter
+        let claim = is.claims owners forests st in
+        enters_line tree def is.root is.width mid_ext two_ext mid two block line (with_block owners block def.number) forests claim.stands claim.own own_line claim.unnamed
+        (enters.adds (with_block owners block def.number) forests.map (map_around tree def is.root is.width mid_ext mid (with_block owners block def.number) forests block claim.stands))
+        enters.shape enters.run.touches enters.run.works.steady.is_told enters.run.works.no_shorter
 
     pub own_then : (owners : List Kind) (forests : TableForests) (st : StandsTable g before old def owners forests) → IsOwnBlock two_ext (where_entered owners forests st).owners_now def block
     own_then owners forests st =
         let moves = where_entered owners forests st in
-        own_still mid_ext two_ext mid two def block (with_block owners block def.number) moves.owners_now forests moves.forests_now moves.changes (claims owners forests st).own
+        own_still mid_ext two_ext mid two def block (with_block owners block def.number) moves.owners_now forests moves.forests_now moves.changes (is.claims owners forests st).own
 
     unlisted_then : (owners : List Kind) (forests : TableForests) (st : StandsTable g before old def owners forests) → IsUnlisted def (where_entered owners forests st).forests_now block
     unlisted_then owners forests st =
         let moves = where_entered owners forests st in
-        let was = (claims owners forests st).unlisted in
+        let was = (is.claims owners forests st).unlisted in
         record {
           composite = subst (λ (index : Forest). IsUnlistedIn def (cell_parts def) block index) (sym moves.composite) was.composite;
           dims = subst (λ (indexes : List Forest). AllZip (λ dim index. IsUnlistedIn def (rising_parts dim) block index) def.dims indexes) (sym moves.dims) was.dims;
         }
 
-    pub fill_run : {new : S} {fault : Option StoreFault} → RunsOverPages g (IsTreeSpaceOfTable g before old def) (IsTreeSpaceOfTable g before old def) (BreaksTable g before old def) old two None
+    pub fill_run : {new : S} {fault : Option StoreFault}
         → RunsOverPages g (IsSpaceAround g two_ext two def block) (IsSpaceAround g two_ext two def block) (BreaksAround g two_ext two def block (λ owners forests. IsUnlisted def forests block)) two new fault
         → RunsOverPages g (IsTreeSpaceOfTable g before old def) (IsTreeSpaceOfTable g before old def) (BreaksTable g before old def) old new fault
-    fill_run first second =
-        runs_then first second (λ p low mine. space p mine) space
+    fill_run second =
+        runs_then (enter_run {fault = None} enters.run) second (λ p low mine. space p mine) space
         (λ damage breaks. record {
-          names = names_same before two_ext def damage (shape_then before mid_ext two_ext shape same) breaks.names;
+          names = names_same before two_ext def damage (shape_then before mid_ext two_ext is.shape enters.shape) breaks.names;
           broken = λ owners forests st.
               let moves = where_entered owners forests st in
               breaks.broken moves.owners_now moves.forests_now moves.changes.stands (own_then owners forests st) (unlisted_then owners forests st);
@@ -139,16 +152,16 @@ module _ {S : Type 0} {g : Ghosts S} (before mid_ext : Extents) (old mid : S) (d
         space : (p : ℕ) → IsSpaceAround g two_ext two def block p → IsTreeSpaceOfTable g before old def p
         space p mine owners forests st =
             let moves = where_entered owners forests st in
-            space_since_change before mid_ext old mid def block owners forests defined st (claims owners forests st) two_ext two moves.owners_now moves.forests_now moves.changes p mine
+            space_since_change before mid_ext old mid def block owners forests is.defined st (is.claims owners forests st) two_ext two moves.owners_now moves.forests_now moves.changes p mine
 
     pub fill_full : (ext : Extents) (new : S) (fault : SpaceFault)
         → IfFull fault (λ cap. (cap ≡ two_ext.cap) × ((owners : List Kind) (forests : TableForests) → StandsAround g two_ext two def owners forests block → IsOwnBlock two_ext owners def block → AreRightNotes two_ext owners → MeetsNoFree g ext new))
         → IfFull fault (λ cap. (cap ≡ before.cap) × ((owners : List Kind) (forests : TableForests) → StandsTable g before old def owners forests → AreRightNotes before owners → MeetsNoFree g ext new))
     fill_full ext new (Full cap) found = (
-      found.0 ∙ same.cap ∙ shape.cap,
+      found.0 ∙ enters.shape.cap ∙ is.shape.cap,
       λ owners forests st notes.
           let moves = where_entered owners forests st in
-          found.1 moves.owners_now moves.forests_now moves.changes.stands (own_then owners forests st) (moves.changes.trees.notes ((claims owners forests st).notes notes)),
+          found.1 moves.owners_now moves.forests_now moves.changes.stands (own_then owners forests st) (moves.changes.trees.notes ((is.claims owners forests st).notes notes)),
     )
     fill_full ext new (Store fault) found = tt
 
@@ -156,15 +169,15 @@ module _ {S : Type 0} {g : Ghosts S} (before mid_ext : Extents) (old mid : S) (d
         → ((owners : List Kind) (forests : TableForests) → StandsAround g two_ext two def owners forests block → IsOwnBlock two_ext owners def block → FillsBegun g two_ext ext two new def block row owners forests)
         → (owners : List Kind) (forests : TableForests) → StandsTable g before old def owners forests → BeginsBlock g before ext old new def block row owners forests
     begins_new row ext new fits fills owners forests st =
-        let claim = claims owners forests st in
+        let claim = is.claims owners forests st in
         let moves = where_entered owners forests st in
         let own = own_then owners forests st in
         let fill = fills moves.owners_now moves.forests_now moves.changes.stands own in
         let n = block_slot_count two_ext def in
         let slots = slice_set (replicate n None) 0 (Some row) in
-        let some : 0 < n = some_slots two_ext def.number def defined in
+        let some : 0 < n = some_slots two_ext def.number def is.defined in
         let all = around_then claims_change mid_ext two_ext ext mid two new def block (with_block owners block def.number) moves.owners_now fill.owners_now forests moves.forests_now fill.forests_now moves.changes fill.changes in
-        let is_line : line ≡ used_row block (count_rows slots) = is ∙ ap (used_row block) (sym (begun_count n row some)) in
+        let is_line : line ≡ used_row block (count_rows slots) = is.line_is ∙ ap (used_row block) (sym (begun_count n row some)) in
         let now : IsUsedNow g ext new def fill.owners_now fill.forests_now block row.values slots = record {
           own = own_still two_ext ext two new def block moves.owners_now fill.owners_now moves.forests_now fill.forests_now fill.changes own;
           line = subst (λ (map_tree : Forest). HasRow (used_row block (count_rows slots)) map_tree) (sym fill.same_map) (subst (λ (other : BlockRow). HasRow other moves.forests_now.map) is_line moves.line_there);
@@ -172,8 +185,8 @@ module _ {S : Type 0} {g : Ghosts S} (before mid_ext : Extents) (old mid : S) (d
           cell = begun_cell def n row some fits;
           listed = fill.listed (unlisted_then owners forests st);
         } in
-        let turns = turns_claimed before mid_ext old mid def block owners forests defined st ext new fill.owners_now fill.forests_now row.values slots claim all now in
-        let whole = shape_then before mid_ext two_ext shape same in
+        let turns = turns_claimed before mid_ext old mid def block owners forests is.defined st ext new fill.owners_now fill.forests_now row.values slots claim all now in
+        let whole = shape_then before mid_ext two_ext is.shape enters.shape in
         let count : n ≡ block_slot_count before def = rw whole.extent_pages refl in
         record {
           owners_now = fill.owners_now;

@@ -1,16 +1,14 @@
 -- What a new block changes of space: the extent itself, its entry in the block map, and those in the block indexes.
-use Rattle.std.proofs.Common.{◌≡◌, ◌<◌, ◌⊎◌, ◌+◌, ℕ, List, [], ◌∷◌, length, max, inl, inr, ap, arith, refl, sym, ◌∙◌, subst, get_or-set_same}
-use Rattle.std.specs.Prelude.{None}
+use Rattle.std.proofs.Common.{◌≡◌, ◌<◌, ◌⊎◌, ◌+◌, ℕ, List, [], ◌∷◌, length, inl, inr, ap, arith, refl, sym, ◌∙◌, subst, get_or-set_same}
 use Rattle.std.proofs.lemmas.Bool.{cases_lt}
 use Rattle.mdc_ast.specs.declared.definition.TableDef.{TableDef}
 use Rattle.mdc_ast.specs.declared.row.Row.{Row}
 use Rattle.store_api.specs.Extents.{first_page_of}
-use Rattle.store_api.specs.RunsOverPages.{RunsOverPages}
 use Rattle.store_api.specs.StoreState.{page_at}
 use Rattle.store_api.specs.declared.pages.Pages.{Ghosts}
-use Rattle.extent_map.specs.Damages.{BreaksSpace, IfFull}
-use Rattle.extent_map.specs.Map.{HoldsMap, IsSpacePage}
-use Rattle.extent_map.specs.Owners.{AreRightNotes, HasNoFree, IsLowestFree, IsSameShape, IsUsedPage, owner_of, with_block}
+use Rattle.extent_map.specs.Damages.{IfFull}
+use Rattle.extent_map.specs.Map.{HoldsMap}
+use Rattle.extent_map.specs.Owners.{AreRightNotes, HasNoFree, IsUsedPage, owner_of, with_block}
 use Rattle.extent_map.specs.declared.extents.Extents.{Extents}
 use Rattle.extent_map.specs.declared.fault.SpaceFault.{SpaceFault}
 use Rattle.extent_map.specs.declared.fault.SpaceFault.TheVariants.{Full, Store}
@@ -18,11 +16,9 @@ use Rattle.extent_map.specs.declared.kind.Kind.{Kind}
 use Rattle.extent_map.specs.declared.kind.Kind.TheVariants.{Block, Free}
 use Rattle.extent_map.proofs.UsedPagesLemmas.{no_space_page, used_page_there}
 use Rattle.entry_tree.specs.Forest.{Forest}
-use Rattle.entry_tree.specs.Standing.{AddsEntry, FindsFull, IsTreeSpace, StandsTree}
+use Rattle.entry_tree.specs.Standing.{FindsFull, StandsTree}
 use Rattle.entry_tree.specs.declared.tree.Tree.{Tree}
 use Rattle.entry_tree.proofs.ClaimsLemmas.{shape_then}
-use Rattle.table_page.specs.TableLimits.{IsTableDef}
-use Rattle.block_map.specs.MapChanges.{BreaksEntering}
 use Rattle.block_map.specs.MapLines.{map_entry}
 use Rattle.block_map.specs.MapRows.{row_entry}
 use Rattle.block_map.specs.declared.row.BlockRow.{BlockRow}
@@ -35,12 +31,11 @@ use Rattle.mdc_sound.specs.RunningFull.{block_changes, block_listings}
 use Rattle.mdc_sound.specs.StandingTable.{StandsTable, TableForests, pages_of}
 use Rattle.table_blocks.specs.AroundBlock.{StandsAround}
 use Rattle.table_blocks.specs.BlockNow.{IsOwnBlock}
-use Rattle.table_blocks.specs.BlockSteps.{ClaimsBlock, NewBlockRunsFull}
+use Rattle.table_blocks.specs.BlockSteps.{NewBlockRunsFull}
 use Rattle.table_blocks.proofs.LineStepLemmas.{map_around}
-use Rattle.table_blocks.proofs.NewBlockLemmas.{own_then, where_entered}
+use Rattle.table_blocks.proofs.NewBlockLemmas.{ClaimsNewBlock, EntersNewBlock, own_then, where_entered}
 use Rattle.table_trees.proofs.SpaceChainsLemmas.{asks_full, changes_shaped, changes_then, full_shaped, full_then, one_change}
 use Rattle.table_trees.proofs.SpaceStepsLemmas.{addition_asks, addition_makes, block_asks, block_makes}
-use Rattle.block_map.specs.Counting.{used_row}
 
 -- no extent is free
 pub claim_asks : {S : Type 0} (g : Ghosts S) (ext : Extents) (s : S) (def : TableDef) (row : Row) (fault : SpaceFault)
@@ -51,11 +46,7 @@ claim_asks g ext s def row (Full cap) full = λ owners forests st notes.
     NewBlockRunsFull.no_extent none (asks_full ext (pages_of g s) (ClaimBlock def.number 0) [] (block_asks ext s def.number 0 owners st.trees.map st.told none))
 claim_asks g ext s def row (Store fault) full = tt
 
-module _ {S : Type 0} {g : Ghosts S} (before mid_ext : Extents) (old mid : S) (def : TableDef) (block : ℕ) (defined : IsTableDef def.number def)
-    (shape : IsSameShape before mid_ext) (claims : (owners : List Kind) (forests : TableForests) → StandsTable g before old def owners forests → ClaimsBlock g before mid_ext old mid def block owners forests)
-    (lowest : (owners : List Kind) → HoldsMap g before old owners → AreRightNotes before owners → IsLowestFree owners block)
-    (count : length (g.state mid).work ≡ max (length (g.state old).work) (first_page_of before.cap before.extent_pages (block + 1)))
-    (claim_run : RunsOverPages g (IsSpacePage before) (IsSpacePage before) (BreaksSpace g before old) old mid None) where
+module _ {S : Type 0} {g : Ghosts S} {before mid_ext : Extents} {old mid : S} {def : TableDef} {block : ℕ} {tree : Tree} {line : BlockRow} (is : ClaimsNewBlock g before mid_ext old mid def block tree line) where
   -- ---- the claim
 
   -- the file grows to the end of the extent, where it ends before
@@ -64,13 +55,13 @@ module _ {S : Type 0} {g : Ghosts S} (before mid_ext : Extents) (old mid : S) (d
   claim_grows owners low free = elim (cases_lt (length (g.state old).work) (first_page_of before.cap before.extent_pages (block + 1))) [
     | inl more ↦
         inr (record {
-          longer = omega (arith, count, more);
+          longer = omega (arith, is.count, more);
           extent = block;
           was_free = free;
           is_taken = λ still. (let wrong : Block def.number ≡ Free = sym (get_or-set_same owners block (Block def.number) Free low) ∙ still in absurd cc);
-          count = omega (arith, count, more);
+          count = omega (arith, is.count, more);
         })
-    | inr there ↦ inl (omega (arith, count, there))
+    | inr there ↦ inl (omega (arith, is.count, there))
   ]
 
   -- the extent becomes a block
@@ -80,84 +71,81 @@ module _ {S : Type 0} {g : Ghosts S} (before mid_ext : Extents) (old mid : S) (d
   -- each used index page stays as it is, since the map and page 0 alone are touched
   claim_makes : (owners : List Kind) (forests : TableForests) → StandsTable g before old def owners forests → AreRightNotes before owners → MakesChange before (pages_of g old) claimed (pages_of g mid)
   claim_makes owners forests st notes =
-      let claim = claims owners forests st in
-      let low = lowest owners st.trees.map notes in
+      let claim = is.claims owners forests st in
+      let low = is.lowest owners st.trees.map notes in
       let stay : (p : ℕ) → IsUsedPage before owners p → page_at (pages_of g mid) p ≡ page_at (pages_of g old) p = λ p used.
-      (claim_run.touches.others p (page_at (pages_of g old) p) (no_space_page before p used.page) (record { is_told = st.told; within = used_page_there p st.trees.map used; bytes_are = refl })).bytes_are in
-      block_makes before mid_ext old mid def.number block owners st.trees.map st.told claim_run.works.steady.is_told shape low claim.stands.trees.map stay claim.longer (claim_grows owners low.within low.free)
+      (is.run.touches.others p (page_at (pages_of g old) p) (no_space_page before p used.page) (record { is_told = st.told; within = used_page_there p st.trees.map used; bytes_are = refl })).bytes_are in
+      block_makes before mid_ext old mid def.number block owners st.trees.map st.told is.run.works.steady.is_told is.shape low claim.stands.trees.map stay claim.longer (claim_grows owners low.within low.free)
 
   -- ---- its entry in the block map
 
-  module _ (tree : Tree) (root : tree.root ≡ def.roots.map) (width : tree.width ≡ 7) (line : BlockRow) (is : line ≡ used_row block 1) where
-    -- the entry of its line
-    abbrev entered : SpaceChange
-    entered = AddEntry (map_place def) (map_entry block 1 1)
+  -- the entry of its line
+  abbrev entered : SpaceChange
+  entered = AddEntry (map_place def) (map_entry block 1 1)
 
-    -- the tree of the handle is the block map
-    entry_is : AddEntry (place_of_tree tree) (row_entry line) ≡ entered
-    entry_is = ap (λ place. AddEntry place (row_entry line)) (same_tree_place (place_of_tree tree) (map_place def) root width) ∙ ap (λ (other : BlockRow). AddEntry (map_place def) (row_entry other)) is
+  -- the tree of the handle is the block map
+  entry_is : AddEntry (place_of_tree tree) (row_entry line) ≡ entered
+  entry_is = ap (λ place. AddEntry place (row_entry line)) (same_tree_place (place_of_tree tree) (map_place def) is.root is.width) ∙ ap (λ (other : BlockRow). AddEntry (map_place def) (row_entry other)) is.line_is
 
-    -- the block map has no room for it
-    pub entry_asks : (row : Row) (ext : Extents) (new : S) (fault : SpaceFault)
-        → IfFull fault (λ cap. (cap ≡ mid_ext.cap) × ((owners : List Kind) (t : Forest) → StandsTree g mid_ext mid tree owners t → FindsFull g mid_ext ext mid new tree (row_entry line) owners t))
-        → IfFull fault (λ cap. (owners : List Kind) (forests : TableForests) → StandsTable g before old def owners forests → AreRightNotes before owners → NewBlockRunsFull before (pages_of g old) def row owners)
-    entry_asks row ext new (Full cap) found = λ owners forests st notes.
-        let claim = claims owners forests st in
+  -- the block map has no room for it
+  pub entry_asks : (row : Row) (ext : Extents) (new : S) (fault : SpaceFault)
+      → IfFull fault (λ cap. (cap ≡ mid_ext.cap) × ((owners : List Kind) (t : Forest) → StandsTree g mid_ext mid tree owners t → FindsFull g mid_ext ext mid new tree (row_entry line) owners t))
+      → IfFull fault (λ cap. (owners : List Kind) (forests : TableForests) → StandsTable g before old def owners forests → AreRightNotes before owners → NewBlockRunsFull before (pages_of g old) def row owners)
+  entry_asks row ext new (Full cap) found = λ owners forests st notes.
+      let claim = is.claims owners forests st in
+      let now = with_block owners block def.number in
+      let one = map_around tree def is.root is.width mid_ext mid now forests block claim.stands in
+      let asks : AsksTooMuch mid_ext (pages_of g mid) entered =
+      subst (AsksTooMuch mid_ext (pages_of g mid)) entry_is (addition_asks mid_ext ext mid new tree (row_entry line) now forests.map one claim.stands.told (claim.notes notes) (found.1 now forests.map one)) in
+      let rest = added_entries (block_listings def row block) in
+      NewBlockRunsFull.at_entry block (is.lowest owners st.trees.map notes)
+      (full_then before (pages_of g old) (pages_of g mid) (claimed ∷ []) (entered ∷ rest) (one_change before (pages_of g old) (pages_of g mid) claimed (claim_makes owners forests st notes))
+      (full_shaped before mid_ext (pages_of g mid) (entered ∷ rest) is.shape (asks_full mid_ext (pages_of g mid) entered rest asks)))
+  entry_asks row ext new (Store fault) found = tt
+
+  -- ---- its first row
+
+  module _ {two_ext : Extents} {two : S} (enters : EntersNewBlock g mid_ext two_ext mid two tree line) where
+    -- the block, and its entry
+    both_made : (owners : List Kind) (forests : TableForests) → StandsTable g before old def owners forests → AreRightNotes before owners
+        → MakesChanges before (pages_of g old) (claimed ∷ entered ∷ []) (pages_of g two)
+    both_made owners forests st notes =
+        let claim = is.claims owners forests st in
         let now = with_block owners block def.number in
-        let one = map_around tree def root width mid_ext mid now forests block claim.stands in
-        let asks : AsksTooMuch mid_ext (pages_of g mid) entered =
-        subst (AsksTooMuch mid_ext (pages_of g mid)) entry_is (addition_asks mid_ext ext mid new tree (row_entry line) now forests.map one claim.stands.told (claim.notes notes) (found.1 now forests.map one)) in
+        let one = map_around tree def is.root is.width mid_ext mid now forests block claim.stands in
+        let made : MakesChange mid_ext (pages_of g mid) entered (pages_of g two) =
+        subst (λ change. MakesChange mid_ext (pages_of g mid) change (pages_of g two)) entry_is
+        (addition_makes mid_ext two_ext mid two tree (row_entry line) now forests.map one claim.stands.told enters.run.works.steady.is_told enters.shape (claim.notes notes) enters.run.touches (enters.adds now forests.map one)) in
+        changes_then before (pages_of g old) (pages_of g mid) (pages_of g two) (claimed ∷ []) (entered ∷ []) (one_change before (pages_of g old) (pages_of g mid) claimed (claim_makes owners forests st notes))
+        (changes_shaped before mid_ext (pages_of g mid) (pages_of g two) (entered ∷ []) is.shape (one_change mid_ext (pages_of g mid) (pages_of g two) entered made))
+
+    -- what is said of the pages behind them
+    behind_entry : {Said : Type 0} → ((owners : List Kind) (forests : TableForests) → StandsAround g two_ext two def owners forests block → IsOwnBlock two_ext owners def block → AreRightNotes two_ext owners → Said)
+        → (owners : List Kind) (forests : TableForests) → StandsTable g before old def owners forests → AreRightNotes before owners → Said
+    behind_entry says owners forests st notes =
+        let moves = where_entered is enters owners forests st in
+        says moves.owners_now moves.forests_now moves.changes.stands (own_then is enters owners forests st)
+        (moves.changes.trees.notes ((is.claims owners forests st).notes notes))
+
+    -- it is filled
+    pub new_makes : (row : Row) (new : S)
+        → ((owners : List Kind) (forests : TableForests) → StandsAround g two_ext two def owners forests block → IsOwnBlock two_ext owners def block → AreRightNotes two_ext owners
+        → MakesChanges two_ext (pages_of g two) (added_entries (block_listings def row block)) (pages_of g new))
+        → (owners : List Kind) (forests : TableForests) → StandsTable g before old def owners forests → AreRightNotes before owners
+        → MakesChanges before (pages_of g old) (block_changes def row block FreeExtent) (pages_of g new)
+    new_makes row new makes owners forests st notes =
         let rest = added_entries (block_listings def row block) in
-        NewBlockRunsFull.at_entry block (lowest owners st.trees.map notes)
-        (full_then before (pages_of g old) (pages_of g mid) (claimed ∷ []) (entered ∷ rest) (one_change before (pages_of g old) (pages_of g mid) claimed (claim_makes owners forests st notes))
-        (full_shaped before mid_ext (pages_of g mid) (entered ∷ rest) shape (asks_full mid_ext (pages_of g mid) entered rest asks)))
-    entry_asks row ext new (Store fault) found = tt
+        changes_then before (pages_of g old) (pages_of g two) (pages_of g new) (claimed ∷ entered ∷ []) rest (both_made owners forests st notes)
+        (changes_shaped before two_ext (pages_of g two) (pages_of g new) rest (shape_then before mid_ext two_ext is.shape enters.shape) (behind_entry makes owners forests st notes))
 
-    -- ---- its first row
-
-    module _ (two_ext : Extents) (two : S) (same : IsSameShape mid_ext two_ext)
-        (adds : (owners : List Kind) (t : Forest) → StandsTree g mid_ext mid tree owners t → AddsEntry g mid_ext two_ext mid two tree (row_entry line) owners t)
-        (run : RunsOverPages g (IsTreeSpace g mid_ext mid tree) (IsTreeSpace g mid_ext mid tree) (BreaksEntering g mid_ext mid tree line) mid two None) where
-      -- the block, and its entry
-      both_made : (owners : List Kind) (forests : TableForests) → StandsTable g before old def owners forests → AreRightNotes before owners
-          → MakesChanges before (pages_of g old) (claimed ∷ entered ∷ []) (pages_of g two)
-      both_made owners forests st notes =
-          let claim = claims owners forests st in
-          let now = with_block owners block def.number in
-          let one = map_around tree def root width mid_ext mid now forests block claim.stands in
-          let made : MakesChange mid_ext (pages_of g mid) entered (pages_of g two) =
-          subst (λ change. MakesChange mid_ext (pages_of g mid) change (pages_of g two)) entry_is
-          (addition_makes mid_ext two_ext mid two tree (row_entry line) now forests.map one claim.stands.told run.works.steady.is_told same (claim.notes notes) run.touches (adds now forests.map one)) in
-          changes_then before (pages_of g old) (pages_of g mid) (pages_of g two) (claimed ∷ []) (entered ∷ []) (one_change before (pages_of g old) (pages_of g mid) claimed (claim_makes owners forests st notes))
-          (changes_shaped before mid_ext (pages_of g mid) (pages_of g two) (entered ∷ []) shape (one_change mid_ext (pages_of g mid) (pages_of g two) entered made))
-
-      -- what is said of the pages behind them
-      behind_entry : {Said : Type 0} → ((owners : List Kind) (forests : TableForests) → StandsAround g two_ext two def owners forests block → IsOwnBlock two_ext owners def block → AreRightNotes two_ext owners → Said)
-          → (owners : List Kind) (forests : TableForests) → StandsTable g before old def owners forests → AreRightNotes before owners → Said
-      behind_entry says owners forests st notes =
-          let moves = where_entered before mid_ext old mid def block defined shape claims tree root width line is two_ext two same adds run owners forests st in
-          says moves.owners_now moves.forests_now moves.changes.stands (own_then before mid_ext old mid def block defined shape claims tree root width line is two_ext two same adds run owners forests st)
-          (moves.changes.trees.notes ((claims owners forests st).notes notes))
-
-      -- it is filled
-      pub new_makes : (row : Row) (new : S)
-          → ((owners : List Kind) (forests : TableForests) → StandsAround g two_ext two def owners forests block → IsOwnBlock two_ext owners def block → AreRightNotes two_ext owners
-          → MakesChanges two_ext (pages_of g two) (added_entries (block_listings def row block)) (pages_of g new))
-          → (owners : List Kind) (forests : TableForests) → StandsTable g before old def owners forests → AreRightNotes before owners
-          → MakesChanges before (pages_of g old) (block_changes def row block FreeExtent) (pages_of g new)
-      new_makes row new makes owners forests st notes =
-          let rest = added_entries (block_listings def row block) in
-          changes_then before (pages_of g old) (pages_of g two) (pages_of g new) (claimed ∷ entered ∷ []) rest (both_made owners forests st notes)
-          (changes_shaped before two_ext (pages_of g two) (pages_of g new) rest (shape_then before mid_ext two_ext shape same) (behind_entry makes owners forests st notes))
-
-      -- or an entry asks for too much
-      pub new_full : (row : Row) (fault : SpaceFault)
-          → IfFull fault (λ cap. (owners : List Kind) (forests : TableForests) → StandsAround g two_ext two def owners forests block → IsOwnBlock two_ext owners def block → AreRightNotes two_ext owners
-          → RunsFull two_ext (pages_of g two) (added_entries (block_listings def row block)))
-          → IfFull fault (λ cap. (owners : List Kind) (forests : TableForests) → StandsTable g before old def owners forests → AreRightNotes before owners → NewBlockRunsFull before (pages_of g old) def row owners)
-      new_full row (Full cap) full = λ owners forests st notes.
-          let rest = added_entries (block_listings def row block) in
-          NewBlockRunsFull.at_entry block (lowest owners st.trees.map notes)
-          (full_then before (pages_of g old) (pages_of g two) (claimed ∷ entered ∷ []) rest (both_made owners forests st notes)
-          (full_shaped before two_ext (pages_of g two) rest (shape_then before mid_ext two_ext shape same) (behind_entry full owners forests st notes)))
-      new_full row (Store fault) full = tt
+    -- or an entry asks for too much
+    pub new_full : (row : Row) (fault : SpaceFault)
+        → IfFull fault (λ cap. (owners : List Kind) (forests : TableForests) → StandsAround g two_ext two def owners forests block → IsOwnBlock two_ext owners def block → AreRightNotes two_ext owners
+        → RunsFull two_ext (pages_of g two) (added_entries (block_listings def row block)))
+        → IfFull fault (λ cap. (owners : List Kind) (forests : TableForests) → StandsTable g before old def owners forests → AreRightNotes before owners → NewBlockRunsFull before (pages_of g old) def row owners)
+    new_full row (Full cap) full = λ owners forests st notes.
+        let rest = added_entries (block_listings def row block) in
+        NewBlockRunsFull.at_entry block (is.lowest owners st.trees.map notes)
+        (full_then before (pages_of g old) (pages_of g two) (claimed ∷ entered ∷ []) rest (both_made owners forests st notes)
+        (full_shaped before two_ext (pages_of g two) rest (shape_then before mid_ext two_ext is.shape enters.shape) (behind_entry full owners forests st notes)))
+    new_full row (Store fault) full = tt

@@ -1,17 +1,16 @@
 // A block goes out of use with its last row.
-ghost use Rattle.std.specs.Prelude.{◌≡◌, ◌<◌, ℕ, List, false, length, OnOk};
+ghost use Rattle.std.specs.Prelude.{◌≡◌, ◌<◌, List, false, length, OnOk};
 ghost use Rattle.store_api.specs.Causes.{fault_of};
 ghost use Rattle.store_api.specs.RunsOverPages.{RunsOverPages};
 ghost use Rattle.extent_map.specs.Owners.{IsSameShape};
 ghost use Rattle.extent_map.specs.declared.kind.Kind.{Kind};
 ghost use Rattle.table_page.specs.TableLimits.{IsTableDef};
-ghost use Rattle.block_map.specs.BlockMaps.{HasRow};
 ghost use Rattle.block_rows.specs.HeldRows.{HasReadValues};
 ghost use Rattle.table_trees.specs.SpaceChanges.{MakesChanges};
 ghost use Rattle.mdc_sound.specs.StandingTable.{TableForests, pages_of};
 ghost use Rattle.table_blocks.specs.AroundBlock.{StandsAround};
 ghost use Rattle.table_blocks.specs.BlockChanges.{BreaksAround, IsPlaceAround};
-ghost use Rattle.table_blocks.specs.BlockNow.{IsListed, IsOwnBlock};
+ghost use Rattle.table_blocks.specs.BlockNow.{IsOwnBlock};
 ghost use Rattle.table_blocks.specs.BlockSteps.{ExpectsFreeing, FreesBlock, free_changes};
 
 use crate::cells::cell_of;

@@ -1,3 +1,4 @@
+pub mod EndingLemmas
 pub mod ExactDamageLemmas
 pub mod MarkedChangesLemmas
 pub mod SamePagesLemmas

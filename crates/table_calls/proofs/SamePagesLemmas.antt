@@ -1,5 +1,5 @@
 -- What calls made of a table, by states of a store whose pages are the same: the one that was marked, and the one that was kept.
-use Rattle.std.proofs.Common.{◌≡◌, ◌<◌, ◌∙◌, ℕ, List, ◌∷◌, ap, length, subst, sym}
+use Rattle.std.proofs.Common.{◌≡◌, ◌<◌, ◌∙◌, ℕ, List, ◌∷◌, Option, ap, length, subst, sym}
 use Rattle.std.specs.Prelude.{IsPermutation}
 use Rattle.mdc_words.specs.ByteOrder.{Entry}
 use Rattle.mdc_values.specs.declared.rid.Rid.{Rid}
@@ -31,6 +31,10 @@ module _ {S : Type 0} {g : Ghosts S} {old new : S} where
   pub pages_back : HasSamePages g old new → HasSamePages g new old
   pages_back pages = record { told = sym pages.told; same = sym pages.same }
 
+  pub lies_there : {rid : Rid} {row : Row} {slots : List (Option Row)} (ext : Extents) (def : TableDef) (owners : List Kind) (forests : TableForests) → HasSamePages g old new → IsRowAt (table_spots ext (g.state old).work def owners forests.map) rid row slots
+      → IsRowAt (table_spots ext (g.state new).work def owners forests.map) rid row slots
+  lies_there {rid} {row} {slots} ext def owners forests pages lies = subst (λ (work : PageList). IsRowAt (table_spots ext work def owners forests.map) rid row slots) (sym pages.same) lies
+
   module _ {ext : Extents} {def : TableDef} where
     module _ {owners : List Kind} {forests : TableForests} where
       pub stands_there : HasSamePages g old new → StandsTable g ext old def owners forests → StandsTable g ext new def owners forests
@@ -44,10 +48,15 @@ module _ {S : Type 0} {g : Ghosts S} {old new : S} where
       }
 
       pub row_there : {rid : Rid} {row : Row} → HasSamePages g old new → HasThisRow g ext old def rid row owners forests → HasThisRow g ext new def rid row owners forests
-      row_there {rid} {row} pages has = record {
+      row_there pages has = record {
         slots = has.slots;
-        lies = subst (λ (work : PageList). IsRowAt (table_spots ext work def owners forests.map) rid row has.slots) (sym pages.same) has.lies;
+        lies = lies_there ext def owners forests pages has.lies;
       }
+
+    -- what is so wherever the table stands now is so wherever it stood
+    pub if_stood : {Is : List Kind → TableForests → Type 0} → HasSamePages g old new → ((owners : List Kind) (forests : TableForests) → StandsTable g ext new def owners forests → Is owners forests)
+        → (owners : List Kind) (forests : TableForests) → StandsTable g ext old def owners forests → Is owners forests
+    if_stood pages is owners forests st = is owners forests (stands_there pages st)
 
     pub sound_there : HasSamePages g old new → IsSoundBetweenChanges ext def (pages_of g old) → IsSoundBetweenChanges ext def (pages_of g new)
     sound_there pages sound = subst (λ (work : PageList). IsSoundBetweenChanges ext def work) (sym pages.same) sound

@@ -27,7 +27,7 @@ pub fn first_null_in<'c>(columns: &'c [ColumnDef], tuples: &[List<Value>]) -> Op
     ensures { first_of (flat_map (null_causes columns.now) tuples.now) ≡ option_map misfit_cause result }
 {
     for tuple in tuples {
-        let found = first_misfit(columns, &[], tuple.as_slice());
+        let found = null_among(columns, &[], tuple.as_slice());
         if found.is_some() {
             return found;
         }

@@ -1,14 +1,23 @@
 use Rattle.std.proofs.Common.{Option, ℕ, None, ap, subst, sym, ◌∙◌}
+use Rattle.store_api.specs.Frame.{NoPage}
+use Rattle.store_api.specs.RunsOverPages.{RunsOverPages}
 use Rattle.store_api.proofs.RunsOverPagesLemmas.{runs_exit}
-use Rattle.entry_tree.specs.Forest.{Forest}
 use Rattle.block_map.specs.MapLines.{blocks_of_state, map_lines}
 use Rattle.table_trees.specs.ToldPages.{PageList}
 use Rattle.file_check.specs.Known.{HasUsedRows}
 use Rattle.file_check.specs.BlocksJudged.{BreaksBlockCount, BreaksLineCount, IsBlockCounted, IsLineCounted}
 use Rattle.file_check.specs.Judging.{JudgesEach, lower}
+use Rattle.file_check.specs.Looking.{AnyPage, Unless}
 use Rattle.file_check.proofs.CountsLemmas.{judges_lines, state_is_mapped}
+use Rattle.file_check.proofs.RulesOfBlocksLemmas.{TellsUsedRows}
 use Rattle.file_check.proofs.UnlessLemmas.{runs_unless}
+use Rattle.file_check.proofs.block_judging.judge_counts.Given.{Over}
+use Rattle.file_check.proofs.block_judging.judge_counts.Goals.{In_ok-used}
 use Rattle.file_check.proofs.block_judging.judge_counts.Goals as goal
+
+-- the blocks of two states are judged
+judged : (g : Over) (c : In_ok-used g) → RunsOverPages g.P.Pages NoPage AnyPage (Unless g.P.Pages c.args.pages.now (TellsUsedRows c.args.ext.now c.args.def.now)) c.args.pages.now c.judge_state-2.new.pages None
+judged g c = runs_unless (TellsUsedRows c.args.ext.now c.args.def.now) c.in_ok-free.ensures.same c.in_ok-free.ensures.runs c.in_ok-used.ensures.runs
 
 pub judge_state-requires-clause-under : goal.judge_state-requires-clause-under
 judge_state-requires-clause-under g c = λ m block there. state_is_mapped m 0 block there
@@ -22,14 +31,12 @@ judge_state-requires-3-clause-under g c = λ m block there. state_is_mapped m 2 
 pub returns-in_err-used-clause-runs : goal.returns-in_err-used-clause-runs
 returns-in_err-used-clause-runs g c =
     runs_exit c.from_residual-in_err-used.result c.from_residual-in_err-used.ensures.1
-    (runs_unless (λ told. (m : Forest) × HasUsedRows c.args.ext.now told c.args.def.now m) c.in_ok-free.ensures.same c.in_ok-free.ensures.runs c.in_err-used.ensures.runs)
+    (runs_unless (TellsUsedRows c.args.ext.now c.args.def.now) c.in_ok-free.ensures.same c.in_ok-free.ensures.runs c.in_err-used.ensures.runs)
 
 pub returns-in_err-pending-clause-runs : goal.returns-in_err-pending-clause-runs
 returns-in_err-pending-clause-runs g c =
     runs_exit c.from_residual-in_err-pending.result c.from_residual-in_err-pending.ensures.1
-    (runs_unless (λ told. (m : Forest) × HasUsedRows c.args.ext.now told c.args.def.now m)
-    (c.in_ok-used.ensures.same ∙ c.in_ok-free.ensures.same)
-    (runs_unless (λ told. (m : Forest) × HasUsedRows c.args.ext.now told c.args.def.now m) {fault = None} c.in_ok-free.ensures.same c.in_ok-free.ensures.runs c.in_ok-used.ensures.runs) c.in_err-pending.ensures.runs)
+    (runs_unless (TellsUsedRows c.args.ext.now c.args.def.now) (c.in_ok-used.ensures.same ∙ c.in_ok-free.ensures.same) (judged g (goal.at.returns-in_err-pending-clause-runs g c).In_ok-used) c.in_err-pending.ensures.runs)
 
 pub returns-clause-judged : goal.returns-clause-judged
 returns-clause-judged g c told m has =
@@ -49,6 +56,4 @@ returns-clause-judged g c told m has =
 
 pub returns-clause-runs : goal.returns-clause-runs
 returns-clause-runs g c =
-    runs_unless (λ told. (m : Forest) × HasUsedRows c.args.ext.now told c.args.def.now m) {fault = None}
-    (c.in_ok-used.ensures.same ∙ c.in_ok-free.ensures.same)
-    (runs_unless (λ told. (m : Forest) × HasUsedRows c.args.ext.now told c.args.def.now m) {fault = None} c.in_ok-free.ensures.same c.in_ok-free.ensures.runs c.in_ok-used.ensures.runs) c.in_ok-pending.ensures.runs
+    runs_unless (TellsUsedRows c.args.ext.now c.args.def.now) {fault = None} (c.in_ok-used.ensures.same ∙ c.in_ok-free.ensures.same) (judged g (goal.at.returns-clause-runs g c).In_ok-used) c.in_ok-pending.ensures.runs

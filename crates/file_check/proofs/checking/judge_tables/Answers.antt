@@ -1,15 +1,39 @@
-use Rattle.std.proofs.Common.{sym, subst, ◌∙◌}
-use Rattle.std.proofs.lemmas.Result.{IfOk-weaker}
-use Rattle.store_api.specs.Causes.{NoDamage}
+use Rattle.std.proofs.Common.{sym, subst}
 use Rattle.store_api.proofs.RunsOverPagesLemmas.{runs_exit}
 use Rattle.file_check.specs.Kept.{KeepsTables, KeepsTrees}
 use Rattle.file_check.specs.Verdicts.{IsVerdictOf}
-use Rattle.file_check.proofs.VerdictsLemmas.{runs_judge, runs_known, still_says}
-use Rattle.file_check.proofs.KeptRulesLemmas.{SaysTreePages, SomeTrees, tree_pages_broken, tree_pages_kept, trees_broken, trees_kept}
+use Rattle.file_check.proofs.VerdictsLemmas.{Learns, learns_next, learns_nothing, runs_judge, runs_next, says_next, verdict_behind}
+use Rattle.file_check.proofs.KeptRulesLemmas.{KeepsCounted, SaysTreePages, SaysTrees, SomeTrees, tree_pages_broken, tree_pages_kept, trees_broken, trees_kept}
+use Rattle.file_check.proofs.checking.judge_tables.Given.{Over}
+use Rattle.file_check.proofs.checking.judge_tables.Goals.{After-deref, In_default-2}
 use Rattle.file_check.proofs.checking.judge_tables.Goals as goal
 
+-- the trees stand, and are counted
+trees : (g : Over) (c : After-deref g)
+    → Learns g.P.Pages (KeepsTables c.args.ext.now c.args.defs.now) (KeepsCounted c.args.ext.now c.args.defs.now c.deref.result.now) c.args.pages.now c.judge_trees.new.pages
+trees g c =
+    let ext = c.args.ext.now in
+    let defs = c.args.defs.now in
+    let work = (g.P.Pages.state c.args.pages.now).work in
+    let found = c.in_ok-trees.trees.broken in
+    let times = c.in_ok-trees.trees.times.items in
+    learns_next learns_nothing (SaysTrees defs times found) (KeepsCounted ext defs c.deref.result.now) c.in_ok-trees.ensures.runs c.judge_trees.ensures.same c.in_ok-trees.ensures.judged
+    (λ kept says. subst (λ counted. KeepsCounted ext defs counted work) (sym c.deref.ensures.value) (trees_kept ext work found c.in_default.not-Some defs times kept says))
+
+-- and their pages are their own
+tree_pages : (g : Over) (c : In_default-2 g)
+    → Learns g.P.Pages (KeepsTables c.args.ext.now c.args.defs.now) (KeepsCounted c.args.ext.now c.args.defs.now c.deref.result.now) c.args.pages.now c.judge_trees.new.pages
+    → Learns g.P.Pages (KeepsTables c.args.ext.now c.args.defs.now) (KeepsTrees c.args.ext.now c.args.defs.now) c.args.pages.now c.judge_tree_pages.new.pages
+tree_pages g c known =
+    let ext = c.args.ext.now in
+    let defs = c.args.defs.now in
+    let found = c.in_ok-page.field-0 in
+    let times = c.deref.result.now in
+    learns_next known (SaysTreePages ext times found) (KeepsTrees ext defs) c.in_ok-page.ensures.runs c.judge_tree_pages.ensures.same c.in_ok-page.ensures.judged
+    (tree_pages_kept ext (g.P.Pages.state c.args.pages.now).work found c.in_default-2.not-Some defs times)
+
 pub returns-in-Some-clause-verdict : goal.returns-in-Some-clause-verdict
-returns-in-Some-clause-verdict g c = λ told kept.
+returns-in-Some-clause-verdict g c told kept =
     let ext = c.args.ext.now in
     let pages = (g.P.Pages.state c.args.pages.now).work in
     subst (IsVerdictOf ext pages) (sym c.broken.ensures)
@@ -17,57 +41,29 @@ returns-in-Some-clause-verdict g c = λ told kept.
 
 pub returns-in_err-page-clause-runs : goal.returns-in_err-page-clause-runs
 returns-in_err-page-clause-runs g c =
+    let at = goal.at.returns-in_err-page-clause-runs g c in
     runs_exit c.from_residual-in_err-page.result c.from_residual-in_err-page.ensures.1
-    (runs_known (KeepsTables c.args.ext.now c.args.defs.now) (SomeTrees c.args.ext.now) c.in_ok-trees.ensures.runs c.judge_trees.ensures.same (λ told kept.
-    let defs = c.args.defs.now in
-    let pages = (g.P.Pages.state c.args.pages.now).work in
-    let trees = trees_kept c.args.ext.now pages c.in_ok-trees.trees.broken c.in_default.not-Some defs c.in_ok-trees.trees.times.items kept (c.in_ok-trees.ensures.judged told) in
-    (defs, trees.view, trees.known)) c.in_err-page.ensures.runs)
+    (runs_next (trees g at.After-deref) (SomeTrees c.args.ext.now) (λ kept. (c.args.defs.now, kept.view, kept.known)) c.in_err-page.ensures.runs)
 
 pub returns-in-Some-2-clause-verdict : goal.returns-in-Some-2-clause-verdict
-returns-in-Some-2-clause-verdict g c = λ told kept.
+returns-in-Some-2-clause-verdict g c told kept =
+    let at = goal.at.returns-in-Some-2-clause-verdict g c in
     let ext = c.args.ext.now in
-    let defs = c.args.defs.now in
-    let old = c.args.pages.now in
-    let pages = (g.P.Pages.state old).work in
-    let times = c.in_ok-trees.trees.times.items in
-    let trees = trees_kept ext pages c.in_ok-trees.trees.broken c.in_default.not-Some defs times kept (c.in_ok-trees.ensures.judged told) in
-    let says = subst (λ counted. SaysTreePages ext counted c.in_ok-page.field-0 pages) c.deref.ensures.value
-    (still_says g.P.Pages old c.judge_trees.new.pages (SaysTreePages ext c.deref.result.now c.in_ok-page.field-0) c.in_ok-trees.ensures.runs.works.steady.is_told c.judge_trees.ensures.same
-    c.in_ok-page.ensures.judged told) in
-    subst (IsVerdictOf ext pages) (sym c.broken-in-Some-2.ensures) (tree_pages_broken ext pages c.in_ok-page.field-0 c.in-Some-2.page c.in-Some-2.is defs times trees says)
+    let pages = (g.P.Pages.state c.args.pages.now).work in
+    let found = c.in_ok-page.field-0 in
+    let times = c.deref.result.now in
+    let says = says_next (trees g at.After-deref) (SaysTreePages ext times found) c.in_ok-page.ensures.judged told kept in
+    subst (IsVerdictOf ext pages) (sym c.broken-in-Some-2.ensures) (tree_pages_broken ext pages found c.in-Some-2.page c.in-Some-2.is c.args.defs.now times says.0 says.1)
 
 pub returns-in-Some-2-clause-runs : goal.returns-in-Some-2-clause-runs
 returns-in-Some-2-clause-runs g c = runs_judge c.in_ok-trees.ensures.runs c.in_ok-page.ensures.runs
 
 pub returns-clause-verdict : goal.returns-clause-verdict
 returns-clause-verdict g c =
-    IfOk-weaker c.judge_blocks.result _ _ (λ verdict tells told kept.
-    let ext = c.args.ext.now in
-    let defs = c.args.defs.now in
-    let old = c.args.pages.now in
-    let pages = (g.P.Pages.state old).work in
-    let times = c.in_ok-trees.trees.times.items in
-    let trees = trees_kept ext pages c.in_ok-trees.trees.broken c.in_default.not-Some defs times kept (c.in_ok-trees.ensures.judged told) in
-    let says = subst (λ counted. SaysTreePages ext counted c.in_ok-page.field-0 pages) c.deref.ensures.value
-    (still_says g.P.Pages old c.judge_trees.new.pages (SaysTreePages ext c.deref.result.now c.in_ok-page.field-0) c.in_ok-trees.ensures.runs.works.steady.is_told c.judge_trees.ensures.same
-    c.in_ok-page.ensures.judged told) in
-    still_says g.P.Pages old c.judge_tree_pages.new.pages (λ now. KeepsTrees ext defs now → IsVerdictOf ext now verdict)
-    (c.in_ok-page.ensures.runs.works.steady.is_told ∙ c.in_ok-trees.ensures.runs.works.steady.is_told) (c.judge_tree_pages.ensures.same ∙ c.judge_trees.ensures.same) tells told
-    (tree_pages_kept ext pages c.in_ok-page.field-0 c.in_default-2.not-Some defs times trees says))
-    c.judge_blocks.ensures.verdict
+    let at = goal.at.returns-clause-verdict g c in
+    verdict_behind (tree_pages g at.In_default-2 (trees g at.After-deref)) c.args.ext.now c.judge_blocks.result c.judge_blocks.ensures.verdict
 
 pub returns-clause-runs : goal.returns-clause-runs
 returns-clause-runs g c =
-    runs_known (KeepsTables c.args.ext.now c.args.defs.now) (KeepsTrees c.args.ext.now c.args.defs.now) (runs_judge {Breaks = NoDamage} c.in_ok-trees.ensures.runs c.in_ok-page.ensures.runs)
-    (c.judge_tree_pages.ensures.same ∙ c.judge_trees.ensures.same) (λ told kept.
-    let ext = c.args.ext.now in
-    let defs = c.args.defs.now in
-    let old = c.args.pages.now in
-    let pages = (g.P.Pages.state old).work in
-    let times = c.in_ok-trees.trees.times.items in
-    let trees = trees_kept ext pages c.in_ok-trees.trees.broken c.in_default.not-Some defs times kept (c.in_ok-trees.ensures.judged told) in
-    let says = subst (λ counted. SaysTreePages ext counted c.in_ok-page.field-0 pages) c.deref.ensures.value
-    (still_says g.P.Pages old c.judge_trees.new.pages (SaysTreePages ext c.deref.result.now c.in_ok-page.field-0) c.in_ok-trees.ensures.runs.works.steady.is_told c.judge_trees.ensures.same
-    c.in_ok-page.ensures.judged told) in
-    tree_pages_kept ext pages c.in_ok-page.field-0 c.in_default-2.not-Some defs times trees says) c.judge_blocks.ensures.runs
+    let at = goal.at.returns-clause-runs g c in
+    runs_next (tree_pages g at.In_default-2 (trees g at.After-deref)) (KeepsTrees c.args.ext.now c.args.defs.now) (λ kept. kept) c.judge_blocks.ensures.runs

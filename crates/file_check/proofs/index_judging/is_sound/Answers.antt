@@ -1,20 +1,17 @@
-use Rattle.std.proofs.Common.{◌≡◌, ◌-◌, ◌∙◌, List, ℕ, arith, refl, subst}
+use Rattle.std.proofs.Common.{◌≡◌, ◌-◌, ◌∙◌, List, ℕ, arith, subst}
 use Rattle.std.specs.Prelude.{Contains}
-use Rattle.store_api.proofs.RunsOverPagesLemmas.{runs_exit, runs_then}
+use Rattle.store_api.proofs.RunsOverPagesLemmas.{runs_exit}
 use Rattle.key_codec.specs.Keys.{width_of_parts}
 use Rattle.entry_tree.specs.Forest.{leaf_entries}
-use Rattle.table_trees.specs.TableTrees.{place_of_tree}
 use Rattle.file_check.specs.TableIndexes.{NotesEntries, bytes_behind_key, entries_of_blocks, noted_entries}
-use Rattle.file_check.proofs.IndexJudgingLemmas.{noted_as_sound, sound_as_noted, unless_later_tree, when_true}
-use Rattle.file_check.proofs.RowEntriesLemmas.{holds_told, unless_tree}
+use Rattle.file_check.proofs.IndexJudgingLemmas.{noted_as_sound, runs_entries, sound_as_noted, when_true}
+use Rattle.file_check.proofs.RowEntriesLemmas.{holds_told}
 use Rattle.file_check.proofs.index_judging.is_sound.Goals as goal
 
 pub returns-in_err-entries-clause-runs : goal.returns-in_err-entries-clause-runs
 returns-in_err-entries-clause-runs g c =
     runs_exit c.from_residual-in_err-entries.result c.from_residual-in_err-entries.ensures.1
-    (runs_then c.in_ok-note_rows.ensures.runs c.in_err-entries.ensures.runs (λ p there mine. mine) (λ p is. tt)
-    (λ damage b. unless_later_tree g.P.Pages c.args.ext.now c.args.pages.now c.note_rows.new.pages c.args.def.now c.args.used.now (place_of_tree c.args.index.now.tree) damage
-    c.in_ok-note_rows.ensures.runs.works.steady.is_told c.in_ok-note_rows.ensures.same (unless_tree c.note_rows.new.pages c.note_rows.new.pages c.args.index.now.tree damage refl refl b)))
+    (runs_entries c.args.ext.now c.args.def.now c.args.used.now c.args.index.now.tree c.in_ok-note_rows.ensures.runs c.in_ok-note_rows.ensures.same c.in_err-entries.ensures.runs)
 
 pub returns-clause-sound : goal.returns-clause-sound
 returns-clause-sound g c told readable tree has =
@@ -36,7 +33,4 @@ returns-clause-sound g c told readable tree has =
     )
 
 pub returns-clause-runs : goal.returns-clause-runs
-returns-clause-runs g c =
-    runs_then c.in_ok-note_rows.ensures.runs c.in_ok-entries.ensures.runs (λ p there mine. mine) (λ p is. tt)
-    (λ damage b. unless_later_tree g.P.Pages c.args.ext.now c.args.pages.now c.note_rows.new.pages c.args.def.now c.args.used.now (place_of_tree c.args.index.now.tree) damage
-    c.in_ok-note_rows.ensures.runs.works.steady.is_told c.in_ok-note_rows.ensures.same (unless_tree c.note_rows.new.pages c.note_rows.new.pages c.args.index.now.tree damage refl refl b))
+returns-clause-runs g c = runs_entries c.args.ext.now c.args.def.now c.args.used.now c.args.index.now.tree c.in_ok-note_rows.ensures.runs c.in_ok-note_rows.ensures.same c.in_ok-entries.ensures.runs

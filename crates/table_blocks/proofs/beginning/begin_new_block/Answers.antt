@@ -1,10 +1,34 @@
-use Rattle.std.proofs.Common.{None}
 use Rattle.store_api.proofs.RunsOverPagesLemmas.{runs_exit_as}
 use Rattle.extent_map.specs.Damages.{store_part_of}
 use Rattle.entry_tree.proofs.ClaimsLemmas.{if_err_by}
-use Rattle.table_blocks.proofs.NewBlockLemmas.{begins_new, claim_run, enter_full, enter_run, fill_full, fill_run, where_claimed}
+use Rattle.table_blocks.proofs.NewBlockLemmas.{ClaimsNewBlock, EntersNewBlock, begins_new, claim_run, enter_full, enter_run, fill_full, fill_run, where_claimed}
 use Rattle.table_blocks.proofs.NewBlockSpaceLemmas.{claim_asks, entry_asks, new_full, new_makes}
+use Rattle.table_blocks.proofs.beginning.begin_new_block.Given.{Over}
+use Rattle.table_blocks.proofs.beginning.begin_new_block.Goals.{After-first_line, In_ok-enter}
 use Rattle.table_blocks.proofs.beginning.begin_new_block.Goals as goal
+
+-- the extent that was claimed, and the line that its block is to have
+claimed : (g : Over) (c : After-first_line g)
+    → ClaimsNewBlock g.P.Pages c.args.ext.now c.claim_block.new.self c.args.pages.now c.claim_block.new.pages c.args.def.now c.in_ok-block.block c.at-map.result.tree c.first_line.result
+claimed g c =
+    let made = c.in_ok-block.ensures in
+    record {
+      defined = c.requires.defined;
+      shape = made.shape;
+      claims =
+          where_claimed c.args.ext.now c.claim_block.new.self c.args.pages.now c.claim_block.new.pages c.args.def.now c.in_ok-block.block c.requires.defined
+          made.within made.free made.claims made.notes made.shape made.stated made.count made.runs;
+      lowest = made.lowest;
+      count = made.count;
+      run = made.runs;
+      root = c.at-map.ensures;
+      width = c.at-map.result.seven;
+      line_is = c.first_line.ensures;
+    }
+
+-- the line, once it is in the block map
+entered : (g : Over) (c : In_ok-enter g) → EntersNewBlock g.P.Pages c.claim_block.new.self c.enter.new.ext c.claim_block.new.pages c.enter.new.pages c.at-map.result.tree c.first_line.result
+entered g c = let adds = c.in_ok-enter.ensures in record { shape = adds.shape; adds = adds.adds; run = adds.runs }
 
 pub returns-in_err-block-clause-runs : goal.returns-in_err-block-clause-runs
 returns-in_err-block-clause-runs g c =
@@ -17,137 +41,48 @@ returns-in_err-block-clause-runs_full g c =
 
 pub returns-in_err-enter-clause-full : goal.returns-in_err-enter-clause-full
 returns-in_err-enter-clause-full g c =
-    let before = c.args.ext.now in
-    let mid_ext = c.claim_block.new.self in
-    let old = c.args.pages.now in
-    let mid = c.claim_block.new.pages in
-    let def = c.args.def.now in
-    let block = c.in_ok-block.block in
-    let made = c.in_ok-block.ensures in
-    let claims = where_claimed before mid_ext old mid def block c.requires.defined made.within made.free made.claims made.notes made.shape made.stated made.count made.runs in
     if_err_by c.from_residual-in_err-enter.result c.in_err-enter.field-0.0 _ c.from_residual-in_err-enter.ensures.1
-    (enter_full before mid_ext old mid def block c.requires.defined made.shape claims c.at-map.result.tree c.at-map.ensures c.at-map.result.seven c.first_line.result c.first_line.ensures
-    c.enter.new.ext c.enter.new.pages c.in_err-enter.field-0.0 c.in_err-enter.ensures.full)
+    (enter_full (claimed g (goal.at.returns-in_err-enter-clause-full g c).After-first_line) c.enter.new.ext c.enter.new.pages c.in_err-enter.field-0.0 c.in_err-enter.ensures.full)
 
 pub returns-in_err-enter-clause-runs : goal.returns-in_err-enter-clause-runs
 returns-in_err-enter-clause-runs g c =
-    let before = c.args.ext.now in
-    let mid_ext = c.claim_block.new.self in
-    let old = c.args.pages.now in
-    let mid = c.claim_block.new.pages in
-    let def = c.args.def.now in
-    let block = c.in_ok-block.block in
-    let made = c.in_ok-block.ensures in
-    let claims = where_claimed before mid_ext old mid def block c.requires.defined made.within made.free made.claims made.notes made.shape made.stated made.count made.runs in
     runs_exit_as store_part_of c.from_residual-in_err-enter.result c.from_residual-in_err-enter.ensures.1
-    (enter_run before mid_ext old mid def block c.requires.defined made.shape claims c.at-map.result.tree c.at-map.ensures c.at-map.result.seven c.first_line.result c.first_line.ensures
-    (claim_run before old def {fault = None} made.runs) c.in_err-enter.ensures.runs)
+    (enter_run (claimed g (goal.at.returns-in_err-enter-clause-runs g c).After-first_line) c.in_err-enter.ensures.runs)
 
 pub returns-in_err-enter-clause-runs_full : goal.returns-in_err-enter-clause-runs_full
 returns-in_err-enter-clause-runs_full g c =
-    let before = c.args.ext.now in
-    let mid_ext = c.claim_block.new.self in
-    let old = c.args.pages.now in
-    let mid = c.claim_block.new.pages in
-    let def = c.args.def.now in
-    let block = c.in_ok-block.block in
-    let made = c.in_ok-block.ensures in
-    let claims = where_claimed before mid_ext old mid def block c.requires.defined made.within made.free made.claims made.notes made.shape made.stated made.count made.runs in
     if_err_by c.from_residual-in_err-enter.result c.in_err-enter.field-0.0 _ c.from_residual-in_err-enter.ensures.1
-    (entry_asks before mid_ext old mid def block c.requires.defined made.shape claims made.lowest made.count made.runs c.at-map.result.tree c.at-map.ensures c.at-map.result.seven c.first_line.result c.first_line.ensures c.args.row.now
-    c.enter.new.ext c.enter.new.pages c.in_err-enter.field-0.0 c.in_err-enter.ensures.full)
+    (entry_asks (claimed g (goal.at.returns-in_err-enter-clause-runs_full g c).After-first_line) c.args.row.now c.enter.new.ext c.enter.new.pages c.in_err-enter.field-0.0 c.in_err-enter.ensures.full)
 
 pub returns-in_err-fill_begun-clause-full : goal.returns-in_err-fill_begun-clause-full
 returns-in_err-fill_begun-clause-full g c =
-    let before = c.args.ext.now in
-    let mid_ext = c.claim_block.new.self in
-    let old = c.args.pages.now in
-    let mid = c.claim_block.new.pages in
-    let def = c.args.def.now in
-    let block = c.in_ok-block.block in
-    let made = c.in_ok-block.ensures in
-    let claims = where_claimed before mid_ext old mid def block c.requires.defined made.within made.free made.claims made.notes made.shape made.stated made.count made.runs in
+    let at = goal.at.returns-in_err-fill_begun-clause-full g c in
     if_err_by c.from_residual-in_err-fill_begun.result c.in_err-fill_begun.field-0.0 _ c.from_residual-in_err-fill_begun.ensures.1
-    (fill_full before mid_ext old mid def block c.requires.defined made.shape claims c.at-map.result.tree c.at-map.ensures c.at-map.result.seven c.first_line.result c.first_line.ensures
-    c.enter.new.ext c.enter.new.pages c.in_ok-enter.ensures.shape c.in_ok-enter.ensures.adds c.in_ok-enter.ensures.runs
-    c.fill_begun.new.ext c.fill_begun.new.pages c.in_err-fill_begun.field-0.0 c.in_err-fill_begun.ensures.full)
+    (fill_full (claimed g at.After-first_line) (entered g at.In_ok-enter) c.fill_begun.new.ext c.fill_begun.new.pages c.in_err-fill_begun.field-0.0 c.in_err-fill_begun.ensures.full)
 
 pub returns-in_err-fill_begun-clause-runs : goal.returns-in_err-fill_begun-clause-runs
 returns-in_err-fill_begun-clause-runs g c =
-    let before = c.args.ext.now in
-    let mid_ext = c.claim_block.new.self in
-    let old = c.args.pages.now in
-    let mid = c.claim_block.new.pages in
-    let def = c.args.def.now in
-    let block = c.in_ok-block.block in
-    let made = c.in_ok-block.ensures in
-    let claims = where_claimed before mid_ext old mid def block c.requires.defined made.within made.free made.claims made.notes made.shape made.stated made.count made.runs in
-    let tree = c.at-map.result.tree in
-    let root = c.at-map.ensures in
-    let width = c.at-map.result.seven in
-    let line = c.first_line.result in
+    let at = goal.at.returns-in_err-fill_begun-clause-runs g c in
     runs_exit_as store_part_of c.from_residual-in_err-fill_begun.result c.from_residual-in_err-fill_begun.ensures.1
-    (fill_run before mid_ext old mid def block c.requires.defined made.shape claims tree root width line c.first_line.ensures
-    c.enter.new.ext c.enter.new.pages c.in_ok-enter.ensures.shape c.in_ok-enter.ensures.adds c.in_ok-enter.ensures.runs
-    (enter_run before mid_ext old mid def block c.requires.defined made.shape claims tree root width line c.first_line.ensures {fault = None} (claim_run before old def {fault = None} made.runs) c.in_ok-enter.ensures.runs)
-    c.in_err-fill_begun.ensures.runs)
+    (fill_run (claimed g at.After-first_line) (entered g at.In_ok-enter) c.in_err-fill_begun.ensures.runs)
 
 pub returns-in_err-fill_begun-clause-runs_full : goal.returns-in_err-fill_begun-clause-runs_full
 returns-in_err-fill_begun-clause-runs_full g c =
-    let before = c.args.ext.now in
-    let mid_ext = c.claim_block.new.self in
-    let old = c.args.pages.now in
-    let mid = c.claim_block.new.pages in
-    let def = c.args.def.now in
-    let block = c.in_ok-block.block in
-    let made = c.in_ok-block.ensures in
-    let claims = where_claimed before mid_ext old mid def block c.requires.defined made.within made.free made.claims made.notes made.shape made.stated made.count made.runs in
+    let at = goal.at.returns-in_err-fill_begun-clause-runs_full g c in
     if_err_by c.from_residual-in_err-fill_begun.result c.in_err-fill_begun.field-0.0 _ c.from_residual-in_err-fill_begun.ensures.1
-    (new_full before mid_ext old mid def block c.requires.defined made.shape claims made.lowest made.count made.runs c.at-map.result.tree c.at-map.ensures c.at-map.result.seven c.first_line.result c.first_line.ensures
-    c.enter.new.ext c.enter.new.pages c.in_ok-enter.ensures.shape c.in_ok-enter.ensures.adds c.in_ok-enter.ensures.runs c.args.row.now c.in_err-fill_begun.field-0.0 c.in_err-fill_begun.ensures.runs_full)
+    (new_full (claimed g at.After-first_line) (entered g at.In_ok-enter) c.args.row.now c.in_err-fill_begun.field-0.0 c.in_err-fill_begun.ensures.runs_full)
 
 pub returns-clause-makes : goal.returns-clause-makes
 returns-clause-makes g c =
-    let before = c.args.ext.now in
-    let mid_ext = c.claim_block.new.self in
-    let old = c.args.pages.now in
-    let mid = c.claim_block.new.pages in
-    let def = c.args.def.now in
-    let block = c.in_ok-block.block in
-    let made = c.in_ok-block.ensures in
-    let claims = where_claimed before mid_ext old mid def block c.requires.defined made.within made.free made.claims made.notes made.shape made.stated made.count made.runs in
-    new_makes before mid_ext old mid def block c.requires.defined made.shape claims made.lowest made.count made.runs c.at-map.result.tree c.at-map.ensures c.at-map.result.seven c.first_line.result c.first_line.ensures
-    c.enter.new.ext c.enter.new.pages c.in_ok-enter.ensures.shape c.in_ok-enter.ensures.adds c.in_ok-enter.ensures.runs c.args.row.now c.fill_begun.new.pages c.in_ok-fill_begun.ensures.makes
+    let at = goal.at.returns-clause-makes g c in
+    new_makes (claimed g at.After-first_line) (entered g at.In_ok-enter) c.args.row.now c.fill_begun.new.pages c.in_ok-fill_begun.ensures.makes
 
 pub returns-clause-begins : goal.returns-clause-begins
 returns-clause-begins g c =
-    let before = c.args.ext.now in
-    let mid_ext = c.claim_block.new.self in
-    let old = c.args.pages.now in
-    let mid = c.claim_block.new.pages in
-    let def = c.args.def.now in
-    let block = c.in_ok-block.block in
-    let made = c.in_ok-block.ensures in
-    let claims = where_claimed before mid_ext old mid def block c.requires.defined made.within made.free made.claims made.notes made.shape made.stated made.count made.runs in
-    begins_new before mid_ext old mid def block c.requires.defined made.shape claims c.at-map.result.tree c.at-map.ensures c.at-map.result.seven c.first_line.result c.first_line.ensures
-    c.enter.new.ext c.enter.new.pages c.in_ok-enter.ensures.shape c.in_ok-enter.ensures.adds c.in_ok-enter.ensures.runs
-    c.args.row.now c.fill_begun.new.ext c.fill_begun.new.pages c.requires.fits c.in_ok-fill_begun.ensures.fills
+    let at = goal.at.returns-clause-begins g c in
+    begins_new (claimed g at.After-first_line) (entered g at.In_ok-enter) c.args.row.now c.fill_begun.new.ext c.fill_begun.new.pages c.requires.fits c.in_ok-fill_begun.ensures.fills
 
 pub returns-clause-runs : goal.returns-clause-runs
 returns-clause-runs g c =
-    let before = c.args.ext.now in
-    let mid_ext = c.claim_block.new.self in
-    let old = c.args.pages.now in
-    let mid = c.claim_block.new.pages in
-    let def = c.args.def.now in
-    let block = c.in_ok-block.block in
-    let made = c.in_ok-block.ensures in
-    let claims = where_claimed before mid_ext old mid def block c.requires.defined made.within made.free made.claims made.notes made.shape made.stated made.count made.runs in
-    let tree = c.at-map.result.tree in
-    let root = c.at-map.ensures in
-    let width = c.at-map.result.seven in
-    let line = c.first_line.result in
-    fill_run before mid_ext old mid def block c.requires.defined made.shape claims tree root width line c.first_line.ensures
-    c.enter.new.ext c.enter.new.pages c.in_ok-enter.ensures.shape c.in_ok-enter.ensures.adds c.in_ok-enter.ensures.runs
-    (enter_run before mid_ext old mid def block c.requires.defined made.shape claims tree root width line c.first_line.ensures {fault = None} (claim_run before old def {fault = None} made.runs) c.in_ok-enter.ensures.runs)
-    c.in_ok-fill_begun.ensures.runs
+    let at = goal.at.returns-clause-runs g c in
+    fill_run (claimed g at.After-first_line) (entered g at.In_ok-enter) c.in_ok-fill_begun.ensures.runs

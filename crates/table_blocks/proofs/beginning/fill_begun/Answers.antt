@@ -6,7 +6,29 @@ use Rattle.extent_map.specs.Damages.{store_part_of}
 use Rattle.mdc_sound.proofs.DefinitionTreesLemmas.{has_block_indexes}
 use Rattle.table_blocks.proofs.BeginningSpaceLemmas.{filling_full, filling_makes}
 use Rattle.table_blocks.proofs.FillBegunLemmas.{PutsFirstRow, fills_listed, full_listed, row_keys, run_before, run_listing, run_putting, run_wiping}
+use Rattle.table_blocks.proofs.beginning.fill_begun.Given.{Over}
+use Rattle.table_blocks.proofs.beginning.fill_begun.Goals.{In_ok-put_slot}
 use Rattle.table_blocks.proofs.beginning.fill_begun.Goals as goal
+
+-- the row lies in the lowest slot of the block, which is listed next
+put : (g : Over) (c : In_ok-put_slot g)
+    → PutsFirstRow g.P.Pages c.args.ext.now c.args.pages.now c.wipe_block.new.pages c.put_slot.new.pages c.args.def.now c.args.block c.args.row.now c.in_ok-cell.cell
+put g c =
+    let wiped = c.in_ok-wipe_block.ensures in
+    let slot = c.in_ok-put_slot.ensures in
+    record {
+      low = c.requires.within;
+      wipes = wiped.runs;
+      wipe_count = wiped.count;
+      empty = wiped.wipes;
+      puts = slot.runs;
+      put_count = slot.count;
+      has = slot.puts;
+      small = c.ranges.block.fits;
+      defined = c.requires.defined;
+      fits = c.requires.fits;
+      of_row = c.in_ok-cell.ensures.cell;
+    }
 
 pub cell_of-requires : goal.cell_of-requires
 cell_of-requires g c = record { keys = row_keys c.args.def.now c.args.row.now c.requires.defined c.requires.fits }
@@ -32,87 +54,21 @@ list_block-requires-clause-indexes g c = has_block_indexes c.args.def.now.number
 
 pub returns-clause-fills : goal.returns-clause-fills
 returns-clause-fills g c =
-    let ext = c.args.ext.now in
-    let def = c.args.def.now in
-    let row = c.args.row.now in
-    let put : PutsFirstRow g.P.Pages ext c.args.pages.now c.wipe_block.new.pages c.put_slot.new.pages def c.args.block row = record {
-      low = c.requires.within;
-      wipes = c.in_ok-wipe_block.ensures.runs;
-      wipe_count = c.in_ok-wipe_block.ensures.count;
-      empty = c.in_ok-wipe_block.ensures.wipes;
-      puts = c.in_ok-put_slot.ensures.runs;
-      put_count = c.in_ok-put_slot.ensures.count;
-      has = c.in_ok-put_slot.ensures.puts;
-    } in
-    fills_listed ext def c.args.block c.args.pages.now c.wipe_block.new.pages c.put_slot.new.pages row put c.in_ok-cell.cell c.ranges.block.fits c.requires.defined c.requires.fits c.in_ok-cell.ensures.cell
-    c.list_block.new.ext c.list_block.new.pages c.list_block.result c.list_block.ensures.lists c.list_block.ensures.grows c.list_block.ensures.shape c.list_block.ensures.runs
+    let listed = c.list_block.ensures in
+    fills_listed (put g (goal.at.returns-clause-fills g c).In_ok-put_slot) c.list_block.new.ext c.list_block.new.pages c.list_block.result listed.lists listed.grows listed.shape listed.runs
 
 pub returns-clause-full : goal.returns-clause-full
 returns-clause-full g c =
-    let ext = c.args.ext.now in
-    let def = c.args.def.now in
-    let row = c.args.row.now in
-    let put : PutsFirstRow g.P.Pages ext c.args.pages.now c.wipe_block.new.pages c.put_slot.new.pages def c.args.block row = record {
-      low = c.requires.within;
-      wipes = c.in_ok-wipe_block.ensures.runs;
-      wipe_count = c.in_ok-wipe_block.ensures.count;
-      empty = c.in_ok-wipe_block.ensures.wipes;
-      puts = c.in_ok-put_slot.ensures.runs;
-      put_count = c.in_ok-put_slot.ensures.count;
-      has = c.in_ok-put_slot.ensures.puts;
-    } in
-    full_listed ext def c.args.block c.args.pages.now c.wipe_block.new.pages c.put_slot.new.pages row put c.in_ok-cell.cell c.ranges.block.fits c.requires.defined c.requires.fits c.in_ok-cell.ensures.cell
-    c.list_block.new.ext c.list_block.new.pages c.list_block.result c.list_block.ensures.full c.list_block.ensures.shape
+    full_listed (put g (goal.at.returns-clause-full g c).In_ok-put_slot) c.list_block.new.ext c.list_block.new.pages c.list_block.result c.list_block.ensures.full c.list_block.ensures.shape
 
 pub returns-clause-makes : goal.returns-clause-makes
 returns-clause-makes g c =
-    let ext = c.args.ext.now in
-    let def = c.args.def.now in
-    let row = c.args.row.now in
-    let put : PutsFirstRow g.P.Pages ext c.args.pages.now c.wipe_block.new.pages c.put_slot.new.pages def c.args.block row = record {
-      low = c.requires.within;
-      wipes = c.in_ok-wipe_block.ensures.runs;
-      wipe_count = c.in_ok-wipe_block.ensures.count;
-      empty = c.in_ok-wipe_block.ensures.wipes;
-      puts = c.in_ok-put_slot.ensures.runs;
-      put_count = c.in_ok-put_slot.ensures.count;
-      has = c.in_ok-put_slot.ensures.puts;
-    } in
-    on_ok_weaker c.list_block.result
-    (filling_makes ext def c.args.block c.args.pages.now c.wipe_block.new.pages c.put_slot.new.pages row put c.in_ok-cell.cell c.ranges.block.fits c.requires.defined c.requires.fits c.in_ok-cell.ensures.cell c.list_block.new.pages)
-    c.list_block.ensures.makes
+    on_ok_weaker c.list_block.result (filling_makes (put g (goal.at.returns-clause-makes g c).In_ok-put_slot) c.list_block.new.pages) c.list_block.ensures.makes
 
 pub returns-clause-runs_full : goal.returns-clause-runs_full
 returns-clause-runs_full g c =
-    let ext = c.args.ext.now in
-    let def = c.args.def.now in
-    let row = c.args.row.now in
-    let put : PutsFirstRow g.P.Pages ext c.args.pages.now c.wipe_block.new.pages c.put_slot.new.pages def c.args.block row = record {
-      low = c.requires.within;
-      wipes = c.in_ok-wipe_block.ensures.runs;
-      wipe_count = c.in_ok-wipe_block.ensures.count;
-      empty = c.in_ok-wipe_block.ensures.wipes;
-      puts = c.in_ok-put_slot.ensures.runs;
-      put_count = c.in_ok-put_slot.ensures.count;
-      has = c.in_ok-put_slot.ensures.puts;
-    } in
-    IfErr-weaker c.list_block.result _ _
-    (filling_full ext def c.args.block c.args.pages.now c.wipe_block.new.pages c.put_slot.new.pages row put c.in_ok-cell.cell c.ranges.block.fits c.requires.defined c.requires.fits c.in_ok-cell.ensures.cell)
-    c.list_block.ensures.runs_full
+    IfErr-weaker c.list_block.result _ _ (filling_full (put g (goal.at.returns-clause-runs_full g c).In_ok-put_slot)) c.list_block.ensures.runs_full
 
 pub returns-clause-runs : goal.returns-clause-runs
 returns-clause-runs g c =
-    let ext = c.args.ext.now in
-    let def = c.args.def.now in
-    let row = c.args.row.now in
-    let put : PutsFirstRow g.P.Pages ext c.args.pages.now c.wipe_block.new.pages c.put_slot.new.pages def c.args.block row = record {
-      low = c.requires.within;
-      wipes = c.in_ok-wipe_block.ensures.runs;
-      wipe_count = c.in_ok-wipe_block.ensures.count;
-      empty = c.in_ok-wipe_block.ensures.wipes;
-      puts = c.in_ok-put_slot.ensures.runs;
-      put_count = c.in_ok-put_slot.ensures.count;
-      has = c.in_ok-put_slot.ensures.puts;
-    } in
-    run_listing ext def c.args.block c.args.pages.now c.wipe_block.new.pages c.put_slot.new.pages row put c.in_ok-cell.cell c.ranges.block.fits c.requires.defined c.requires.fits c.in_ok-cell.ensures.cell
-    c.list_block.new.pages (store_fault_in store_part_of c.list_block.result) c.list_block.ensures.runs
+    run_listing (put g (goal.at.returns-clause-runs g c).In_ok-put_slot) c.list_block.new.pages (store_fault_in store_part_of c.list_block.result) c.list_block.ensures.runs

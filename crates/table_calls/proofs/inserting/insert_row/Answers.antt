@@ -1,6 +1,5 @@
-use Rattle.std.proofs.Common.{◌≡◌, ◌+◌, List, [], ◌∷◌, ap, slice_index_or, subst}
+use Rattle.std.proofs.Common.{◌≡◌, ◌+◌, [], ◌∷◌, ap, slice_index_or, subst}
 use Rattle.extent_map.specs.Damages.{store_part_of}
-use Rattle.extent_map.specs.declared.kind.Kind.{Kind}
 use Rattle.mdc_ast.specs.declared.definition.TableDef.{TableDef}
 use Rattle.mdc_ast.specs.meaning.Database.{changed_at}
 use Rattle.mdc_ast.specs.meaning.Doing.{appended}
@@ -9,13 +8,12 @@ use Rattle.table_trees.specs.ToldPages.{PageList}
 use Rattle.mdc_sound.specs.Placing.{table_spots}
 use Rattle.mdc_sound.specs.Placing.Spot.{OtherBlock}
 use Rattle.mdc_sound.specs.RunningFull.{InsertRunsFull, putting_changes}
-use Rattle.mdc_sound.specs.StandingTable.{IsReadyTable, TableForests}
 use Rattle.cell_rooms.specs.RoomNotes.{room_of}
-use Rattle.entry_tree.proofs.ClaimsLemmas.{shape_then}
 use Rattle.table_calls.specs.ExactDamage.{JudgesFault}
-use Rattle.table_calls.proofs.ExactDamageLemmas.{answers_exactly, answers_none, full_handed_on}
-use Rattle.table_calls.proofs.MarkedChangesLemmas.{undone_change, unkept_change, whole_kept, whole_left}
-use Rattle.table_calls.proofs.SamePagesLemmas.{inserts_between, ready_there, said_between, sound_there, stands_for_there, stands_there, stays_between}
+use Rattle.table_calls.proofs.EndingLemmas.{end_change, end_unkept, full_back, whole_back}
+use Rattle.table_calls.proofs.ExactDamageLemmas.{answers_none}
+use Rattle.table_calls.proofs.MarkedChangesLemmas.{whole_kept}
+use Rattle.table_calls.proofs.SamePagesLemmas.{if_stood, inserts_between, ready_there, said_between, sound_there, stands_for_there, stays_between}
 use Rattle.table_calls.proofs.inserting.insert_row.Goals as goal
 
 -- a number that was raised and put back
@@ -43,38 +41,26 @@ returns-in-Ok-keep_or_undo g c =
       kept = tt;
       full = tt;
       exact = answers_none g.P.Pages ext def c.args.pages.now;
-      whole = whole_kept c.begin_change.ensures c.in-Ok.ensures.runs (λ p mine owners forests st. mine owners forests (stands_there first st)) keeps c.in-Ok-keep_or_undo.ensures.device c.insert_row.ensures.shape;
+      whole = whole_kept c.begin_change.ensures c.in-Ok.ensures.runs (λ p. if_stood first) keeps c.in-Ok-keep_or_undo.ensures.device c.insert_row.ensures.shape;
     }
 
 pub returns-in-Err-keep_or_undo : goal.returns-in-Err-keep_or_undo
 returns-in-Err-keep_or_undo g c =
-    let undoes = c.in-Err-keep_or_undo.ensures.undoes in
-    let left = unkept_change c.in-Err-keep_or_undo.fault c.begin_change.ensures c.in-Ok.ensures.runs undoes c.in-Err-keep_or_undo.ensures.device in
-    record {
-      inserts = tt;
-      makes = tt;
-      stay = tt;
-      sound = tt;
-      stands_for = tt;
-      next = tt;
-      kept = number_back c.args.def.now c.insert_row.new.def c.in-Ok.ensures.next;
-      full = tt;
-      exact = λ damage is. absurd (c.in-Err-keep_or_undo.ensures.damaged damage is);
-      whole = whole_left left undoes c.insert_row.ensures.shape c.forget_notes.ensures;
-    }
+    let undone = c.in-Err-keep_or_undo.ensures in
+    let ends = end_unkept c.args.def.now c.begin_change.ensures c.in-Ok.ensures.runs c.insert_row.ensures.shape undone.undoes undone.device undone.damaged c.forget_notes.ensures in
+    let back = number_back c.args.def.now c.insert_row.new.def c.in-Ok.ensures.next in
+    record { inserts = tt; makes = tt; stay = tt; sound = tt; stands_for = tt; next = tt; kept = back; full = tt; exact = ends.left.exact; whole = whole_back ends }
 
 pub returns-in-Err : goal.returns-in-Err
 returns-in-Err g c =
     let ext = c.args.ext.now in
     let def = c.args.def.now in
-    let s = c.args.pages.now in
-    let marked = c.begin_change.new.pages in
-    let ends = c.undo_space_change in
     let first = c.begin_change.ensures.pages in
-    let met = store_part_of c.in-Err.fault in
-    let answered = store_part_of ends.result in
-    let left = undone_change met answered c.begin_change.ensures c.in-Err.ensures.runs ends.ensures.undoes ends.ensures.device in
-    let rows = c.args.row.now ∷ [] in
+    let undo = c.undo_space_change in
+    let undone = undo.ensures in
+    let judges = subst (λ (d : TableDef). JudgesFault g.P.Pages undo.new.ext d undo.new.pages (store_part_of c.in-Err.fault) (store_part_of undo.result)) c.in-Err.ensures.kept undone.exact in
+    let ends = end_change c.begin_change.ensures c.in-Err.ensures.runs c.insert_row.ensures.shape undone.undoes undone.device undone.forgets judges c.requires.defined c.requires.place in
+    let RunsFull : PageList → Type 0 = λ work. InsertRunsFull ext work def (c.args.row.now ∷ []) in
     record {
       inserts = tt;
       makes = tt;
@@ -83,13 +69,8 @@ returns-in-Err g c =
       stands_for = tt;
       next = tt;
       kept = c.in-Err.ensures.kept;
-      full = full_handed_on ext.cap
-          ((owners : List Kind) (forests : TableForests) → IsReadyTable g.P.Pages ext (room_of c.args.rooms.now) marked def owners forests → InsertRunsFull ext (g.P.Pages.state marked).work def rows)
-          ((owners : List Kind) (forests : TableForests) → IsReadyTable g.P.Pages ext (room_of c.args.rooms.now) s def owners forests → InsertRunsFull ext (g.P.Pages.state s).work def rows)
-          c.in-Err.fault ends.result (λ full owners forests ready. subst (λ (work : PageList). InsertRunsFull ext work def rows) first.same (full owners forests (ready_there first ready))) ends.ensures.full c.in-Err.ensures.full;
-      exact = answers_exactly g.P.Pages ext ends.new.ext s ends.new.pages def met answered c.requires.defined c.requires.place
-          (shape_then ext c.insert_row.new.ext ends.new.ext c.insert_row.ensures.shape ends.ensures.forgets.shape) left.pages
-          (λ damage is owners forests st. (c.in-Err.ensures.runs.cause.damaged damage is).broken owners forests (stands_there first st))
-          (subst (λ (d : TableDef). JudgesFault g.P.Pages ends.new.ext d ends.new.pages met answered) c.in-Err.ensures.kept ends.ensures.exact);
-      whole = whole_left left ends.ensures.undoes c.insert_row.ensures.shape ends.ensures.forgets;
+      full = full_back ext def (room_of c.args.rooms.now) (λ owners forests. RunsFull (g.P.Pages.state c.begin_change.new.pages).work) (λ owners forests. RunsFull (g.P.Pages.state c.args.pages.now).work) c.in-Err.fault
+          undo.result first (λ owners forests. subst RunsFull first.same) undone.full c.in-Err.ensures.full;
+      exact = ends.left.exact;
+      whole = whole_back ends;
     }

@@ -1,18 +1,15 @@
-use Rattle.std.proofs.Common.{List, slice_index_or}
-use Rattle.extent_map.specs.Damages.{store_part_of}
-use Rattle.extent_map.specs.declared.kind.Kind.{Kind}
+use Rattle.std.proofs.Common.{slice_index_or}
 use Rattle.table_trees.specs.SpaceChanges.{MakesChanges}
 use Rattle.mdc_sound.specs.Placing.{table_spots}
 use Rattle.mdc_sound.specs.Placing.Spot.{OtherBlock}
 use Rattle.mdc_sound.specs.RunningFull.{block_changes}
-use Rattle.mdc_sound.specs.StandingTable.{IsReadyTable, TableForests}
 use Rattle.cell_rooms.specs.RoomNotes.{room_of}
 use Rattle.mdc_table.specs.NextBlock.{FindsNoPlace}
-use Rattle.entry_tree.proofs.ClaimsLemmas.{shape_then}
 use Rattle.table_calls.specs.MissingPlaces.{LacksPlace}
-use Rattle.table_calls.proofs.ExactDamageLemmas.{answers_exactly, answers_none, full_handed_on, lacks_place}
-use Rattle.table_calls.proofs.MarkedChangesLemmas.{undone_change, unkept_change, whole_kept, whole_left}
-use Rattle.table_calls.proofs.SamePagesLemmas.{places_between, ready_there, said_between, stands_there, stays_between}
+use Rattle.table_calls.proofs.EndingLemmas.{end_change, end_unkept, full_back, whole_back}
+use Rattle.table_calls.proofs.ExactDamageLemmas.{answers_none, lacks_place}
+use Rattle.table_calls.proofs.MarkedChangesLemmas.{whole_kept}
+use Rattle.table_calls.proofs.SamePagesLemmas.{if_stood, places_between, ready_there, said_between, stays_between}
 use Rattle.table_calls.proofs.placing.place_row.Goals as goal
 
 pub returns-in-Ok-keep_or_undo : goal.returns-in-Ok-keep_or_undo
@@ -30,43 +27,28 @@ returns-in-Ok-keep_or_undo g c =
           (c.in-Ok.ensures.makes owners forests (ready_there first ready));
       stay = λ owners forests ready. stays_between first keeps.pages (c.in-Ok.ensures.stay owners forests (ready_there first ready));
       exact = answers_none g.P.Pages ext def c.args.pages.now;
-      whole = whole_kept c.begin_change.ensures c.in-Ok.ensures.runs (λ p mine owners forests st. mine owners forests (stands_there first st)) keeps c.in-Ok-keep_or_undo.ensures.device c.place_row.ensures.shape;
+      whole = whole_kept c.begin_change.ensures c.in-Ok.ensures.runs (λ p. if_stood first) keeps c.in-Ok-keep_or_undo.ensures.device c.place_row.ensures.shape;
     }
 
 pub returns-in-Err-keep_or_undo : goal.returns-in-Err-keep_or_undo
 returns-in-Err-keep_or_undo g c =
-    let undoes = c.in-Err-keep_or_undo.ensures.undoes in
-    let left = unkept_change c.in-Err-keep_or_undo.fault c.begin_change.ensures c.in-Ok.ensures.runs undoes c.in-Err-keep_or_undo.ensures.device in
-    record {
-      places = tt;
-      full = tt;
-      makes = tt;
-      stay = tt;
-      exact = λ damage is. absurd (c.in-Err-keep_or_undo.ensures.damaged damage is);
-      whole = whole_left left undoes c.place_row.ensures.shape c.forget_notes.ensures;
-    }
+    let undone = c.in-Err-keep_or_undo.ensures in
+    let ends = end_unkept c.args.def.now c.begin_change.ensures c.in-Ok.ensures.runs c.place_row.ensures.shape undone.undoes undone.device undone.damaged c.forget_notes.ensures in
+    record { places = tt; full = tt; makes = tt; stay = tt; exact = ends.left.exact; whole = whole_back ends }
 
 pub returns-in-Err : goal.returns-in-Err
 returns-in-Err g c =
     let ext = c.args.ext.now in
     let def = c.args.def.now in
-    let s = c.args.pages.now in
-    let marked = c.begin_change.new.pages in
-    let ends = c.undo_space_change in
     let first = c.begin_change.ensures.pages in
-    let met = store_part_of c.in-Err.fault in
-    let answered = store_part_of ends.result in
-    let left = undone_change met answered c.begin_change.ensures c.in-Err.ensures.runs ends.ensures.undoes ends.ensures.device in
+    let undone = c.undo_space_change.ensures in
+    let ends = end_change c.begin_change.ensures c.in-Err.ensures.runs c.place_row.ensures.shape undone.undoes undone.device undone.forgets undone.exact c.requires.defined c.requires.place in
     record {
       places = tt;
+      full = full_back ext def (room_of c.args.rooms.now) (FindsNoPlace g.P.Pages ext c.place_row.new.ext c.begin_change.new.pages c.place_row.new.pages def c.args.row.now) (LacksPlace g.P.Pages ext c.args.pages.now def c.args.row.now)
+          c.in-Err.fault c.undo_space_change.result first (λ owners forests. lacks_place first) undone.full c.in-Err.ensures.full;
       makes = tt;
       stay = tt;
-      full = full_handed_on ext.cap
-          ((owners : List Kind) (forests : TableForests) → IsReadyTable g.P.Pages ext (room_of c.args.rooms.now) marked def owners forests → FindsNoPlace g.P.Pages ext c.place_row.new.ext marked c.place_row.new.pages def c.args.row.now owners forests)
-          ((owners : List Kind) (forests : TableForests) → IsReadyTable g.P.Pages ext (room_of c.args.rooms.now) s def owners forests → LacksPlace g.P.Pages ext s def c.args.row.now owners forests)
-          c.in-Err.fault ends.result (λ finds owners forests ready. lacks_place first (finds owners forests (ready_there first ready))) ends.ensures.full c.in-Err.ensures.full;
-      exact = answers_exactly g.P.Pages ext ends.new.ext s ends.new.pages def met answered c.requires.defined c.requires.place
-          (shape_then ext c.place_row.new.ext ends.new.ext c.place_row.ensures.shape ends.ensures.forgets.shape) left.pages
-          (λ damage is owners forests st. (c.in-Err.ensures.runs.cause.damaged damage is).broken owners forests (stands_there first st)) ends.ensures.exact;
-      whole = whole_left left ends.ensures.undoes c.place_row.ensures.shape ends.ensures.forgets;
+      exact = ends.left.exact;
+      whole = whole_back ends;
     }

@@ -1,33 +1,13 @@
-use Rattle.std.proofs.Common.{◌∙◌, Some}
-use Rattle.entry_tree.proofs.ClaimsLemmas.{shape_none}
-use Rattle.table_calls.proofs.ExactDamageLemmas.{answers_exactly, answers_none}
-use Rattle.table_calls.proofs.MarkedChangesLemmas.{read_fault}
+use Rattle.table_calls.proofs.EndingLemmas.{end_read, read_well}
 use Rattle.table_calls.proofs.reading.account_of.Goals as goal
 
 pub returns-in-Ok : goal.returns-in-Ok
-returns-in-Ok g c = record {
-  counts = c.in-Ok.ensures.counts;
-  exact = answers_none g.P.Pages c.args.ext.now c.args.def.now c.args.pages.now;
-  same = c.account_of.ensures.same;
-  unmarked = c.account_of.ensures.runs.works.marked ∙ c.requires.unmarked;
-  steady = c.account_of.ensures.runs.works.steady;
-  device = c.in-Ok.ensures.runs.cause.device;
-  brings = c.account_of.ensures.runs.brings;
-}
+returns-in-Ok g c =
+    let left = read_well c.args.ext.now c.args.def.now c.in-Ok.ensures.runs c.account_of.ensures.same c.requires.unmarked in
+    record { counts = c.in-Ok.ensures.counts; exact = left.exact; same = left.pages.same; unmarked = left.unmarked; steady = left.steady; device = left.device; brings = c.account_of.ensures.runs.brings }
 
 pub returns-in-Err : goal.returns-in-Err
 returns-in-Err g c =
-    let ext = c.args.ext.now in
-    let s = c.args.pages.now in
-    let new = c.exact_fault.new.pages in
-    let left = read_fault g.P.Pages s c.account_of.new.pages new (Some c.in-Err.fault) (Some c.exact_fault.result) c.in-Err.ensures.runs c.account_of.ensures.same c.exact_fault.ensures.steady c.exact_fault.ensures.same c.exact_fault.ensures.device in
-    record {
-      counts = tt;
-      exact = answers_exactly g.P.Pages ext ext s new c.args.def.now (Some c.in-Err.fault) (Some c.exact_fault.result) c.requires.defined c.requires.place (shape_none ext) left.pages
-          (λ met is owners forests st. (c.in-Err.ensures.runs.cause.damaged met is).broken owners forests st) c.exact_fault.ensures.exact;
-      same = left.pages.same;
-      unmarked = c.exact_fault.ensures.unmarked;
-      steady = left.steady;
-      device = left.device;
-      brings = tt;
-    }
+    let judged = c.exact_fault.ensures in
+    let left = end_read c.in-Err.ensures.runs c.account_of.ensures.same judged.same judged.unmarked judged.steady judged.device judged.exact c.requires.defined c.requires.place in
+    record { counts = tt; exact = left.exact; same = left.pages.same; unmarked = left.unmarked; steady = left.steady; device = left.device; brings = tt }

@@ -1,35 +1,13 @@
-use Rattle.std.proofs.Common.{◌∙◌, Some}
-use Rattle.entry_tree.proofs.ClaimsLemmas.{shape_none}
-use Rattle.table_calls.proofs.ExactDamageLemmas.{answers_exactly, answers_none}
-use Rattle.table_calls.proofs.MarkedChangesLemmas.{read_fault}
+use Rattle.table_calls.proofs.EndingLemmas.{end_block_read, read_well}
 use Rattle.table_calls.proofs.reading.rows_of_block.Goals as goal
 
 pub returns-in-Ok : goal.returns-in-Ok
-returns-in-Ok g c = record {
-  rows = c.in-Ok.ensures.rows;
-  keyed = c.in-Ok.ensures.keyed;
-  exact = λ has. answers_none g.P.Pages c.args.ext.now c.args.def.now c.args.pages.now;
-  same = c.copied_rows.ensures.same;
-  unmarked = c.copied_rows.ensures.runs.works.marked ∙ c.requires.unmarked;
-  steady = c.copied_rows.ensures.runs.works.steady;
-  device = c.in-Ok.ensures.runs.cause.device;
-  once = c.copied_rows.ensures.once;
-}
+returns-in-Ok g c =
+    let left = read_well c.args.ext.now c.args.def.now c.in-Ok.ensures.runs c.copied_rows.ensures.same c.requires.unmarked in
+    record { rows = c.in-Ok.ensures.rows; keyed = c.in-Ok.ensures.keyed; exact = λ has. left.exact; same = left.pages.same; unmarked = left.unmarked; steady = left.steady; device = left.device; once = c.copied_rows.ensures.once }
 
 pub returns-in-Err : goal.returns-in-Err
 returns-in-Err g c =
-    let ext = c.args.ext.now in
-    let s = c.args.pages.now in
-    let new = c.exact_fault.new.pages in
-    let left = read_fault g.P.Pages s c.copied_rows.new.pages new (Some c.in-Err.fault) (Some c.exact_fault.result) c.in-Err.ensures.runs c.copied_rows.ensures.same c.exact_fault.ensures.steady c.exact_fault.ensures.same c.exact_fault.ensures.device in
-    record {
-      rows = tt;
-      keyed = tt;
-      exact = λ has. answers_exactly g.P.Pages ext ext s new c.args.def.now (Some c.in-Err.fault) (Some c.exact_fault.result) c.requires.defined c.requires.place (shape_none ext) left.pages
-          (λ met is owners forests st. (c.in-Err.ensures.runs.cause.damaged met is).broken owners forests st (has owners forests st)) c.exact_fault.ensures.exact;
-      same = left.pages.same;
-      unmarked = c.exact_fault.ensures.unmarked;
-      steady = left.steady;
-      device = left.device;
-      once = tt;
-    }
+    let judged = c.exact_fault.ensures in
+    let left = end_block_read c.in-Err.ensures.runs c.copied_rows.ensures.same judged.same judged.unmarked judged.steady judged.device judged.exact c.requires.defined c.requires.place in
+    record { rows = tt; keyed = tt; exact = left.exact; same = left.pages.same; unmarked = left.unmarked; steady = left.steady; device = left.device; once = tt }
