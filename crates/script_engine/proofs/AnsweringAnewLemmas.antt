@@ -18,10 +18,10 @@ use Rattle.extent_map.specs.declared.kind.Kind.{Kind}
 use Rattle.table_trees.specs.ToldPages.{PageList}
 use Rattle.mdc_sound.specs.SoundDatabase.{IsSoundDatabase}
 use Rattle.mdc_sound.specs.StandingTable.{pages_of}
-use Rattle.cell_rooms.specs.RoomNotes.{IsForgotten}
 use Rattle.stored_catalog.specs.StoredDefinitions.{AreStored, AreWithinLimits, BreaksTablePages, IsAnyTablePage}
 use Rattle.script_engine.specs.Doing.{DoesStep, StepRunsFull}
 use Rattle.script_engine.specs.Listing.{TellsBlocks}
+use Rattle.script_engine.specs.NotedRooms.{AreForgotten}
 use Rattle.script_engine.specs.Opening.{are_built}
 use Rattle.script_engine.specs.Ready.{IsReady}
 use Rattle.script_engine.specs.Trying.{AnswersAnew, AnswersBySoundPages, AreReadAnew, IsRefusedFull, ListsByPages, TriesStep}
@@ -68,7 +68,7 @@ module _ {S : Type 0} (g : Ghosts S) (stmt : Stmt) (old mid new : S) (same : pag
 
 module _ {S : Type 0} (g : Ghosts S) (stmt : Stmt) (old : S) (before read : Tables) (catalog : Definitions) (is : read.catalog ≡ catalog)
     (stored : IsTrue (g.state old).is_told → AreStored (g.state old).work catalog) (shape : IsSameShape before.ext read.ext) (notes : (owners : List Kind) → AreRightNotes read.ext owners)
-    (rooms : IsForgotten read.rooms) where
+    (rooms : AreForgotten read.rooms) where
   read_anew : IsTrue (g.state old).is_told → AreReadAnew g old before.ext read
   read_anew told = record { stored = subst (λ (defs : Definitions). AreStored (g.state old).work defs) (sym is) (stored told); shape = shape; notes = notes; rooms = rooms }
 
@@ -105,7 +105,7 @@ module _ {S : Type 0} (g : Ghosts S) (old : S) (name : Name) (catalog : Definiti
   -- the blocks were told by what was read
   pub listed_read : (mid : S) (before read : Tables) (outcome : Outcome) → RunsOverPages g NoPage IsAnyTablePage (BreaksTablePages g old) old mid None → (g.state mid).work ≡ (g.state old).work
       → read.catalog ≡ catalog → AreWithinLimits catalog → AllDefsDiffer catalog → are_built catalog ≡ true → IsSameShape before.ext read.ext
-      → ((owners : List Kind) → AreRightNotes read.ext owners) → IsForgotten read.rooms
+      → ((owners : List Kind) → AreRightNotes read.ext owners) → AreForgotten read.rooms
       → (def_named read.catalog name ≡ None → outcome ≡ said.Refused (refusal_of (NoTable name)))
       → ((def : TableDef) → def_named read.catalog name ≡ Some def → IsReady g mid read → TellsBlocks (pages_of g mid) def outcome)
       → IsTrue (g.state old).is_told → IsSoundDatabase before.ext (g.state old).work → ListsByPages (pages_of g old) name outcome

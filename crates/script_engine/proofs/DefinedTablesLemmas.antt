@@ -2,6 +2,8 @@
 use Rattle.std.proofs.Common.{◌≡◌, ◌<◌, ◌+◌, ℕ, List, [], ◌∷◌, ◌∙◌, Bool, refl, sym, ap, subst, length, map, arith}
 use Rattle.std.specs.Prelude.{IsTrue, IsSome, IfSome, Option, Some, None, ◌&&◌, is_none, nat_le, nat_lt}
 use Rattle.std.specs.List.{list_all, position_from}
+use Rattle.std.proofs.lemmas.Option.{same_Some}
+use Rattle.mdc_words.specs.ByteOrder.{Entry}
 use Rattle.mdc_ast.specs.declared.bound.Bound.TheVariants as bound
 use Rattle.mdc_ast.specs.declared.definition.ColumnDef.{ColumnDef}
 use Rattle.mdc_ast.specs.declared.definition.Roots.{Roots}
@@ -31,22 +33,26 @@ use Rattle.mdc_sound.specs.SpaceRules.{DatabaseView}
 use Rattle.mdc_sound.specs.StandingTable.{StandsTable, TableForests, pages_of}
 use Rattle.mdc_sound.specs.StandsForDatabase.{PagesStandFor, rootless, rootless_index}
 use Rattle.mdc_sound.proofs.StandingTableLemmas.{forests_of, map_of_rules, stands_of_rules, stands_told}
-use Rattle.cell_rooms.specs.RoomNotes.{IsForgotten}
+use Rattle.cell_rooms.specs.RoomNotes.{no_note}
 use Rattle.stored_catalog.specs.AroundTable.{view_with}
 use Rattle.stored_catalog.specs.NewTables.{empty_table, rooted}
 use Rattle.stored_catalog.specs.StoredDefinitions.{AreStored, AreWithinLimits}
 use Rattle.stored_catalog.specs.TableSteps.{AddsTable, DropsTable, plain_empty}
 use Rattle.stored_catalog.specs.TreeRuns.{BreaksDropping, BreaksMaking, IsAddingPage, IsDroppingPage}
-use Rattle.stored_catalog.proofs.EnteringLemmas.{lowest_place}
+use Rattle.stored_catalog.proofs.EnteringLemmas.{empty_place_below, lowest_place}
 use Rattle.stored_catalog.proofs.LeftDefinitionsLemmas.{stored_at}
 use Rattle.stored_catalog.proofs.OpenedTableLemmas.{defined_there}
 use Rattle.script_engine.specs.Defining.{IsPlainNewDef}
 use Rattle.script_engine.specs.Doing.{DoesStatement, RunsFullAlone, StatementRunsFull}
+use Rattle.script_engine.specs.NotedRooms.{KeepsOtherRooms, rooms_at}
+use Rattle.script_engine.specs.Others.{KeepsOthers}
 use Rattle.script_engine.specs.Ready.{AreServed, IsReady}
 use Rattle.script_engine.specs.declared.tables.Tables.{Tables}
-use Rattle.script_engine.proofs.OthersLemmas.{others_created, others_removed, there_below}
+use Rattle.script_engine.proofs.BetweenChangesLemmas.{ready_table}
+use Rattle.script_engine.proofs.OtherRoomsLemmas.{ready_beside}
+use Rattle.script_engine.proofs.OthersLemmas.{elsewhere, others_created, others_removed, there_below}
 use Rattle.script_engine.proofs.PuttingTuplesLemmas.{of_that}
-use Rattle.script_engine.proofs.ReadyTablesLemmas.{ready_of_sound, served_def}
+use Rattle.script_engine.proofs.ReadyTablesLemmas.{served_def}
 use Rattle.script_engine.proofs.ServedDefsLemmas.{def_at_set, served_below}
 use Rattle.script_engine.proofs.StoredDefsLemmas.{stored_defs, without_roots}
 
@@ -161,7 +167,8 @@ module _ {S : Type 0} (g : Ghosts S) (old new : S) (before now : Tables) (place 
     pub told : (g.state new).is_told ≡ (g.state old).is_told
     pub shape : IsSameShape before.ext now.ext
     pub touches : Touches g (IsAddingPage g before.ext old before.catalog) old new
-    pub rooms : IsForgotten now.rooms
+    pub rooms : (key : Entry) → rooms_at now.rooms place key ≡ no_note
+    pub other_rooms : KeepsOtherRooms before.rooms now.rooms place
 
   module _ (is : IsCreated) (ready : IsReady g old before) where
     abbrev def_now : TableDef
@@ -179,20 +186,39 @@ module _ {S : Type 0} (g : Ghosts S) (old new : S) (before now : Tables) (place 
         ap empty_place (stored_defs before.ext (pages_of g old) before.catalog db ready.stored stands) ∙ (same_empty 0 before.catalog ∙ is.lowest) in
         ap (λ found. entered db found def) lowest ∙ ap (λ (d : TableDef). with_place db place (Some (record { def = d; rows = [] }))) (plain_new place def roots is.plain)
 
+    others_stayed : KeepsOthers before.ext now.ext (pages_of g old) (pages_of g new) before.catalog now.catalog None
+    others_stayed =
+        others_created g old new before now place (rooted def roots) (empty_table def_now) added.owners_now ready added.sound refl refl is.shape is.served is.lowest is.is_entered is.touches
+        (added.makes ready.notes)
+
+    abbrev view_now : DatabaseView
+    view_now = view_with ready.view added.owners_now place (Some (empty_table def_now))
+
+    told_now : IsTrue (g.state new).is_told
+    told_now = subst IsTrue (sym is.told) ready.told
+
+    stored_now : AreStored (pages_of g new) now.catalog
+    stored_now = is.stored ready.view.owners (told_map g old before ready) ready.stored
+
+    -- nothing is noted of the new table
+    ready_now : IsReady g new now
+    ready_now =
+        ready_beside g old new before now view_now is.served ready told_now added.sound stored_now (added.notes ready.notes) place
+        (λ t apart. elsewhere before.catalog now.catalog place t (Some def_now) is.is_entered apart) (λ t other apart at. (others_stayed.each t other (λ e. absurd (cc e)) at).1) is.other_rooms
+        (λ d at. ready_table g now.ext new view_now place d (rooms_at now.rooms place) told_now added.sound (added.notes ready.notes) (empty_place_below before.catalog place is.served.limits is.lowest)
+        (stored_at (pages_of g new) now.catalog place d stored_now at) is.rooms)
+
     -- then the CREATE TABLE is done
     pub created : DoesStatement g old new before now (bound.CreateTable def) (said.Done reply.Done)
     created = record {
-      ready = ready_of_sound g new now (view_with ready.view added.owners_now place (Some (empty_table def_now)))
-          (served_more before.catalog now.catalog place def roots is.served is.free is.plain is.is_entered is.limits) (subst IsTrue (sym is.told) ready.told)
-          added.sound (is.stored ready.view.owners (told_map g old before ready) ready.stored) (added.notes ready.notes) is.rooms;
+      ready = ready_now;
       stands = λ db stands. record {
         pages_are = subst (PagesStandFor now.ext (pages_of g new)) (sym (plain_after db stands))
             (of_that _ def_now _ there (is.stands_for ready.told ready.stored ready.view ready.sound db stands));
         answers = refl;
       };
       places = λ reply done place other changes at. absurd cc;
-      others = others_created g old new before now place (rooted def roots) (empty_table def_now) added.owners_now ready added.sound refl refl is.shape is.served is.lowest is.is_entered is.touches
-          (added.makes ready.notes);
+      others = others_stayed;
     }
 
 -- ---- a table less
@@ -230,16 +256,21 @@ module _ {S : Type 0} (g : Ghosts S) (old new : S) (before now : Tables) (place 
     pub told : (g.state new).is_told ≡ (g.state old).is_told
     pub shape : IsSameShape before.ext now.ext
     pub touches : Touches g (IsDroppingPage before.ext place) old new
-    pub rooms : IsForgotten now.rooms
+    pub rooms : now.rooms ≡ before.rooms
 
   -- then the DROP TABLE is done
   pub removed : IsRemoved → IsReady g old before → DoesStatement g old new before now (bound.DropTable place) (said.Done reply.Done)
   removed is ready =
       let drops = is.drops ready.told ready.stored ready.view ready.sound in
+      let low : place < 16 = there_below before.catalog place is.was_served is.there in
+      let others = others_removed g old new before now place drops.owners_now ready drops.sound drops.freed is.shape is.was_served low is.left is.touches in
+      let gone : def_at now.catalog place ≡ None = ap (λ defs. def_at defs place) is.left ∙ def_at_set before.catalog place None (omega (arith, low, is.was_served.valid.places)) in
       record {
-        ready = ready_of_sound g new now (view_with ready.view drops.owners_now place None) is.served (subst IsTrue (sym is.told) ready.told)
-            drops.sound (is.stored ready.told ready.stored) (drops.notes ready.notes) is.rooms;
+        ready = ready_beside g old new before now (view_with ready.view drops.owners_now place None) is.was_served ready (subst IsTrue (sym is.told) ready.told)
+            drops.sound (is.stored ready.told ready.stored) (drops.notes ready.notes) place (λ t apart. elsewhere before.catalog now.catalog place t None is.left apart)
+            (λ t other apart at. (others.each t other (λ e. apart (sym (same_Some place t e))) at).1) (λ t apart. ap (λ rooms. rooms_at rooms t) is.rooms)
+            (λ d at. let wrong : None ≡ Some d = sym gone ∙ at in absurd (cc));
         stands = λ db stands. record { pages_are = is.stands_for ready.told ready.stored ready.view ready.sound db stands; answers = refl };
         places = λ reply done place other changes at. absurd cc;
-        others = others_removed g old new before now place drops.owners_now ready drops.sound drops.freed is.shape is.was_served (there_below before.catalog place is.was_served is.there) is.left is.touches;
+        others = others;
       }

@@ -4,6 +4,7 @@ use Rattle.std.specs.Prelude.{filter, flat_map}
 use Rattle.std.specs.List.{list_all}
 use Rattle.std.proofs.lemmas.List.{length-map}
 use Rattle.std.proofs.lemmas.Option.{same_Some}
+use Rattle.mdc_words.specs.ByteOrder.{Entry}
 use Rattle.mdc_ast.specs.declared.bound.Bound.{Bound}
 use Rattle.mdc_ast.specs.declared.bound.Bound.TheVariants as bound
 use Rattle.mdc_ast.specs.declared.bound.BoundSelect.{BoundSelect}
@@ -39,10 +40,9 @@ use Rattle.block_rows.specs.declared.hit.Hit.{Hit}
 use Rattle.table_trees.specs.SpaceChanges.{SpaceChange}
 use Rattle.mdc_sound.specs.Placing.{Spot, block_slot_count}
 use Rattle.mdc_sound.specs.RunningFull.{UpdateRunsFull}
-use Rattle.mdc_sound.specs.StandingTable.{StandsTable, TableForests, pages_of, spots_of}
+use Rattle.mdc_sound.specs.StandingTable.{RoomNote, StandsTable, TableForests, pages_of, spots_of}
 use Rattle.mdc_sound.specs.StandsForDatabase.{PagesStandFor}
 use Rattle.mdc_sound.specs.TableRows.{PlacedRow}
-use Rattle.cell_rooms.specs.RoomNotes.{room_of}
 use Rattle.binder.specs.Saying.{first_of}
 use Rattle.cell_change.proofs.ChangedSpaceLemmas.{shows_spots}
 use Rattle.row_judging.specs.Executing.{answer_of, done}
@@ -52,6 +52,7 @@ use Rattle.statement_rows.specs.Turning.{turned_row}
 use Rattle.statement_rows.specs.declared.changing.Turned.{Turned}
 use Rattle.table_scan.specs.FoundRows.{FindsRows}
 use Rattle.script_engine.specs.Doing.{DoesStatement, PlacesOnPages, PlacesRows, RunsFullAlone, StatementRunsFull, changed_place, with_changed}
+use Rattle.script_engine.specs.NotedRooms.{KeepsOtherRooms, rooms_at}
 use Rattle.script_engine.specs.Others.{KeepsOthers}
 use Rattle.script_engine.specs.Ready.{AreServed, BreaksDatabase, IsNoStandingTable, IsReady}
 use Rattle.script_engine.specs.declared.tables.Tables.{Tables}
@@ -93,26 +94,26 @@ query_does g old new tables select def found text served at told same finds is r
 
 -- ---- rows that were changed
 
--- the table that is noted stands, in pages that are sound as they are between two changes of rows
-pub record StandsBetween {S : Type 0} (g : Ghosts S) (s : S) (tables : Tables) (def : TableDef) : Type 0 where
+-- a table stands with right notes, in pages that are sound as they are between two changes of rows
+pub record StandsBetween {S : Type 0} (g : Ghosts S) (s : S) (ext : Extents) (room : Entry → RoomNote) (def : TableDef) : Type 0 where
   pub owners : List Kind
   pub forests : TableForests
-  pub between : IsReadyBetween g tables.ext (room_of tables.rooms) s def owners forests
+  pub between : IsReadyBetween g ext room s def owners forests
 
--- The rows of the table that is noted were changed, after a scan of it: what is left to say is what the plain database becomes,
--- and the answer.
-module _ {S : Type 0} (g : Ghosts S) (old mid new : S) (before now : Tables) (def : TableDef) (served : AreServed before.catalog) (at : def_at before.catalog before.noted ≡ Some def)
-    (told : (g.state mid).is_told ≡ (g.state old).is_told) (same : (g.state mid).work ≡ (g.state old).work) where
+-- The rows of a table were changed, after a scan of it and by the notes that were lent: what is left to say is what the plain
+-- database becomes, and the answer.
+module _ {S : Type 0} (g : Ghosts S) (old mid new : S) (before now : Tables) (place : ℕ) (def : TableDef) (served : AreServed before.catalog) (at : def_at before.catalog place ≡ Some def)
+    {room : Entry → RoomNote} (lent : rooms_at before.rooms place ≡ room) (told : (g.state mid).is_told ≡ (g.state old).is_told) (same : (g.state mid).work ≡ (g.state old).work) where
   -- the table stands midway
-  pub ready_mid : IsReady g old before → StandsBetween g mid before def
+  pub ready_mid : IsReady g old before → StandsBetween g mid before.ext room def
   ready_mid ready =
       let still = ready_still g old mid told same before ready in
-      let found = ready_between g mid before def served still at in record { owners = still.view.owners; forests = found.0; between = found.1 }
+      let found = ready_between g mid before place def served still at in record { owners = still.view.owners; forests = found.0; between = subst (λ (r : Entry → RoomNote). IsReadyBetween g before.ext r mid def still.view.owners found.0) lent found.1 }
 
   -- damage that is met in changing its rows
   pub runs_change : {Early : ℕ → Type 0} {Any : Damage → Type 0} {fault : Option StoreFault} (pred : Option Pred) (found : List Hit) (rows : List PlacedRow) → rows ≡ map placed_row found
       → ((owners : List Kind) (forests : TableForests) → StandsTable g before.ext old def owners forests → FindsRows g before.ext old def pred found forests)
-      → RunsOverPages g NoPage Early Any old mid None → RunsOverPages g AnyPage AnyPage (BreaksReady g before.ext (room_of before.rooms) mid def (HasTheseRows g before.ext mid def rows)) mid new fault
+      → RunsOverPages g NoPage Early Any old mid None → RunsOverPages g AnyPage AnyPage (BreaksReady g before.ext room mid def (HasTheseRows g before.ext mid def rows)) mid new fault
       → RunsOverPages g AnyPage AnyPage (BreaksDatabase g old before) old new fault
   runs_change pred found rows are finds scan change =
       runs_as scan change (λ p there none. absurd none) (λ p there any. any) (λ p of. tt) (λ p any. any)
@@ -124,20 +125,21 @@ module _ {S : Type 0} (g : Ghosts S) (old mid new : S) (before now : Tables) (de
       (subst (λ r. HasTheseRows g before.ext mid def r mid_ready.owners mid_ready.forests) (sym are)
       (these_rows g before.ext mid def mid_ready.owners mid_ready.forests st pred found hits_here mid_ready.between.sound)))
 
-  module _ (ready : IsReady g old before) (owners : List Kind) (forests : TableForests) (mid_ready : IsReadyBetween g before.ext (room_of before.rooms) mid def owners forests)
-      (statement : Bound) (change : PlainTable → PlainTable)
-      (changed : ChangesRowsOf g before.ext now.ext (room_of now.rooms) mid new def def owners forests (λ was space is. PlacesRows def (block_slot_count before.ext def) was space is statement) change)
-      (catalog : now.catalog ≡ before.catalog) (noted : now.noted ≡ before.noted) where
-    pub rows_done : (outcome : Outcome) → changed_place statement ≡ Some before.noted
-        → ((db : Database) → PagesStandFor before.ext (pages_of g mid) db → (changed_at db before.noted change ≡ (done db statement).0) × ((done db statement).1 ≡ answer_of outcome))
+  module _ (ready : IsReady g old before) (owners : List Kind) (forests : TableForests) (mid_ready : IsReadyBetween g before.ext room mid def owners forests)
+      (statement : Bound) (change : PlainTable → PlainTable) {room_now : Entry → RoomNote} (left : rooms_at now.rooms place ≡ room_now)
+      (changed : ChangesRowsOf g before.ext now.ext room_now mid new def def owners forests (λ was space is. PlacesRows def (block_slot_count before.ext def) was space is statement) change)
+      (catalog : now.catalog ≡ before.catalog) (rooms : KeepsOtherRooms before.rooms now.rooms place) where
+    pub rows_done : (outcome : Outcome) → changed_place statement ≡ Some place
+        → ((db : Database) → PagesStandFor before.ext (pages_of g mid) db → (changed_at db place change ≡ (done db statement).0) × ((done db statement).1 ≡ answer_of outcome))
         → DoesStatement g old new before now statement outcome
     rows_done outcome is_changed means =
         let Places : List Spot → List SpaceChange → List Spot → Type 0 = λ was space is. PlacesRows def (block_slot_count before.ext def) was space is statement in
         let still = ready_still g old mid told same before ready in
-        let ends = change_ends_unwritten g mid new before now def owners forests Places change served still at changed catalog noted in
-        let at_now : def_at now.catalog before.noted ≡ Some def = ap (λ defs. def_at defs before.noted) catalog ∙ at in
+        let ends = change_ends_unwritten g mid new before now place def owners forests Places change served still at
+        (subst (λ (r : Entry → RoomNote). ChangesRowsOf g before.ext now.ext r mid new def def owners forests Places change) (sym left) changed) catalog rooms in
+        let at_now : def_at now.catalog place ≡ Some def = ap (λ defs. def_at defs place) catalog ∙ at in
         let served_now : AreServed now.catalog = subst AreServed (sym catalog) served in
-        let written = sym (page_is_written g new now before.noted def served_now ends.ready at_now) in
+        let written = sym (page_is_written g new now place def served_now ends.ready at_now) in
         let shown = places_shown g mid new new before now def def owners forests Places change statement still refl mid_ready changed written (λ was space is puts. puts) in record {
           ready = ends.ready;
           stands = λ db stands.
@@ -146,15 +148,15 @@ module _ {S : Type 0} (g : Ghosts S) (old mid new : S) (before now : Tables) (de
                 pages_are = subst (PagesStandFor now.ext (pages_of g new)) meant.0 (ends.stands_for db midway);
                 answers = meant.1;
               };
-          places = λ said is_said place other of there.
-              let place_is : before.noted ≡ place = same_Some before.noted place (sym is_changed ∙ of) in
+          places = λ said is_said t other of there.
+              let place_is : place ≡ t = same_Some place t (sym is_changed ∙ of) in
               let def_is : def ≡ other = same_Some def other (sym at ∙ ap (def_at before.catalog) place_is ∙ there) in
               subst (λ (d : TableDef). PlacesOnPages before.ext now.ext (pages_of g old) (pages_of g new) d statement) def_is
               (subst (λ pages. PlacesOnPages before.ext now.ext pages (pages_of g new) def statement) same shown);
           others =
-              subst (λ (found : Option ℕ). KeepsOthers before.ext now.ext (pages_of g old) (pages_of g new) before.catalog now.catalog found) (sym (touched_is statement before.noted is_changed))
-              (subst (λ pages. KeepsOthers before.ext now.ext pages (pages_of g new) before.catalog now.catalog (Some before.noted)) same
-              (others_changed g mid new before now def.number (served_def before.catalog before.noted def served at).number served still changed.others catalog));
+              subst (λ (found : Option ℕ). KeepsOthers before.ext now.ext (pages_of g old) (pages_of g new) before.catalog now.catalog found) (sym (touched_is statement place is_changed))
+              (subst (λ pages. KeepsOthers before.ext now.ext pages (pages_of g new) before.catalog now.catalog (Some place)) same
+              (others_changed g mid new before now place def.number (served_def before.catalog place def served at).number served still changed.others catalog));
         }
 
 -- one change of the table in a place, and another that makes the same of it
@@ -169,23 +171,24 @@ changed_alike db place table change other at same =
 count_is : (found : Option PlainTable) (table : PlainTable) (pred : Option Pred) (rows : List Hit) → found ≡ Some table → map (λ hit. hit.row) rows ≡ hits pred (Some table) → length (hits pred found) ≡ length rows
 count_is found table pred rows at are = ap (λ t. length (hits pred t)) at ∙ ap length (sym are) ∙ length-map rows (λ (hit : Hit). hit.row)
 
-pub delete_does : {S : Type 0} (g : Ghosts S) (old mid new : S) (before now : Tables) (def : TableDef) (pred : Option Pred) (found items : List Hit) (count : ℕ) → AreServed before.catalog
-    → def_at before.catalog before.noted ≡ Some def → (g.state mid).is_told ≡ (g.state old).is_told → (g.state mid).work ≡ (g.state old).work
+pub delete_does : {S : Type 0} {room room_now : Entry → RoomNote} (g : Ghosts S) (old mid new : S) (before now : Tables) (place : ℕ) (def : TableDef) (pred : Option Pred) (found items : List Hit) (count : ℕ) → AreServed before.catalog
+    → def_at before.catalog place ≡ Some def → rooms_at before.rooms place ≡ room → rooms_at now.rooms place ≡ room_now
+    → (g.state mid).is_told ≡ (g.state old).is_told → (g.state mid).work ≡ (g.state old).work
     → ((owners : List Kind) (forests : TableForests) → StandsTable g before.ext old def owners forests → FindsRows g before.ext old def pred found forests) → items ≡ found → count ≡ length found
-    → ((owners : List Kind) (forests : TableForests) → IsReadyBetween g before.ext (room_of before.rooms) mid def owners forests → HasTheseRows g before.ext mid def (map placed_row items) owners forests
-    → ChangesRowsOf g before.ext now.ext (room_of now.rooms) mid new def def owners forests (λ was space is. TakesRowsBy def was (map placed_row items) space is) (without_rows (map (λ hit. hit.row) items)))
-    → now.catalog ≡ before.catalog → now.noted ≡ before.noted → IsReady g old before → DoesStatement g old new before now (bound.Delete before.noted pred) (said.Done (reply.Deleted count))
-delete_does g old mid new before now def pred found items count served at told same finds are counts deletes catalog noted ready =
-    let mid_ready = ready_mid g old mid new before now def served at told same ready in
+    → ((owners : List Kind) (forests : TableForests) → IsReadyBetween g before.ext room mid def owners forests → HasTheseRows g before.ext mid def (map placed_row items) owners forests
+    → ChangesRowsOf g before.ext now.ext room_now mid new def def owners forests (λ was space is. TakesRowsBy def was (map placed_row items) space is) (without_rows (map (λ hit. hit.row) items)))
+    → now.catalog ≡ before.catalog → KeepsOtherRooms before.rooms now.rooms place → IsReady g old before → DoesStatement g old new before now (bound.Delete place pred) (said.Done (reply.Deleted count))
+delete_does {room_now = room_now} g old mid new before now place def pred found items count served at lent left told same finds are counts deletes catalog rooms ready =
+    let mid_ready = ready_mid g old mid new before now place def served at lent told same ready in
     let forests = mid_ready.forests in
     let owners = mid_ready.owners in
     let st = mid_ready.between.ready.stands in
     let hits_here = found_still g old mid told same before.ext def pred found owners forests finds st in
     let lie = these_rows g before.ext mid def owners forests st pred found hits_here mid_ready.between.sound in
-    let changed : ChangesRowsOf g before.ext now.ext (room_of now.rooms) mid new def def owners forests (λ was space is. TakesRowsBy def was (map placed_row found) space is) (without_rows (map (λ (hit : Hit). hit.row) found)) =
-    subst (λ (l : List Hit). ChangesRowsOf g before.ext now.ext (room_of now.rooms) mid new def def owners forests (λ was space is. TakesRowsBy def was (map placed_row l) space is) (without_rows (map (λ (hit : Hit). hit.row) l))) are
+    let changed : ChangesRowsOf g before.ext now.ext room_now mid new def def owners forests (λ was space is. TakesRowsBy def was (map placed_row found) space is) (without_rows (map (λ (hit : Hit). hit.row) found)) =
+    subst (λ (l : List Hit). ChangesRowsOf g before.ext now.ext room_now mid new def def owners forests (λ was space is. TakesRowsBy def was (map placed_row l) space is) (without_rows (map (λ (hit : Hit). hit.row) l))) are
     (deletes owners forests mid_ready.between (subst (λ (l : List Hit). HasTheseRows g before.ext mid def (map placed_row l) owners forests) (sym are) lie)) in
-    rows_done g old mid new before now def served at told same ready owners forests mid_ready.between (bound.Delete before.noted pred) (without_rows (map (λ (hit : Hit). hit.row) found))
+    rows_done g old mid new before now place def served at lent told same ready owners forests mid_ready.between (bound.Delete place pred) (without_rows (map (λ (hit : Hit). hit.row) found)) left
     (record {
       owners_now = changed.owners_now;
       forests_now = changed.forests_now;
@@ -197,12 +200,12 @@ delete_does g old mid new before now def pred found items count served at told s
       stands_for = changed.stands_for;
       table_pages = changed.table_pages;
       others = changed.others;
-    }) catalog noted (said.Done (reply.Deleted count)) refl
+    }) catalog rooms (said.Done (reply.Deleted count)) refl
     (λ db stands.
-    let here = stored_table db before.catalog before.noted def (stored_defs before.ext (pages_of g mid) before.catalog db (ready_still g old mid told same before ready).stored stands) at in
-    let has : HasHits db before.noted def pred found =
-    hits_of g before.ext mid def owners forests st pred found hits_here mid_ready.between.sound before.catalog before.noted db here.0 (ready_still g old mid told same before ready).stored at stands here.1 in (
-      changed_alike db before.noted has.table (without_rows (map (λ (hit : Hit). hit.row) found)) (left_table pred) has.at
+    let here = stored_table db before.catalog place def (stored_defs before.ext (pages_of g mid) before.catalog db (ready_still g old mid told same before ready).stored stands) at in
+    let has : HasHits db place def pred found =
+    hits_of g before.ext mid def owners forests st pred found hits_here mid_ready.between.sound before.catalog place db here.0 (ready_still g old mid told same before ready).stored at stands here.1 in (
+      changed_alike db place has.table (without_rows (map (λ (hit : Hit). hit.row) found)) (left_table pred) has.at
           (ap (λ rows. without_rows rows has.table) has.are ∙ qualifying_taken pred has.table has.rising),
       ap (λ n. Replied (reply.Deleted n)) (count_is _ has.table pred found has.at has.are ∙ sym counts),
     ))
@@ -222,41 +225,41 @@ causes_are db place sets pred columns table found at same are =
     over [] = refl
     over (hit ∷ l) = ap (λ rest. changed_causes columns sets None hit.row ++ rest) (over l)
 
-pub refused_does : {S : Type 0} (g : Ghosts S) (old mid : S) (before : Tables) (def : TableDef) (sets : List BoundSet) (pred : Option Pred) (found : List Hit) (cause : Cause) (outcome : Outcome) → AreServed before.catalog
-    → def_at before.catalog before.noted ≡ Some def → (g.state mid).is_told ≡ (g.state old).is_told → (g.state mid).work ≡ (g.state old).work
+pub refused_does : {S : Type 0} (g : Ghosts S) (old mid : S) (before : Tables) (place : ℕ) (def : TableDef) (sets : List BoundSet) (pred : Option Pred) (found : List Hit) (cause : Cause) (outcome : Outcome) → AreServed before.catalog
+    → def_at before.catalog place ≡ Some def → (g.state mid).is_told ≡ (g.state old).is_told → (g.state mid).work ≡ (g.state old).work
     → ((owners : List Kind) (forests : TableForests) → StandsTable g before.ext old def owners forests → FindsRows g before.ext old def pred found forests)
     → first_of (flat_map (λ hit. changed_causes def.columns sets None hit.row) found) ≡ Some cause → outcome ≡ said.Refused (refusal_of cause) → IsReady g old before
-    → DoesStatement g old mid before before (bound.Update before.noted sets pred) outcome
-refused_does g old mid before def sets pred found cause outcome served at told same finds first is ready =
-    let st = stands_ready g old before before.noted def served ready at in record {
+    → DoesStatement g old mid before before (bound.Update place sets pred) outcome
+refused_does g old mid before place def sets pred found cause outcome served at told same finds first is ready =
+    let st = stands_ready g old before place def served ready at in record {
       ready = ready_still g old mid told same before ready;
       stands = λ db stands.
-          let here = stored_table db before.catalog before.noted def (stored_defs before.ext (pages_of g old) before.catalog db ready.stored stands) at in
-          let has : HasHits db before.noted def pred found =
-          hits_of g before.ext old def st.owners st.forests st.stands pred found (finds st.owners st.forests st.stands) st.between before.catalog before.noted db here.0 ready.stored at stands here.1 in
-          let ends : done db (bound.Update before.noted sets pred) ≡ (db, Refused (refusal_of cause)) =
-          ap (λ causes. step_by db causes (effect db (bound.Update before.noted sets pred)))
-          (causes_are db before.noted sets pred def.columns has.table found has.at (ap (λ (d : TableDef). d.columns) has.def_is) has.are)
+          let here = stored_table db before.catalog place def (stored_defs before.ext (pages_of g old) before.catalog db ready.stored stands) at in
+          let has : HasHits db place def pred found =
+          hits_of g before.ext old def st.owners st.forests st.stands pred found (finds st.owners st.forests st.stands) st.between before.catalog place db here.0 ready.stored at stands here.1 in
+          let ends : done db (bound.Update place sets pred) ≡ (db, Refused (refusal_of cause)) =
+          ap (λ causes. step_by db causes (effect db (bound.Update place sets pred)))
+          (causes_are db place sets pred def.columns has.table found has.at (ap (λ (d : TableDef). d.columns) has.def_is) has.are)
           ∙ first_decides db (flat_map (λ (hit : Hit). changed_causes def.columns sets None hit.row) found) [] _ cause first in record {
             pages_are = subst (PagesStandFor before.ext (pages_of g mid)) (sym (ap (λ e. e.0) ends)) (subst (λ pages. PagesStandFor before.ext pages db) (sym same) stands);
             answers = ap (λ e. e.1) ends ∙ sym (ap answer_of is);
           };
-      places = λ said is_said place other of there. absurd (cc (is, is_said));
-      others = keeps_others_itself before.ext before.ext (pages_of g old) (pages_of g mid) before.catalog before.catalog (Some before.noted) (shape_none before.ext) same refl;
+      places = λ said is_said t other of there. absurd (cc (is, is_said));
+      others = keeps_others_itself before.ext before.ext (pages_of g old) (pages_of g mid) before.catalog before.catalog (Some place) (shape_none before.ext) same refl;
     }
 
-module _ {S : Type 0} (g : Ghosts S) (old mid new : S) (before now : Tables) (def : TableDef) (sets : List BoundSet) (pred : Option Pred) (found : List Hit) (items : List Turned) (served : AreServed before.catalog)
-    (at : def_at before.catalog before.noted ≡ Some def) (told : (g.state mid).is_told ≡ (g.state old).is_told) (same : (g.state mid).work ≡ (g.state old).work)
+module _ {S : Type 0} (g : Ghosts S) (old mid new : S) (before now : Tables) (place : ℕ) (def : TableDef) (sets : List BoundSet) (pred : Option Pred) (found : List Hit) (items : List Turned) (served : AreServed before.catalog)
+    (at : def_at before.catalog place ≡ Some def) {room : Entry → RoomNote} (lent : rooms_at before.rooms place ≡ room) (told : (g.state mid).is_told ≡ (g.state old).is_told) (same : (g.state mid).work ≡ (g.state old).work)
     (finds : (owners : List Kind) (forests : TableForests) → StandsTable g before.ext old def owners forests → FindsRows g before.ext old def pred found forests)
     (made : map turned_row items ≡ map (turned_hit sets) found) where
-  pub update_does : (count : ℕ) → flat_map (λ hit. changed_causes def.columns sets None hit.row) found ≡ [] → count ≡ length items
-      → ((owners : List Kind) (forests : TableForests) → IsReadyBetween g before.ext (room_of before.rooms) mid def owners forests
+  pub update_does : {room_now : Entry → RoomNote} (count : ℕ) → rooms_at now.rooms place ≡ room_now → flat_map (λ hit. changed_causes def.columns sets None hit.row) found ≡ [] → count ≡ length items
+      → ((owners : List Kind) (forests : TableForests) → IsReadyBetween g before.ext room mid def owners forests
       → HasTheseRows g before.ext mid def (map (λ t. (turned_row t).0) items) owners forests
-      → ChangesRowsOf g before.ext now.ext (room_of now.rooms) mid new def def owners forests
+      → ChangesRowsOf g before.ext now.ext room_now mid new def def owners forests
       (λ was space is. TurnsRowsBy def (block_slot_count before.ext def) was (map turned_row items) space is) (with_rows (map (λ t. t.row) items)))
-      → now.catalog ≡ before.catalog → now.noted ≡ before.noted → IsReady g old before → DoesStatement g old new before now (bound.Update before.noted sets pred) (said.Done (reply.Updated count))
-  update_does count nothing counts changes catalog noted ready =
-      let mid_ready = ready_mid g old mid new before now def served at told same ready in
+      → now.catalog ≡ before.catalog → KeepsOtherRooms before.rooms now.rooms place → IsReady g old before → DoesStatement g old new before now (bound.Update place sets pred) (said.Done (reply.Updated count))
+  update_does count left nothing counts changes catalog rooms ready =
+      let mid_ready = ready_mid g old mid new before now place def served at lent told same ready in
       let forests = mid_ready.forests in
       let owners = mid_ready.owners in
       let st = mid_ready.between.ready.stands in
@@ -268,7 +271,7 @@ module _ {S : Type 0} (g : Ghosts S) (old mid new : S) (before now : Tables) (de
       let placed : TurnsRowsBy def (block_slot_count before.ext def) (spots_of g before.ext mid def owners forests) rows changed.space (spots_of g now.ext new def changed.owners_now changed.forests_now) =
       subst (λ r. TurnsRowsBy def (block_slot_count before.ext def) (spots_of g before.ext mid def owners forests) r changed.space (spots_of g now.ext new def changed.owners_now changed.forests_now))
       (turned_changed sets pred items found made q) changed.places in
-      rows_done g old mid new before now def served at told same ready owners forests mid_ready.between (bound.Update before.noted sets pred) (with_rows (map (λ (t : Turned). t.row) items))
+      rows_done g old mid new before now place def served at lent told same ready owners forests mid_ready.between (bound.Update place sets pred) (with_rows (map (λ (t : Turned). t.row) items)) left
       (record {
         owners_now = changed.owners_now;
         forests_now = changed.forests_now;
@@ -280,39 +283,39 @@ module _ {S : Type 0} (g : Ghosts S) (old mid new : S) (before now : Tables) (de
         stands_for = changed.stands_for;
         table_pages = changed.table_pages;
         others = changed.others;
-      }) catalog noted (said.Done (reply.Updated count)) refl
+      }) catalog rooms (said.Done (reply.Updated count)) refl
       (λ db stands.
       let stored = (ready_still g old mid told same before ready).stored in
-      let here = stored_table db before.catalog before.noted def (stored_defs before.ext (pages_of g mid) before.catalog db stored stands) at in
-      let has : HasHits db before.noted def pred found = hits_of g before.ext mid def owners forests st pred found hits_here mid_ready.between.sound before.catalog before.noted db here.0 stored at stands here.1 in
-      let ends : done db (bound.Update before.noted sets pred) ≡ (changed_at db before.noted (changed_table sets pred), Replied (reply.Updated (length (hits pred (table_at db before.noted))))) =
-      ap (λ causes. step_by db causes (effect db (bound.Update before.noted sets pred)))
-      (causes_are db before.noted sets pred def.columns has.table found has.at (ap (λ (d : TableDef). d.columns) has.def_is) has.are ∙ ap (λ l. l ++ []) nothing) in
+      let here = stored_table db before.catalog place def (stored_defs before.ext (pages_of g mid) before.catalog db stored stands) at in
+      let has : HasHits db place def pred found = hits_of g before.ext mid def owners forests st pred found hits_here mid_ready.between.sound before.catalog place db here.0 stored at stands here.1 in
+      let ends : done db (bound.Update place sets pred) ≡ (changed_at db place (changed_table sets pred), Replied (reply.Updated (length (hits pred (table_at db place))))) =
+      ap (λ causes. step_by db causes (effect db (bound.Update place sets pred)))
+      (causes_are db place sets pred def.columns has.table found has.at (ap (λ (d : TableDef). d.columns) has.def_is) has.are ∙ ap (λ l. l ++ []) nothing) in
       let news : map (λ (t : Turned). t.row) items ≡ map (changed_row sets pred) (filter (λ (row : Row). qualifies pred row.values) has.table.rows) =
       turned_news sets pred items found made q ∙ ap (map (changed_row sets pred)) has.are in
       let many : length items ≡ length found = sym (length-map items turned_row) ∙ ap length made ∙ length-map found (turned_hit sets) in (
-        changed_alike db before.noted has.table (with_rows (map (λ (t : Turned). t.row) items)) (changed_table sets pred) has.at
+        changed_alike db place has.table (with_rows (map (λ (t : Turned). t.row) items)) (changed_table sets pred) has.at
             (ap (λ r. with_rows r has.table) news ∙ qualifying_changed sets pred has.table has.rising) ∙ sym (ap (λ e. e.0) ends),
         ap (λ e. e.1) ends ∙ ap (λ n. Replied (reply.Updated n)) (count_is _ has.table pred found has.at has.are ∙ sym (counts ∙ many)),
       ))
 
   -- nothing is said against it by the rows that there were
   unsaid : flat_map (λ hit. changed_causes def.columns sets None hit.row) found ≡ [] → IsReady g old before → (db : Database) → PagesStandFor before.ext (pages_of g old) db
-      → causes_of_rows db (bound.Update before.noted sets pred) ≡ []
+      → causes_of_rows db (bound.Update place sets pred) ≡ []
   unsaid nothing ready db stands =
-      let st = stands_ready g old before before.noted def served ready at in
-      let here = stored_table db before.catalog before.noted def (stored_defs before.ext (pages_of g old) before.catalog db ready.stored stands) at in
-      let has : HasHits db before.noted def pred found =
-      hits_of g before.ext old def st.owners st.forests st.stands pred found (finds st.owners st.forests st.stands) st.between before.catalog before.noted db here.0 ready.stored at stands here.1 in
-      causes_are db before.noted sets pred def.columns has.table found has.at (ap (λ (d : TableDef). d.columns) has.def_is) has.are ∙ ap (λ l. l ++ []) nothing
+      let st = stands_ready g old before place def served ready at in
+      let here = stored_table db before.catalog place def (stored_defs before.ext (pages_of g old) before.catalog db ready.stored stands) at in
+      let has : HasHits db place def pred found =
+      hits_of g before.ext old def st.owners st.forests st.stands pred found (finds st.owners st.forests st.stands) st.between before.catalog place db here.0 ready.stored at stands here.1 in
+      causes_are db place sets pred def.columns has.table found has.at (ap (λ (d : TableDef). d.columns) has.def_is) has.are ∙ ap (λ l. l ++ []) nothing
 
   -- it runs full on the pages that there were
   update_full : IsReady g old before
-      → ((owners : List Kind) (forests : TableForests) → IsReadyBetween g before.ext (room_of before.rooms) mid def owners forests
+      → ((owners : List Kind) (forests : TableForests) → IsReadyBetween g before.ext room mid def owners forests
       → HasTheseRows g before.ext mid def (map (λ t. (turned_row t).0) items) owners forests → UpdateRunsFull before.ext (pages_of g mid) def (map turned_row items))
-      → StatementRunsFull before.ext (pages_of g old) before.catalog (bound.Update before.noted sets pred)
+      → StatementRunsFull before.ext (pages_of g old) before.catalog (bound.Update place sets pred)
   update_full ready full =
-      let mid_ready = ready_mid g old mid new before now def served at told same ready in
+      let mid_ready = ready_mid g old mid new before now place def served at lent told same ready in
       let forests = mid_ready.forests in
       let owners = mid_ready.owners in
       let st = mid_ready.between.ready.stands in
@@ -320,7 +323,7 @@ module _ {S : Type 0} (g : Ghosts S) (old mid new : S) (before now : Tables) (de
       let lie = these_rows g before.ext mid def owners forests st pred found hits_here mid_ready.between.sound in
       let q = hits_qualify g before.ext mid def owners forests st pred found hits_here in
       let runs = full owners forests mid_ready.between (subst (λ r. HasTheseRows g before.ext mid def r owners forests) (sym (turned_places sets items found made)) lie) in
-      subst (λ pages. StatementRunsFull before.ext pages before.catalog (bound.Update before.noted sets pred)) same
+      subst (λ pages. StatementRunsFull before.ext pages before.catalog (bound.Update place sets pred)) same
       (StatementRunsFull.update def (spots_of g before.ext mid def owners forests) (map placed_row found) at (shows_spots g before.ext mid def owners forests st)
       (qualifying g before.ext mid def owners forests st pred found hits_here mid_ready.between.sound)
       (subst (UpdateRunsFull before.ext (pages_of g mid) def) (turned_changed sets pred items found made q) runs))
@@ -328,9 +331,9 @@ module _ {S : Type 0} (g : Ghosts S) (old mid new : S) (before now : Tables) (de
   -- and the number that Full states is that of the extents
   pub update_stops : (fault : SpaceFault) → flat_map (λ hit. changed_causes def.columns sets None hit.row) found ≡ []
       → IfFull fault (λ cap. (cap ≡ before.ext.cap)
-      × ((owners : List Kind) (forests : TableForests) → IsReadyBetween g before.ext (room_of before.rooms) mid def owners forests
+      × ((owners : List Kind) (forests : TableForests) → IsReadyBetween g before.ext room mid def owners forests
       → HasTheseRows g before.ext mid def (map (λ t. (turned_row t).0) items) owners forests → UpdateRunsFull before.ext (pages_of g mid) def (map turned_row items)))
-      → IfFull fault (λ cap. (cap ≡ before.ext.cap) × (IsReady g old before → RunsFullAlone before.ext (pages_of g old) before.catalog (bound.Update before.noted sets pred)))
+      → IfFull fault (λ cap. (cap ≡ before.ext.cap) × (IsReady g old before → RunsFullAlone before.ext (pages_of g old) before.catalog (bound.Update place sets pred)))
   update_stops (Full cap) nothing full = (full.0, λ ready. record { full = update_full ready full.1; faultless = unsaid nothing ready })
   update_stops (Store fault) nothing full = tt
 

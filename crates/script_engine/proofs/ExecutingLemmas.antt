@@ -157,9 +157,6 @@ pub record IsIdle (statement : Bound) : Type 0 where
   pub does : (db : Database) → done db statement ≡ (db, Replied reply.Done)
   pub changes : changed_place statement ≡ None
 
-pub idle_as : (statement known : Bound) → statement ≡ known → IsIdle known → IsIdle statement
-idle_as statement known e is = subst IsIdle (sym e) is
-
 pub does_nothing : {S : Type 0} (g : Ghosts S) (s : S) (tables : Tables) (statement : Bound) → IsIdle statement → IsReady g s tables → DoesStatement g s s tables tables statement (said.Done reply.Done)
 does_nothing g s tables statement idle ready = record {
   ready = ready;

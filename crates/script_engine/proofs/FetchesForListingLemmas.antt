@@ -1,6 +1,6 @@
 -- Which pages a statement brings to hand for LIST BLOCKS: of any other nothing is said, and counting a table's blocks brings those of
 -- its block map.
-use Rattle.std.proofs.Common.{◌≡◌, Option, Some, false, sym, subst, ◌∙◌}
+use Rattle.std.proofs.Common.{◌≡◌, Some, false, sym, subst, ◌∙◌}
 use Rattle.std.proofs.lemmas.Option.{same_Some}
 use Rattle.mdc_ast.specs.declared.definition.TableDef.{TableDef}
 use Rattle.mdc_ast.specs.declared.name.Name.{Name}
@@ -17,25 +17,8 @@ use Rattle.script_engine.specs.Listing.{is_listing}
 module _ {S : Type 0} (g : Ghosts S) (old new : S) (defs : Definitions) where
   -- of any other statement nothing is said
   pub lists_other : (stmt : Stmt) → is_listing stmt ≡ false → FetchesForListing g old new defs stmt
-  lists_other statement.Begin changing = tt
-  lists_other statement.Commit changing = tt
-  lists_other statement.Rollback changing = tt
-  lists_other (statement.CreateTable name columns dims) changing = tt
-  lists_other (statement.CreateIndex name unique table parts) changing = tt
-  lists_other (statement.DropTable name) changing = tt
-  lists_other (statement.DropIndex name) changing = tt
-  lists_other (statement.Insert table columns rows) changing = tt
-  lists_other (statement.Update table sets pred) changing = tt
-  lists_other (statement.Delete table pred) changing = tt
-  lists_other (statement.Query select) changing = tt
-  lists_other (statement.Explain select) changing = tt
-  lists_other (statement.SetRollout mode) changing = tt
-  lists_other (statement.SetPlan mode) changing = tt
-  lists_other (statement.SetPace n) changing = tt
-  lists_other (statement.Clean n) changing = tt
-  lists_other (statement.CleanTable name) changing = tt
   lists_other (statement.ListBlocks name) changing = absurd (cc)
-  lists_other (statement.Reclaim name) changing = tt
+  lists_other stmt changing = tt
 
   -- the blocks of the table of that name were counted
   pub lists_counted : (name : Name) (def : TableDef) → def_named defs name ≡ Some def → BringsOnly g (IsTreePageAt g old (map_place def)) old new → FetchesForListing g old new defs (statement.ListBlocks name)

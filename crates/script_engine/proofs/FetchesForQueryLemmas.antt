@@ -22,25 +22,8 @@ module _ {S : Type 0} (g : Ghosts S) (ext : Extents) (defs : Definitions) where
   fetches_by : (old new : S) (statement : Bound)
       → ((select : BoundSelect) → statement ≡ bound.Query select → (def : TableDef) → def_at defs select.table ≡ Some def → BringsOnly g (IsPageForQuery g ext old def select.pred) old new)
       → FetchesForQuery g ext old new defs statement
-  fetches_by old new (bound.CreateTable def) brings = tt
-  fetches_by old new (bound.CreateIndex table index) brings = tt
-  fetches_by old new (bound.DropTable table) brings = tt
-  fetches_by old new (bound.DropIndex table index) brings = tt
-  fetches_by old new (bound.Insert table rows) brings = tt
-  fetches_by old new (bound.Update table sets pred) brings = tt
-  fetches_by old new (bound.Delete table pred) brings = tt
   fetches_by old new (bound.Query select) brings = brings select refl
-  fetches_by old new (bound.Explain select) brings = tt
-  fetches_by old new (bound.SetRollout mode) brings = tt
-  fetches_by old new (bound.SetPlan mode) brings = tt
-  fetches_by old new (bound.SetPace n) brings = tt
-  fetches_by old new (bound.Clean n) brings = tt
-  fetches_by old new (bound.CleanTable table) brings = tt
-  fetches_by old new (bound.ListBlocks table) brings = tt
-  fetches_by old new (bound.Reclaim table) brings = tt
-  fetches_by old new bound.Begin brings = tt
-  fetches_by old new bound.Commit brings = tt
-  fetches_by old new bound.Rollback brings = tt
+  fetches_by old new statement brings = tt
 
   fetched_by : (old new : S) (statement : Bound) (select : BoundSelect) → statement ≡ bound.Query select → FetchesForQuery g ext old new defs statement
       → (def : TableDef) → def_at defs select.table ≡ Some def → BringsOnly g (IsPageForQuery g ext old def select.pred) old new

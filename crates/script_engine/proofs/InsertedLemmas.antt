@@ -28,7 +28,6 @@ use Rattle.mdc_sound.specs.SoundDatabase.{with_table_page}
 use Rattle.mdc_sound.specs.StandingTable.{TableForests, pages_of}
 use Rattle.mdc_sound.specs.StandsForDatabase.{PagesStandFor}
 use Rattle.mdc_sound.specs.TablePages.{DefinesTable}
-use Rattle.cell_rooms.specs.RoomNotes.{room_of}
 use Rattle.row_judging.specs.Executing.{done}
 use Rattle.row_judging.specs.Served.{IsDefined}
 use Rattle.stored_catalog.specs.StoredDefinitions.{LacksTablePage, with_stored}
@@ -38,6 +37,7 @@ use Rattle.statement_rows.specs.RowsAndSpace.{PutsRowsBy}
 use Rattle.statement_rows.specs.RowsOfStatement.{ChangesRowsOf, IsReadyBetween}
 use Rattle.script_engine.specs.Doing.{DoesStatement, PlacesOnPages, PlacesRows, RunsFullAlone, StatementRunsFull}
 use Rattle.script_engine.specs.Inserting.{first_refusal, numbered_on, tuple_causes}
+use Rattle.script_engine.specs.NotedRooms.{KeepsOtherRooms, rooms_at}
 use Rattle.script_engine.specs.Ready.{AreServed, IsReady}
 use Rattle.script_engine.specs.declared.tables.Tables.{Tables}
 use Rattle.script_engine.proofs.OthersLemmas.{keeps_others_itself, others_written}
@@ -47,129 +47,128 @@ use Rattle.script_engine.proofs.ServedDefsLemmas.{def_at_set, served_below}
 use Rattle.script_engine.proofs.StoredDefsLemmas.{stored_defs, stored_table}
 
 -- its page was there before the rows were put, so it is there now
-pub lacks_never : {S : Type 0} (g : Ghosts S) (old mid : S) (before : Tables) (def : TableDef) (place : ℕ) (damage : Damage) → def_at before.catalog before.noted ≡ Some def → place ≡ before.noted
+pub lacks_never : {S : Type 0} (g : Ghosts S) (old mid : S) (before : Tables) (def : TableDef) (place : ℕ) (damage : Damage) → def_at before.catalog place ≡ Some def
     → length (g.state old).work ≤ length (g.state mid).work → LacksTablePage g mid place damage → IsReady g old before → ⊥
-lacks_never g old mid before def place damage at same longer lacks ready =
-    absurd (omega (arith, lacks.short, longer, same, defined_within (pages_of g old) before.noted def (stored_at (pages_of g old) before.catalog before.noted def ready.stored at)))
+lacks_never g old mid before def place damage at longer lacks ready =
+    absurd (omega (arith, lacks.short, longer, defined_within (pages_of g old) place def (stored_at (pages_of g old) before.catalog place def ready.stored at)))
 
 -- an INSERT that says it is full runs full on ready pages, and nothing is said against its rows
-pub full_insert : {S : Type 0} (g : Ghosts S) (s : S) (before : Tables) (def : TableDef) (tuples : List (List Value)) (fault : SpaceFault) → AreServed before.catalog → def_at before.catalog before.noted ≡ Some def → tuple_causes def tuples ≡ []
-    → IfFull fault (λ cap. (cap ≡ before.ext.cap) × ((owners : List Kind) (forests : TableForests) → IsReadyBetween g before.ext (room_of before.rooms) s def owners forests
+pub full_insert : {S : Type 0} (g : Ghosts S) (s : S) (before : Tables) (place : ℕ) (def : TableDef) (tuples : List (List Value)) (fault : SpaceFault) → AreServed before.catalog → def_at before.catalog place ≡ Some def → tuple_causes def tuples ≡ []
+    → IfFull fault (λ cap. (cap ≡ before.ext.cap) × ((owners : List Kind) (forests : TableForests) → IsReadyBetween g before.ext (rooms_at before.rooms place) s def owners forests
     → InsertRunsFull before.ext (pages_of g s) def (numbered def.next tuples)))
-    → IfFull fault (λ cap. (cap ≡ before.ext.cap) × (IsReady g s before → RunsFullAlone before.ext (pages_of g s) before.catalog (bound.Insert before.noted tuples)))
-full_insert g s before def tuples (Full cap) served at unsaid full = (
+    → IfFull fault (λ cap. (cap ≡ before.ext.cap) × (IsReady g s before → RunsFullAlone before.ext (pages_of g s) before.catalog (bound.Insert place tuples)))
+full_insert g s before place def tuples (Full cap) served at unsaid full = (
   full.0,
   λ ready.
-      let between = ready_between g s before def served ready at in
+      let between = ready_between g s before place def served ready at in
       record {
         full = StatementRunsFull.insert def at (full.1 ready.view.owners between.0 between.1);
         faultless = λ db stands.
-            let table = stored_table db before.catalog before.noted def (stored_defs before.ext (pages_of g s) before.catalog db ready.stored stands) at in
-            said_by_rows db before.noted table.0 def tuples table.1 table.2.def_is ∙ unsaid;
+            let table = stored_table db before.catalog place def (stored_defs before.ext (pages_of g s) before.catalog db ready.stored stands) at in
+            said_by_rows db place table.0 def tuples table.1 table.2.def_is ∙ unsaid;
       },
 )
-full_insert g s before def tuples (Store fault) served at unsaid full = tt
+full_insert g s before place def tuples (Store fault) served at unsaid full = tt
 
 -- ---- the definitions meanwhile
 
-module _ (before now : Definitions) (place noted : ℕ) (def : TableDef) (count : ℕ) (served : AreServed before) (at : def_at before place ≡ Some def)
-    (catalog : now ≡ with_def before place (numbered_on def count)) (same : noted ≡ place) where
+module _ (before now : Definitions) (place : ℕ) (def : TableDef) (count : ℕ) (served : AreServed before) (at : def_at before place ≡ Some def)
+    (catalog : now ≡ with_def before place (numbered_on def count)) where
   -- the definition stands there with its next number
-  pub stands_on : def_at now noted ≡ Some (numbered_on def count)
+  pub stands_on : def_at now place ≡ Some (numbered_on def count)
   stands_on =
-      ap (def_at now) same ∙ (ap (λ defs. def_at defs place) catalog
-      ∙ (def_at_set before place (Some (record (numbered_on def count) { number = place })) (omega (arith, served_below before place def served at, served.valid.places)) ∙ ap Some (own_number place (numbered_on def count) (served_def before place def served at).number)))
+      ap (λ defs. def_at defs place) catalog
+      ∙ (def_at_set before place (Some (record (numbered_on def count) { number = place })) (omega (arith, served_below before place def served at, served.valid.places)) ∙ ap Some (own_number place (numbered_on def count) (served_def before place def served at).number))
 
   -- so that the numbers can be taken back
-  pub may_number_back : (n : ℕ) → n ≡ count → IsDefined (def_at now noted) (λ d. n ≤ d.next)
+  pub may_number_back : (n : ℕ) → n ≡ count → IsDefined (def_at now place) (λ d. n ≤ d.next)
   may_number_back n is = subst (λ found. IsDefined found (λ d. n ≤ d.next)) (sym stands_on) (omega (arith, is))
 
   -- and then all is as it was
-  pub numbered_back : (n : ℕ) (after : Definitions) → n ≡ count → ((d : TableDef) → def_at now noted ≡ Some d → after ≡ with_def now noted (record d { next = d.next - n })) → after ≡ before
+  pub numbered_back : (n : ℕ) (after : Definitions) → n ≡ count → ((d : TableDef) → def_at now place ≡ Some d → after ≡ with_def now place (record d { next = d.next - n })) → after ≡ before
   numbered_back n after is back =
       let low : def.next + count - n ≡ def.next = omega (arith, is) in
       back (numbered_on def count) stands_on
-      ∙ (ap (λ k. with_def now noted (record def { next = k })) low
-      ∙ (ap (λ defs. with_def defs noted def) catalog ∙ (ap (λ t. with_def (with_def before place (numbered_on def count)) t def) same
-      ∙ (set-set before place _ _ ∙ (ap (λ d. slice_set before place (Some d)) (own_number place def (served_def before place def served at).number) ∙ put_where_it_stands before place def at)))))
+      ∙ (ap (λ k. with_def now place (record def { next = k })) low
+      ∙ (ap (λ defs. with_def defs place def) catalog
+      ∙ (set-set before place _ _ ∙ (ap (λ d. slice_set before place (Some d)) (own_number place def (served_def before place def served at).number) ∙ put_where_it_stands before place def at))))
 
-module _ {S : Type 0} (g : Ghosts S) (old mid new : S) (before now : Tables) (def : TableDef) (tuples : List (List Value)) (count : ℕ) where
+module _ {S : Type 0} (g : Ghosts S) (old mid new : S) (before now : Tables) (place : ℕ) (def : TableDef) (tuples : List (List Value)) (count : ℕ) where
   abbrev Puts : List Spot → List SpaceChange → List Spot → Type 0
   Puts was space is = PutsRowsBy def (block_slot_count before.ext def) was (numbered def.next tuples) space is
 
   -- all that is known once the rows were put and the table page was written
   pub record IsInserted : Type 0 where
     pub served : AreServed before.catalog
-    pub at : def_at before.catalog before.noted ≡ Some def
+    pub at : def_at before.catalog place ≡ Some def
     pub unsaid : tuple_causes def tuples ≡ []
-    pub inserts : (owners : List Kind) (forests : TableForests) → IsReadyBetween g before.ext (room_of before.rooms) old def owners forests
-        → ChangesRowsOf g before.ext now.ext (room_of now.rooms) old mid def (numbered_on def (length tuples)) owners forests Puts (appended tuples)
-    pub catalog : now.catalog ≡ with_def before.catalog before.noted (numbered_on def (length tuples))
-    pub noted : now.noted ≡ before.noted
+    pub inserts : (owners : List Kind) (forests : TableForests) → IsReadyBetween g before.ext (rooms_at before.rooms place) old def owners forests
+        → ChangesRowsOf g before.ext now.ext (rooms_at now.rooms place) old mid def (numbered_on def (length tuples)) owners forests Puts (appended tuples)
+    pub catalog : now.catalog ≡ with_def before.catalog place (numbered_on def (length tuples))
+    pub rooms : KeepsOtherRooms before.rooms now.rooms place
     pub told_mid : (g.state mid).is_told ≡ (g.state old).is_told
     pub told_new : (g.state new).is_told ≡ (g.state mid).is_told
-    pub saves : IsTrue (g.state mid).is_told → (d : TableDef) → def_at now.catalog now.noted ≡ Some d → (n : ℕ) → DefinesTable (g.state mid).work now.noted (record d { next = n })
-        → (g.state new).work ≡ with_stored (g.state mid).work now.noted (Some d)
+    pub saves : IsTrue (g.state mid).is_told → (d : TableDef) → def_at now.catalog place ≡ Some d → (n : ℕ) → DefinesTable (g.state mid).work place (record d { next = n })
+        → (g.state new).work ≡ with_stored (g.state mid).work place (Some d)
     pub counts : count ≡ length tuples
 
   module _ (is : IsInserted) (ready : IsReady g old before) where
     abbrev def_now : TableDef
     def_now = numbered_on def (length tuples)
 
-    number : def.number ≡ before.noted
-    number = (served_def before.catalog before.noted def is.served is.at).number
+    number : def.number ≡ place
+    number = (served_def before.catalog place def is.served is.at).number
 
     mid_tells : IsTrue (g.state mid).is_told
     mid_tells = subst IsTrue (sym is.told_mid) ready.told
 
-    between : (forests : TableForests) × IsReadyBetween g before.ext (room_of before.rooms) old def ready.view.owners forests
-    between = ready_between g old before def is.served ready is.at
+    between : (forests : TableForests) × IsReadyBetween g before.ext (rooms_at before.rooms place) old def ready.view.owners forests
+    between = ready_between g old before place def is.served ready is.at
 
-    changed : ChangesRowsOf g before.ext now.ext (room_of now.rooms) old mid def def_now ready.view.owners between.0 Puts (appended tuples)
+    changed : ChangesRowsOf g before.ext now.ext (rooms_at now.rooms place) old mid def def_now ready.view.owners between.0 Puts (appended tuples)
     changed = is.inserts ready.view.owners between.0 between.1
 
     -- its page is that of the old definition, since table pages stay
-    defines_mid : DefinesTable (pages_of g mid) now.noted def
+    defines_mid : DefinesTable (pages_of g mid) place def
     defines_mid =
-        let below : before.noted < 16 = served_below before.catalog before.noted def is.served is.at in
-        subst (λ t. DefinesTable (pages_of g mid) t def) (sym is.noted)
-        (subst (IsTablePageOf before.noted def) (sym (changed.table_pages.each before.noted below)) (stored_at (pages_of g old) before.catalog before.noted def ready.stored is.at))
+        let below : place < 16 = served_below before.catalog place def is.served is.at in
+        subst (IsTablePageOf place def) (sym (changed.table_pages.each place below)) (stored_at (pages_of g old) before.catalog place def ready.stored is.at)
 
     written : pages_of g new ≡ with_table_page def_now (pages_of g mid)
     written =
-        is.saves mid_tells def_now (stands_on before.catalog now.catalog before.noted now.noted def (length tuples) is.served is.at is.catalog is.noted) def.next defines_mid
-        ∙ ap (λ t. slice_set (pages_of g mid) (1 + t) (table_page def_now)) (is.noted ∙ sym number)
+        is.saves mid_tells def_now (stands_on before.catalog now.catalog place def (length tuples) is.served is.at is.catalog) def.next defines_mid
+        ∙ ap (λ t. slice_set (pages_of g mid) (1 + t) (table_page def_now)) (sym number)
 
-    ends : EndsChange g old new before now (appended tuples)
+    ends : EndsChange g old new before now place (appended tuples)
     ends =
-        change_ends g old mid new before now def def_now ready.view.owners between.0 Puts (appended tuples) is.served ready is.at refl (numbers_left def tuples is.unsaid)
-        changed (subst IsTrue (sym is.told_new) mid_tells) written is.catalog is.noted
+        change_ends g old mid new before now place def def_now ready.view.owners between.0 Puts (appended tuples) is.served ready is.at refl (numbers_left def tuples is.unsaid)
+        changed (subst IsTrue (sym is.told_new) mid_tells) written is.catalog is.rooms
 
     done_is : (db : Database) → PagesStandFor before.ext (pages_of g old) db
-        → done db (bound.Insert before.noted tuples) ≡ (changed_at db before.noted (appended tuples), Replied (reply.Inserted (length tuples)))
+        → done db (bound.Insert place tuples) ≡ (changed_at db place (appended tuples), Replied (reply.Inserted (length tuples)))
     done_is db stands =
-        let table = stored_table db before.catalog before.noted def (stored_defs before.ext (pages_of g old) before.catalog db ready.stored stands) is.at in
-        ap (λ causes. step_by db causes (effect db (bound.Insert before.noted tuples)))
-        (said_by_rows db before.noted table.0 def tuples table.1 table.2.def_is ∙ is.unsaid)
+        let table = stored_table db before.catalog place def (stored_defs before.ext (pages_of g old) before.catalog db ready.stored stands) is.at in
+        ap (λ causes. step_by db causes (effect db (bound.Insert place tuples)))
+        (said_by_rows db place table.0 def tuples table.1 table.2.def_is ∙ is.unsaid)
 
-    here : PlacesOnPages before.ext now.ext (pages_of g old) (pages_of g new) def (bound.Insert before.noted tuples)
+    here : PlacesOnPages before.ext now.ext (pages_of g old) (pages_of g new) def (bound.Insert place tuples)
     here =
-        places_shown g old mid new before now def def_now ready.view.owners between.0 Puts (appended tuples) (bound.Insert before.noted tuples)
+        places_shown g old mid new before now def def_now ready.view.owners between.0 Puts (appended tuples) (bound.Insert place tuples)
         ready refl between.1 changed written (λ was space is puts. PlacesRows.insert puts)
 
     -- then the INSERT is done
-    pub inserted : DoesStatement g old new before now (bound.Insert before.noted tuples) (said.Done (reply.Inserted count))
+    pub inserted : DoesStatement g old new before now (bound.Insert place tuples) (said.Done (reply.Inserted count))
     inserted = record {
       ready = ends.ready;
       stands = λ db stands. record {
         pages_are = subst (λ (e : Database × Answer). PagesStandFor now.ext (pages_of g new) e.0) (sym (done_is db stands)) (ends.stands_for db stands);
         answers = ap (λ (e : Database × Answer). e.1) (done_is db stands) ∙ ap (λ n. Replied (reply.Inserted n)) (sym is.counts);
       };
-      places = λ reply done place other changes at.
-          let same_place : before.noted ≡ place = same_Some before.noted place changes in
+      places = λ reply done t other changes at.
+          let same_place : place ≡ t = same_Some place t changes in
           let same_def : def ≡ other = same_Some def other (sym is.at ∙ (ap (def_at before.catalog) same_place ∙ at)) in
-          subst (λ d. PlacesOnPages before.ext now.ext (pages_of g old) (pages_of g new) d (bound.Insert before.noted tuples)) same_def here;
-      others = others_written g old mid before now def.number number is.served ready changed.others new def_now number ends.ready written def is.at is.catalog;
+          subst (λ d. PlacesOnPages before.ext now.ext (pages_of g old) (pages_of g new) d (bound.Insert place tuples)) same_def here;
+      others = others_written g old mid before now place def.number number is.served ready changed.others new def_now number ends.ready written def is.at is.catalog;
     }
 
 -- ---- refused

@@ -2,7 +2,7 @@
 use Rattle.std.proofs.Common.{ℕ, ◌≡◌, Option, subst, sym}
 use Rattle.mdc_ast.specs.declared.reply.Outcome.{Outcome}
 use Rattle.mdc_ast.specs.declared.statement.Stmt.{Stmt}
-use Rattle.mdc_ast.specs.declared.statement.Stmt.TheVariants as statement
+use Rattle.mdc_ast.specs.declared.statement.Stmt.TheVariants.{Rollback}
 use Rattle.mdc_ast.specs.meaning.Binding.{bound_of}
 use Rattle.store_api.specs.declared.pages.Pages.{Ghosts}
 use Rattle.extent_map.specs.Owners.{IsSameShape}
@@ -20,25 +20,8 @@ use Rattle.script_engine.proofs.OthersLemmas.{keeps_others_itself, others_along}
 
 -- whatever a statement is, it leaves the tables that are kept; and ROLLBACK owes nothing
 pub leaves_others_of : (ext : Extents) (stmt : Stmt) (old new : HeldPages) → KeepsOthers ext ext old.work new.work old.defs new.defs (touched_place (bound_of old.defs stmt)) → LeavesOthers ext stmt old new
-leaves_others_of ext statement.Begin old new keeps = keeps
-leaves_others_of ext statement.Commit old new keeps = keeps
-leaves_others_of ext statement.Rollback old new keeps = tt
-leaves_others_of ext (statement.CreateTable name columns dims) old new keeps = keeps
-leaves_others_of ext (statement.CreateIndex name unique table parts) old new keeps = keeps
-leaves_others_of ext (statement.DropTable name) old new keeps = keeps
-leaves_others_of ext (statement.DropIndex name) old new keeps = keeps
-leaves_others_of ext (statement.Insert table columns rows) old new keeps = keeps
-leaves_others_of ext (statement.Update table sets pred) old new keeps = keeps
-leaves_others_of ext (statement.Delete table pred) old new keeps = keeps
-leaves_others_of ext (statement.Query select) old new keeps = keeps
-leaves_others_of ext (statement.Explain select) old new keeps = keeps
-leaves_others_of ext (statement.SetRollout mode) old new keeps = keeps
-leaves_others_of ext (statement.SetPlan mode) old new keeps = keeps
-leaves_others_of ext (statement.SetPace n) old new keeps = keeps
-leaves_others_of ext (statement.Clean n) old new keeps = keeps
-leaves_others_of ext (statement.CleanTable name) old new keeps = keeps
-leaves_others_of ext (statement.ListBlocks name) old new keeps = keeps
-leaves_others_of ext (statement.Reclaim name) old new keeps = keeps
+leaves_others_of ext Rollback old new keeps = tt
+leaves_others_of ext stmt old new keeps = keeps
 
 -- one that changes neither pages nor definitions leaves all tables
 pub leaves_others_still : (ext : Extents) (stmt : Stmt) (old new : HeldPages) → new.work ≡ old.work → new.defs ≡ old.defs → LeavesOthers ext stmt old new

@@ -14,8 +14,10 @@ pub mod KeptWordsLemmas
 pub mod LeavingLemmas
 pub mod LeavingOthersLemmas
 pub mod ListingLemmas
+pub mod NotedRoomsLemmas
 pub mod OpeningLemmas
 pub mod OtherBlocksLemmas
+pub mod OtherRoomsLemmas
 pub mod OthersLemmas
 pub mod PlainChangesLemmas
 pub mod PuttingTuplesLemmas
@@ -34,6 +36,5 @@ pub mod StoredDefsLemmas
 pub mod TablePageSpotsLemmas
 pub mod TryingLemmas
 pub mod TurnedRowsLemmas
-pub mod TurnedTablesLemmas
 pub mod TurnsLemmas
 pub mod WrittenTablesLemmas

@@ -16,9 +16,9 @@ use Rattle.extent_map.specs.declared.kind.Kind.{Kind}
 use Rattle.table_trees.specs.ToldPages.{PageList}
 use Rattle.mdc_sound.specs.Breaks.{IsFirstBreak}
 use Rattle.mdc_sound.specs.SoundDatabase.{IsSoundDatabase, KeepAllRules}
-use Rattle.cell_rooms.specs.RoomNotes.{IsForgotten}
 use Rattle.stored_catalog.specs.StoredDefinitions.{AreStored, AreWithinLimits, BreaksTablePages, IsAnyTablePage}
 use Rattle.script_engine.specs.Breaking.{NamesExactly, OnlyReads}
+use Rattle.script_engine.specs.NotedRooms.{AreForgotten}
 use Rattle.script_engine.specs.Opening.{IsSoundStore, KeepsPages, are_built}
 use Rattle.script_engine.specs.Serving.{IsReadyEngine, MayCall}
 use Rattle.script_engine.specs.Stops.{stop_of}
@@ -72,7 +72,7 @@ module _ {S : Type 0} (g : Ghosts S) where
     }
 
     pub opened_ready : (IsTrue (g.state old).is_told → AreStored (g.state old).work catalog) → IsSameShape ext engine.tables.ext → ((owners : List Kind) → AreRightNotes engine.tables.ext owners)
-        → IsForgotten engine.tables.rooms → IsSoundStore g ext old → IsReadyEngine g engine
+        → AreForgotten engine.tables.rooms → IsSoundStore g ext old → IsReadyEngine g engine
     opened_ready loads shape notes rooms sound =
         let kept = opened_pages in
         let stored = loads sound.told in

@@ -34,6 +34,7 @@ use Rattle.mdc_sound.proofs.SpaceRulesLemmas.{range_length}
 use Rattle.mdc_sound.proofs.StandingTableLemmas.{block_kept, forests_of, map_of_rules, stands_of_rules, stands_still}
 use Rattle.statement_rows.specs.OtherTables.{KeepsBlocks, KeepsOtherTables}
 use Rattle.stored_catalog.specs.AroundTable.{view_with}
+use Rattle.stored_catalog.specs.StoredDefinitions.{AreStored}
 use Rattle.stored_catalog.specs.TreeRuns.{IsAddingPage, IsDroppingPage}
 use Rattle.stored_catalog.proofs.EnteringLemmas.{empty_place_below, lowest_place}
 use Rattle.stored_catalog.proofs.LeftDefinitionsLemmas.{def_there, stored_at}
@@ -120,52 +121,57 @@ module _ (ext : Extents) (written : TableDef) (pages : PageList) (view : Databas
 -- ---- rows of one table were changed
 
 -- a definition elsewhere
-elsewhere : (defs now : Definitions) (place t : ℕ) (def : Option TableDef) → now ≡ slice_set defs place def → t ≢ place → def_at now t ≡ def_at defs t
+pub elsewhere : (defs now : Definitions) (place t : ℕ) (def : Option TableDef) → now ≡ slice_set defs place def → t ≢ place → def_at now t ≡ def_at defs t
 elsewhere defs now place t def is apart = ap (λ all. def_at all t) is ∙ ap (option_and_then (λ d. d)) (slice_get-set_other defs place def t apart)
 
-module _ {S : Type 0} (g : Ghosts S) (old mid : S) (before now : Tables) (number : ℕ) (same : number ≡ before.noted) (served : AreServed before.catalog) (ready : IsReady g old before)
+module _ {S : Type 0} (g : Ghosts S) (old mid : S) (before now : Tables) (place number : ℕ) (same : number ≡ place) (served : AreServed before.catalog) (ready : IsReady g old before)
     (others : KeepsOtherTables before.ext now.ext (pages_of g old) (pages_of g mid) number) where
-  others_kept : (t : ℕ) (other : TableDef) → t ≢ before.noted → def_at before.catalog t ≡ Some other → KeepsBlocks before.ext now.ext (pages_of g old) (pages_of g mid) other
+  others_kept : (t : ℕ) (other : TableDef) → t ≢ place → def_at before.catalog t ≡ Some other → KeepsBlocks before.ext now.ext (pages_of g old) (pages_of g mid) other
   others_kept t other apart at =
       others.each t other (served_below before.catalog t other served at) (λ is. apart (is ∙ same)) (stored_at (pages_of g old) before.catalog t other ready.stored at)
 
   -- no page was written besides
-  pub others_changed : now.catalog ≡ before.catalog → KeepsOthers before.ext now.ext (pages_of g old) (pages_of g mid) before.catalog now.catalog (Some before.noted)
+  pub others_changed : now.catalog ≡ before.catalog → KeepsOthers before.ext now.ext (pages_of g old) (pages_of g mid) before.catalog now.catalog (Some place)
   others_changed catalog = record {
     each = λ t other apart at. (ap (λ defs. def_at defs t) catalog ∙ at, others_kept t other (λ is. apart (ap Some (sym is))) at);
     made = λ t def none some. absurd (none_comes (def_at before.catalog t) (def_at now.catalog t) def (ap (λ defs. def_at defs t) catalog) none some);
     gone = λ t def some none. absurd (none_goes (def_at before.catalog t) (def_at now.catalog t) def (ap (λ defs. def_at defs t) catalog) some none);
   }
 
-  -- and the page of the table was written
-  pub others_written : (new : S) (written : TableDef) → written.number ≡ before.noted → IsReady g new now → pages_of g new ≡ with_table_page written (pages_of g mid) → (def : TableDef) → def_at before.catalog before.noted ≡ Some def
-      → now.catalog ≡ with_def before.catalog before.noted written → KeepsOthers before.ext now.ext (pages_of g old) (pages_of g new) before.catalog now.catalog (Some before.noted)
+  -- the page of the table was written besides
+  pub kept_written : (new : S) (written : TableDef) (view : DatabaseView) → written.number ≡ place → place < 16 → KeepAllRules now.ext (pages_of g new) view → AreStored (pages_of g new) now.catalog
+      → pages_of g new ≡ with_table_page written (pages_of g mid) → (t : ℕ) (other : TableDef) → t ≢ place → def_at before.catalog t ≡ Some other → def_at now.catalog t ≡ Some other
+      → KeepsBlocks before.ext now.ext (pages_of g old) (pages_of g new) other
+  kept_written new written view its_number low sound stored is t other apart at at_now =
+      let found = defined_there now.ext (pages_of g new) view t other sound (served_below before.catalog t other served at) (stored_at (pages_of g new) now.catalog t other stored at_now) in
+      let stays : KeepsBlocks now.ext now.ext (pages_of g mid) (with_table_page written (pages_of g mid)) other =
+      subst (λ def. KeepsBlocks now.ext now.ext (pages_of g mid) (with_table_page written (pages_of g mid)) def) found.same
+      (written_keeps now.ext written (pages_of g mid) view (subst (λ (pages : PageList). KeepAllRules now.ext pages view) is sound) (omega (arith, its_number, low)) t found.table found.there) in
+      subst (λ (pages : PageList). KeepsBlocks before.ext now.ext (pages_of g old) pages other) (sym is)
+      (keeps_then before.ext now.ext now.ext (pages_of g old) (pages_of g mid) (with_table_page written (pages_of g mid)) other (others_kept t other apart at) stays)
+
+  pub others_written : (new : S) (written : TableDef) → written.number ≡ place → IsReady g new now → pages_of g new ≡ with_table_page written (pages_of g mid) → (def : TableDef) → def_at before.catalog place ≡ Some def
+      → now.catalog ≡ with_def before.catalog place written → KeepsOthers before.ext now.ext (pages_of g old) (pages_of g new) before.catalog now.catalog (Some place)
   others_written new written its_number ready_now is def there catalog = record {
     each = λ t other apart at.
-        let elsewhere_t : t ≢ before.noted = λ e. apart (ap Some (sym e)) in
+        let elsewhere_t : t ≢ place = λ e. apart (ap Some (sym e)) in
         let at_now : def_at now.catalog t ≡ Some other = still_elsewhere t elsewhere_t ∙ at in
-        let found =
-        defined_there now.ext (pages_of g new) ready_now.view t other ready_now.sound (served_below before.catalog t other served at) (stored_at (pages_of g new) now.catalog t other ready_now.stored at_now) in
-        let stays : KeepsBlocks now.ext now.ext (pages_of g mid) (with_table_page written (pages_of g mid)) other =
-        subst (λ def. KeepsBlocks now.ext now.ext (pages_of g mid) (with_table_page written (pages_of g mid)) def) found.same
-        (written_keeps now.ext written (pages_of g mid) ready_now.view (subst (λ (pages : PageList). KeepAllRules now.ext pages ready_now.view) is ready_now.sound) (omega (arith, its_number, served_below before.catalog before.noted def served there)) t found.table found.there) in
-        let whole = keeps_then before.ext now.ext now.ext (pages_of g old) (pages_of g mid) (with_table_page written (pages_of g mid)) other (others_kept t other elsewhere_t at) stays in
-        (at_now, subst (λ (pages : PageList). KeepsBlocks before.ext now.ext (pages_of g old) pages other) (sym is) whole);
-    made = λ t other none some. elim (cases_eq t before.noted) [
+        (at_now, kept_written new written ready_now.view its_number (served_below before.catalog place def served there) ready_now.sound ready_now.stored is t other elsewhere_t at at_now);
+    made = λ t other none some. elim (cases_eq t place) [
       | inl here ↦ let wrong = sym there ∙ (ap (def_at before.catalog) (sym here) ∙ none) in absurd (cc)
       | inr apart ↦ absurd (none_comes (def_at before.catalog t) (def_at now.catalog t) other (still_elsewhere t apart) none some)
     ];
-    gone = λ t other some none. elim (cases_eq t before.noted) [
+    gone = λ t other some none. elim (cases_eq t place) [
       | inl here ↦ let wrong = sym put_there ∙ (ap (def_at now.catalog) (sym here) ∙ none) in absurd (cc)
       | inr apart ↦ absurd (none_goes (def_at before.catalog t) (def_at now.catalog t) other (still_elsewhere t apart) some none)
     ];
   }
     where
-      still_elsewhere : (t : ℕ) → t ≢ before.noted → def_at now.catalog t ≡ def_at before.catalog t
-      still_elsewhere t = elsewhere before.catalog now.catalog before.noted t (Some (record written { number = before.noted })) catalog
+      still_elsewhere : (t : ℕ) → t ≢ place → def_at now.catalog t ≡ def_at before.catalog t
+      still_elsewhere t = elsewhere before.catalog now.catalog place t (Some (record written { number = place })) catalog
 
-      put_there : def_at now.catalog before.noted ≡ Some (record written { number = before.noted })
-      put_there = ap (λ defs. def_at defs before.noted) catalog ∙ def_at_set before.catalog before.noted (Some (record written { number = before.noted })) (omega (arith, served_below before.catalog before.noted def served there, served.valid.places))
+      put_there : def_at now.catalog place ≡ Some (record written { number = place })
+      put_there = ap (λ defs. def_at defs place) catalog ∙ def_at_set before.catalog place (Some (record written { number = place })) (omega (arith, served_below before.catalog place def served there, served.valid.places))
 
 -- ---- a table more, or one less
 

@@ -1,7 +1,8 @@
 -- A table of ready pages: it stands, and once its rows were changed and its page is written the pages are ready again.
-use Rattle.std.proofs.Common.{◌≡◌, ◌⊎◌, ◌<◌, ◌+◌, ℕ, zero, suc, List, [], ◌∷◌, Option, Some, None, set, refl, ap, arith, sym, ◌∙◌, subst, inl, inr}
+use Rattle.std.proofs.Common.{◌≡◌, ◌≢◌, ◌<◌, ◌+◌, ℕ, zero, suc, List, [], ◌∷◌, Option, Some, None, set, refl, ap, arith, sym, ◌∙◌, subst}
 use Rattle.std.specs.Prelude.{IsTrue, slice_get}
 use Rattle.std.proofs.lemmas.Option.{same_Some}
+use Rattle.mdc_words.specs.ByteOrder.{Entry}
 use Rattle.mdc_ast.specs.declared.bound.Bound.{Bound}
 use Rattle.mdc_ast.specs.declared.definition.TableDef.{TableDef}
 use Rattle.mdc_ast.specs.meaning.Database.{Database, PlainTable, changed_at}
@@ -21,14 +22,12 @@ use Rattle.mdc_sound.specs.Placing.{Spot, block_slot_count, table_spots}
 use Rattle.mdc_sound.specs.RunningFull.{ShowsTableSpots}
 use Rattle.mdc_sound.specs.SoundDatabase.{KeepAllRules, with_table_page}
 use Rattle.mdc_sound.specs.SpaceRules.{DatabaseView}
-use Rattle.mdc_sound.specs.StandingTable.{AreRightRooms, IsReadyTable, StandsTable, TableForests, pages_of, spots_of}
+use Rattle.mdc_sound.specs.StandingTable.{AreRightRooms, IsReadyTable, RoomNote, StandsTable, TableForests, pages_of, spots_of}
 use Rattle.mdc_sound.specs.StandsForDatabase.{PagesStandFor}
 use Rattle.mdc_sound.specs.TablePages.{DefinesTable, table_page_at}
 use Rattle.mdc_sound.proofs.SoundDatabaseLemmas.{page_at-with_table_page}
 use Rattle.mdc_sound.proofs.SpaceRulesLemmas.{range_at}
 use Rattle.mdc_sound.proofs.StandingTableLemmas.{forests_of, one_standing, stands_of_sound, stands_told}
-use Rattle.cell_rooms.specs.RoomNotes.{IsForgotten, room_of}
-use Rattle.cell_rooms.specs.declared.rooms.Rooms.{Rooms}
 use Rattle.cell_change.proofs.ChangedSpaceLemmas.{shows_spots}
 use Rattle.stored_catalog.specs.StoredDefinitions.{AreStored, IsWithinLimits}
 use Rattle.stored_catalog.proofs.AroundTableLemmas.{stored_but}
@@ -36,9 +35,12 @@ use Rattle.stored_catalog.proofs.LeftDefinitionsLemmas.{def_there, limits_at, st
 use Rattle.stored_catalog.proofs.LoadingLemmas.{put_as_it_is}
 use Rattle.statement_rows.specs.RowsOfStatement.{ChangesRowsOf, IsReadyBetween}
 use Rattle.script_engine.specs.Doing.{PlacesOnPages, PlacesRows}
+use Rattle.script_engine.specs.NotedRooms.{AreForgotten, KeepsOtherRooms, rooms_at}
 use Rattle.script_engine.specs.Ready.{AreServed, IsReady}
 use Rattle.script_engine.specs.declared.tables.Tables.{Tables}
 use Rattle.script_engine.proofs.BetweenChangesLemmas.{between_of_rules, number_is_low, ready_table, rules_of_between, space_written, stands_written, written_already, written_defines}
+use Rattle.script_engine.proofs.OtherRoomsLemmas.{ready_beside}
+use Rattle.script_engine.proofs.OthersLemmas.{elsewhere, kept_written}
 use Rattle.script_engine.proofs.TablePageSpotsLemmas.{spots_with_table_page}
 
 -- ---- at the start of a statement
@@ -67,37 +69,13 @@ served_def defs place def served at =
       no_indexes = (valid_def 0 defs place def served.valid.each at).no_indexes;
     }
 
--- the same with other rooms noted
-ready_with : {S : Type 0} (g : Ghosts S) (s : S) (before : Tables) (table : ℕ) (rooms : Rooms) → AreServed before.catalog
-    → ((before.noted ≡ table) × (rooms ≡ before.rooms)) ⊎ IsForgotten rooms → IsReady g s before → IsReady g s (record before { noted = table; rooms = rooms })
-ready_with g s before table rooms served either ready = record {
-  told = ready.told;
-  view = ready.view;
-  sound = ready.sound;
-  stored = ready.stored;
-  notes = ready.notes;
-  rooms = λ def at. elim either [
-    | inl same ↦
-        let was = ready.rooms def (ap (def_at before.catalog) same.0 ∙ at) in
-        (was.0, subst (λ (r : Rooms). IsReadyTable g before.ext (room_of r) s def ready.view.owners was.0) (sym same.1) was.1)
-    | inr forgotten ↦
-        let is = served_def before.catalog table def served at in
-        ready_table g before.ext s ready.view table def (room_of rooms) ready.told ready.sound ready.notes is.below (stored_at (pages_of g s) before.catalog table def ready.stored at) forgotten
-  ];
-}
-
--- turning to a table keeps pages ready
-pub ready_turned : {S : Type 0} (g : Ghosts S) (s : S) (before now : Tables) (table : ℕ) → AreServed before.catalog → now ≡ record before { noted = table; rooms = now.rooms }
-    → ((before.noted ≡ table) × (now.rooms ≡ before.rooms)) ⊎ IsForgotten now.rooms → IsReady g s before → IsReady g s now
-ready_turned g s before now table served is rooms ready = subst (IsReady g s) (sym is) (ready_with g s before table now.rooms served rooms ready)
-
--- the table that is noted stands with right notes, in pages that are sound as they are between two changes of rows
-pub ready_between : {S : Type 0} (g : Ghosts S) (s : S) (tables : Tables) (def : TableDef) → AreServed tables.catalog → (ready : IsReady g s tables) → def_at tables.catalog tables.noted ≡ Some def
-    → (forests : TableForests) × IsReadyBetween g tables.ext (room_of tables.rooms) s def ready.view.owners forests
-ready_between g s tables def served ready at =
-    let is = served_def tables.catalog tables.noted def served at in
-    let stored = stored_at (pages_of g s) tables.catalog tables.noted def ready.stored at in
-    let table = ready.rooms def at in
+-- a table of ready pages stands with right notes, in pages that are sound as they are between two changes of rows
+pub ready_between : {S : Type 0} (g : Ghosts S) (s : S) (tables : Tables) (place : ℕ) (def : TableDef) → AreServed tables.catalog → (ready : IsReady g s tables) → def_at tables.catalog place ≡ Some def
+    → (forests : TableForests) × IsReadyBetween g tables.ext (rooms_at tables.rooms place) s def ready.view.owners forests
+ready_between g s tables place def served ready at =
+    let is = served_def tables.catalog place def served at in
+    let stored = stored_at (pages_of g s) tables.catalog place def ready.stored at in
+    let table = ready.rooms place def at in
     let low : def.number < 16 = omega (arith, is.number, is.below) in
     (table.0, record { ready = table.1; sound = between_of_rules tables.ext (pages_of g s) ready.view def ready.sound low (subst (λ t. DefinesTable (pages_of g s) t def) (sym is.number) stored) })
 
@@ -111,51 +89,50 @@ page_is_written g s tables place def served ready at =
 
 -- sound pages with right notes, whose table pages the catalog has, are ready where no rooms are noted
 pub ready_of_sound : {S : Type 0} (g : Ghosts S) (s : S) (tables : Tables) (view : DatabaseView) → AreServed tables.catalog → IsTrue (g.state s).is_told → KeepAllRules tables.ext (pages_of g s) view
-    → AreStored (pages_of g s) tables.catalog → AreRightNotes tables.ext view.owners → IsForgotten tables.rooms → IsReady g s tables
+    → AreStored (pages_of g s) tables.catalog → AreRightNotes tables.ext view.owners → AreForgotten tables.rooms → IsReady g s tables
 ready_of_sound g s tables view served told sound stored notes rooms = record {
   told = told;
   view = view;
   sound = sound;
   stored = stored;
   notes = notes;
-  rooms = λ def at.
-      let is = served_def tables.catalog tables.noted def served at in
-      ready_table g tables.ext s view tables.noted def (room_of tables.rooms) told sound notes is.below (stored_at (pages_of g s) tables.catalog tables.noted def stored at) rooms;
+  rooms = λ table def at.
+      let is = served_def tables.catalog table def served at in
+      ready_table g tables.ext s view table def (rooms_at tables.rooms table) told sound notes is.below (stored_at (pages_of g s) tables.catalog table def stored at) (rooms table is.below);
 }
 
--- what the pages are once the rows of the table that is noted were changed and its page is written
-pub record EndsChange {S : Type 0} (g : Ghosts S) (old new : S) (before now : Tables) (change : PlainTable → PlainTable) : Type 0 where
+-- what the pages are once the rows of the table in a place were changed and its page is written
+pub record EndsChange {S : Type 0} (g : Ghosts S) (old new : S) (before now : Tables) (place : ℕ) (change : PlainTable → PlainTable) : Type 0 where
   pub ready : IsReady g new now
-  pub stands_for : (db : Database) → PagesStandFor before.ext (pages_of g old) db → PagesStandFor now.ext (pages_of g new) (changed_at db before.noted change)
+  pub stands_for : (db : Database) → PagesStandFor before.ext (pages_of g old) db → PagesStandFor now.ext (pages_of g new) (changed_at db place change)
 
 -- an INSERT: the page of the table is written with its new definition
-pub change_ends : {S : Type 0} (g : Ghosts S) (old mid new : S) (before now : Tables) (def def_now : TableDef) (owners : List Kind) (forests : TableForests) (Places : List Spot → List SpaceChange → List Spot → Type 0) (change : PlainTable → PlainTable)
-    → AreServed before.catalog → IsReady g old before → def_at before.catalog before.noted ≡ Some def → def_now ≡ record def { next = def_now.next } → def_now.next < 18446744073709551616
-    → ChangesRowsOf g before.ext now.ext (room_of now.rooms) old mid def def_now owners forests Places change
+pub change_ends : {S : Type 0} (g : Ghosts S) (old mid new : S) (before now : Tables) (place : ℕ) (def def_now : TableDef) (owners : List Kind) (forests : TableForests) (Places : List Spot → List SpaceChange → List Spot → Type 0) (change : PlainTable → PlainTable)
+    → AreServed before.catalog → IsReady g old before → def_at before.catalog place ≡ Some def → def_now ≡ record def { next = def_now.next } → def_now.next < 18446744073709551616
+    → ChangesRowsOf g before.ext now.ext (rooms_at now.rooms place) old mid def def_now owners forests Places change
     → IsTrue (g.state new).is_told → pages_of g new ≡ with_table_page def_now (pages_of g mid)
-    → now.catalog ≡ with_def before.catalog before.noted def_now → now.noted ≡ before.noted → EndsChange g old new before now change
-change_ends g old mid new before now def def_now owners forests Places change served ready at same small changed told written catalog noted = record {
-  ready = record {
-    told = told;
-    view = changed.now.sound.sound.view;
-    sound = rules;
-    stored = stored;
-    notes = subst (AreRightNotes now.ext) one_owners changed.now.ready.notes;
-    rooms = λ d there.
-        let defined = subst (λ (t : ℕ). DefinesTable (pages_of g new) t d) noted (stored_at (pages_of g new) now.catalog now.noted d stored there) in
-        let is : def_now ≡ d = one_definition before.noted def_now d (table_page_at (pages_of g new) before.noted) defines defined in
-        (changed.forests_now, subst (λ (x : TableDef). IsReadyTable g now.ext (room_of now.rooms) new x changed.now.sound.sound.view.owners changed.forests_now) is table_now);
-  };
+    → now.catalog ≡ with_def before.catalog place def_now → KeepsOtherRooms before.rooms now.rooms place → EndsChange g old new before now place change
+change_ends g old mid new before now place def def_now owners forests Places change served ready at same small changed told written catalog rooms = record {
+  ready = ready_beside g old new before now changed.now.sound.sound.view served ready told rules stored (subst (AreRightNotes now.ext) one_owners changed.now.ready.notes) place still_elsewhere
+      (λ t other apart was. kept_written g old mid before now place def.number is.number served ready changed.others new def_now changed.now.sound.sound.view number is.below rules stored written t other apart was
+      (still_elsewhere t apart ∙ was))
+      rooms
+      (λ d there.
+      let is_now : def_now ≡ d = one_definition place def_now d (table_page_at (pages_of g new) place) defines (stored_at (pages_of g new) now.catalog place d stored there) in
+      (changed.forests_now, subst (λ (x : TableDef). IsReadyTable g now.ext (rooms_at now.rooms place) new x changed.now.sound.sound.view.owners changed.forests_now) is_now table_now));
   stands_for = λ db were.
-      let after = changed.stands_for db (subst (λ (pages : PageList). PagesStandFor before.ext pages db) (sym (page_is_written g old before before.noted def served ready at)) were) in
-      subst (λ (pages : PageList). PagesStandFor now.ext pages (changed_at db before.noted change)) (sym written)
+      let after = changed.stands_for db (subst (λ (pages : PageList). PagesStandFor before.ext pages db) (sym (page_is_written g old before place def served ready at)) were) in
+      subst (λ (pages : PageList). PagesStandFor now.ext pages (changed_at db place change)) (sym written)
       (subst (λ (t : ℕ). PagesStandFor now.ext (with_table_page def_now (pages_of g mid)) (changed_at db t change)) is.number after);
 }
   where
-    is : IsServedDef before.noted def
-    is = served_def before.catalog before.noted def served at
+    still_elsewhere : (t : ℕ) → t ≢ place → def_at now.catalog t ≡ def_at before.catalog t
+    still_elsewhere t = elsewhere before.catalog now.catalog place t (Some (record def_now { number = place })) catalog
 
-    number : def_now.number ≡ before.noted
+    is : IsServedDef place def
+    is = served_def before.catalog place def served at
+
+    number : def_now.number ≡ place
     number = ap (λ (d : TableDef). d.number) same ∙ is.number
 
     low : def_now.number < 16
@@ -166,15 +143,15 @@ change_ends g old mid new before now def def_now owners forests Places change se
         subst (λ (pages : PageList). KeepAllRules now.ext pages changed.now.sound.sound.view) (sym written)
         (rules_of_between now.ext def_now (pages_of g mid) changed.now.sound (ap (λ (d : TableDef). d.indexes) same ∙ is.no_indexes))
 
-    defines : DefinesTable (pages_of g new) before.noted def_now
+    defines : DefinesTable (pages_of g new) place def_now
     defines =
-        subst (λ (pages : PageList). DefinesTable pages before.noted def_now) (sym written)
+        subst (λ (pages : PageList). DefinesTable pages place def_now) (sym written)
         (subst (λ (t : ℕ). DefinesTable (with_table_page def_now (pages_of g mid)) t def_now) number (written_defines now.ext def_now (pages_of g mid) changed.now.sound.sound))
 
     stored : AreStored (pages_of g new) now.catalog
     stored =
-        subst (AreStored (pages_of g new)) (sym (catalog ∙ put_as_it_is before.catalog before.noted def_now defines.limits))
-        (stored_but (pages_of g old) (pages_of g new) before.catalog before.noted (Some def_now) ready.stored
+        subst (AreStored (pages_of g new)) (sym (catalog ∙ put_as_it_is before.catalog place def_now defines.limits))
+        (stored_but (pages_of g old) (pages_of g new) before.catalog place (Some def_now) ready.stored
         (λ u below apart. ap (λ (pages : PageList). table_page_at pages u) written
         ∙ (page_at-with_table_page def_now (pages_of g mid) (1 + u) (λ e. apart (omega (arith, e, number))) ∙ changed.table_pages.each u below))
         defines)
@@ -195,10 +172,10 @@ change_ends g old mid new before now def def_now owners forests Places change se
         sym (spots_with_table_page now.ext def_now (pages_of g mid) low def_now changed.owners_now changed.forests_now.map)
         ∙ ap (λ (pages : PageList). table_spots now.ext pages def_now changed.owners_now changed.forests_now.map) (sym written)
 
-    table_now : IsReadyTable g now.ext (room_of now.rooms) new def_now changed.now.sound.sound.view.owners changed.forests_now
+    table_now : IsReadyTable g now.ext (rooms_at now.rooms place) new def_now changed.now.sound.sound.view.owners changed.forests_now
     table_now =
-        subst (λ (o : List Kind). IsReadyTable g now.ext (room_of now.rooms) new def_now o changed.forests_now) one_owners
-        (record { stands = stands_now; notes = changed.now.ready.notes; rooms = subst (AreRightRooms def_now (room_of now.rooms)) spots_now changed.now.ready.rooms })
+        subst (λ (o : List Kind). IsReadyTable g now.ext (rooms_at now.rooms place) new def_now o changed.forests_now) one_owners
+        (record { stands = stands_now; notes = changed.now.ready.notes; rooms = subst (AreRightRooms def_now (rooms_at now.rooms place)) spots_now changed.now.ready.rooms })
 
 -- a definition put where it stands
 put_there : (defs : Definitions) (place : ℕ) (def : TableDef) → slice_get defs place ≡ Some (Some def) → set defs place (Some def) ≡ defs
@@ -207,18 +184,18 @@ put_there (first ∷ defs) zero def at = ap (λ (d : Option TableDef). d ∷ def
 put_there (first ∷ defs) (suc place) def at = ap (λ (rest : Definitions). first ∷ rest) (put_there defs place def at)
 
 -- a DELETE or an UPDATE: the page of the table stays
-pub change_ends_unwritten : {S : Type 0} (g : Ghosts S) (old new : S) (before now : Tables) (def : TableDef) (owners : List Kind) (forests : TableForests) (Places : List Spot → List SpaceChange → List Spot → Type 0) (change : PlainTable → PlainTable)
-    → AreServed before.catalog → IsReady g old before → def_at before.catalog before.noted ≡ Some def
-    → ChangesRowsOf g before.ext now.ext (room_of now.rooms) old new def def owners forests Places change
-    → now.catalog ≡ before.catalog → now.noted ≡ before.noted → EndsChange g old new before now change
-change_ends_unwritten g old new before now def owners forests Places change served ready at changed catalog noted =
-    let is = served_def before.catalog before.noted def served at in
-    let was = stored_at (pages_of g old) before.catalog before.noted def ready.stored at in
-    let defines : DefinesTable (pages_of g new) before.noted def = record { limits = was.limits; printed = changed.table_pages.each before.noted is.below ∙ was.printed } in
-    change_ends g old new new before now def def owners forests Places change served ready at refl was.limits.next changed changed.now.ready.stands.told
-    (sym (written_already (pages_of g new) before.noted def is.number defines))
-    (catalog ∙ sym (put_as_it_is before.catalog before.noted def was.limits ∙ put_there before.catalog before.noted def (def_there before.catalog before.noted def at)))
-    noted
+pub change_ends_unwritten : {S : Type 0} (g : Ghosts S) (old new : S) (before now : Tables) (place : ℕ) (def : TableDef) (owners : List Kind) (forests : TableForests) (Places : List Spot → List SpaceChange → List Spot → Type 0) (change : PlainTable → PlainTable)
+    → AreServed before.catalog → IsReady g old before → def_at before.catalog place ≡ Some def
+    → ChangesRowsOf g before.ext now.ext (rooms_at now.rooms place) old new def def owners forests Places change
+    → now.catalog ≡ before.catalog → KeepsOtherRooms before.rooms now.rooms place → EndsChange g old new before now place change
+change_ends_unwritten g old new before now place def owners forests Places change served ready at changed catalog rooms =
+    let is = served_def before.catalog place def served at in
+    let was = stored_at (pages_of g old) before.catalog place def ready.stored at in
+    let defines : DefinesTable (pages_of g new) place def = record { limits = was.limits; printed = changed.table_pages.each place is.below ∙ was.printed } in
+    change_ends g old new new before now place def def owners forests Places change served ready at refl was.limits.next changed changed.now.ready.stands.told
+    (sym (written_already (pages_of g new) place def is.number defines))
+    (catalog ∙ sym (put_as_it_is before.catalog place def was.limits ∙ put_there before.catalog place def (def_there before.catalog place def at)))
+    rooms
 
 -- the spots of a table are shown still where its page is written with another next row number
 shown_written : {S : Type 0} (g : Ghosts S) (ext : Extents) (mid : S) (pages : PageList) (def def_now : TableDef) (owners : List Kind) (forests : TableForests) → def_now ≡ record def { next = def_now.next }
@@ -237,9 +214,9 @@ shown_written g ext mid pages def def_now owners forests same low stands written
     }
 
 -- rows went where the statement's placing says, on the pages as they are shown
-pub places_shown : {S : Type 0} (g : Ghosts S) (old mid new : S) (before now : Tables) (def def_now : TableDef) (owners : List Kind) (forests : TableForests) (Places : List Spot → List SpaceChange → List Spot → Type 0) (change : PlainTable → PlainTable) (statement : Bound)
-    → IsReady g old before → def_now ≡ record def { next = def_now.next } → IsReadyBetween g before.ext (room_of before.rooms) old def owners forests
-    → ChangesRowsOf g before.ext now.ext (room_of now.rooms) old mid def def_now owners forests Places change
+pub places_shown : {S : Type 0} {room room_now : Entry → RoomNote} (g : Ghosts S) (old mid new : S) (before now : Tables) (def def_now : TableDef) (owners : List Kind) (forests : TableForests) (Places : List Spot → List SpaceChange → List Spot → Type 0) (change : PlainTable → PlainTable) (statement : Bound)
+    → IsReady g old before → def_now ≡ record def { next = def_now.next } → IsReadyBetween g before.ext room old def owners forests
+    → ChangesRowsOf g before.ext now.ext room_now old mid def def_now owners forests Places change
     → pages_of g new ≡ with_table_page def_now (pages_of g mid) → ((was : List Spot) (space : List SpaceChange) (is : List Spot) → Places was space is → PlacesRows def (block_slot_count before.ext def) was space is statement)
     → PlacesOnPages before.ext now.ext (pages_of g old) (pages_of g new) def statement
 places_shown g old mid new before now def def_now owners forests Places change statement ready same between changed written turns = record {

@@ -15,9 +15,9 @@ use Rattle.extent_map.specs.declared.kind.Kind.{Kind}
 use Rattle.table_trees.specs.ToldPages.{PageList}
 use Rattle.mdc_sound.specs.SoundDatabase.{IsSoundDatabase}
 use Rattle.mdc_sound.specs.StandingTable.{pages_of}
-use Rattle.cell_rooms.specs.RoomNotes.{IsForgotten}
 use Rattle.stored_catalog.specs.StoredDefinitions.{AreStored, BreaksTablePages}
 use Rattle.script_engine.specs.Breaking.{LoadsExactly}
+use Rattle.script_engine.specs.NotedRooms.{AreForgotten}
 use Rattle.script_engine.specs.Opening.{are_built}
 use Rattle.script_engine.specs.Reloading.{Reloads}
 use Rattle.script_engine.specs.declared.stop.EngineStop.{EngineStop}
@@ -30,7 +30,7 @@ module _ {S : Type 0} (g : Ghosts S) where
   no_damage s ext damage told sound broken = no_broken_pages g s ext sound.0 told sound.1 damage broken
 
   module _ (old back new : S) (before now : Tables) (rolls : RollsBack (g.state old) (g.state back)) (count : g.disk_faults back ≡ g.disk_faults old) (say : g.say_faults back ≡ g.say_faults old)
-      (time : OverTime g.clock g.left (OnlyBase (g.state old)) old back) (shape : IsSameShape before.ext now.ext) (notes : (owners : List Kind) → AreRightNotes now.ext owners) (rooms : IsForgotten now.rooms) where
+      (time : OverTime g.clock g.left (OnlyBase (g.state old)) old back) (shape : IsSameShape before.ext now.ext) (notes : (owners : List Kind) → AreRightNotes now.ext owners) (rooms : AreForgotten now.rooms) where
     went_back : Steady g old back
     went_back = steady_rollback rolls count say time
 

@@ -17,11 +17,11 @@ use Rattle.extent_map.specs.declared.kind.Kind.{Kind}
 use Rattle.table_trees.specs.ToldPages.{PageList}
 use Rattle.mdc_sound.specs.SoundDatabase.{IsSoundDatabase, KeepAllRules}
 use Rattle.mdc_sound.specs.StandingTable.{pages_of}
-use Rattle.cell_rooms.specs.RoomNotes.{IsForgotten}
 use Rattle.stored_catalog.specs.StoredDefinitions.{AreStored, AreWithinLimits, BreaksTablePages, IsAnyTablePage}
 use Rattle.statement_rows.specs.RowsOfStatement.{AnyPage}
 use Rattle.script_engine.specs.Doing.{DoesStep, LeavesAll, is_reading}
 use Rattle.script_engine.specs.Fetching.{FetchesForQuery}
+use Rattle.script_engine.specs.NotedRooms.{AreForgotten}
 use Rattle.script_engine.specs.Opening.{are_built}
 use Rattle.script_engine.specs.Ready.{AreServed, BreaksDatabase, IsReady}
 use Rattle.script_engine.specs.Stops.{stop_of}
@@ -49,7 +49,7 @@ module _ {S : Type 0} (g : Ghosts S) (old read : S) (before tables : Tables) whe
   -- by which sound pages are ready
   pub ready_read : (catalog : Definitions) → RunsOverPages g NoPage IsAnyTablePage (BreaksTablePages g old) old read None → (g.state read).work ≡ (g.state old).work → tables.catalog ≡ catalog
       → (IsTrue (g.state old).is_told → AreStored (g.state old).work catalog) → AreWithinLimits catalog → AllDefsDiffer catalog → are_built catalog ≡ true → IsSameShape before.ext tables.ext
-      → ((owners : List Kind) → AreRightNotes tables.ext owners) → IsForgotten tables.rooms → IsTrue (g.state old).is_told → IsSoundDatabase before.ext (g.state old).work → IsReady g read tables
+      → ((owners : List Kind) → AreRightNotes tables.ext owners) → AreForgotten tables.rooms → IsTrue (g.state old).is_told → IsSoundDatabase before.ext (g.state old).work → IsReady g read tables
   ready_read catalog runs same is stored limits differ built shape notes rooms told sound =
       ready_of_sound g read tables sound.0 (served_read catalog tables.catalog is limits differ built) (subst IsTrue (sym runs.works.steady.is_told) told)
       (subst (λ (pages : PageList). KeepAllRules tables.ext pages sound.0) (sym same) (keeps_along before.ext tables.ext (g.state old).work sound.0 shape sound.1))

@@ -44,13 +44,13 @@ use Rattle.mdc_sound.proofs.StandingTableLemmas.{forests_of, stands_of_sound, st
 use Rattle.mdc_sound.proofs.StandsForLemmas.{one_tree_at}
 use Rattle.table_blocks.specs.BlockSteps.{HasThisRow}
 use Rattle.cell_change.proofs.RowChangesLemmas.{numbers_here}
-use Rattle.cell_rooms.specs.RoomNotes.{room_of}
 use Rattle.stored_catalog.specs.StoredDefinitions.{AreStored}
 use Rattle.stored_catalog.proofs.LeftDefinitionsLemmas.{stored_at}
 use Rattle.statement_rows.specs.RowsOfStatement.{AnyPage, HasTheseRows}
 use Rattle.row_judging.specs.Served.{IsDefined}
 use Rattle.table_scan.specs.FoundRows.{FindsRows, IsScannedPage}
 use Rattle.script_engine.specs.Doing.{AreQualifying}
+use Rattle.script_engine.specs.NotedRooms.{rooms_at}
 use Rattle.script_engine.specs.Ready.{AreServed, BreaksDatabase, IsReady}
 use Rattle.script_engine.specs.declared.tables.Tables.{Tables}
 use Rattle.script_engine.proofs.BetweenChangesLemmas.{between_of_rules}
@@ -93,12 +93,12 @@ module _ {S : Type 0} (g : Ghosts S) (old new : S) (told : (g.state new).is_told
     sound = subst (λ pages. KeepAllRules tables.ext pages ready.view) (sym same) ready.sound;
     stored = subst (λ pages. AreStored pages tables.catalog) (sym same) ready.stored;
     notes = ready.notes;
-    rooms = λ def at. let was = ready.rooms def at in (
+    rooms = λ table def at. let was = ready.rooms table def at in (
       was.0,
       record {
         stands = stands_same tables.ext old new def ready.view.owners was.0 told same was.1.stands;
         notes = was.1.notes;
-        rooms = subst (λ pages. AreRightRooms def (room_of tables.rooms) (table_spots tables.ext pages def ready.view.owners was.0.map)) (sym same) was.1.rooms;
+        rooms = subst (λ pages. AreRightRooms def (rooms_at tables.rooms table) (table_spots tables.ext pages def ready.view.owners was.0.map)) (sym same) was.1.rooms;
       },
     );
   }

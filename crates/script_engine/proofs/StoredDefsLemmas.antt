@@ -123,19 +123,7 @@ same-without_roots defs (stmt.Insert name listed tuples) = (on_table-without_roo
 same-without_roots defs (stmt.Update name sets pred) = (on_table-without_roots defs name _, bound_on-without_roots defs name _)
 same-without_roots defs (stmt.Delete name pred) = (on_table-without_roots defs name _, bound_on-without_roots defs name _)
 same-without_roots defs (stmt.Query select) = (on_table-without_roots defs select.table _, bound_on-without_roots defs select.table _)
-same-without_roots defs (stmt.CreateIndex name unique table parts) = (refl, refl)
-same-without_roots defs (stmt.DropIndex name) = (refl, refl)
-same-without_roots defs (stmt.Explain select) = (refl, refl)
-same-without_roots defs (stmt.SetRollout mode) = (refl, refl)
-same-without_roots defs (stmt.SetPlan mode) = (refl, refl)
-same-without_roots defs (stmt.SetPace pace) = (refl, refl)
-same-without_roots defs (stmt.Clean steps) = (refl, refl)
-same-without_roots defs (stmt.CleanTable name) = (refl, refl)
-same-without_roots defs (stmt.ListBlocks name) = (refl, refl)
-same-without_roots defs (stmt.Reclaim name) = (refl, refl)
-same-without_roots defs stmt.Begin = (refl, refl)
-same-without_roots defs stmt.Commit = (refl, refl)
-same-without_roots defs stmt.Rollback = (refl, refl)
+same-without_roots defs other = (refl, refl)
 
 -- ---- the plain table at the place of a definition
 

@@ -32,11 +32,11 @@ use Rattle.table_trees.specs.ToldPages.{PageList}
 use Rattle.mdc_sound.specs.SoundDatabase.{KeepAllRules}
 use Rattle.mdc_sound.specs.StandingTable.{pages_of}
 use Rattle.mdc_sound.specs.StandsForDatabase.{PagesStandFor}
-use Rattle.cell_rooms.specs.RoomNotes.{IsForgotten}
 use Rattle.stored_catalog.specs.StoredDefinitions.{AreStored}
 use Rattle.statement_rows.specs.RowsOfStatement.{AnyPage}
 use Rattle.script_engine.specs.Doing.{DoesStep, LeavesAll, PlacesOnPages, StandsAfter, StepRunsFull, changed_place, is_reading}
 use Rattle.script_engine.specs.Fetching.{FetchesForQuery}
+use Rattle.script_engine.specs.NotedRooms.{AreForgotten}
 use Rattle.script_engine.specs.Others.{KeepsOthers, touched_place}
 use Rattle.script_engine.specs.Ready.{AreServed, BreaksDatabase, IsReady, KeepsServed}
 use Rattle.script_engine.specs.Stops.{stop_of}
@@ -169,7 +169,7 @@ module _ {S : Type 0} (g : Ghosts S) where
           → g.disk_faults new ≡ g.disk_faults mid → g.say_faults new ≡ g.say_faults mid → OverTime g.clock g.left (OnlyBase (g.state mid)) mid new
           → IfFull fault (λ n. (n ≡ before.ext.cap) × (IsReady g marked before → StepRunsFull before.ext (pages_of g marked) before.catalog stmt))
           → now.catalog ≡ before.catalog → AreServed before.catalog
-          → last.catalog ≡ now.catalog → IsSameShape now.ext last.ext → ((owners : List Kind) → AreRightNotes last.ext owners) → IsForgotten last.rooms
+          → last.catalog ≡ now.catalog → IsSameShape now.ext last.ext → ((owners : List Kind) → AreRightNotes last.ext owners) → AreForgotten last.rooms
           → FetchesForQuery g before.ext marked mid before.catalog (bound_of before.catalog stmt) → TriesStep g stmt (Ok (said.Refused refusal)) old new before last
       try_full cap fault refusal new last is is_full refuses undone count_undone say_undone time_undone full catalog served forgot shape notes rooms fetches =
           let filled : (cap ≡ before.ext.cap) × (IsReady g marked before → StepRunsFull before.ext (pages_of g marked) before.catalog stmt) =

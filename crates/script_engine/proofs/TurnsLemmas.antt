@@ -91,66 +91,22 @@ turn_other : (session : Session) (stmt : Stmt) → control_of stmt ≡ control.O
 turn_other session statement.Begin other changing = absurd (cc)
 turn_other session statement.Commit other changing = absurd (cc)
 turn_other session statement.Rollback other changing = absurd (cc)
-turn_other session (statement.CreateTable name columns dims) other changing = refl
-turn_other session (statement.CreateIndex name unique table parts) other changing = refl
-turn_other session (statement.DropTable name) other changing = refl
-turn_other session (statement.DropIndex name) other changing = refl
-turn_other session (statement.Insert table columns rows) other changing = refl
-turn_other session (statement.Update table sets pred) other changing = refl
-turn_other session (statement.Delete table pred) other changing = refl
-turn_other session (statement.Query select) other changing = refl
-turn_other session (statement.Explain select) other changing = refl
-turn_other session (statement.SetRollout mode) other changing = refl
-turn_other session (statement.SetPlan mode) other changing = refl
-turn_other session (statement.SetPace n) other changing = refl
-turn_other session (statement.Clean n) other changing = refl
-turn_other session (statement.CleanTable name) other changing = refl
 turn_other session (statement.ListBlocks name) other changing = absurd (cc)
-turn_other session (statement.Reclaim name) other changing = refl
+turn_other session stmt other changing = refl
 
 -- none of these asks for the blocks of a table
 asks_none : (defs : Definitions) (stmt : Stmt) → is_listing stmt ≡ false → asks_blocks defs stmt ≡ false
-asks_none defs statement.Begin changing = refl
-asks_none defs statement.Commit changing = refl
-asks_none defs statement.Rollback changing = refl
-asks_none defs (statement.CreateTable name columns dims) changing = refl
-asks_none defs (statement.CreateIndex name unique table parts) changing = refl
-asks_none defs (statement.DropTable name) changing = refl
-asks_none defs (statement.DropIndex name) changing = refl
-asks_none defs (statement.Insert table columns rows) changing = refl
-asks_none defs (statement.Update table sets pred) changing = refl
-asks_none defs (statement.Delete table pred) changing = refl
-asks_none defs (statement.Query select) changing = refl
-asks_none defs (statement.Explain select) changing = refl
-asks_none defs (statement.SetRollout mode) changing = refl
-asks_none defs (statement.SetPlan mode) changing = refl
-asks_none defs (statement.SetPace n) changing = refl
-asks_none defs (statement.Clean n) changing = refl
-asks_none defs (statement.CleanTable name) changing = refl
 asks_none defs (statement.ListBlocks name) changing = absurd (cc)
-asks_none defs (statement.Reclaim name) changing = refl
+asks_none defs stmt changing = refl
 
 -- any statement but BEGIN, COMMIT, ROLLBACK and LIST BLOCKS leaves the pages, where it is a query
 keeps_work : (old new : HeldPages) (stmt : Stmt) → control_of stmt ≡ control.Other → is_listing stmt ≡ false → (is_reading stmt ≡ true → new.work ≡ old.work) → KeepsWork stmt old new
 keeps_work old new statement.Begin other changing reads = absurd (cc)
 keeps_work old new statement.Commit other changing reads = absurd (cc)
 keeps_work old new statement.Rollback other changing reads = absurd (cc)
-keeps_work old new (statement.CreateTable name columns dims) other changing reads = tt
-keeps_work old new (statement.CreateIndex name unique table parts) other changing reads = tt
-keeps_work old new (statement.DropTable name) other changing reads = tt
-keeps_work old new (statement.DropIndex name) other changing reads = tt
-keeps_work old new (statement.Insert table columns rows) other changing reads = tt
-keeps_work old new (statement.Update table sets pred) other changing reads = tt
-keeps_work old new (statement.Delete table pred) other changing reads = tt
 keeps_work old new (statement.Query select) other changing reads = reads refl
-keeps_work old new (statement.Explain select) other changing reads = tt
-keeps_work old new (statement.SetRollout mode) other changing reads = tt
-keeps_work old new (statement.SetPlan mode) other changing reads = tt
-keeps_work old new (statement.SetPace n) other changing reads = tt
-keeps_work old new (statement.Clean n) other changing reads = tt
-keeps_work old new (statement.CleanTable name) other changing reads = tt
 keeps_work old new (statement.ListBlocks name) other changing reads = absurd (cc)
-keeps_work old new (statement.Reclaim name) other changing reads = tt
+keeps_work old new stmt other changing reads = tt
 
 -- the kept database behind a step, whether a transaction is open or not
 kept_on : (ext : Extents) (base work : PageList) (kept db : Database) (is_open : Bool) → PagesStandFor ext work db → (is_open ≡ true → PagesStandFor ext base kept) → (is_open ≡ false → base ≡ work)
@@ -656,21 +612,4 @@ module _ {S : Type 0} (g : Ghosts S) where
 
 pub is_begin : (stmt : Stmt) → control.Begin ≡ control_of stmt → stmt ≡ statement.Begin
 is_begin statement.Begin is = refl
-is_begin statement.Commit is = absurd (cc)
-is_begin statement.Rollback is = absurd (cc)
-is_begin (statement.CreateTable name columns dims) is = absurd (cc)
-is_begin (statement.CreateIndex name unique table parts) is = absurd (cc)
-is_begin (statement.DropTable name) is = absurd (cc)
-is_begin (statement.DropIndex name) is = absurd (cc)
-is_begin (statement.Insert table columns rows) is = absurd (cc)
-is_begin (statement.Update table sets pred) is = absurd (cc)
-is_begin (statement.Delete table pred) is = absurd (cc)
-is_begin (statement.Query select) is = absurd (cc)
-is_begin (statement.Explain select) is = absurd (cc)
-is_begin (statement.SetRollout mode) is = absurd (cc)
-is_begin (statement.SetPlan mode) is = absurd (cc)
-is_begin (statement.SetPace n) is = absurd (cc)
-is_begin (statement.Clean n) is = absurd (cc)
-is_begin (statement.CleanTable name) is = absurd (cc)
-is_begin (statement.ListBlocks name) is = absurd (cc)
-is_begin (statement.Reclaim name) is = absurd (cc)
+is_begin stmt is = absurd (cc)

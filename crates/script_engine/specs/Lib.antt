@@ -7,6 +7,7 @@ pub mod Held
 pub mod Inserting
 pub mod Leaving
 pub mod Listing
+pub mod NotedRooms
 pub mod Opening
 pub mod Others
 pub mod Ready

@@ -1,5 +1,5 @@
 -- When the pages of a store and what is kept of them in memory are ready for a statement.
-use Rattle.std.specs.Prelude.{◌≡◌, IsTrue, List, Some, OnErr, Result}
+use Rattle.std.specs.Prelude.{◌≡◌, ℕ, IsTrue, List, Some, OnErr, Result}
 use Rattle.mdc_ast.specs.declared.definition.TableDef.{TableDef}
 use Rattle.mdc_ast.specs.meaning.Definitions.{AreValidDefs, Definitions, def_at}
 use Rattle.store_api.specs.declared.fault.Damage.{Damage}
@@ -10,8 +10,8 @@ use Rattle.extent_map.specs.declared.kind.Kind.{Kind}
 use Rattle.mdc_sound.specs.SoundDatabase.{KeepAllRules}
 use Rattle.mdc_sound.specs.SpaceRules.{DatabaseView}
 use Rattle.mdc_sound.specs.StandingTable.{IsReadyTable, StandsTable, TableForests, pages_of}
-use Rattle.cell_rooms.specs.RoomNotes.{room_of}
 use Rattle.stored_catalog.specs.StoredDefinitions.{AreStored, AreWithinLimits}
+use Rattle.script_engine.specs.NotedRooms.{rooms_at}
 use Rattle.script_engine.specs.declared.tables.Tables.{Tables}
 
 -- the definitions may be written to their pages, and are of forms that are built: no generated columns, and no record indexes
@@ -20,15 +20,15 @@ pub record AreServed (defs : Definitions) : Type 0 where
   pub valid : AreValidDefs defs
 
 -- The pages are told and sound, the catalog is that of their table pages, and the notes in memory are right: of the extents, and
--- of the table whose rooms are noted, where it is there.
+-- of where the rows of each table find room.
 pub record IsReady {S : Type 0} (g : Ghosts S) (s : S) (tables : Tables) : Type 0 where
   pub told : IsTrue (g.state s).is_told
   pub view : DatabaseView
   pub sound : KeepAllRules tables.ext (pages_of g s) view
   pub stored : AreStored (pages_of g s) tables.catalog
   pub notes : AreRightNotes tables.ext view.owners
-  pub rooms : (def : TableDef) → def_at tables.catalog tables.noted ≡ Some def
-      → (forests : TableForests) × IsReadyTable g tables.ext (room_of tables.rooms) s def view.owners forests
+  pub rooms : (table : ℕ) (def : TableDef) → def_at tables.catalog table ≡ Some def
+      → (forests : TableForests) × IsReadyTable g tables.ext (rooms_at tables.rooms table) s def view.owners forests
 
 -- what may be named as damage: the pages weren't ready
 abbrev pub BreaksDatabase : {S : Type 0} → Ghosts S → S → Tables → Damage → Type 0

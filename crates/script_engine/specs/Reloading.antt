@@ -9,8 +9,8 @@ use Rattle.extent_map.specs.Owners.{AreRightNotes, IsSameShape}
 use Rattle.extent_map.specs.declared.extents.Extents.{Extents}
 use Rattle.extent_map.specs.declared.kind.Kind.{Kind}
 use Rattle.mdc_sound.specs.SoundDatabase.{IsSoundDatabase}
-use Rattle.cell_rooms.specs.RoomNotes.{IsForgotten}
 use Rattle.stored_catalog.specs.StoredDefinitions.{AreStored, AreWithinLimits}
+use Rattle.script_engine.specs.NotedRooms.{AreForgotten}
 use Rattle.script_engine.specs.Opening.{are_built}
 use Rattle.script_engine.specs.declared.stop.EngineStop.{EngineStop}
 use Rattle.script_engine.specs.declared.stop.EngineStop.TheVariants.{Damaged, Device, Output}
@@ -24,7 +24,7 @@ pub record Reloads {S : Type 0} (g : Ghosts S) (result : Result Bool EngineStop)
   pub unmarked : (g.state new).marked ≡ None
   pub shape : IsSameShape before.ext now.ext
   pub notes : (owners : List Kind) → AreRightNotes now.ext owners
-  pub rooms : IsForgotten now.rooms
+  pub rooms : AreForgotten now.rooms
   pub stored : OnOk result (IsTrue (g.state old).is_told → AreStored (g.state old).base now.catalog)
   pub limits : OnOk result (AreWithinLimits now.catalog)
   pub names : OnOk result (AllDefsDiffer now.catalog)

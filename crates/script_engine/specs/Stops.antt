@@ -6,6 +6,7 @@ use Rattle.store_api.specs.declared.fault.StoreFault.TheVariants as store
 use Rattle.script_engine.specs.declared.stop.EngineStop.{EngineStop}
 use Rattle.script_engine.specs.declared.stop.EngineStop.TheVariants.{Damaged, Device, Memory}
 
+-- the engine stops for the same cause, and damage keeps its rule and its page
 abbrev pub stop_of : StoreFault → EngineStop
 stop_of store.Device = Device
 stop_of (store.Damaged damage) = Damaged damage

@@ -20,12 +20,12 @@ use Rattle.extent_map.specs.declared.kind.Kind.{Kind}
 use Rattle.table_trees.specs.ToldPages.{PageList}
 use Rattle.mdc_sound.specs.SoundDatabase.{IsSoundDatabase}
 use Rattle.mdc_sound.specs.StandingTable.{pages_of}
-use Rattle.cell_rooms.specs.RoomNotes.{IsForgotten}
 use Rattle.stored_catalog.specs.StoredDefinitions.{AreStored}
 use Rattle.script_engine.specs.Breaking.{OnlyReads}
 use Rattle.script_engine.specs.Doing.{DoesStep, LeavesAll, StepRunsFull, is_reading}
 use Rattle.script_engine.specs.Fetching.{FetchesForQuery}
 use Rattle.script_engine.specs.Listing.{TellsBlocks}
+use Rattle.script_engine.specs.NotedRooms.{AreForgotten}
 use Rattle.script_engine.specs.Opening.{are_built}
 use Rattle.script_engine.specs.Ready.{AreServed, IsReady}
 use Rattle.script_engine.specs.declared.stop.EngineStop.{EngineStop}
@@ -77,7 +77,7 @@ pub record AreReadAnew {S : Type 0} (g : Ghosts S) (s : S) (ext : Extents) (read
   pub stored : AreStored (pages_of g s) read.catalog
   pub shape : IsSameShape ext read.ext
   pub notes : (owners : List Kind) → AreRightNotes read.ext owners
-  pub rooms : IsForgotten read.rooms
+  pub rooms : AreForgotten read.rooms
 
 -- A statement did its step by what was read, or was refused with 70. One that is done leaves what the step made of it.
 pub record DoesAnew {S : Type 0} (g : Ghosts S) (stmt : Stmt) (outcome : Outcome) (old new : S) (read now : Tables) : Type 0 where

@@ -38,8 +38,8 @@ pub fn create<P: Pages>(
 {
     let alloc = tables.alloc;
     let place = add_table(alloc, &mut tables.catalog, &mut tables.ext, pages, def)?;
-    tables.noted = place;
-    tables.rooms.forget();
+    // What is noted of a table that was in this place before isn't right for this one.
+    tables.rooms.forget_table(place);
     Ok(Outcome::Done(Reply::Done))
 }
 
@@ -59,7 +59,5 @@ pub fn remove<P: Pages>(
 {
     let alloc = tables.alloc;
     drop_table(alloc, &mut tables.catalog, &mut tables.ext, pages, table)?;
-    tables.noted = table;
-    tables.rooms.forget();
     Ok(Outcome::Done(Reply::Done))
 }

@@ -34,27 +34,28 @@ pub fn delete<P: Pages>(
     ensures keeps { KeepsServed result tables.old tables.new }
     ensures runs { RunsOverPages P.Pages AnyPage AnyPage (BreaksDatabase P.Pages pages.old tables.old) pages.old pages.new (fault_of result) }
 {
-    tables.turn_to(table);
-    let count = delete_found(tables, pages, pred)?;
+    let count = delete_found(tables, pages, table, pred)?;
     Ok(Outcome::Done(Reply::Deleted(count)))
 }
 
-// Deletes the rows that qualify of the table that is noted, and tells their number.
+// Deletes the rows that qualify of a table, and tells their number.
 fn delete_found<P: Pages>(
     tables: &mut Tables,
     pages: &mut P,
+    table: u8,
     pred: &Option<Pred>,
 ) -> Result<u64, StoreFault>
     requires served { AreServed tables.old.catalog }
-    requires there { IsDefined (def_at tables.old.catalog tables.old.noted) (MayJudge pred.now) }
+    requires there { IsDefined (def_at tables.old.catalog table) (MayJudge pred.now) }
     requires going { (P.state pages.old).ended ≡ false }
     ensures does { IfOk result (λ count. IsReady P.Pages pages.old tables.old
-        → DoesStatement P.Pages pages.old pages.new tables.old tables.new (bound.Delete tables.old.noted pred.now) (said.Done (reply.Deleted count))) }
+        → DoesStatement P.Pages pages.old pages.new tables.old tables.new (bound.Delete table pred.now) (said.Done (reply.Deleted count))) }
     ensures catalog { tables.new.catalog ≡ tables.old.catalog }
     ensures shape { IsSameShape tables.old.ext tables.new.ext }
     ensures runs { RunsOverPages P.Pages AnyPage AnyPage (BreaksDatabase P.Pages pages.old tables.old) pages.old pages.new (fault_of result) }
 {
-    let Some(def) = tables.catalog.def(tables.noted) else {
+    let rooms = &mut tables.rooms.by_table[table as usize];
+    let Some(def) = tables.catalog.def(table) else {
         unreachable!()
     };
     let hits = find_rows(tables.alloc, def, &tables.ext, pages, pred)?;
@@ -62,7 +63,7 @@ fn delete_found<P: Pages>(
         tables.alloc,
         def,
         &mut tables.ext,
-        &mut tables.rooms,
+        rooms,
         pages,
         hits.as_slice(),
     )?;

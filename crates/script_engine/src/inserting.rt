@@ -14,13 +14,13 @@ ghost use Rattle.extent_map.specs.declared.kind.Kind.{Kind};
 ghost use Rattle.mdc_sound.specs.Placing.{block_slot_count};
 ghost use Rattle.mdc_sound.specs.RunningFull.{InsertRunsFull};
 ghost use Rattle.mdc_sound.specs.StandingTable.{TableForests, pages_of};
-ghost use Rattle.cell_rooms.specs.RoomNotes.{room_of};
 ghost use Rattle.row_judging.specs.RowChange.{misfit_cause};
 ghost use Rattle.row_judging.specs.Served.{IsDefined, MayPut};
 ghost use Rattle.statement_rows.specs.RowsAndSpace.{PutsRowsBy};
 ghost use Rattle.statement_rows.specs.RowsOfStatement.{AnyPage, ChangesRowsOf, IsReadyBetween};
 ghost use Rattle.script_engine.specs.Doing.{DoesStatement, LeavesAll, RunsFullAlone};
 ghost use Rattle.script_engine.specs.Inserting.{first_refusal, numbered_on, tuple_causes};
+ghost use Rattle.script_engine.specs.NotedRooms.{KeepsOtherRooms, rooms_at};
 ghost use Rattle.script_engine.specs.Ready.{AreServed, BreaksDatabase, IsReady, KeepsServed};
 
 use crate::tables::Tables;
@@ -50,21 +50,20 @@ pub fn insert<P: Pages>(
     ensures keeps { KeepsServed result tables.old tables.new }
     ensures runs { RunsOverPages P.Pages AnyPage AnyPage (BreaksDatabase P.Pages pages.old tables.old) pages.old pages.new (store_fault_in store_part_of result) }
 {
-    tables.turn_to(table);
-    if let Some(refusal) = judge(tables, tuples.as_slice())? {
+    if let Some(refusal) = judge(tables, table, tuples.as_slice())? {
         return Ok(Outcome::Refused(refusal));
     }
-    put(tables, pages, tuples)
+    put(tables, pages, table, tuples)
 }
 
-/// Why these tuples may not go into the table that is turned to, if they may not.
-fn judge(tables: &Tables, tuples: &[List<Value>]) -> Result<Option<Refusal>, SpaceFault>
-    requires place { tables.now.noted < 16 }
-    requires there { IsDefined (def_at tables.now.catalog tables.now.noted) (MayPut tuples.now) }
-    ensures judges { IfOk result (λ refusal. IfSome (def_at tables.now.catalog tables.now.noted) (λ def. first_refusal (tuple_causes def tuples.now) ≡ refusal)) }
+/// Why these tuples may not go into a table, if they may not.
+fn judge(tables: &Tables, table: u8, tuples: &[List<Value>]) -> Result<Option<Refusal>, SpaceFault>
+    requires place { table < 16 }
+    requires there { IsDefined (def_at tables.now.catalog table) (MayPut tuples.now) }
+    ensures judges { IfOk result (λ refusal. IfSome (def_at tables.now.catalog table) (λ def. first_refusal (tuple_causes def tuples.now) ≡ refusal)) }
     ensures memory { IfErr result (λ fault. fault ≡ SpaceFault.Store StoreFault.Memory) }
 {
-    let Some(def) = tables.catalog.def(tables.noted) else {
+    let Some(def) = tables.catalog.def(table) else {
         unreachable!()
     };
     if let Some(misfit) = first_null_in(def.columns.as_slice(), tuples) {
@@ -94,29 +93,30 @@ fn used_up(alloc: Global, next: u64) -> Result<Option<Refusal>, SpaceFault>
     Ok(Some(numbers_used_up(alloc, next)))
 }
 
-/// Puts tuples against which nothing is said into the table that is turned to, and writes its next row number.
+/// Puts tuples against which nothing is said into a table, and writes its next row number.
 fn put<P: Pages>(
     tables: &mut Tables,
     pages: &mut P,
+    table: u8,
     tuples: List<List<Value>>,
 ) -> Result<Outcome, SpaceFault>
     requires served { AreServed tables.old.catalog }
-    requires there { IsDefined (def_at tables.old.catalog tables.old.noted) (MayPut tuples) }
-    requires unsaid { IfSome (def_at tables.old.catalog tables.old.noted) (λ def. tuple_causes def tuples ≡ []) }
+    requires there { IsDefined (def_at tables.old.catalog table) (MayPut tuples) }
+    requires unsaid { IfSome (def_at tables.old.catalog table) (λ def. tuple_causes def tuples ≡ []) }
     requires going { (P.state pages.old).ended ≡ false }
-    ensures does { IfOk result (λ outcome. IsReady P.Pages pages.old tables.old → DoesStatement P.Pages pages.old pages.new tables.old tables.new (bound.Insert tables.old.noted tuples) outcome) }
+    ensures does { IfOk result (λ outcome. IsReady P.Pages pages.old tables.old → DoesStatement P.Pages pages.old pages.new tables.old tables.new (bound.Insert table tuples) outcome) }
     ensures done { (refusal : Refusal) → result ≡ Ok (Outcome.Refused refusal) → ⊥ }
     ensures full { IfErr result (λ fault. IfFull fault (λ cap. (cap ≡ tables.old.ext.cap)
-        × (IsReady P.Pages pages.old tables.old → RunsFullAlone tables.old.ext (pages_of P.Pages pages.old) tables.old.catalog (bound.Insert tables.old.noted tuples)))) }
+        × (IsReady P.Pages pages.old tables.old → RunsFullAlone tables.old.ext (pages_of P.Pages pages.old) tables.old.catalog (bound.Insert table tuples)))) }
     ensures keeps { KeepsServed result tables.old tables.new }
     ensures runs { RunsOverPages P.Pages AnyPage AnyPage (BreaksDatabase P.Pages pages.old tables.old) pages.old pages.new (store_fault_in store_part_of result) }
 {
     let count = tuples.len() as u64;
-    put_rows(tables, pages, tuples)?;
-    match save_next(&tables.catalog, pages, tables.noted) {
+    put_rows(tables, pages, table, tuples)?;
+    match save_next(&tables.catalog, pages, table) {
         Ok(()) => Ok(Outcome::Done(Reply::Inserted(count))),
         Err(fault) => {
-            number_back(tables, count);
+            number_back(tables, table, count);
             Err(SpaceFault::Store(fault))
         }
     }
@@ -126,54 +126,54 @@ fn put<P: Pages>(
 fn put_rows<P: Pages>(
     tables: &mut Tables,
     pages: &mut P,
+    table: u8,
     tuples: List<List<Value>>,
 ) -> Result<(), SpaceFault>
     requires served { AreServed tables.old.catalog }
-    requires there { IsDefined (def_at tables.old.catalog tables.old.noted) (MayPut tuples) }
-    requires unsaid { IfSome (def_at tables.old.catalog tables.old.noted) (λ def. tuple_causes def tuples ≡ []) }
+    requires there { IsDefined (def_at tables.old.catalog table) (MayPut tuples) }
+    requires unsaid { IfSome (def_at tables.old.catalog table) (λ def. tuple_causes def tuples ≡ []) }
     requires going { (P.state pages.old).ended ≡ false }
-    ensures inserts { (def : TableDef) → def_at tables.old.catalog tables.old.noted ≡ Some def
-        → OnOk result ((owners : List Kind) (forests : TableForests) → IsReadyBetween P.Pages tables.old.ext (room_of tables.old.rooms) pages.old def owners forests
-        → ChangesRowsOf P.Pages tables.old.ext tables.new.ext (room_of tables.new.rooms) pages.old pages.new def (numbered_on def (length tuples)) owners forests
+    ensures inserts { (def : TableDef) → def_at tables.old.catalog table ≡ Some def
+        → OnOk result ((owners : List Kind) (forests : TableForests) → IsReadyBetween P.Pages tables.old.ext (rooms_at tables.old.rooms table) pages.old def owners forests
+        → ChangesRowsOf P.Pages tables.old.ext tables.new.ext (rooms_at tables.new.rooms table) pages.old pages.new def (numbered_on def (length tuples)) owners forests
         (λ was space is. PutsRowsBy def (block_slot_count tables.old.ext def) was (numbered def.next tuples) space is) (appended tuples)) }
-    ensures numbers { (def : TableDef) → def_at tables.old.catalog tables.old.noted ≡ Some def
-        → OnOk result (tables.new.catalog ≡ with_def tables.old.catalog tables.old.noted (numbered_on def (length tuples))) }
+    ensures numbers { (def : TableDef) → def_at tables.old.catalog table ≡ Some def
+        → OnOk result (tables.new.catalog ≡ with_def tables.old.catalog table (numbered_on def (length tuples))) }
     ensures kept { OnErr result (tables.new.catalog ≡ tables.old.catalog) }
-    ensures noted { tables.new.noted ≡ tables.old.noted }
-    ensures full { (def : TableDef) → def_at tables.old.catalog tables.old.noted ≡ Some def → IfErr result (λ fault. IfFull fault (λ cap. (cap ≡ tables.old.ext.cap)
-        × ((owners : List Kind) (forests : TableForests) → IsReadyBetween P.Pages tables.old.ext (room_of tables.old.rooms) pages.old def owners forests
+    ensures rooms { KeepsOtherRooms tables.old.rooms tables.new.rooms table }
+    ensures full { (def : TableDef) → def_at tables.old.catalog table ≡ Some def → IfErr result (λ fault. IfFull fault (λ cap. (cap ≡ tables.old.ext.cap)
+        × ((owners : List Kind) (forests : TableForests) → IsReadyBetween P.Pages tables.old.ext (rooms_at tables.old.rooms table) pages.old def owners forests
         → InsertRunsFull tables.old.ext (pages_of P.Pages pages.old) def (numbered def.next tuples)))) }
     ensures shape { IsSameShape tables.old.ext tables.new.ext }
     ensures runs { RunsOverPages P.Pages AnyPage AnyPage (BreaksDatabase P.Pages pages.old tables.old) pages.old pages.new (store_fault_in store_part_of result) }
 {
-    let noted = tables.noted;
-    let Some(mut def) = tables.catalog.take(noted) else {
+    let Some(mut def) = tables.catalog.take(table) else {
         unreachable!()
     };
+    let rooms = &mut tables.rooms.by_table[table as usize];
     let result = insert_rows(
         tables.alloc,
         &mut def,
         &mut tables.ext,
-        &mut tables.rooms,
+        rooms,
         pages,
         tuples,
     );
-    tables.catalog.put(noted, def);
+    tables.catalog.put(table, def);
     result
 }
 
-/// Takes so many row numbers back from the table that is turned to, whose page wasn't written.
-fn number_back(tables: &mut Tables, count: u64)
+/// Takes so many row numbers back from a table, whose page wasn't written.
+fn number_back(tables: &mut Tables, table: u8, count: u64)
     requires served { AreServed tables.old.catalog }
-    requires there { IsDefined (def_at tables.old.catalog tables.old.noted) (λ def. count ≤ def.next) }
+    requires there { IsDefined (def_at tables.old.catalog table) (λ def. count ≤ def.next) }
     ensures same { tables.new ≡ record tables.old { catalog = tables.new.catalog } }
-    ensures numbers { (def : TableDef) → def_at tables.old.catalog tables.old.noted ≡ Some def
-        → tables.new.catalog ≡ with_def tables.old.catalog tables.old.noted (record def { next = def.next - count }) }
+    ensures numbers { (def : TableDef) → def_at tables.old.catalog table ≡ Some def
+        → tables.new.catalog ≡ with_def tables.old.catalog table (record def { next = def.next - count }) }
 {
-    let noted = tables.noted;
-    let Some(mut def) = tables.catalog.take(noted) else {
+    let Some(mut def) = tables.catalog.take(table) else {
         unreachable!()
     };
     def.next -= count;
-    tables.catalog.put(noted, def);
+    tables.catalog.put(table, def);
 }

@@ -26,6 +26,7 @@ mod listing;
 mod opening;
 mod querying;
 mod stop;
+mod table_rooms;
 mod tables;
 mod transactions;
 mod updating;

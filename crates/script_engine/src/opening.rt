@@ -4,12 +4,12 @@ ghost use Rattle.std.specs.List.{list_all};
 ghost use Rattle.mdc_words.specs.Faults.{CountsFault};
 ghost use Rattle.store_api.specs.Works.{Rests};
 ghost use Rattle.store_api.specs.declared.fault.Damage.{Damage};
-ghost use Rattle.cell_rooms.specs.RoomNotes.{IsForgotten};
 ghost use Rattle.extent_map.specs.Owners.{AreRightNotes, IsSameShape};
 ghost use Rattle.extent_map.specs.declared.kind.Kind.{Kind};
 ghost use Rattle.mdc_sound.specs.SoundDatabase.{IsSoundDatabase};
 ghost use Rattle.stored_catalog.specs.StoredDefinitions.{AreStored, AreWithinLimits};
 ghost use Rattle.script_engine.specs.Breaking.{IsExactDamage};
+ghost use Rattle.script_engine.specs.NotedRooms.{AreForgotten};
 ghost use Rattle.script_engine.specs.Opening.{IsSoundStore, KeepsPages, are_built, is_built_place};
 ghost use Rattle.script_engine.specs.Serving.{IsReadyEngine, MayCall};
 ghost use Rattle.script_engine.specs.Turns.{IsServedByForms};
@@ -17,11 +17,11 @@ ghost use Rattle.script_engine.specs.Turns.{IsServedByForms};
 use crate::damage::load_exactly;
 use crate::engine::Engine;
 use crate::stop::EngineStop;
+use crate::table_rooms::TableRooms;
 use crate::tables::Tables;
 use catalog::Catalog;
 use extent_map::Extents;
 use mdc_ast::{ColumnDef, TableDef};
-use mdc_table::Rooms;
 use std::alloc::Global;
 use store_api::Store;
 
@@ -71,7 +71,7 @@ fn engine_on<S: Store>(alloc: Global, store: S, ext: Extents, catalog: Catalog) 
     ensures catalog { result.tables.catalog ≡ catalog }
     ensures shape { IsSameShape ext result.tables.ext }
     ensures notes { (owners : List Kind) → AreRightNotes result.tables.ext owners }
-    ensures rooms { IsForgotten result.tables.rooms }
+    ensures rooms { AreForgotten result.tables.rooms }
 {
     let mut ext = ext;
     ext.forget();
@@ -80,8 +80,7 @@ fn engine_on<S: Store>(alloc: Global, store: S, ext: Extents, catalog: Catalog) 
         alloc,
         ext,
         catalog,
-        noted: 0,
-        rooms: Rooms::new(alloc),
+        rooms: TableRooms::new(alloc),
     };
     Engine {
         store,

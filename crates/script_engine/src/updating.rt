@@ -13,7 +13,6 @@ ghost use Rattle.store_api.specs.Extents.{first_page_of};
 ghost use Rattle.store_api.specs.Frame.{NoPage};
 ghost use Rattle.store_api.specs.RunsOverPages.{RunsOverPages};
 ghost use Rattle.extent_map.specs.Damages.{IfFull, store_part_of};
-ghost use Rattle.extent_map.specs.Owners.{IsSameShape};
 ghost use Rattle.extent_map.specs.declared.kind.Kind.{Kind};
 ghost use Rattle.block_rows.specs.HeldRows.{HasReadValues, HaveReadValues, placed_row};
 ghost use Rattle.table_page.specs.TableLimits.{IsTableDef};
@@ -61,30 +60,8 @@ pub fn update<P: Pages>(
     ensures keeps { KeepsServed result tables.old tables.new }
     ensures runs { RunsOverPages P.Pages AnyPage AnyPage (BreaksDatabase P.Pages pages.old tables.old) pages.old pages.new (store_fault_in store_part_of result) }
 {
-    tables.turn_to(table);
-    update_found(tables, pages, sets, pred)
-}
-
-// Changes the rows that qualify of the table that is noted.
-fn update_found<P: Pages>(
-    tables: &mut Tables,
-    pages: &mut P,
-    sets: &[BoundSet],
-    pred: &Option<Pred>,
-) -> Result<Outcome, SpaceFault>
-    requires served { AreServed tables.old.catalog }
-    requires there { IsDefined (def_at tables.old.catalog tables.old.noted) (MaySet sets.now pred.now) }
-    requires going { (P.state pages.old).ended ≡ false }
-    ensures does { IfOk result (λ outcome. IsReady P.Pages pages.old tables.old
-        → DoesStatement P.Pages pages.old pages.new tables.old tables.new (bound.Update tables.old.noted sets.now pred.now) outcome) }
-    ensures refused { (refusal : Refusal) → result ≡ Ok (Outcome.Refused refusal) → pages_of P.Pages pages.new ≡ pages_of P.Pages pages.old }
-    ensures full { IfErr result (λ fault. IfFull fault (λ cap. (cap ≡ tables.old.ext.cap)
-        × (IsReady P.Pages pages.old tables.old → RunsFullAlone tables.old.ext (pages_of P.Pages pages.old) tables.old.catalog (bound.Update tables.old.noted sets.now pred.now)))) }
-    ensures catalog { tables.new.catalog ≡ tables.old.catalog }
-    ensures shape { IsSameShape tables.old.ext tables.new.ext }
-    ensures runs { RunsOverPages P.Pages AnyPage AnyPage (BreaksDatabase P.Pages pages.old tables.old) pages.old pages.new (store_fault_in store_part_of result) }
-{
-    let Some(def) = tables.catalog.def(tables.noted) else {
+    let rooms = &mut tables.rooms.by_table[table as usize];
+    let Some(def) = tables.catalog.def(table) else {
         unreachable!()
     };
     let hits = find_fitting(tables.alloc, def, &tables.ext, pages, pred)?;
@@ -98,7 +75,7 @@ fn update_found<P: Pages>(
         tables.alloc,
         def,
         &mut tables.ext,
-        &mut tables.rooms,
+        rooms,
         pages,
         turned.as_slice(),
     )?;

@@ -1,6 +1,7 @@
 use Rattle.store_api.proofs.RunsOverPagesLemmas.{runs_exit_as, runs_wider}
 use Rattle.extent_map.specs.Damages.{store_part_of}
 use Rattle.entry_tree.proofs.ClaimsLemmas.{if_err_by}
+use Rattle.stored_catalog.proofs.EnteringLemmas.{empty_place_below}
 use Rattle.script_engine.proofs.DefinedTablesLemmas.{created, full_create, no_making_damage, served_more}
 use Rattle.script_engine.proofs.defining.create.Goals as goal
 
@@ -13,6 +14,9 @@ pub returns-in_err-place-clause-runs : goal.returns-in_err-place-clause-runs
 returns-in_err-place-clause-runs g c =
     runs_exit_as store_part_of c.from_residual.result c.from_residual.ensures.1
     (runs_wider c.in_err-place.ensures.runs (λ p there mine. tt) (λ p kind. tt) (λ damage breaks ready. no_making_damage g.P.Pages c.args.pages.now c.args.tables.now damage breaks ready))
+
+pub forget_table-requires : goal.forget_table-requires
+forget_table-requires g c = empty_place_below c.args.tables.now.catalog c.in_ok-place.place c.requires.served.limits c.in_ok-place.ensures.place
 
 pub returns-clause-does : goal.returns-clause-does
 returns-clause-does g c ready =
@@ -29,7 +33,8 @@ returns-clause-does g c ready =
       told = c.in_ok-place.ensures.runs.works.steady.is_told;
       shape = c.in_ok-place.ensures.shape;
       touches = c.in_ok-place.ensures.runs.touches;
-      rooms = c.forget.ensures;
+      rooms = c.forget_table.ensures.forgotten;
+      other_rooms = c.forget_table.ensures.others;
     }) ready
 
 pub returns-clause-keeps : goal.returns-clause-keeps

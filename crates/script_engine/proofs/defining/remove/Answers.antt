@@ -1,3 +1,4 @@
+use Rattle.std.proofs.Common.{refl}
 use Rattle.store_api.proofs.RunsOverPagesLemmas.{runs_exit, runs_wider}
 use Rattle.script_engine.proofs.DefinedTablesLemmas.{no_dropping_damage, no_indexes_at, removed, served_less}
 use Rattle.script_engine.proofs.defining.remove.Goals as goal
@@ -24,7 +25,7 @@ returns-clause-does g c ready =
       told = c.in_ok-drop_table.ensures.runs.works.steady.is_told;
       shape = c.in_ok-drop_table.ensures.shape;
       touches = c.in_ok-drop_table.ensures.runs.touches;
-      rooms = c.forget.ensures;
+      rooms = refl;
     }) ready
 
 pub returns-clause-keeps : goal.returns-clause-keeps

@@ -1,15 +1,16 @@
-use Rattle.std.proofs.Common.{◌∙◌, ap, length, map, refl, subst, sym}
+use Rattle.std.proofs.Common.{◌≡◌, ◌∙◌, ap, length, map, refl, rules, subst, sym}
 use Rattle.store_api.proofs.RunsOverPagesLemmas.{runs_exit, runs_wider}
 use Rattle.block_rows.specs.HeldRows.{HaveReadValues, placed_row}
 use Rattle.row_judging.specs.Served.{MayJudge}
 use Rattle.script_engine.proofs.DoneRowsLemmas.{delete_does, runs_change}
+use Rattle.script_engine.proofs.NotedRoomsLemmas.{room_left, room_lent, rooms_beside, table_below}
 use Rattle.script_engine.proofs.ReadRowsLemmas.{may_judge_read}
 use Rattle.script_engine.proofs.ReadyTablesLemmas.{served_def}
 use Rattle.script_engine.proofs.ScannedTablesLemmas.{is_defined, runs_scan}
 use Rattle.script_engine.proofs.deleting.delete_found.Goals as goal
 
 pub find_rows-requires-clause-defined : goal.find_rows-requires-clause-defined
-find_rows-requires-clause-defined g c = (served_def c.args.tables.now.catalog c.args.tables.now.noted c.in-Some.def.now c.requires.served c.in-Some.ensures).limits
+find_rows-requires-clause-defined g c = (served_def c.args.tables.now.catalog c.args.table c.in-Some.def.now c.requires.served c.in-Some.ensures).limits
 
 pub find_rows-requires-clause-judged : goal.find_rows-requires-clause-judged
 find_rows-requires-clause-judged g c row read =
@@ -18,33 +19,43 @@ find_rows-requires-clause-judged g c row read =
 pub returns-in_err-hits-clause-runs : goal.returns-in_err-hits-clause-runs
 returns-in_err-hits-clause-runs g c =
     runs_exit c.from_residual.result c.from_residual.ensures.1
-    (runs_wider (runs_scan g.P.Pages c.args.pages.now c.find_rows.new.pages c.args.tables.now c.args.tables.now.noted c.in-Some.def.now c.requires.served c.in-Some.ensures c.in_err-hits.ensures.runs)
+    (runs_wider (runs_scan g.P.Pages c.args.pages.now c.find_rows.new.pages c.args.tables.now c.args.table c.in-Some.def.now c.requires.served c.in-Some.ensures c.in_err-hits.ensures.runs)
     (λ p there none. absurd none) (λ p any. any) (λ damage breaks. breaks))
 
 pub delete_rows-requires-clause-defined : goal.delete_rows-requires-clause-defined
-delete_rows-requires-clause-defined g c = (served_def c.args.tables.now.catalog c.args.tables.now.noted c.in-Some.def.now c.requires.served c.in-Some.ensures).limits
+delete_rows-requires-clause-defined g c = (served_def c.args.tables.now.catalog c.args.table c.in-Some.def.now c.requires.served c.in-Some.ensures).limits
 
 pub delete_rows-requires-clause-no_indexes : goal.delete_rows-requires-clause-no_indexes
-delete_rows-requires-clause-no_indexes g c = (served_def c.args.tables.now.catalog c.args.tables.now.noted c.in-Some.def.now c.requires.served c.in-Some.ensures).no_indexes
+delete_rows-requires-clause-no_indexes g c = (served_def c.args.tables.now.catalog c.args.table c.in-Some.def.now c.requires.served c.in-Some.ensures).no_indexes
 
 pub delete_rows-requires-clause-read : goal.delete_rows-requires-clause-read
 delete_rows-requires-clause-read g c = subst (HaveReadValues c.in-Some.def.now.columns) (sym c.as_slice.ensures.value) c.in_ok-hits.ensures.keyed
 
 pub returns-in_err-delete_rows-clause-runs : goal.returns-in_err-delete_rows-clause-runs
 returns-in_err-delete_rows-clause-runs g c =
+    let long : length c.args.tables.now.rooms.by_table ≡ 16 = search rules in
+    let low = table_below c.args.tables.now.catalog c.args.tables.now.rooms.by_table c.args.table c.in-Some.def.now c.requires.served c.in-Some.ensures long in
+    let lent = room_lent c.args.tables.now.rooms.by_table c.args.table c.index-tables-table.result low in
     runs_exit c.from_residual-in_err-delete_rows.result c.from_residual-in_err-delete_rows.ensures.1
-    (runs_change g.P.Pages c.args.pages.now c.find_rows.new.pages c.delete_rows.new.pages c.args.tables.now c.args.tables.now c.in-Some.def.now c.requires.served c.in-Some.ensures
+    (runs_change g.P.Pages c.args.pages.now c.find_rows.new.pages c.delete_rows.new.pages c.args.tables.now c.args.tables.now c.args.table c.in-Some.def.now c.requires.served c.in-Some.ensures lent
     c.in_ok-hits.ensures.runs.works.steady.is_told c.find_rows.ensures.same c.args.pred.now c.in_ok-hits.hits.items (map placed_row c.as_slice.result.now)
     (ap (map placed_row) c.as_slice.ensures.value) c.in_ok-hits.ensures.finds c.in_ok-hits.ensures.runs c.in_err-delete_rows.ensures.runs)
 
 pub returns-clause-does : goal.returns-clause-does
 returns-clause-does g c ready =
-    delete_does g.P.Pages c.args.pages.now c.find_rows.new.pages c.delete_rows.new.pages c.args.tables.now _ c.in-Some.def.now c.args.pred.now c.in_ok-hits.hits.items c.as_slice.result.now
-    c.len.result c.requires.served c.in-Some.ensures c.in_ok-hits.ensures.runs.works.steady.is_told c.find_rows.ensures.same c.in_ok-hits.ensures.finds c.as_slice.ensures.value
-    (c.len.ensures ∙ sym c.as_slice.ensures.len ∙ ap length c.as_slice.ensures.value) c.in_ok-delete_rows.ensures.deletes refl refl ready
+    let long : length c.args.tables.now.rooms.by_table ≡ 16 = search rules in
+    let low = table_below c.args.tables.now.catalog c.args.tables.now.rooms.by_table c.args.table c.in-Some.def.now c.requires.served c.in-Some.ensures long in
+    let lent = room_lent c.args.tables.now.rooms.by_table c.args.table c.index-tables-table.result low in
+    let left = room_left c.args.tables.now.rooms.by_table c.args.table c.delete_rows.new.rooms low in
+    delete_does g.P.Pages c.args.pages.now c.find_rows.new.pages c.delete_rows.new.pages c.args.tables.now _ c.args.table c.in-Some.def.now c.args.pred.now c.in_ok-hits.hits.items c.as_slice.result.now
+    c.len.result c.requires.served c.in-Some.ensures lent left c.in_ok-hits.ensures.runs.works.steady.is_told c.find_rows.ensures.same c.in_ok-hits.ensures.finds c.as_slice.ensures.value
+    (c.len.ensures ∙ sym c.as_slice.ensures.len ∙ ap length c.as_slice.ensures.value) c.in_ok-delete_rows.ensures.deletes refl (rooms_beside c.args.tables.now.rooms.by_table c.args.table c.delete_rows.new.rooms) ready
 
 pub returns-clause-runs : goal.returns-clause-runs
 returns-clause-runs g c =
-    runs_change g.P.Pages c.args.pages.now c.find_rows.new.pages c.delete_rows.new.pages c.args.tables.now c.args.tables.now c.in-Some.def.now c.requires.served c.in-Some.ensures
+    let long : length c.args.tables.now.rooms.by_table ≡ 16 = search rules in
+    let low = table_below c.args.tables.now.catalog c.args.tables.now.rooms.by_table c.args.table c.in-Some.def.now c.requires.served c.in-Some.ensures long in
+    let lent = room_lent c.args.tables.now.rooms.by_table c.args.table c.index-tables-table.result low in
+    runs_change g.P.Pages c.args.pages.now c.find_rows.new.pages c.delete_rows.new.pages c.args.tables.now c.args.tables.now c.args.table c.in-Some.def.now c.requires.served c.in-Some.ensures lent
     c.in_ok-hits.ensures.runs.works.steady.is_told c.find_rows.ensures.same c.args.pred.now c.in_ok-hits.hits.items (map placed_row c.as_slice.result.now)
     (ap (map placed_row) c.as_slice.ensures.value) c.in_ok-hits.ensures.finds c.in_ok-hits.ensures.runs c.in_ok-delete_rows.ensures.runs
