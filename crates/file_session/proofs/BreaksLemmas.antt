@@ -1,5 +1,5 @@
 -- Damage at which a run stops: of a session on a store, of a store that is closed, and of a file that isn't opened.
-use Rattle.std.proofs.Common.{◌≡◌, ◌⊎◌, ℕ, List, Option, Result, false, sym, subst, inl, inr, ap, ◌∙◌}
+use Rattle.std.proofs.Common.{◌≡◌, ℕ, List, Option, Result, false, sym, subst, inl, inr, ap, ◌∙◌}
 use Rattle.std.specs.Prelude.{IsTrue}
 use Rattle.mdc_ast.specs.Reading.{Item}
 use Rattle.store_api.specs.declared.fault.Damage.{Damage}
@@ -12,7 +12,6 @@ use Rattle.page_store.specs.Opening.{IsDamagedFile, Refuses}
 use Rattle.page_store.specs.Standing.{pages_of}
 use Rattle.page_store.specs.declared.fault.OpenFault.{OpenFault}
 use Rattle.page_store.specs.declared.fault.OpenFault.TheVariants as opening
-use Rattle.script_engine.specs.Committing.{IsUncounted}
 use Rattle.script_engine.specs.Opening.{KeepsPages}
 use Rattle.script_engine.specs.declared.engine.Engine.{Engine}
 use Rattle.file_check.proofs.BreaksAlongLemmas.{first_break_along}

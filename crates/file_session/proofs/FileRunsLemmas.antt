@@ -185,19 +185,25 @@ module _ {D : Type 0} (d : disk.Ghosts D) where
       let tells = where_told (d.file host) (d.beside host).tape after heard (λ file said. (image tape : List ℕ) → d.moment host (d.clock host) image tape ↔ IsMoment file.since said [] image tape) is told now in
       back t (d.clock host) image heard early (omega arith) ((tells image heard).1 (record { left = left; said = ([], [], refl, sym (append-nil heard)) }))
 
+  -- an image that could be left after a run is one that the run leaves, with all that was said; or it could be left before it
+  pub left_at_end : (before after : File) (said heard : List ℕ) (old new : D) (Left : List ℕ → List ℕ → Type 0) → TellsNow old → TellsNow new → ReachesBack d.clock d.moment new → d.file old ≡ Some before → (d.beside old).tape ≡ Some said
+      → d.file new ≡ Some after → (d.beside new).tape ≡ Some heard → LeavesSince d before said Left old new → (image : List ℕ) → IsImage after.since image → Left image heard ⊎ IsImage before.since image
+  left_at_end before after said heard old new Left now_old now_new back is told is_after heard_after (inl rest) image left =
+      inl (rest.since image heard (image_since new after heard (d.clock rest.origin) image now_new back is_after heard_after rest.later left))
+  left_at_end before after said heard old new Left now_old now_new back is told is_after heard_after (inr run) image left =
+      let was = image_since new after heard (d.clock old) image now_new back is_after heard_after run.later left in
+      let tells = where_told (d.file old) (d.beside old).tape before said (λ file said. (image tape : List ℕ) → d.moment old (d.clock old) image tape ↔ IsMoment file.since said [] image tape) is told now_old in
+      inr (elim (run.only (d.clock old) image heard (omega arith) was) [
+        | inl now ↦ ((tells image heard).0 now).left
+        | inr could ↦ could.0
+      ])
+
   -- where each image was of a kind, and a run leaves such ones, each is so after it
   pub each_since : (Kind : List ℕ → Type 0) (before after : File) (said heard : List ℕ) (old new : D) (Left : List ℕ → List ℕ → Type 0) → TellsNow old → TellsNow new → ReachesBack d.clock d.moment new → d.file old ≡ Some before → (d.beside old).tape ≡ Some said
       → d.file new ≡ Some after → (d.beside new).tape ≡ Some heard → ((image tape : List ℕ) → Left image tape → Kind image) → ((image : List ℕ) → IsImage before.since image → Kind image)
       → LeavesSince d before said Left old new → (image : List ℕ) → IsImage after.since image → Kind image
-  each_since Kind before after said heard old new Left now_old now_new back is told is_after heard_after each were (inl rest) image left =
-      each image heard (rest.since image heard (image_since new after heard (d.clock rest.origin) image now_new back is_after heard_after rest.later left))
-  each_since Kind before after said heard old new Left now_old now_new back is told is_after heard_after each were (inr run) image left =
-      let was = image_since new after heard (d.clock old) image now_new back is_after heard_after run.later left in
-      let tells = where_told (d.file old) (d.beside old).tape before said (λ file said. (image tape : List ℕ) → d.moment old (d.clock old) image tape ↔ IsMoment file.since said [] image tape) is told now_old in
-      elim (run.only (d.clock old) image heard (omega arith) was) [
-        | inl now ↦ were image ((tells image heard).0 now).left
-        | inr could ↦ were image could.0
-      ]
+  each_since Kind before after said heard old new Left now_old now_new back is told is_after heard_after each were leaves image left =
+      elim (left_at_end before after said heard old new Left now_old now_new back is told is_after heard_after leaves image left) [ inl by_run ↦ each image heard by_run | inr could ↦ were image could ]
 
   -- after a run each image is well, where each was before
   pub stays_well : (before after : File) (said : List ℕ) (script left : Option (List ℕ)) (old new : D) (result : Result Served FileStop) → TellsNow old → TellsNow new → ReachesBack d.clock d.moment new

@@ -7,6 +7,7 @@ pub mod FirstLeftLemmas
 pub mod FormedRunsLemmas
 pub mod HostRunsLemmas
 pub mod MadeFilesLemmas
+pub mod NextRunLemmas
 pub mod StoreRunsLemmas
 pub mod ToldLemmas
 pub mod WellFilesLemmas

@@ -2,7 +2,7 @@
 use Rattle.std.proofs.Common.{◌≡◌, ◌<◌, ℕ, IsTrue, List, sym, ◌∙◌, ap, subst, arith}
 use Rattle.std.proofs.Math.Nat.{mul-le-mul_right}
 use Rattle.mdc_ast.specs.meaning.Database.{empty_database}
-use Rattle.mdc_outside.specs.Disk.{File, IsImage, all_synced}
+use Rattle.mdc_outside.specs.Disk.{File}
 use Rattle.store_api.specs.Extents.{is_shape}
 use Rattle.extent_map.specs.declared.extents.Extents.{Extents}
 use Rattle.table_trees.specs.ToldPages.{PageList}
@@ -12,12 +12,12 @@ use Rattle.page_store.specs.Empty.{IsEmptyDatabase}
 use Rattle.page_store.specs.Fresh.{HoldsFresh, fresh_file}
 use Rattle.page_store.specs.Shape.{extent_pages_in, extents_in}
 use Rattle.page_store.specs.Standing.{pages_of}
-use Rattle.page_store.proofs.Crashes.{only_itself}
 use Rattle.page_store.proofs.FreshDatabase.{fresh_birth, fresh_is_empty, is_birth}
 use Rattle.page_store.proofs.Roots.{limits_of}
 use Rattle.made_database.specs.MadePages.{made_pages}
 use Rattle.script_session.specs.Leaving.{AreServedPages}
 use Rattle.file_session.specs.Well.{AreWell, IsWell, StatesExtents}
+use Rattle.file_session.proofs.WellFilesLemmas.{synced_well}
 
 -- the numbers of a shape have four bytes
 fits_extents : (extents extent_pages : ℕ) → IsTrue (is_shape extents extent_pages) → extents < 4294967296
@@ -68,6 +68,4 @@ made_stands extents extent_pages file ext shape is states stands =
 -- each image that a crash leaves of a made file is well
 pub made_images : (extents extent_pages : ℕ) (file : File) → ((image : List ℕ) → IsTrue (is_shape extents extent_pages) → image ≡ fresh_file extents extent_pages → IsWell image)
     → IsTrue (is_shape extents extent_pages) → HoldsFresh extents extent_pages file → AreWell file
-made_images extents extent_pages file well shape holds image left =
-    let synced : IsImage (all_synced file.bytes) image = subst (λ since. IsImage since image) holds.synced left in
-    well image shape (only_itself file.bytes image synced ∙ holds.bytes)
+made_images extents extent_pages file well shape holds = synced_well file holds.synced (well file.bytes shape holds.bytes)

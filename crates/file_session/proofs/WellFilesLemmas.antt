@@ -4,6 +4,7 @@ use Rattle.byteorder.specs.Endian.{big_number}
 use Rattle.mdc_ast.specs.declared.reply.Outcome.{Outcome}
 use Rattle.mdc_ast.specs.Reading.{Item}
 use Rattle.mdc_words.proofs.ListedLemmas.{get_or-listed, length-listed}
+use Rattle.mdc_outside.specs.Disk.{File, IsImage, all_synced}
 use Rattle.store_api.specs.Extents.{first_count}
 use Rattle.store_api.specs.StoreState.{zero_page}
 use Rattle.store_api.specs.declared.pages.Pages.{Ghosts}
@@ -13,6 +14,7 @@ use Rattle.mdc_sound.specs.SoundDatabase.{KeepAllRules}
 use Rattle.mdc_sound.specs.SpaceRules.{stated_root}
 use Rattle.stored_catalog.specs.StoredDefinitions.{AreStored}
 use Rattle.page_file.specs.Layout.{file_page, page_start}
+use Rattle.page_store.proofs.Crashes.{only_itself}
 use Rattle.page_store.proofs.FreshBytes.{length-zero_page}
 use Rattle.page_store.specs.Opened.{IsJustOpened}
 use Rattle.page_store.specs.Opening.{IsServed, Refuses}
@@ -27,7 +29,7 @@ use Rattle.script_session.specs.declared.stop.SessionStop.{SessionStop}
 use Rattle.script_session.specs.declared.stop.SessionStop.TheVariants as session
 use Rattle.file_session.specs.Ending.{StopsOpening, stop_of_session}
 use Rattle.file_session.specs.Leaving.{LeftByRun}
-use Rattle.file_session.specs.Well.{IsWell, StatesExtents}
+use Rattle.file_session.specs.Well.{AreWell, IsWell, StatesExtents}
 use Rattle.file_session.specs.declared.stop.FileStop.{FileStop}
 
 -- ---- a well file is served
@@ -102,8 +104,21 @@ sound_opened g s bytes is_told tape attaches well tells just base =
 
 -- ---- what a crash leaves
 
+-- the pages of an image that a crash within a run leaves are those that the run left
+pub pages_left : (ext : Extents) (held : HeldPages) (states : List HeldPages) (outcomes : List Outcome) (in_hand : List Item) (said image heard : List ℕ) → (run : LeftByRun ext held states outcomes in_hand said image heard)
+    → pages_of image ≡ run.left.pages
+pages_left ext held states outcomes in_hand said image heard run = let both : Some (pages_of image) ≡ Some run.left.pages = run.left.reopens in cc
+
 -- what a crash within a run leaves is well
 pub well_left : (ext : Extents) (held : HeldPages) (states : List HeldPages) (outcomes : List Outcome) (in_hand : List Item) (said image heard : List ℕ) → LeftByRun ext held states outcomes in_hand said image heard → IsWell image
 well_left ext held states outcomes in_hand said image heard run =
-    let same : pages_of image ≡ run.left.pages = let both : Some (pages_of image) ≡ Some run.left.pages = run.left.reopens in cc in
+    let same = pages_left ext held states outcomes in_hand said image heard run in
     record { formed = run.formed; ext = ext; states = run.states_extents; served = subst (λ (pages : PageList). AreServedPages ext pages) (sym same) run.left.served }
+
+-- a file of which all is on the disk is left as it is
+pub synced_image : (file : File) (image : List ℕ) → file.since ≡ all_synced file.bytes → IsImage file.since image → image ≡ file.bytes
+synced_image file image synced left = only_itself file.bytes image (subst (λ since. IsImage since image) synced left)
+
+-- so it is well where its bytes are
+pub synced_well : (file : File) → file.since ≡ all_synced file.bytes → IsWell file.bytes → AreWell file
+synced_well file synced well image left = subst IsWell (sym (synced_image file image synced left)) well

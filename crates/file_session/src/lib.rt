@@ -4,8 +4,8 @@
 //! It promises, of a file that is well and of a host that tells it: the replies are those of plain lists of rows, statement by
 //! statement, up to a stop, and 70 only where a statement runs full. A crash at any moment leaves a well file, which stands for
 //! those lists after some of the items, with every one whose reply had begun and at most one more; so the next run keeps the
-//! promise too. A file that was just made is well, by a law here, and stands for no table. A file that isn't well is refused for a
-//! cause in its bytes, or served as far as it can be.
+//! promise too, and by a law here begins with those lists. A file that was just made is well, by another, and stands for no table. A
+//! file that isn't well is refused for a cause in its bytes, or served as far as it can be.
 //!
 //! It stands on `page_store` for the pages of a file and on `script_session` for the script.
 #![tactic(auto)]
@@ -14,6 +14,8 @@ mod laws;
 mod serving;
 mod stop;
 
-pub use laws::{left_by_run_is_well, made_is_well};
+pub use laws::{
+    ended_run_is_left, left_by_run_is_well, left_file_is_well, made_is_well, next_run_goes_on,
+};
 pub use serving::{Ended, serve_file};
 pub use stop::FileStop;

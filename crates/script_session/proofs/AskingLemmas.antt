@@ -84,11 +84,11 @@ one_past : (count taken : ℕ) → count ≡ taken → 67108864 < taken → (cou
 one_past count taken same past counted = elim counted [ inl fits ↦ absurd (omega (arith, same, past, fits)) | inr is ↦ omega (arith, same, is) ]
 
 -- once the reader was asked for the next item
-pub asked_next : (laws : ScriptLaws) {Object : Type 0} (left : Object → Option (List ℕ)) (before after : Object) (old reader : Holding) (result : Result (Option Read) ReadStop)
-    (script : Option (List ℕ)) (items : List Item) → HasGiven script (left before) old items
+pub asked_next : (laws : ScriptLaws) {Object : Type 0} (left : Object → Option (List ℕ)) (before after : Object) {old reader : Holding} {result : Result (Option Read) ReadStop}
+    {script : Option (List ℕ)} {items : List Item} → HasGiven script (left before) old items
     → ((was : Progress) → IsAt old was → (progress : Progress) × IsAt reader progress × GoesOn left before after was progress result) → (old.finished ≡ true → after ≡ before)
     → (reader.count ≤ 67108864) ⊎ (IsErrOf result read.TooLong × (reader.count ≡ 67108865)) → IsAsked script (left after) reader items result
-asked_next laws left before after old reader result script items was goes_on stays counted =
+asked_next laws left before after {reader = reader} {result = result} {script = script} {items = items} was goes_on stays counted =
     let step = goes_on was.progress was.at in
     let goes = step.2 in
     record {
@@ -105,8 +105,8 @@ asked_next laws left before after old reader result script items was goes_on sta
     }
 
 -- once the item is answered
-pub given_next : (script left : Option (List ℕ)) (reader : Holding) (items : List Item) (item : Read) → IsAsked script left reader items (Ok (Some item)) → HasGiven script left reader (items ++ item_of item ∷ [])
-given_next script left reader items item asked =
+pub given_next : {script left : Option (List ℕ)} {reader : Holding} {items : List Item} {item : Read} → IsAsked script left reader items (Ok (Some item)) → HasGiven script left reader (items ++ item_of item ∷ [])
+given_next {items = items} {item = item} asked =
     let many = items ++ item_of item ∷ [] in
     record {
       progress = asked.progress;

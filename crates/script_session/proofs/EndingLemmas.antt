@@ -15,7 +15,7 @@ use Rattle.script_session.specs.Stops.{served_by, stop_of_reader}
 use Rattle.script_session.specs.Turning.{IsTurnStop}
 use Rattle.script_session.specs.declared.stop.Served.{Served}
 use Rattle.script_session.specs.declared.stop.SessionStop.{SessionStop}
-use Rattle.script_session.specs.declared.stop.SessionStop.TheVariants.{Damaged, Device, Memory, TooLong, Unread, Unsaid}
+use Rattle.script_session.specs.declared.stop.SessionStop.TheVariants.{TooLong, Unread}
 use Rattle.script_session.proofs.ScriptItemsLemmas.{taken_more}
 
 -- from what was taken in all
@@ -89,10 +89,7 @@ pub ends_turning : (stop : SessionStop) {taken rest said : List ℕ} {items in_h
     → EndsSo taken rest said items in_hand outcomes (Err stop)
 ends_turning Unread none stops = absurd none
 ends_turning TooLong none stops = absurd none
-ends_turning Unsaid is stops = stops
-ends_turning Device is stops = stops
-ends_turning (Damaged damage) is stops = stops
-ends_turning Memory is stops = stops
+ends_turning stop is stops = stops
 
 -- a stop of the reader
 pub ends_reading : (stop : ReadStop) {taken rest : List ℕ} {items : List Item} {outcomes : List Outcome} → (stop ≡ read.Source → Closes taken items)
@@ -126,10 +123,7 @@ takes_script (Some script) left taken result (piece, rest, whole, is_left, is_ta
 pub taken_by_turn : (stop : SessionStop) (taken rest : List ℕ) → IsTurnStop stop → length taken ≤ script_limit → IsTakenBy (Err stop) taken rest
 taken_by_turn Unread taken rest none fits = absurd none
 taken_by_turn TooLong taken rest none fits = absurd none
-taken_by_turn Unsaid taken rest is fits = fits
-taken_by_turn Device taken rest is fits = fits
-taken_by_turn (Damaged damage) taken rest is fits = fits
-taken_by_turn Memory taken rest is fits = fits
+taken_by_turn stop taken rest is fits = fits
 
 -- by one of the reader
 pub taken_by_reader : (stop : ReadStop) (taken rest : List ℕ) → (stop ≡ read.TooLong → length taken ≡ 67108865) → (length taken ≤ 67108864) ⊎ (stop ≡ read.TooLong) → IsTakenBy (Err (stop_of_reader stop)) taken rest

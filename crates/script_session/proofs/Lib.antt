@@ -4,6 +4,8 @@ pub mod AskingLemmas
 pub mod DamagedLemmas
 pub mod EndingLemmas
 pub mod GoingLemmas
+pub mod HandedLemmas
+pub mod KeptDatabaseLemmas
 pub mod LeftLemmas
 pub mod ListsLemmas
 pub mod ReplyingLemmas

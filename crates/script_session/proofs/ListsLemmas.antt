@@ -51,13 +51,13 @@ asks_on_lists ext held stmt session stored stands =
 -- ---- item by item
 
 -- what an item does to a session over lists, and that what is held then stands for the session after it
-record MeetsSession (ext : Extents) (session : Session) (item : Item) (outcome : Outcome) (next : HeldPages) : Type 0 where
-  after : Session
-  meets : MeetsOnLists ext.cap session item outcome after
-  stands : StandsForSession ext next after
+pub record MeetsSession (ext : Extents) (session : Session) (item : Item) (outcome : Outcome) (next : HeldPages) : Type 0 where
+  pub after : Session
+  pub meets : MeetsOnLists ext.cap session item outcome after
+  pub stands : StandsForSession ext next after
 
 -- a statement that steps on pages turns the session that they stand for
-statement_meets : (ext noted : Extents) (held next : HeldPages) (stmt : Stmt) (outcome : Outcome) (session : Session) → IsSameShape ext noted → StepsOnPages noted held stmt outcome next
+pub statement_meets : (ext noted : Extents) (held next : HeldPages) (stmt : Stmt) (outcome : Outcome) (session : Session) → IsSameShape ext noted → StepsOnPages noted held stmt outcome next
     → AreStored held.work held.defs → StandsForSession ext held session → MeetsSession ext session (Statement stmt) outcome next
 statement_meets ext noted held next stmt outcome session shape (StepsOnPages.turns apart turns base work others refused places) stored stands =
     let turned = turns session (session_along ext noted held session shape stands) in

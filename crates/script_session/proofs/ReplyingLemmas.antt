@@ -1,5 +1,5 @@
 -- Which outcomes were told so far, whatever the engine's pages are, and how a run ends by them.
-use Rattle.std.proofs.Common.{◌≡◌, ◌||◌, ℕ, List, [], ◌∷◌, ◌++◌, length, Bool, false, Option, Some, None, Ok, Err, refl, sym, ◌∙◌, ap, subst, inl, inr, arith}
+use Rattle.std.proofs.Common.{◌≡◌, ◌||◌, ℕ, List, [], ◌∷◌, ◌++◌, length, Bool, false, Option, Some, None, Result, Ok, Err, IfSome, refl, sym, ◌∙◌, ap, subst, inl, inr, arith}
 use Rattle.std.specs.List.{AllZip}
 use Rattle.mdc_ast.specs.declared.reply.Outcome.{Outcome}
 use Rattle.mdc_ast.specs.Reading.{Item}
@@ -12,8 +12,10 @@ use Rattle.sql_reader.specs.declared.statements.Read.{Read}
 use Rattle.sql_reader.specs.declared.statements.ReadStop.{ReadStop}
 use Rattle.script_session.specs.Replying.{HasReply, IsOutcomeOf, RepliesTo, StopsReplying}
 use Rattle.script_session.specs.ScriptLaws.{ScriptLaws}
+use Rattle.script_session.specs.Serving.{EndsScript}
 use Rattle.script_session.specs.Stops.{served_by, stop_of_reader}
 use Rattle.script_session.specs.Turning.{IsTurnStop}
+use Rattle.script_session.specs.declared.stop.Served.{Served}
 use Rattle.script_session.specs.declared.stop.SessionStop.{SessionStop}
 use Rattle.script_session.specs.declared.stop.SessionStop.TheVariants.{Memory}
 use Rattle.script_session.proofs.AskedEndsLemmas.{ends_asked_done, ends_asked_in_hand, ends_asked_reading, ends_asked_untold, ends_unasked}
@@ -67,59 +69,41 @@ replied_more {items} {refused} {noted} item old mid new was turn = record {
 pub replies_unasked : (laws : ScriptLaws) (script tape : Option (List ℕ)) → RepliesTo script script tape tape (Err Memory)
 replies_unasked laws script tape = record { items = []; outcomes = []; own = tt; in_hand = []; said = []; told = takes_nothing tape; ends = ends_unasked laws script }
 
+-- what the items were answered is what the run replies
+replies_so : {script left : Option (List ℕ)} {items : List Item} {refused : Bool} {old new : Option (List ℕ)} (in_hand : List Item) (result : Result Served SessionStop) (was : HasReplied items refused old new)
+    → IfSome script (λ bytes. EndsScript bytes left (texts was.outcomes) items in_hand was.outcomes result) → RepliesTo script left old new result
+replies_so {items = items} in_hand result was ends = record { items = items; outcomes = was.outcomes; own = was.own; in_hand = in_hand; said = texts was.outcomes; told = was.told; ends = ends }
+
 -- the reader stops
-pub replies_reading : (laws : ScriptLaws) (script left : Option (List ℕ)) (reader : Holding) (items : List Item) (stop : ReadStop) {refused : Bool} (old new : Option (List ℕ))
+pub replies_reading : (laws : ScriptLaws) {script left : Option (List ℕ)} {reader : Holding} {items : List Item} {stop : ReadStop} {refused : Bool} {old new : Option (List ℕ)}
     → IsAsked script left reader items (Err stop) → HasReplied items refused old new → RepliesTo script left old new (Err (stop_of_reader stop))
-replies_reading laws script left reader items stop old new asked was = record {
-  items = items;
-  outcomes = was.outcomes;
-  own = was.own;
-  in_hand = [];
-  said = texts was.outcomes;
-  told = was.told;
-  ends = ends_asked_reading laws script left reader items stop was.outcomes (length-outcomes items was.outcomes was.own) asked;
-}
+replies_reading laws {items = items} {stop = stop} asked was =
+    replies_so [] (Err (stop_of_reader stop)) was (ends_asked_reading laws was.outcomes (length-outcomes items was.outcomes was.own) asked)
 
 -- the turn of an item stops before it has an outcome: the items are those before it
-pub replies_before : (laws : ScriptLaws) (script left : Option (List ℕ)) (reader : Holding) (items : List Item) (read : Read) (stop : SessionStop) {refused : Bool} (old mid new : Option (List ℕ))
+pub replies_before : (laws : ScriptLaws) {script left : Option (List ℕ)} {reader : Holding} {items : List Item} {read : Read} (stop : SessionStop) {refused : Bool} {old mid new : Option (List ℕ)}
     → IsAsked script left reader items (Ok (Some read)) → HasReplied items refused old mid → IsTurnStop stop → new ≡ mid
     → (replies : RepliesTo script left old new (Err stop)) × (items ≡ replies.items)
-replies_before laws script left reader items read stop old mid new asked was is_stop same = (
-  record {
-    items = items;
-    outcomes = was.outcomes;
-    own = was.own;
-    in_hand = item_of read ∷ [];
-    said = texts was.outcomes;
-    told = subst (Takes old (texts was.outcomes)) (sym same) was.told;
-    ends = ends_asked_in_hand laws script left reader items read stop was.outcomes (length-outcomes items was.outcomes was.own) asked is_stop;
-  },
-  refl,
-)
+unfolding replies_so
+replies_before laws {items = items} {read = read} stop {refused = refused} {old = old} {new = new} asked was is_stop same =
+    let still : HasReplied items refused old new = record { outcomes = was.outcomes; own = was.own; told = subst (Takes old (texts was.outcomes)) (sym same) was.told; noted = was.noted } in
+    (replies_so (item_of read ∷ []) (Err stop) still (ends_asked_in_hand laws stop was.outcomes (length-outcomes items was.outcomes was.own) asked is_stop), refl)
 
 -- the turn of an item stops: behind its outcome, or before it has one
-pub replies_turning : (laws : ScriptLaws) (script left : Option (List ℕ)) (reader : Holding) (items : List Item) (read : Read) (stop : SessionStop) {refused : Bool} (old mid new : Option (List ℕ))
+pub replies_turning : (laws : ScriptLaws) {script left : Option (List ℕ)} {reader : Holding} {items : List Item} {read : Read} (stop : SessionStop) {refused : Bool} {old mid new : Option (List ℕ)}
     → IsAsked script left reader items (Ok (Some read)) → HasReplied items refused old mid → IsTurnStop stop → StopsReplying (item_of read) mid new → RepliesTo script left old new (Err stop)
-replies_turning laws script left reader items read stop old mid new asked was is_stop (inl turn) = record {
+replies_turning laws {items = items} {read = read} stop {old = old} {mid = mid} {new = new} asked was is_stop (inl turn) = record {
   items = items ++ item_of read ∷ [];
   outcomes = was.outcomes ++ turn.outcome ∷ [];
   own = own_more items was.outcomes (item_of read) turn.outcome was.own turn.own;
   in_hand = [];
   said = texts was.outcomes ++ turn.part;
   told = takes_more old mid new (texts was.outcomes) turn.part was.told turn.told;
-  ends = ends_asked_untold laws script left reader items read stop was.outcomes turn.outcome turn.part turn.unsaid (length-outcomes items was.outcomes was.own) turn.text asked is_stop;
+  ends = ends_asked_untold laws stop was.outcomes turn.outcome turn.part turn.unsaid (length-outcomes items was.outcomes was.own) turn.text asked is_stop;
 }
-replies_turning laws script left reader items read stop old mid new asked was is_stop (inr same) = (replies_before laws script left reader items read stop old mid new asked was is_stop same).0
+replies_turning laws stop asked was is_stop (inr same) = (replies_before laws stop asked was is_stop same).0
 
 -- the script ends
-pub replies_done : (script left : Option (List ℕ)) (reader : Holding) (items : List Item) (refused : Bool) (old new : Option (List ℕ))
+pub replies_done : {script left : Option (List ℕ)} {reader : Holding} {items : List Item} (refused : Bool) {old new : Option (List ℕ)}
     → IsAsked script left reader items (Ok None) → HasReplied items refused old new → RepliesTo script left old new (Ok (served_by refused))
-replies_done script left reader items refused old new asked was = record {
-  items = items;
-  outcomes = was.outcomes;
-  own = was.own;
-  in_hand = [];
-  said = texts was.outcomes;
-  told = was.told;
-  ends = ends_asked_done script left reader items refused was.outcomes was.noted asked;
-}
+replies_done refused asked was = replies_so [] (Ok (served_by refused)) was (ends_asked_done refused was.outcomes was.noted asked)

@@ -1,5 +1,5 @@
 -- How far an engine is with the items that a reader has given, how it goes on, and how a run ends.
-use Rattle.std.proofs.Common.{◌≡◌, ◌||◌, ℕ, List, [], ◌∷◌, ◌++◌, Bool, true, false, Option, Some, None, Ok, Err, refl, sym, ◌∙◌, ap, subst, inl, inr}
+use Rattle.std.proofs.Common.{◌≡◌, ◌||◌, ℕ, List, [], ◌∷◌, ◌++◌, Bool, true, false, Option, Some, None, Result, Ok, Err, OnOk, IfSome, refl, sym, ◌∙◌, ap, subst, inl, inr}
 use Rattle.std.proofs.lemmas.List.{append-nil}
 use Rattle.std.proofs.lemmas.Grind.{flat_map-append}
 use Rattle.std.proofs.lemmas.List.Folds.{list_any-append}
@@ -18,9 +18,10 @@ use Rattle.script_engine.specs.Serving.{IsReadyEngine, held_by}
 use Rattle.script_engine.specs.declared.engine.Engine.{Engine}
 use Rattle.script_session.specs.Going.{held_last}
 use Rattle.script_session.specs.ScriptLaws.{ScriptLaws}
-use Rattle.script_session.specs.Serving.{RunsScript}
+use Rattle.script_session.specs.Serving.{EndsScript, RunsScript}
 use Rattle.script_session.specs.Stops.{served_by, stop_of_reader}
-use Rattle.script_session.specs.Turning.{EndsTold, EndsUntold, IsTurnStop, RunsItems, StopsTurn}
+use Rattle.script_session.specs.Turning.{EndsTold, IsTurnStop, RunsItems, StopsTurn}
+use Rattle.script_session.specs.declared.stop.Served.{Served}
 use Rattle.script_session.specs.declared.stop.SessionStop.{SessionStop}
 use Rattle.script_session.specs.declared.stop.SessionStop.TheVariants.{Memory}
 use Rattle.script_session.proofs.AskedEndsLemmas.{ends_asked_done, ends_asked_in_hand, ends_asked_reading, ends_asked_untold, ends_unasked}
@@ -76,107 +77,46 @@ module _ {S : Type 0} (g : Ghosts S) where
 
   -- ---- how it ends
 
+  -- a run of items that ends so is one of their script
+  runs_script : {script left : Option (List ℕ)} {items in_hand : List Item} {outcomes : List Outcome} {states : List HeldPages} {said : List ℕ} {old new : Engine S} (result : Result Served SessionStop)
+      → RunsItems g items in_hand outcomes states said old new → IfSome script (λ bytes. EndsScript bytes left said items in_hand outcomes result)
+      → OnOk result ((held_by g new ≡ held_last (held_by g old) states) × IsReadyEngine g new) → RunsScript g script left old new result
+  runs_script {items = items} {in_hand = in_hand} {outcomes = outcomes} {states = states} {said = said} result runs ends last = record {
+    items = items;
+    outcomes = outcomes;
+    states = states;
+    in_hand = in_hand;
+    goes = runs.goes;
+    said = said;
+    told = runs.told;
+    ends = ends;
+    last = last;
+    base = runs.base;
+    time = runs.time;
+  }
+
   -- memory is wanted before the first read
   pub exit_first : (laws : ScriptLaws) (script : Option (List ℕ)) (engine : Engine S) → RunsScript g script script engine engine (Err Memory)
-  exit_first laws script engine = record {
-    items = [];
-    outcomes = [];
-    states = [];
-    in_hand = [];
-    goes = (runs_none g engine).goes;
-    said = [];
-    told = (runs_none g engine).told;
-    ends = ends_unasked laws script;
-    last = tt;
-    base = (runs_none g engine).base;
-    time = (runs_none g engine).time;
-  }
+  exit_first laws script engine = runs_script (Err Memory) (runs_none g engine) (ends_unasked laws script) tt
 
   -- the reader stops
-  pub exit_reading : (laws : ScriptLaws) (script left : Option (List ℕ)) (reader : Holding) (items : List Item) (stop : ReadStop) {refused : Bool} {old new : Engine S}
+  pub exit_reading : (laws : ScriptLaws) {script left : Option (List ℕ)} {reader : Holding} {items : List Item} {stop : ReadStop} {refused : Bool} {old new : Engine S}
       → IsAsked script left reader items (Err stop) → HasAnswered g items refused old new → RunsScript g script left old new (Err (stop_of_reader stop))
-  exit_reading laws script left reader items stop {old = old} {new = new} asked was =
-      let count = length-items was.runs.goes in
-      record {
-        items = items;
-        outcomes = was.outcomes;
-        states = was.states;
-        in_hand = [];
-        goes = was.runs.goes;
-        said = texts was.outcomes;
-        told = was.runs.told;
-        ends = ends_asked_reading laws script left reader items stop was.outcomes count asked;
-        last = tt;
-        base = was.runs.base;
-        time = was.runs.time;
-      }
+  exit_reading laws {stop = stop} asked was = runs_script (Err (stop_of_reader stop)) was.runs (ends_asked_reading laws was.outcomes (length-items was.runs.goes) asked) tt
 
-  -- the turn of an item stops behind its outcome
-  exit_untold : (laws : ScriptLaws) (script left : Option (List ℕ)) (reader : Holding) (items : List Item) (read : Read) (stop : SessionStop) {refused : Bool} {old mid new : Engine S}
-      → IsAsked script left reader items (Ok (Some read)) → HasAnswered g items refused old mid → IsSameShape old.tables.ext mid.tables.ext → IsTurnStop stop
-      → EndsUntold g (item_of read) mid new → RunsScript g script left old new (Err stop)
-  exit_untold laws script left reader items read stop {old = old} {mid = mid} {new = new} asked was shape is_stop turn =
-      let count = length-items was.runs.goes in
-      let many = items ++ item_of read ∷ [] in
-      let outcomes = was.outcomes ++ turn.outcome ∷ [] in
-      let runs = runs_then g was.runs was.held shape turn.runs in
-      record {
-        items = many;
-        outcomes = outcomes;
-        states = was.states ++ held_by g new ∷ [];
-        in_hand = [];
-        goes = runs.goes;
-        said = texts was.outcomes ++ turn.part;
-        told = runs.told;
-        ends = ends_asked_untold laws script left reader items read stop was.outcomes turn.outcome turn.part turn.unsaid count turn.text asked is_stop;
-        last = tt;
-        base = runs.base;
-        time = runs.time;
-      }
-
-  -- it stops at the item in hand
-  exit_in_hand : (laws : ScriptLaws) (script left : Option (List ℕ)) (reader : Holding) (items : List Item) (read : Read) (stop : SessionStop) {refused : Bool} {old mid new : Engine S}
-      → IsAsked script left reader items (Ok (Some read)) → HasAnswered g items refused old mid → IsSameShape old.tables.ext mid.tables.ext → IsTurnStop stop
-      → RunsItems g [] (item_of read ∷ []) [] [] [] mid new → RunsScript g script left old new (Err stop)
-  exit_in_hand laws script left reader items read stop {old = old} {mid = mid} {new = new} asked was shape is_stop turn =
-      let count = length-items was.runs.goes in
-      let hand = item_of read ∷ [] in
-      let runs : RunsItems g items hand was.outcomes was.states (texts was.outcomes) old new =
-      rw (append-nil items, append-nil was.outcomes, append-nil was.states, append-nil (texts was.outcomes)) at (runs_then g was.runs was.held shape turn) in
-      record {
-        items = items;
-        outcomes = was.outcomes;
-        states = was.states;
-        in_hand = hand;
-        goes = runs.goes;
-        said = texts was.outcomes;
-        told = runs.told;
-        ends = ends_asked_in_hand laws script left reader items read stop was.outcomes count asked is_stop;
-        last = tt;
-        base = runs.base;
-        time = runs.time;
-      }
-
-  -- the turn of an item stops
-  pub exit_turning : (laws : ScriptLaws) (script left : Option (List ℕ)) (reader : Holding) (items : List Item) (read : Read) (stop : SessionStop) {refused : Bool} {old mid new : Engine S}
+  -- the turn of an item stops: behind its outcome, or at the item in hand
+  pub exit_turning : (laws : ScriptLaws) {script left : Option (List ℕ)} {reader : Holding} {items : List Item} {read : Read} (stop : SessionStop) {refused : Bool} {old mid new : Engine S}
       → IsAsked script left reader items (Ok (Some read)) → HasAnswered g items refused old mid → IsSameShape old.tables.ext mid.tables.ext → IsTurnStop stop
       → StopsTurn g (item_of read) mid new → RunsScript g script left old new (Err stop)
-  exit_turning laws script left reader items read stop asked was shape is_stop (inl turn) = exit_untold laws script left reader items read stop asked was shape is_stop turn
-  exit_turning laws script left reader items read stop asked was shape is_stop (inr turn) = exit_in_hand laws script left reader items read stop asked was shape is_stop turn
+  exit_turning laws stop asked was shape is_stop (inl turn) =
+      let ends = ends_asked_untold laws stop was.outcomes turn.outcome turn.part turn.unsaid (length-items was.runs.goes) turn.text asked is_stop in
+      runs_script (Err stop) (runs_then g was.runs was.held shape turn.runs) ends tt
+  exit_turning laws {items = items} {read = read} stop {old = old} {new = new} asked was shape is_stop (inr turn) =
+      let runs : RunsItems g items (item_of read ∷ []) was.outcomes was.states (texts was.outcomes) old new =
+      rw (append-nil items, append-nil was.outcomes, append-nil was.states, append-nil (texts was.outcomes)) at (runs_then g was.runs was.held shape turn) in
+      runs_script (Err stop) runs (ends_asked_in_hand laws stop was.outcomes (length-items was.runs.goes) asked is_stop) tt
 
   -- the script ends
-  pub exit_done : (script left : Option (List ℕ)) (reader : Holding) (items : List Item) (refused : Bool) {old new : Engine S}
+  pub exit_done : {script left : Option (List ℕ)} {reader : Holding} {items : List Item} (refused : Bool) {old new : Engine S}
       → IsAsked script left reader items (Ok None) → HasAnswered g items refused old new → RunsScript g script left old new (Ok (served_by refused))
-  exit_done script left reader items refused {old = old} {new = new} asked was = record {
-    items = items;
-    outcomes = was.outcomes;
-    states = was.states;
-    in_hand = [];
-    goes = was.runs.goes;
-    said = texts was.outcomes;
-    told = was.runs.told;
-    ends = ends_asked_done script left reader items refused was.outcomes was.noted asked;
-    last = (was.held, was.ready);
-    base = was.runs.base;
-    time = was.runs.time;
-  }
+  exit_done refused asked was = runs_script (Ok (served_by refused)) was.runs (ends_asked_done refused was.outcomes was.noted asked) (was.held, was.ready)

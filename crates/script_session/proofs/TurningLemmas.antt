@@ -26,8 +26,9 @@ use Rattle.script_engine.specs.Leaving as leaving
 use Rattle.script_engine.specs.Serving.{IsReadyEngine, held_by}
 use Rattle.script_engine.specs.declared.engine.Engine.{Engine}
 use Rattle.script_session.specs.Answering.{BaseBeforeOrAfter, StopsAt}
+use Rattle.script_session.specs.Ending.{IsPartOfNext}
 use Rattle.script_session.specs.Going.{MeetsItem, MeetsOnPages, nothing, one}
-use Rattle.script_session.specs.Leaving.{AreKept, AreServedPages, HasBegun, LeftByServing, ReopensAlways, done, some_told, stopped}
+use Rattle.script_session.specs.Leaving.{AreKept, AreServedPages, LeftByServing, ReopensAlways, done, some_told, stopped}
 use Rattle.script_session.specs.Turning.{RunsItems}
 use Rattle.script_session.proofs.GoingLemmas.{same_shape, sound_in_shape}
 use Rattle.script_session.proofs.LeftLemmas.{served_in_shape}
@@ -37,13 +38,30 @@ use Rattle.script_session.proofs.ToldLemmas.{takes_nothing}
 bytes_told : {tape : Option (List ℕ)} {before told : List ℕ} → tape ≡ Some before → IfSome tape (λ bytes. told ≡ bytes) → told ≡ before
 bytes_told {told = told} is known = subst (λ (t : Option (List ℕ)). IfSome t (λ bytes. told ≡ bytes)) is known
 
--- nothing is told of the reply to the next item
-begun_none : (outcomes : List Outcome) → HasBegun outcomes [] 0
-begun_none [] = record { answered = 0; says = record { done = []; left = []; part = []; all = refl; next = refl; bytes = refl; count = refl }; count = refl }
-begun_none (outcome ∷ outcomes) = record {
-  answered = 0;
-  says = record { done = []; left = outcome ∷ outcomes; part = []; all = refl; next = (outcome_text outcome, refl); bytes = refl; count = refl };
-  count = refl;
+-- nothing is a part of the next text
+part_none : (outcomes : List Outcome) → IsPartOfNext outcomes []
+part_none [] = refl
+part_none (outcome ∷ outcomes) = (outcome_text outcome, refl)
+
+-- a crash before a reply is begun leaves what was told before
+left_silent : {ext : Extents} {held : HeldPages} {states : List HeldPages} {outcomes : List Outcome} {in_hand : List Item} {before told : List ℕ} {left : Option PageList} (pages : PageList) (items : ℕ)
+    → left ≡ Some pages → AreServedPages ext pages → AreKept ext held states in_hand pages items → items ≤ 1 → told ≡ before → LeftByServing ext held states outcomes in_hand before left told
+left_silent {outcomes = outcomes} {before = before} pages items reopens served kept few same = record {
+  pages = pages;
+  reopens = reopens;
+  served = served;
+  items = items;
+  kept = kept;
+  more = [];
+  told_is = same ∙ sym (append-nil before);
+  begun = 0;
+  has_begun = record {
+    answered = 0;
+    says = record { done = []; left = outcomes; part = []; all = refl; next = part_none outcomes; bytes = refl; count = refl };
+    count = refl;
+  };
+  all_begun = omega arith;
+  one_more = omega (arith, few);
 }
 
 some_told-one : (part : List ℕ) → some_told part ≤ 1
@@ -69,33 +87,10 @@ module _ {S : Type 0} (g : Ghosts S) where
   left_answering : (outcome : Outcome) (old mid new : Engine S) → IsReadyEngine g old → IsReadyEngine g mid → IsSameShape old.tables.ext mid.tables.ext → held_by g new ≡ held_by g mid
       → (before : List ℕ) → (g.state old.store).told ≡ Some before → (left : Option PageList) (told : List ℕ) → BaseBeforeOrAfter (g.state old.store) (g.state mid.store) left told
       → LeftByServing old.tables.ext (held_by g old) (held_by g new ∷ []) (outcome ∷ []) [] before left told
-  unfolding begun_none
-  left_answering outcome old mid new ready ready_mid shape held before is left told (inl base, known) = record {
-    pages = (g.state old.store).base;
-    reopens = base;
-    served = served_base old ready;
-    items = 0;
-    kept = done (omega arith) refl;
-    more = [];
-    told_is = bytes_told is known ∙ sym (append-nil before);
-    begun = 0;
-    has_begun = begun_none (outcome ∷ []);
-    all_begun = omega arith;
-    one_more = omega arith;
-  }
-  left_answering outcome old mid new ready ready_mid shape held before is left told (inr base, known) = record {
-    pages = (g.state mid.store).base;
-    reopens = base;
-    served = served_in_shape shape (served_base mid ready_mid);
-    items = 1;
-    kept = done (omega arith) (ap (λ (h : HeldPages). h.base) (sym held));
-    more = [];
-    told_is = bytes_told is known ∙ sym (append-nil before);
-    begun = 0;
-    has_begun = begun_none (outcome ∷ []);
-    all_begun = omega arith;
-    one_more = omega arith;
-  }
+  left_answering outcome old mid new ready ready_mid shape held before is left told (inl base, known) =
+      left_silent (g.state old.store).base 0 base (served_base old ready) (done (omega arith) refl) (omega arith) (bytes_told is known)
+  left_answering outcome old mid new ready ready_mid shape held before is left told (inr base, known) =
+      left_silent (g.state mid.store).base 1 base (served_in_shape shape (served_base mid ready_mid)) (done (omega arith) (ap (λ (h : HeldPages). h.base) (sym held))) (omega arith) (bytes_told is known)
 
   -- a crash while its text is told
   left_telling : (outcome : Outcome) (old mid new : Engine S) → IsReadyEngine g mid → IsSameShape old.tables.ext mid.tables.ext → held_by g new ≡ held_by g mid
@@ -157,22 +152,9 @@ module _ {S : Type 0} (g : Ghosts S) where
   left_at : (item : Item) (stmt : Stmt) (old : Engine S) → IsReadyEngine g old → item ≡ Statement stmt → (before : List ℕ) → (g.state old.store).told ≡ Some before
       → (left : Option PageList) (told : List ℕ) → LeftWithin old.tables.ext (held_by g old) stmt (g.state old.store) left told
       → LeftByServing old.tables.ext (held_by g old) [] [] (item ∷ []) before left told
-  unfolding begun_none
   left_at item stmt old ready hand before is left told ((pages, reopens, may), known) =
       let kept = kept_at item stmt (held_by g old) pages hand may in
-      record {
-        pages = pages;
-        reopens = reopens;
-        served = served_at stmt old pages ready may;
-        items = kept.0;
-        kept = kept.1;
-        more = [];
-        told_is = bytes_told is known ∙ sym (append-nil before);
-        begun = 0;
-        has_begun = begun_none [];
-        all_begun = omega arith;
-        one_more = omega (arith, kept.2);
-      }
+      left_silent pages kept.0 reopens (served_at stmt old pages ready may) kept.1 kept.2 (bytes_told is known)
 
   -- an engine that stopped at a statement
   pub runs_stopped : (read : Read) (old new : Engine S) → IsReadyEngine g old → StopsAt g read old new → (g.state new.store).told ≡ (g.state old.store).told

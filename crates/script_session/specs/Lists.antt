@@ -1,12 +1,12 @@
--- The same run over plain lists of rows.
-use Rattle.std.specs.Prelude.{◌≡◌, ℕ, true, false, List, [], ◌∷◌}
+-- The same run over plain lists of rows, and the database that it keeps.
+use Rattle.std.specs.Prelude.{◌≡◌, ◌≤◌, ◌+◌, ℕ, zero, suc, true, false, List, [], ◌∷◌, length}
 use Rattle.mdc_ast.specs.declared.reply.Outcome.{Outcome}
 use Rattle.mdc_ast.specs.declared.reply.Outcome.TheVariants as said
 use Rattle.mdc_ast.specs.declared.statement.Stmt.{Stmt}
 use Rattle.mdc_ast.specs.Reading.{Item, Statement}
 use Rattle.mdc_ast.specs.Reading as reading
 use Rattle.mdc_ast.specs.meaning.Cause.{FileFull, refusal_of}
-use Rattle.mdc_ast.specs.meaning.Database.{defs_of}
+use Rattle.mdc_ast.specs.meaning.Database.{Database, defs_of}
 use Rattle.mdc_ast.specs.meaning.Session.{Session}
 use Rattle.mdc_ast.specs.meaning.Step.{faults}
 use Rattle.extent_map.specs.declared.extents.Extents.{Extents}
@@ -32,3 +32,23 @@ pub data GoesOnLists (ext : Extents) : HeldPages → Session → List Item → L
   one : {held next : HeldPages} {session after : Session} {item : Item} {outcome : Outcome} {items : List Item} {outcomes : List Outcome} {states : List HeldPages} {sessions : List Session}
       → StandsForSession ext held session → MeetsOnLists ext.cap session item outcome after → GoesOnLists ext next after items outcomes states sessions
       → GoesOnLists ext held session (item ∷ items) (outcome ∷ outcomes) (next ∷ states) (after ∷ sessions)
+
+-- the session after so many items, or after the last one
+abbrev pub session_at : Session → List Session → ℕ → Session
+session_at session [] n = session
+session_at session (after ∷ sessions) zero = session
+session_at session (after ∷ sessions) (suc n) = session_at after sessions n
+
+-- the session after all items
+abbrev pub session_last : Session → List Session → Session
+session_last session [] = session
+session_last session (after ∷ sessions) = session_last after sessions
+
+-- The database that a run over lists keeps after so many items. An item in hand, at which the run stopped, counts as
+-- one that was answered where what it leaves is kept.
+pub data IsKeptDatabase (cap : ℕ) (session : Session) (sessions : List Session) (in_hand : List Item) (items : ℕ) (db : Database) : Type 0 where
+  -- some of the items that were answered: what the session after them keeps, so nothing of a transaction that is open then
+  done : items ≤ length sessions → db ≡ (session_at session sessions items).kept → IsKeptDatabase cap session sessions in_hand items db
+  -- all of these and the item in hand, a statement that turns the last session to one with no open transaction: what this keeps
+  stopped : (stmt : Stmt) (outcome : Outcome) (after : Session) → in_hand ≡ Statement stmt ∷ [] → items ≡ length sessions + 1
+      → TurnsLists cap (session_last session sessions) stmt outcome after → after.open_ ≡ false → db ≡ after.kept → IsKeptDatabase cap session sessions in_hand items db
