@@ -1,7 +1,10 @@
-//! Tests of `predicate`: truth with three values by hand, and what may hold in a cell.
+//! Tests of `predicate`, by hand: truth with three values before and after NOT is pushed, and what may hold in a cell.
 //!
-//! It promises nothing. It stands on `predicate`, `mdc_ast` and `mdc_values`.
+//! All of it is tests: that the definitions of both, which the clauses of `predicate` cite, say what was meant. It stands on
+//! `predicate`, `mdc_ast` and `mdc_values`.
 #![tactic(auto)]
 
 #[cfg(test)]
-mod tests;
+mod cells;
+#[cfg(test)]
+mod truths;
