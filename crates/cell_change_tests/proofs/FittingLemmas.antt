@@ -1,77 +1,33 @@
--- A row that fits as far as a loop has looked at it.
-use Rattle.std.proofs.Common.{◌≡◌, ◌≤◌, ℕ, zero, suc, List, [], ◌∷◌, length, drop, Bool, true, false, Option, Some, None, slice_get, refl, ap, sym, subst, arith}
-use Rattle.std.specs.Prelude.{IsTrue, ◌&&◌, nat_le}
-use Rattle.std.specs.Str.{bytes_eq}
-use Rattle.std.proofs.lemmas.Bool.Decides.{nat_tests}
-use Rattle.mdc_values.specs.Value.{trimmed}
-use Rattle.mdc_values.specs.declared.value.ColType.{ColType}
-use Rattle.mdc_values.specs.declared.value.ColType.TheVariants.{Char}
+-- A row that fits where no column is generated.
+use Rattle.std.proofs.Common.{◌≡◌, Bool, List, [], ◌∷◌, sym}
+use Rattle.std.specs.Prelude.{Option, Some, None, IsTrue, is_none}
+use Rattle.std.specs.List.{list_all}
 use Rattle.mdc_values.specs.declared.value.Value.{Value}
-use Rattle.mdc_values.specs.declared.value.Value.TheVariants.{Text}
 use Rattle.mdc_ast.specs.declared.definition.ColumnDef.{ColumnDef}
 use Rattle.mdc_ast.specs.declared.definition.GenExpr.{GenExpr}
 use Rattle.mdc_ast.specs.declared.definition.TableDef.{TableDef}
 use Rattle.mdc_ast.specs.declared.row.Row.{Row}
-use Rattle.mdc_ast.specs.meaning.Database.{fits, fits_all, is_of_type, is_trimmed}
-use Rattle.mdc_ast.proofs.FitsLemmas.{bytes_eq-refl}
+use Rattle.mdc_ast.specs.meaning.Database.{fits_all}
+use Rattle.mdc_ast.proofs.TestsLemmas.{both}
 use Rattle.mdc_sound.specs.FittingRows.{AreMadeFrom, IsMadeFrom, RowFits}
 
-both : (a b : Bool) → IsTrue a → IsTrue b → IsTrue (a && b)
-both true true h k = refl
-both true false h k = absurd cc
-both false b h k = absurd cc
+-- a value of a column that isn't generated is free
+not_made : (made : Option GenExpr) (all : List Value) (value : Value) → IsTrue (is_none made) → IsMadeFrom made all value
+not_made None all value none = tt
+not_made (Some e) all value none = absurd cc
 
--- ---- one value
+-- no value is generated where no column is
+none_made : (all : List Value) (columns : List ColumnDef) (values : List Value) → IsTrue (list_all (λ (column : ColumnDef). is_none column.made) columns) → AreMadeFrom all columns values
+none_made all [] values none = tt
+none_made all (column ∷ columns) [] none = tt
+none_made all (column ∷ columns) (value ∷ values) none =
+    let parts = both (is_none column.made) (list_all (λ (column : ColumnDef). is_none column.made) columns) none in
+    (not_made column.made all value parts.0, none_made all columns values parts.1)
 
--- a text within its column
-text_fits : (n : ℕ) (text : List ℕ) → length text ≤ n → trimmed text ≡ text → IsTrue (nat_le (length text) n && is_trimmed text)
-text_fits n text short same =
-    let low : IsTrue (nat_le (length text) n) = grind (arith, nat_tests) in
-    both (nat_le (length text) n) (is_trimmed text) low (subst (λ t. IsTrue (bytes_eq t text)) (sym same) (bytes_eq-refl text))
-
-pub char_fits : (ty : ColType) (value : Value) (n : ℕ) (inside text : List ℕ) → ty ≡ Char n → value ≡ Text inside → text ≡ inside → length text ≤ n → trimmed text ≡ text → IsTrue (is_of_type ty value)
-char_fits ty value n inside text ty_is value_is is short same =
-    rw ty_is (rw value_is (subst (λ t. IsTrue (is_of_type (Char n) (Text t))) is (text_fits n text short same)))
-
--- a column that isn't made from another
-made_of_none : (made : Option GenExpr) (all : List Value) (value : Value) → made ≡ None → IsMadeFrom made all value
-made_of_none None all value is = tt
-made_of_none (Some e) all value is = absurd cc
-
--- ---- all values
-
--- what is left of a list from one of its elements on
-left_from : {X : Type 0} (xs : List X) (i : ℕ) (x : X) → slice_get xs i ≡ Some x → drop i xs ≡ x ∷ drop (suc i) xs
-left_from [] i x is = absurd cc
-left_from (first ∷ xs) zero x is = let same : first ≡ x = cc in ap (λ y. y ∷ xs) same
-left_from (first ∷ xs) (suc i) x is = left_from xs i x is
-
-none_left : {X : Type 0} (xs : List X) (i : ℕ) → length xs ≤ i → drop i xs ≡ []
-none_left [] zero past = refl
-none_left [] (suc i) past = refl
-none_left (x ∷ xs) zero past = absurd (omega arith)
-none_left (x ∷ xs) (suc i) past = none_left xs i (omega arith)
-
--- the values fit where those that are left do
-pub record FitsIfRest (columns : List ColumnDef) (values : List Value) (i : ℕ) : Type 0 where
-  pub fits : IsTrue (fits_all (drop i columns) (drop i values)) → IsTrue (fits_all columns values)
-  pub made : AreMadeFrom values (drop i columns) (drop i values) → AreMadeFrom values columns values
-
-pub fits_at_first : (columns : List ColumnDef) (values : List Value) → FitsIfRest columns values 0
-fits_at_first columns values = record { fits = λ rest. rest; made = λ rest. rest }
-
-module _ (columns : List ColumnDef) (values : List Value) (i : ℕ) (c : ColumnDef) (v : Value) (c_at : slice_get columns i ≡ Some c) (v_at : slice_get values i ≡ Some v) where
-  pub fits_next : c.made ≡ None → IsTrue (fits c v) → FitsIfRest columns values i → FitsIfRest columns values (suc i)
-  fits_next plain fit so_far = record {
-    fits = λ rest. so_far.fits (rw (left_from columns i c c_at) (rw (left_from values i v v_at) (both (fits c v) (fits_all (drop (suc i) columns) (drop (suc i) values)) fit rest)));
-    made = λ rest. so_far.made (rw (left_from columns i c c_at) (rw (left_from values i v v_at) (made_of_none c.made values v plain, rest)));
-  }
-
-pub fits_at_last : (def : TableDef) (row : Row) (i : ℕ) → length def.columns ≡ length row.values → length def.columns ≤ i → FitsIfRest def.columns row.values i → RowFits def row
-fits_at_last def row i alike past so_far =
-    let no_columns : drop i def.columns ≡ [] = none_left def.columns i past in
-    let no_values : drop i row.values ≡ [] = none_left row.values i (omega (arith, alike, past)) in
-    record {
-      values = so_far.fits (rw no_columns (rw no_values refl));
-      generated = so_far.made (rw no_columns tt);
-    }
+-- a row of values that fit, by what two looks at the columns answered
+pub row_fits : (def : TableDef) (row : Row) {columns : List ColumnDef} {values : List Value} {none fit : Bool} → columns ≡ def.columns → values ≡ row.values
+    → none ≡ list_all (λ (column : ColumnDef). is_none column.made) columns → IsTrue none → fit ≡ fits_all columns values → IsTrue fit → RowFits def row
+row_fits def row is_columns is_values tested none told fit = record {
+  values = rw (sym is_columns, sym is_values, sym told) fit;
+  generated = none_made row.values def.columns row.values (rw (sym is_columns, sym tested) none);
+}

@@ -1,24 +1,44 @@
 // One change of a table each.
-ghost use Rattle.std.specs.Prelude.{◌≡◌, [], false};
+ghost use Rattle.std.specs.Prelude.{◌≡◌, [], false, IfOk};
 ghost use Rattle.table_page.specs.TableLimits.{IsTableDef};
+ghost use Rattle.mdc_sound.specs.FittingRows.{RowFits};
 
 use crate::fitting::does_fit;
-use crate::rows::row_of;
-use crate::tables::Table;
+use crate::rows::{is_same_row, row_of};
+use crate::tables::{Shape, Table};
 use cell_change::{change_row, delete_row, insert_row};
 use extent_map::SpaceFault;
-use mdc_table::{Account, account_of};
+use mdc_ast::{Row, TableDef};
+use mdc_table::{Account, account_of, row_at};
 use mdc_values::Rid;
 use std::alloc::Global;
 use std::test::Fail;
 use store_api::Pages;
 
 /// A row that lies in a table.
-#[derive(Clone, Copy, Debug, PartialEq, Eq)]
+#[derive(Clone, Copy, PartialEq)]
 pub struct Held {
     pub rid: Rid,
     pub number: u64,
     pub seed: u64,
+}
+
+// The row of a number and a seed, which fits the definition.
+fn fitting_row(
+    alloc: Global,
+    shape: Shape,
+    def: &TableDef,
+    number: u64,
+    seed: u64,
+) -> Result<Row, Fail>
+    ensures number { IfOk result (λ row. row.number ≡ number) }
+    ensures fits { IfOk result (RowFits def.now) }
+{
+    let row = row_of(alloc, shape, number, seed)?;
+    if !does_fit(def, &row) {
+        return Err("a row that doesn't fit")?;
+    }
+    Ok(row)
 }
 
 /// What inserting the next row answers, made of a seed.
@@ -42,10 +62,10 @@ pub fn try_insert<P: Pages>(
         ext,
         rooms,
     } = table;
-    let row = row_of(alloc, *shape, def.next, seed)?;
-    if def.next == u64::MAX || !does_fit(def, &row) {
-        return Err("a row that doesn't fit")?;
+    if def.next == u64::MAX {
+        return Err("no number is left")?;
     }
+    let row = fitting_row(alloc, *shape, def, def.next, seed)?;
     Ok(insert_row(alloc, def, ext, rooms, pages, &row))
 }
 
@@ -82,7 +102,6 @@ pub fn delete<P: Pages>(
     ensures defined { IsTableDef table.new.def.number table.new.def }
     ensures no_indexes { table.new.def.indexes ≡ [] }
     ensures going { (P.state pages.new).ended ≡ false }
-    ensures marked { (P.state pages.new).marked ≡ (P.state pages.old).marked }
 {
     let Table {
         shape,
@@ -90,10 +109,7 @@ pub fn delete<P: Pages>(
         ext,
         rooms,
     } = table;
-    let row = row_of(alloc, *shape, held.number, held.seed)?;
-    if !does_fit(def, &row) {
-        return Err("a row that doesn't fit")?;
-    }
+    let row = fitting_row(alloc, *shape, def, held.number, held.seed)?;
     delete_row(alloc, def, ext, rooms, pages, held.rid, &row)?;
     Ok(())
 }
@@ -112,7 +128,6 @@ pub fn change<P: Pages>(
     ensures defined { IsTableDef table.new.def.number table.new.def }
     ensures no_indexes { table.new.def.indexes ≡ [] }
     ensures going { (P.state pages.new).ended ≡ false }
-    ensures marked { (P.state pages.new).marked ≡ (P.state pages.old).marked }
 {
     let Table {
         shape,
@@ -120,11 +135,8 @@ pub fn change<P: Pages>(
         ext,
         rooms,
     } = table;
-    let was = row_of(alloc, *shape, held.number, held.seed)?;
-    let is = row_of(alloc, *shape, held.number, seed)?;
-    if !does_fit(def, &was) || !does_fit(def, &is) {
-        return Err("a row that doesn't fit")?;
-    }
+    let was = fitting_row(alloc, *shape, def, held.number, held.seed)?;
+    let is = fitting_row(alloc, *shape, def, held.number, seed)?;
     let rid = change_row(alloc, def, ext, rooms, pages, None, held.rid, &was, &is)?;
     Ok(Held {
         rid,
@@ -137,7 +149,32 @@ pub fn change<P: Pages>(
 pub fn blocks_of<P: Pages>(alloc: Global, table: &Table, pages: &mut P) -> Result<Account, Fail>
     requires going { (P.state pages.old).ended ≡ false }
     ensures going { (P.state pages.new).ended ≡ false }
-    ensures marked { (P.state pages.new).marked ≡ (P.state pages.old).marked }
 {
     Ok(account_of(alloc, &table.def, &table.ext, pages)?)
+}
+
+/// Whether a row of a number and a seed lies in a place, and whether no row does.
+pub fn looked_at<P: Pages>(
+    alloc: Global,
+    table: &Table,
+    pages: &mut P,
+    held: Held,
+) -> Result<(bool, bool), Fail>
+    requires defined { IsTableDef table.now.def.number table.now.def }
+    requires going { (P.state pages.old).ended ≡ false }
+    ensures going { (P.state pages.new).ended ≡ false }
+{
+    let row = row_of(alloc, table.shape, held.number, held.seed)?;
+    match row_at(alloc, &table.def, &table.ext, pages, held.rid)? {
+        Some(found) => Ok((is_same_row(&found, &row), false)),
+        None => Ok((false, true)),
+    }
+}
+
+/// The row that came at this place.
+pub fn held_at(all: &[Held], i: usize) -> Result<Held, Fail> {
+    match all.get(i) {
+        Some(held) => Ok(*held),
+        None => Err("no such row")?,
+    }
 }

@@ -16,7 +16,7 @@ use store_api::Pages;
 const EXTENTS: u32 = 16;
 
 // What was seen.
-#[derive(Clone, Copy, Debug)]
+#[derive(Clone, Copy, PartialEq)]
 struct Seen {
     answer: Result<Rid, SpaceFault>,
     undone: Account,
@@ -40,28 +40,56 @@ fn fill<P: Pages>(alloc: Global, table: &mut Table, pages: &mut P) -> Result<(),
     Ok(())
 }
 
+// Inserts a row of a fifteenth cell and undoes that. Answers what the insert answered, and the blocks then.
+fn insert_and_undo<P: Pages>(
+    alloc: Global,
+    table: &mut Table,
+    pages: &mut P,
+) -> Result<(Result<Rid, SpaceFault>, Account), Fail>
+    requires defined { IsTableDef table.old.def.number table.old.def }
+    requires no_indexes { table.old.def.indexes ≡ [] }
+    requires going { (P.state pages.old).ended ≡ false }
+    requires unmarked { (P.state pages.old).marked ≡ None }
+    ensures defined { IsTableDef table.new.def.number table.new.def }
+    ensures no_indexes { table.new.def.indexes ≡ [] }
+    ensures going { (P.state pages.new).ended ≡ false }
+{
+    pages.mark();
+    let answer = try_insert(alloc, table, pages, 15)?;
+    pages.undo();
+    table.ext.forget();
+    table.rooms.forget();
+    Ok((answer, blocks_of(alloc, table, pages)?))
+}
+
 // Rows of fourteen cells come, and one of a fifteenth doesn't find a block; it is undone, and tried again once a block is Free.
+fn fill_and_retry<P: Pages>(alloc: Global, table: &mut Table, pages: &mut P) -> Result<Seen, Fail>
+    requires defined { IsTableDef table.old.def.number table.old.def }
+    requires no_indexes { table.old.def.indexes ≡ [] }
+    requires going { (P.state pages.old).ended ≡ false }
+    requires unmarked { (P.state pages.old).marked ≡ None }
+{
+    let first = insert(alloc, table, pages, 1)?;
+    fill(alloc, table, pages)?;
+    let (answer, undone) = insert_and_undo(alloc, table, pages)?;
+    delete(alloc, table, pages, first)?;
+    let retried = insert(alloc, table, pages, 15)?.rid;
+    let at_last = blocks_of(alloc, table, pages)?;
+    Ok(Seen {
+        answer,
+        undone,
+        retried,
+        at_last,
+    })
+}
+
+// The same in an empty database.
 fn run_full<P: Pages>(alloc: Global, pages: &mut P) -> Result<Seen, Fail>
     requires going { (P.state pages.old).ended ≡ false }
     requires unmarked { (P.state pages.old).marked ≡ None }
 {
     let mut table = table_of(alloc, Shape::Wide, EXTENTS, pages)?;
-    let first = insert(alloc, &mut table, pages, 1)?;
-    fill(alloc, &mut table, pages)?;
-    pages.mark();
-    let answer = try_insert(alloc, &mut table, pages, 15)?;
-    pages.undo();
-    table.ext.forget();
-    table.rooms.forget();
-    let undone = blocks_of(alloc, &table, pages)?;
-    delete(alloc, &mut table, pages, first)?;
-    let retried = insert(alloc, &mut table, pages, 15)?.rid;
-    Ok(Seen {
-        answer,
-        undone,
-        retried,
-        at_last: blocks_of(alloc, &table, pages)?,
-    })
+    fill_and_retry(alloc, &mut table, pages)
 }
 
 #[test]
@@ -72,9 +100,12 @@ fn a_row_of_a_new_cell_finds_no_block(rt: HostRuntime) -> Result<(), Fail> {
         free: 0,
         pending: 0,
     };
-    assert_eq!(rt; seen.answer, Err(SpaceFault::Full(16)));
-    assert_eq!(rt; seen.undone, all_used);
-    assert_eq!(rt; seen.retried, Rid { block: 2, slot: 0 });
-    assert_eq!(rt; seen.at_last, all_used);
+    let wanted = Seen {
+        answer: Err(SpaceFault::Full(16)),
+        undone: all_used,
+        retried: Rid { block: 2, slot: 0 },
+        at_last: all_used,
+    };
+    assert!(rt; seen == wanted);
     Ok(())
 }

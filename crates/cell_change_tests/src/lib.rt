@@ -1,14 +1,16 @@
-//! Tests of `cell_change` on a store in memory: where rows go, what is read of them, a file that is full, hundreds of changes
-//! beside a plain list of what should be there, and notes that are lost.
+//! Tests of `cell_change` on a store in memory: where rows go, what is read of them, a file that is full at each claim of a row,
+//! hundreds of changes beside a plain list of what should be there, with which the plain reading of the pages is compared too, and
+//! notes that are lost.
 //!
-//! What a clause of `cell_change` says isn't tested but where many calls follow one another. All of it is tests, and each
-//! scenario is a function over any pages, so that its proof knows no concrete ones. Tables are made by hand: their trees, and
-//! their definition by the bytes of its page.
+//! What a clause of `cell_change` says isn't tested but where many calls follow one another. Each scenario is a function over any
+//! pages, so that its proof knows no concrete ones. Tables are made by hand: their trees, and their definition by the bytes of its
+//! page. It lends tests of other crates a store, the extents of a database, and a look at whether a row fits.
 #![tactic(auto)]
 
 #[cfg(test)]
 mod changes;
 #[cfg(test)]
+mod claims;
 mod fitting;
 #[cfg(test)]
 mod full;
@@ -21,8 +23,12 @@ mod places;
 #[cfg(test)]
 mod plain_list;
 #[cfg(test)]
-mod rows;
+mod plain_pages;
 #[cfg(test)]
+mod rows;
 mod stores;
 #[cfg(test)]
 mod tables;
+
+pub use fitting::does_fit;
+pub use stores::{extents_of, store_of};

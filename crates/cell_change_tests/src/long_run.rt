@@ -1,13 +1,15 @@
-// Hundreds of changes of a table beside a plain list of the rows that should be there.
+// Hundreds of changes of a table beside a plain list of the rows that should be there. The database that the pages stand for has
+// exactly these, and so has the table as it is read by its blocks and by its places.
 ghost use Rattle.std.specs.Prelude.{◌≡◌, [], false};
 ghost use Rattle.table_page.specs.TableLimits.{IsTableDef};
 
-use crate::changes::{blocks_of, change, delete, insert};
+use crate::changes::{blocks_of, change, delete, insert, looked_at};
 use crate::plain_list::{PlainList, any_row, no_rows, put_last, row_in, take_out};
+use crate::plain_pages::stand_for_list;
 use crate::rows::{cell_of, is_same_row, row_of, seed_of};
 use crate::stores::fresh_store;
 use crate::tables::{Shape, Table, table_of};
-use mdc_table::{Hit, push_rows_of_used_block, row_at, used_blocks};
+use mdc_table::{Hit, push_rows_of_used_block, used_blocks};
 use row_filter::RowFilter;
 use std::alloc::Global;
 use std::test::Fail;
@@ -103,21 +105,32 @@ fn move_one<P: Pages>(
     Ok(())
 }
 
+// The cell of a row that was read, or None where it isn't the row that the list has in its place.
+fn cell_of_hit(
+    alloc: Global,
+    shape: Shape,
+    list: &PlainList,
+    hit: &Hit,
+) -> Result<Option<u64>, Fail> {
+    let Some(held) = row_in(list, hit.rid) else {
+        return Ok(None);
+    };
+    let row = row_of(alloc, shape, held.number, held.seed)?;
+    if !is_same_row(&hit.row, &row) {
+        return Ok(None);
+    }
+    Ok(Some(cell_of(shape, held.seed)))
+}
+
 // Whether the rows of a block are those of the list, and of one cell.
 fn are_right(alloc: Global, shape: Shape, list: &PlainList, hits: &[Hit]) -> Result<bool, Fail> {
     let mut cell = None;
     for hit in hits {
-        let Some(held) = row_in(list, hit.rid) else {
-            return Ok(false);
-        };
-        if !is_same_row(&hit.row, &row_of(alloc, shape, held.number, held.seed)?) {
+        let its = cell_of_hit(alloc, shape, list, hit)?;
+        if its.is_none() || (cell.is_some() && cell != its) {
             return Ok(false);
         }
-        let its = cell_of(shape, held.seed);
-        if cell.is_some_and(|cell| cell != its) {
-            return Ok(false);
-        }
-        cell = Some(its);
+        cell = its;
     }
     Ok(true)
 }
@@ -141,7 +154,69 @@ fn rows_of<P: Pages>(
     Ok(hits)
 }
 
-// Looks at all Used blocks: their rows are those of the list.
+// How many rows there are of these, which are those of the list, at least one, and of one cell.
+fn count_right(alloc: Global, shape: Shape, list: &PlainList, hits: &[Hit]) -> Result<usize, Fail> {
+    if hits.len() == 0 || !are_right(alloc, shape, list, hits)? {
+        return Err("other rows")?;
+    }
+    Ok(hits.len())
+}
+
+// How many rows a Used block has. They are those of the list.
+fn rows_in<P: Pages>(
+    alloc: Global,
+    table: &Table,
+    pages: &mut P,
+    list: &PlainList,
+    block: u32,
+) -> Result<usize, Fail>
+    requires defined { IsTableDef table.now.def.number table.now.def }
+    requires going { (P.state pages.old).ended ≡ false }
+    ensures going { (P.state pages.new).ended ≡ false }
+{
+    if block >= table.ext.cap {
+        return Err("a block that there isn't")?;
+    }
+    let hits = rows_of(alloc, table, pages, block)?;
+    count_right(alloc, table.shape, list, hits.as_slice())
+}
+
+// How many rows these blocks have.
+fn rows_in_all<P: Pages>(
+    alloc: Global,
+    table: &Table,
+    pages: &mut P,
+    list: &PlainList,
+    blocks: &[u32],
+) -> Result<usize, Fail>
+    requires defined { IsTableDef table.now.def.number table.now.def }
+    requires going { (P.state pages.old).ended ≡ false }
+    ensures going { (P.state pages.new).ended ≡ false }
+{
+    let mut many: usize = 0;
+    for block in blocks {
+        many = many.wrapping_add(rows_in(alloc, table, pages, list, *block)?);
+    }
+    Ok(many)
+}
+
+// Looks at all Used blocks: their rows are those of the list. Answers how many blocks and rows there are.
+fn look_at_blocks<P: Pages>(
+    alloc: Global,
+    table: &Table,
+    pages: &mut P,
+    list: &PlainList,
+) -> Result<(usize, usize), Fail>
+    requires defined { IsTableDef table.now.def.number table.now.def }
+    requires going { (P.state pages.old).ended ≡ false }
+    ensures going { (P.state pages.new).ended ≡ false }
+{
+    let blocks = used_blocks(alloc, &table.def, &table.ext, pages)?;
+    let rows = rows_in_all(alloc, table, pages, list, blocks.as_slice())?;
+    Ok((blocks.len(), rows))
+}
+
+// The pages stand for the rows of the list; and all Used blocks have as many, and no block is counted that wasn't seen.
 fn check<P: Pages>(
     alloc: Global,
     table: &Table,
@@ -152,21 +227,12 @@ fn check<P: Pages>(
     requires going { (P.state pages.old).ended ≡ false }
     ensures going { (P.state pages.new).ended ≡ false }
 {
-    let (def, ext) = (&table.def, &table.ext);
-    let blocks = used_blocks(alloc, def, ext, pages)?;
-    let mut many: usize = 0;
-    for block in blocks.as_slice() {
-        if *block >= ext.cap {
-            return Err("a block that there isn't")?;
-        }
-        let hits = rows_of(alloc, table, pages, *block)?;
-        if hits.len() == 0 || !are_right(alloc, table.shape, list, hits.as_slice())? {
-            return Err("other rows")?;
-        }
-        many = many.wrapping_add(hits.len());
+    if !stand_for_list(alloc, table, pages, list)? {
+        return Err("pages of another database")?;
     }
+    let (blocks, rows) = look_at_blocks(alloc, table, pages, list)?;
     let account = blocks_of(alloc, table, pages)?;
-    if many != list.rows.len() || account.used != blocks.len() as u64 || account.pending != 0 {
+    if rows != list.rows.len() || account.used != blocks as u64 || account.pending != 0 {
         return Err("another number of rows")?;
     }
     Ok(())
@@ -183,29 +249,41 @@ fn look_each<P: Pages>(
     requires going { (P.state pages.old).ended ≡ false }
 {
     for held in &list.rows {
-        let row = row_of(alloc, table.shape, held.number, held.seed)?;
-        let Some(found) = row_at(alloc, &table.def, &table.ext, pages, held.rid)? else {
-            return Err("no row")?;
-        };
-        if !is_same_row(&found, &row) {
-            return Err("another row")?;
+        let (is_there, _) = looked_at(alloc, table, pages, *held)?;
+        if !is_there {
+            return Err("another row, or none")?;
         }
     }
     Ok(())
 }
 
-// So many changes of an empty table, looked at again and again. Answers how many rows there are at last.
+// So many changes of a table, looked at again and again.
+fn change_and_check<P: Pages>(
+    alloc: Global,
+    table: &mut Table,
+    pages: &mut P,
+    list: &mut PlainList,
+    rounds: u32,
+) -> Result<(), Fail>
+    requires defined { IsTableDef table.old.def.number table.old.def }
+    requires no_indexes { table.old.def.indexes ≡ [] }
+    requires going { (P.state pages.old).ended ≡ false }
+{
+    let mut number: u64 = 1;
+    for _ in 0..rounds {
+        number = change_some(alloc, table, pages, list, number)?;
+        check(alloc, table, pages, list)?;
+    }
+    look_each(alloc, table, pages, list)
+}
+
+// The same of an empty table. Answers how many rows there are at last.
 fn run<P: Pages>(alloc: Global, shape: Shape, pages: &mut P, rounds: u32) -> Result<usize, Fail>
     requires going { (P.state pages.old).ended ≡ false }
 {
     let mut table = table_of(alloc, shape, EXTENTS, pages)?;
     let mut list = no_rows(alloc, shape);
-    let mut number: u64 = 1;
-    for _ in 0..rounds {
-        number = change_some(alloc, &mut table, pages, &mut list, number)?;
-        check(alloc, &table, pages, &list)?;
-    }
-    look_each(alloc, &table, pages, &list)?;
+    change_and_check(alloc, &mut table, pages, &mut list, rounds)?;
     Ok(list.rows.len())
 }
 

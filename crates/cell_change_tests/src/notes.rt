@@ -2,7 +2,7 @@
 ghost use Rattle.std.specs.Prelude.{◌≡◌, [], false};
 ghost use Rattle.table_page.specs.TableLimits.{IsTableDef};
 
-use crate::changes::{Held, delete, insert};
+use crate::changes::{Held, delete, held_at, insert};
 use crate::stores::fresh_store;
 use crate::tables::{Shape, Table, table_of};
 use mdc_values::Rid;
@@ -69,22 +69,34 @@ fn take_one<P: Pages>(
     ensures no_indexes { table.new.def.indexes ≡ [] }
     ensures going { (P.state pages.new).ended ≡ false }
 {
-    match all.get(place) {
-        Some(held) => delete(alloc, table, pages, *held),
-        None => Err("no such row")?,
-    }
+    delete(alloc, table, pages, held_at(all, place)?)
 }
 
-// Where 58 rows of one cell go; once 55 have come, the rows 33 and 12 are taken out.
+// Inserts 58 rows of one cell; once 55 have come, the rows 33 and 12 are taken out.
+fn put_and_take<P: Pages>(
+    alloc: Global,
+    table: &mut Table,
+    pages: &mut P,
+    all: &mut Vec<Held>,
+    forgets: bool,
+) -> Result<(), Fail>
+    requires defined { IsTableDef table.old.def.number table.old.def }
+    requires no_indexes { table.old.def.indexes ≡ [] }
+    requires going { (P.state pages.old).ended ≡ false }
+{
+    put_many(alloc, table, pages, all, forgets, 55)?;
+    take_one(alloc, table, pages, all, 33)?;
+    take_one(alloc, table, pages, all, 12)?;
+    put_many(alloc, table, pages, all, forgets, 3)
+}
+
+// Where these rows go.
 fn places<P: Pages>(alloc: Global, pages: &mut P, forgets: bool) -> Result<Vec<Held>, Fail>
     requires going { (P.state pages.old).ended ≡ false }
 {
     let mut table = table_of(alloc, Shape::Wide, 16, pages)?;
     let mut all = Vec::new(alloc);
-    put_many(alloc, &mut table, pages, &mut all, forgets, 55)?;
-    take_one(alloc, &mut table, pages, &all, 33)?;
-    take_one(alloc, &mut table, pages, &all, 12)?;
-    put_many(alloc, &mut table, pages, &mut all, forgets, 3)?;
+    put_and_take(alloc, &mut table, pages, &mut all, forgets)?;
     Ok(all)
 }
 
@@ -96,14 +108,19 @@ fn rid_at(all: &[Held], i: usize) -> Option<Rid> {
     }
 }
 
+// Whether the last row before two leave, and the three that come then, lie where placing says.
+fn lie_right(all: &[Held]) -> bool {
+    rid_at(all, 54) == Some(Rid { block: 7, slot: 4 })
+        && rid_at(all, 55) == Some(Rid { block: 3, slot: 2 })
+        && rid_at(all, 56) == Some(Rid { block: 5, slot: 3 })
+        && rid_at(all, 57) == Some(Rid { block: 7, slot: 5 })
+}
+
 #[test]
 fn rows_go_to_the_same_places_without_notes(rt: HostRuntime) -> Result<(), Fail> {
     let kept = places(rt.alloc(), &mut fresh_store(rt.alloc())?, false)?;
     let lost = places(rt.alloc(), &mut fresh_store(rt.alloc())?, true)?;
     assert!(rt; kept == lost);
-    assert_eq!(rt; rid_at(&kept, 54), Some(Rid { block: 7, slot: 4 }));
-    assert_eq!(rt; rid_at(&kept, 55), Some(Rid { block: 3, slot: 2 }));
-    assert_eq!(rt; rid_at(&kept, 56), Some(Rid { block: 5, slot: 3 }));
-    assert_eq!(rt; rid_at(&kept, 57), Some(Rid { block: 7, slot: 5 }));
+    assert!(rt; lie_right(&kept));
     Ok(())
 }

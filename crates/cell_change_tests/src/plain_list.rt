@@ -7,9 +7,9 @@ use std::alloc::Global;
 use std::test::Fail;
 
 /// The rows that should be in a table, and all blocks that it has had, which rise. None is ever given back.
-#[derive(Debug, Drop)]
+#[derive(Drop)]
 pub struct PlainList {
-    shape: Shape,
+    pub shape: Shape,
     pub rows: Vec<Held>,
     blocks: Vec<u32>,
 }
@@ -112,6 +112,16 @@ fn empty_slot(list: &PlainList, block: u32) -> Option<u16> {
 pub fn row_in(list: &PlainList, rid: Rid) -> Option<Held> {
     for held in &list.rows {
         if held.rid == rid {
+            return Some(*held);
+        }
+    }
+    None
+}
+
+/// The row of a number.
+pub fn row_numbered(list: &PlainList, number: u64) -> Option<Held> {
+    for held in &list.rows {
+        if held.number == number {
             return Some(*held);
         }
     }

@@ -6,29 +6,33 @@ use mdc_ast::Row;
 use mdc_values::{Chars, List, Memory, Value};
 use std::alloc::Global;
 
-/// The days that rows have.
-pub const LEAP_DAY: u32 = 20_240_229;
+// The days that rows have.
+const LEAP_DAY: u32 = 20_240_229;
 
-pub const LAST_DAY: u32 = 19_991_231;
+const LAST_DAY: u32 = 19_991_231;
 
 // How many cells seeds tell apart.
 const WIDE_CELLS: u64 = 100;
 
 const MIXED_CELLS: u64 = 18;
 
+const NARROW_CELLS: u64 = 1_000;
+
 /// The number of the cell that the row of a seed is of.
 pub fn cell_of(shape: Shape, seed: u64) -> u64 {
     match shape {
         Shape::Wide => seed % WIDE_CELLS,
         Shape::Mixed => seed % MIXED_CELLS,
+        Shape::Narrow => seed % NARROW_CELLS,
     }
 }
 
-/// A seed for any number: of four cells in the wide table, and of all in the mixed one.
+/// A seed for any number: of four cells in the wide table, and of all in the others.
 pub fn seed_of(shape: Shape, any: u64) -> u64 {
     match shape {
         Shape::Wide => any % 4 + WIDE_CELLS * (any / 4 % 26),
         Shape::Mixed => any % (MIXED_CELLS * 30),
+        Shape::Narrow => any % NARROW_CELLS,
     }
 }
 
@@ -37,6 +41,7 @@ pub fn slots_of(shape: Shape) -> u16 {
     match shape {
         Shape::Wide => 10,
         Shape::Mixed => 192,
+        Shape::Narrow => 450,
     }
 }
 
@@ -47,6 +52,7 @@ pub fn row_of(alloc: Global, shape: Shape, number: u64, seed: u64) -> Result<Row
     let values = match shape {
         Shape::Wide => wide_values(alloc, number, seed)?,
         Shape::Mixed => mixed_values(alloc, number, seed)?,
+        Shape::Narrow => narrow_values(alloc, seed)?,
     };
     Ok(Row { number, values })
 }
@@ -54,26 +60,40 @@ pub fn row_of(alloc: Global, shape: Shape, number: u64, seed: u64) -> Result<Row
 // D is the cell, and X, Y and Z tell rows of one cell apart.
 fn wide_values(alloc: Global, number: u64, seed: u64) -> Result<List<Value>, Memory> {
     let letter = b'A' + (seed / WIDE_CELLS % 26) as u8;
-    let mut values = List::new(alloc);
-    values.push(Value::Int((seed % WIDE_CELLS) as i64))?;
-    values.push(Value::Int((number % 1_000_000) as i64))?;
-    values.push(Value::Text(Chars::of(alloc, b"NORTH")?))?;
-    values.push(Value::Text(Chars::of(alloc, &[letter])?))?;
-    values.push(Value::Null)?;
-    Ok(values)
+    let x = Chars::of(alloc, b"NORTH")?;
+    let y = Chars::of(alloc, &[letter])?;
+    let values = vec![in alloc;
+        Value::Int((seed % WIDE_CELLS) as i64),
+        Value::Int((number % 1_000_000) as i64),
+        Value::Text(x),
+        Value::Text(y),
+        Value::Null,
+    ]?;
+    Ok(List::from_vec(values))
 }
 
 // D, R and T are of the cell, with nulls and an empty text among them; V and S tell rows of one cell apart.
 fn mixed_values(alloc: Global, number: u64, seed: u64) -> Result<List<Value>, Memory> {
     let cell = seed % MIXED_CELLS;
-    let mut values = List::new(alloc);
-    values.push(Value::Int((number % 1_000_000) as i64))?;
-    values.push(number_or_null(cell % 3))?;
-    values.push(number_or_null(cell / 3 % 2))?;
-    values.push(Value::Int((seed % 1_000) as i64 - 5_000_000_000))?;
-    values.push(text_or_null(alloc, cell / 6)?)?;
-    values.push(day_or_null(seed / MIXED_CELLS % 3))?;
-    Ok(values)
+    let t = text_or_null(alloc, cell / 6)?;
+    let values = vec![in alloc;
+        Value::Int((number % 1_000_000) as i64),
+        number_or_null(cell % 3),
+        number_or_null(cell / 3 % 2),
+        Value::Int((seed % 1_000) as i64 - 5_000_000_000),
+        t,
+        day_or_null(seed / MIXED_CELLS % 3),
+    ]?;
+    Ok(List::from_vec(values))
+}
+
+// D tells the cells apart, and S is one day.
+fn narrow_values(alloc: Global, seed: u64) -> Result<List<Value>, Memory> {
+    let values = vec![in alloc;
+        Value::Int((seed % NARROW_CELLS) as i64),
+        Value::Day(LEAP_DAY),
+    ]?;
+    Ok(List::from_vec(values))
 }
 
 fn number_or_null(which: u64) -> Value {

@@ -1,5 +1,5 @@
 // The tables of these tests: their trees, and their definitions by the bytes of table pages.
-ghost use Rattle.std.specs.Prelude.{◌≡◌, [], false, IfOk};
+ghost use Rattle.std.specs.Prelude.{◌≡◌, ◌≤◌, [], false, IfOk};
 ghost use Rattle.table_page.specs.TableLimits.{IsTableDef};
 
 use crate::stores::extents_of;
@@ -13,17 +13,19 @@ use store_api::{Page, Pages, blank_page, put};
 use table_page::def_of;
 
 /// Which table.
-#[derive(Clone, Copy, Debug, PartialEq, Eq)]
+#[derive(Clone, Copy)]
 pub enum Shape {
     /// `W (D INTEGER, K INTEGER, X CHAR(254), Y CHAR(254), Z CHAR(254))` by D. A row has 780 bytes, so a block has 10.
     Wide,
     /// `W (K INTEGER NOT NULL, D INTEGER, R INTEGER, V BIGINT, T CHAR(8), S DATE)` by D and (R, T). A row has 42 bytes, so a
     /// block has 192.
     Mixed,
+    /// `W (D INTEGER, S DATE)` by D and S. A row has 18 bytes, so a block has 450.
+    Narrow,
 }
 
 /// A table that is changed, and the notes that go with it.
-#[derive(Debug, Drop)]
+#[derive(Drop)]
 pub struct Table {
     pub shape: Shape,
     pub def: TableDef,
@@ -65,20 +67,42 @@ fn page_of<P: Pages>(
     ensures going { (P.state pages.new).ended ≡ false }
     ensures marked { (P.state pages.new).marked ≡ (P.state pages.old).marked }
 {
-    let map = Tree::make(alloc, ext, pages, 7)?.root;
+    let map = root_of(alloc, 7, ext, pages)?;
     match shape {
         Shape::Wide => {
-            let all = Tree::make(alloc, ext, pages, 9)?.root;
-            let by_d = Tree::make(alloc, ext, pages, 9)?.root;
+            let all = root_of(alloc, 9, ext, pages)?;
+            let by_d = root_of(alloc, 9, ext, pages)?;
             Ok(wide_page(map, all, by_d))
         }
         Shape::Mixed => {
-            let all = Tree::make(alloc, ext, pages, 23)?.root;
-            let by_d = Tree::make(alloc, ext, pages, 9)?.root;
-            let by_rt = Tree::make(alloc, ext, pages, 18)?.root;
+            let all = root_of(alloc, 23, ext, pages)?;
+            let by_d = root_of(alloc, 9, ext, pages)?;
+            let by_rt = root_of(alloc, 18, ext, pages)?;
             Ok(mixed_page(map, all, by_d, by_rt))
         }
+        Shape::Narrow => {
+            let all = root_of(alloc, 14, ext, pages)?;
+            let by_d = root_of(alloc, 9, ext, pages)?;
+            let by_s = root_of(alloc, 9, ext, pages)?;
+            Ok(narrow_page(map, all, by_d, by_s))
+        }
     }
+}
+
+// The root of a new tree of entries of this width.
+fn root_of<P: Pages>(
+    alloc: Global,
+    width: u16,
+    ext: &mut Extents,
+    pages: &mut P,
+) -> Result<u32, Fail>
+    requires wide { 5 ≤ width }
+    requires narrow { width ≤ 134 }
+    requires going { (P.state pages.old).ended ≡ false }
+    ensures going { (P.state pages.new).ended ≡ false }
+    ensures marked { (P.state pages.new).marked ≡ (P.state pages.old).marked }
+{
+    Ok(Tree::make(alloc, ext, pages, width)?.root)
 }
 
 // The definition on a page of the table 0, which has no indexes.
@@ -128,5 +152,20 @@ fn mixed_page(map: u32, all: u32, by_d: u32, by_rt: u32) -> Page {
     put(&mut page, 209, b"S                 \x04\x00\x00");
     put(&mut page, 550, b"\x01\x01");
     put(&mut page, 567, b"\x02\x02\x04");
+    page
+}
+
+// The page of the narrow table with these roots.
+fn narrow_page(map: u32, all: u32, by_d: u32, by_s: u32) -> Page {
+    let mut page = *blank_page();
+    put(&mut page, 0, b"\x54W                 \x02\x02\x00");
+    put(&mut page, 30, &map.to_be_bytes());
+    put(&mut page, 34, &all.to_be_bytes());
+    put(&mut page, 38, &by_d.to_be_bytes());
+    put(&mut page, 42, &by_s.to_be_bytes());
+    put(&mut page, 54, b"D                 \x01\x00\x00");
+    put(&mut page, 85, b"S                 \x04\x00\x00");
+    put(&mut page, 550, b"\x01\x00");
+    put(&mut page, 567, b"\x01\x01");
     page
 }

@@ -4,9 +4,6 @@ use page_store::{OpenFault, make};
 use std::alloc::Global;
 use std::test::Fail;
 
-/// What the bytes hold that a crash tears: what was written, or this byte. An open gate is among them.
-pub static FILLS: [Option<u8>; 4] = [None, Some(0x00), Some(0x4f), Some(0xff)];
-
 // Makes a database of 16 extents of two pages in the file of a host.
 fn make_small<H: Host>(host: &mut H) -> Result<(), OpenFault> {
     host.attach("table", true)?;

@@ -3,7 +3,7 @@
 //!
 //! Where a crash falls in each call in turn, the next run finds each commit that was answered, and at most the one that was under
 //! way. What is answered is written by hand from docs/SQL.md. All of it is tests, so that `file_session` itself is proved once; and
-//! each run is a function over any host, so that its proof knows no concrete one.
+//! each run is a function over any host and script, so that its proof knows no concrete one.
 #![tactic(auto)]
 
 #[cfg(test)]
@@ -18,5 +18,7 @@ mod full;
 mod hosts;
 #[cfg(test)]
 mod runs;
+#[cfg(test)]
+mod scenario;
 #[cfg(test)]
 mod transactions;

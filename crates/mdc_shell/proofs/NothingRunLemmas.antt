@@ -1,13 +1,12 @@
 -- A run that stops before anything is taken of the script is a run of none of its items.
-use Rattle.std.proofs.Common.{◌≡◌, ℕ, List, [], false, Option, Some, IfSome, Result, Err, refl, sym, ap, subst}
+use Rattle.std.proofs.Common.{◌≡◌, ℕ, List, [], false, Option, Some, IfSome, Result, Err, refl, sym, ap}
 use Rattle.std.proofs.lemmas.List.{append-nil}
 use Rattle.mdc_ast.specs.meaning.Database.{Database}
-use Rattle.mdc_ast.specs.meaning.Session.{session_on}
 use Rattle.store_api.specs.declared.fault.Damage.{Damage}
 use Rattle.extent_map.specs.declared.extents.Extents.{Extents}
 use Rattle.table_trees.specs.ToldPages.{PageList}
 use Rattle.mdc_sound.specs.StandsForDatabase.{PagesStandFor}
-use Rattle.script_engine.specs.Held.{HeldPages, StandsForSession}
+use Rattle.script_engine.specs.Held.{HeldPages}
 use Rattle.script_session.specs.Going.{GoesOnPages}
 use Rattle.script_session.specs.Leaving.{AreServedPages}
 use Rattle.script_session.specs.Lists.{GoesOnLists}

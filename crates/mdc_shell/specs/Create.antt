@@ -1,5 +1,5 @@
 -- What `create FILE EXTENTS PAGES` does to its file and its tape, for each status (docs/PROGRAM.md).
-use Rattle.std.specs.Prelude.{◌≡◌, ◌⊎◌, ◌<◌, ℕ, Bool, true, List, Option, Some, length, codes}
+use Rattle.std.specs.Prelude.{◌≡◌, ◌⊎◌, ◌<◌, ℕ, Bool, List, Option, Some, length, codes}
 use Rattle.std.specs.Option.{ForSome}
 use Rattle.mdc_outside.specs.Disk.{File}
 use Rattle.mdc_outside.specs.Moments.{Adds}

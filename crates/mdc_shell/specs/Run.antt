@@ -1,10 +1,10 @@
 -- What the runs of scripts do to their source, their file and their tape, for each end (docs/PROGRAM.md).
-use Rattle.std.specs.Prelude.{◌≡◌, ◌⊎◌, ◌≤◌, ◌+◌, ◌++◌, ℕ, Bool, List, [], Option, Some, None, Result, Err, length}
+use Rattle.std.specs.Prelude.{◌≡◌, ◌⊎◌, ◌≤◌, ◌+◌, ◌++◌, ℕ, List, [], Option, Some, None, Result, Err, length}
 use Rattle.std.specs.Option.{ForSome}
 use Rattle.mdc_ast.specs.meaning.Database.{empty_database}
 use Rattle.mdc_outside.specs.Disk.{File}
 use Rattle.mdc_words.specs.Time.{OverTime}
-use Rattle.mdc_outside.specs.Moments.{Adds, IsMoment}
+use Rattle.mdc_outside.specs.Moments.{IsMoment}
 use Rattle.mdc_outside.specs.Outside.{Takes, TakesPart}
 use Rattle.mdc_outside.specs.declared.disk.Disk.{Ghosts}
 use Rattle.store_api.specs.declared.fault.Damage.{Damage}

@@ -10,6 +10,7 @@ use Rattle.mdc_shell.specs.declared.create.Created.{Created}
 use Rattle.mdc_shell.specs.declared.create.Created.TheVariants.{Made, Exists, DiskFailed}
 use Rattle.mdc_shell.specs.declared.create.Created.TheVariants as created
 
+-- 3 to 5 for a failed call of the outside, 6 and 9 for the file, 7 for a script that is too long, 8 for memory
 abbrev pub status_of_stop : FileStop → ℕ
 status_of_stop Device = 3
 status_of_stop Unread = 4

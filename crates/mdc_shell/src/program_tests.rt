@@ -129,6 +129,8 @@ fn run_failing(
 #[test]
 fn what_fails_stops_a_script(rt: HostRuntime) -> Result<(), Fail> {
     let script = format!(in rt.alloc(); "{T}SELECT * FROM T;SELECT * FROM T;")?;
+    let (status, said) = run_failing(rt.alloc(), &script, Call::Say, 0)?;
+    assert_eq!(rt; (status, said.len()), (5, 0));
     let (status, said) = run_failing(rt.alloc(), &script, Call::Say, 1)?;
     assert_eq!(rt; (status, said.as_slice()), (5, b"OK\n".as_slice()));
     // The first sync is one of the making.
@@ -277,6 +279,26 @@ fn a_second_run_sees_the_rows_of_the_first(rt: HostRuntime) -> Result<(), Fail> 
     Ok(())
 }
 
+/// How a script ends on a file that is made before, where these calls of both fail, and the host.
+fn make_and_run(alloc: Global, script: &str, fails: &[u64]) -> Result<(u8, MemHost), Fail> {
+    let (_, host) = run_words(alloc, "create f 16 2", fails)?;
+    run_file(alloc, script, host)
+}
+
+#[test]
+fn a_first_reply_that_fails_is_that_of_a_commit(rt: HostRuntime) -> Result<(), Fail> {
+    let alloc = rt.alloc();
+    let (_, host) = make_and_run(alloc, T, &[])?;
+    // The first line is that of the making, and the second the first reply.
+    let says = calls_of(alloc, &host, Call::Say)?;
+    let (status, host) = make_and_run(alloc, T, says.get(1..).unwrap_or_default())?;
+    assert_eq!(rt; (status, host.said()), (5, b"OK\n".as_slice()));
+    let (status, host) = run_file(alloc, "SELECT * FROM T;", host)?;
+    assert_eq!(rt; status, 0);
+    assert_eq!(rt; host.said(), b"OK\nA|B\n0 ROWS\n".as_slice());
+    Ok(())
+}
+
 /// How a line ends on a host whose file has these bytes, and what is said.
 fn run_on_bytes(alloc: Global, line: &str, bytes: Vec<u8>) -> Result<(u8, Vec<u8>), Fail> {
     let mut source = MemSource::new(b"SELECT;".to_vec(alloc)?, 1, Vec::new(alloc));
@@ -329,6 +351,25 @@ fn a_page_that_is_cut_off_is_named(rt: HostRuntime) -> Result<(), Fail> {
         (status, said.as_slice()),
         (9, b"DAMAGED page 17 rule 1\n".as_slice())
     );
+    Ok(())
+}
+
+/// How another `create` ends on the first bytes of a database, and what is said.
+fn create_on_first(alloc: Global, length: usize) -> Result<(u8, Vec<u8>), Fail> {
+    let (_, host) = run_words(alloc, "create f 16 2", &[])?;
+    let mut bytes = file_bytes(alloc, host)?;
+    bytes.truncate(length);
+    run_on_bytes(alloc, "create f 16 2", bytes)
+}
+
+#[test]
+fn a_file_with_a_byte_exists(rt: HostRuntime) -> Result<(), Fail> {
+    // The made byte alone, cut off before and behind the journal's gate, the first page, all but the last byte, and whole.
+    for length in [1, 512, 513, 4_096, 344_063, 344_064] {
+        let (status, said) = create_on_first(rt.alloc(), length)?;
+        assert_eq!(rt; status, 6, "{length}");
+        assert_eq!(rt; said.as_slice(), b"FILE EXISTS\n".as_slice(), "{length}");
+    }
     Ok(())
 }
 

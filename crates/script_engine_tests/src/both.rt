@@ -1,37 +1,45 @@
-// The same scripts on the plain engine and on the engine over a store.
-ghost use Rattle.std.specs.Prelude.{◌≡◌, false, None, OnOk};
+// The same scripts on the plain engine, with transactions, and on the engine over a store.
+ghost use Rattle.std.specs.Prelude.{◌≡◌, false, None, IfOk, OnOk};
 ghost use Rattle.script_engine.specs.Serving.{MayCall};
 ghost use Rattle.script_session.specs.Written.{IsReadWritten};
 
-use crate::mixed::script_of;
-use crate::scripts::{AMPLE, reply_to, source_of};
+use crate::mixed::{Drawn, script_of};
+use crate::reference::Reference;
+use crate::scripts::{reply_to, run_on, source_of};
 use crate::stores::{engine_on, fresh_store};
 use crate::written::{next_written, reader};
 use mdc_outside::Source;
-use plain_engine::Engine as PlainEngine;
 use script_engine::Engine;
 use sql_reader::Read;
 use std::alloc::Global;
 use std::test::Fail;
 use store_api::Store;
 
-// How many statements were answered, how many of them were refused, and how many were answered alike before the first that wasn't.
+// How many extents the stores have: none of the scripts runs full.
+const MOST: u32 = 512;
+
+// How many statements were answered, how many of them were refused, how many for the state of the transaction, and how many were
+// answered alike before the first that wasn't.
 #[derive(Clone, Copy, Debug, PartialEq, Eq)]
 struct Compared {
     statements: u32,
     refused: u32,
+    not_now: u32,
     alike: u32,
 }
 
 impl Compared {
     // Counts the replies of two engines to a statement.
-    fn note(&mut self, plain: &[u8], stored: &[u8]) {
-        if plain == stored && self.alike == self.statements {
+    fn note(&mut self, expected: &[u8], stored: &[u8]) {
+        if expected == stored && self.alike == self.statements {
             self.alike = self.alike.saturating_add(1);
         }
         self.statements = self.statements.saturating_add(1);
-        if plain.starts_with(b"ERROR") {
+        if expected.starts_with(b"ERROR") {
             self.refused = self.refused.saturating_add(1);
+        }
+        if expected.starts_with(b"ERROR 12") {
+            self.not_now = self.not_now.saturating_add(1);
         }
     }
 }
@@ -39,7 +47,7 @@ impl Compared {
 // Executes a statement on both engines.
 fn answer_both<S: Store>(
     alloc: Global,
-    plain: &mut PlainEngine,
+    reference: &mut Reference,
     engine: &mut Engine<S>,
     read: Read,
     compared: &mut Compared,
@@ -51,9 +59,10 @@ fn answer_both<S: Store>(
     let Read::Stmt(stmt) = read else {
         return Err("a statement that can't be read")?;
     };
-    let by_plain = reply_to(alloc, &plain.execute(stmt.get())?)?;
-    let by_engine = reply_to(alloc, &engine.execute(stmt.get())?)?;
-    compared.note(by_plain.as_slice(), by_engine.as_slice());
+    let stored = reply_to(alloc, &engine.execute(stmt.get())?)?;
+    let mut expected = Vec::new(alloc);
+    reference.answer(stmt, &mut expected)?;
+    compared.note(expected.as_slice(), stored.as_slice());
     Ok(())
 }
 
@@ -64,41 +73,96 @@ fn compare_all<I: Source, S: Store>(
     source: &mut I,
 ) -> Result<Compared, Fail>
     requires may { MayCall S.Pages engine.old }
+    ensures may { OnOk result (MayCall S.Pages engine.new) }
 {
-    let mut plain = PlainEngine::new(alloc)?;
+    let mut reference = Reference::new(alloc)?;
     let mut statements = reader(alloc)?;
     let mut compared = Compared {
         statements: 0,
         refused: 0,
+        not_now: 0,
         alike: 0,
     };
     while let Some(read) = next_written(&mut statements, source)? {
-        answer_both(alloc, &mut plain, engine, read, &mut compared)?;
+        answer_both(alloc, &mut reference, engine, read, &mut compared)?;
     }
     Ok(compared)
 }
 
-// Compares both engines on the script of a seed.
-fn compare<S: Store + Drop>(alloc: Global, store: S, seed: u64) -> Result<Compared, Fail>
+// Compares both engines on a script, and gives the store as it is then.
+fn compare<S: Store + Drop>(alloc: Global, store: S, script: &[u8]) -> Result<(Compared, S), Fail>
+    requires going { (S.state store).ended ≡ false }
+    requires unmarked { (S.state store).marked ≡ None }
+    ensures going { IfOk result (λ run. (S.state run.1).ended ≡ false) }
+    ensures unmarked { IfOk result (λ run. (S.state run.1).marked ≡ None) }
+{
+    let mut engine = engine_on(alloc, store, MOST)?;
+    let mut source = source_of(alloc, script)?;
+    let compared = compare_all(alloc, &mut engine, &mut source)?;
+    Ok((compared, engine.close()))
+}
+
+// How many blocks there are at the end, which the plain engine can't tell, and the rows.
+const END: &[u8] = b"LIST BLOCKS P;
+LIST BLOCKS Q;
+SELECT * FROM P;
+SELECT * FROM Q";
+
+// The replies at the end on a store.
+fn end_on<S: Store + Drop>(alloc: Global, store: S) -> Result<Vec<u8>, Fail>
     requires going { (S.state store).ended ≡ false }
     requires unmarked { (S.state store).marked ≡ None }
 {
-    let script = script_of(alloc, seed, 56)?;
-    let mut engine = engine_on(alloc, store, AMPLE)?;
-    compare_all(
-        alloc,
-        &mut engine,
-        &mut source_of(alloc, script.as_slice())?,
-    )
+    let (said, _) = run_on(alloc, store, MOST, END)?;
+    Ok(said)
+}
+
+// The same once a script was run there.
+fn end_of<S: Store + Drop>(alloc: Global, store: S, script: &[u8]) -> Result<Vec<u8>, Fail>
+    requires going { (S.state store).ended ≡ false }
+    requires unmarked { (S.state store).marked ≡ None }
+{
+    let (_, left) = run_on(alloc, store, MOST, script)?;
+    end_on(alloc, left)
+}
+
+// Compares both engines on the script that is drawn for a seed, and says whether its end is that of the statements that were kept, each
+// committed by itself on another store.
+fn compare_drawn<S: Store + Drop>(
+    alloc: Global,
+    store: S,
+    other: S,
+    drawn: &Drawn,
+) -> Result<(Compared, bool), Fail>
+    requires going { (S.state store).ended ≡ false }
+    requires unmarked { (S.state store).marked ≡ None }
+    requires other_going { (S.state other).ended ≡ false }
+    requires other_unmarked { (S.state other).marked ≡ None }
+{
+    let (compared, left) = compare(alloc, store, drawn.script.as_slice())?;
+    let end = end_on(alloc, left)?;
+    let kept = end_of(alloc, other, drawn.kept.as_slice())?;
+    Ok((compared, end.as_slice() == kept.as_slice()))
+}
+
+// Compares both engines on the script that is drawn for a seed.
+fn compare_seed(alloc: Global, seed: u64) -> Result<(Compared, bool), Fail> {
+    let drawn = script_of(alloc, seed, 150)?;
+    if drawn.taken_back == 0 {
+        return Err("no ROLLBACK of a statement")?;
+    }
+    compare_drawn(alloc, fresh_store(alloc)?, fresh_store(alloc)?, &drawn)
 }
 
 #[test]
 fn both_engines_answer_alike(rt: HostRuntime) -> Result<(), Fail> {
-    for seed in 1..5 {
-        let compared = compare(rt.alloc(), fresh_store(rt.alloc())?, seed)?;
-        assert_eq!(rt; compared.statements, 60, "with the seed {seed}");
-        assert_eq!(rt; compared.alike, 60, "with the seed {seed}");
-        assert!(rt; compared.refused < 30, "with the seed {seed}");
+    for seed in 1..9 {
+        let (compared, is_kept) = compare_seed(rt.alloc(), seed)?;
+        assert_eq!(rt; compared.statements, 155, "with the seed {seed}");
+        assert_eq!(rt; compared.alike, 155, "with the seed {seed}");
+        assert!(rt; is_kept, "with the seed {seed}");
+        assert!(rt; compared.refused < 100, "with the seed {seed}");
+        assert!(rt; compared.not_now > 0, "with the seed {seed}");
     }
     Ok(())
 }

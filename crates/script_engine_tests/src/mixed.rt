@@ -1,4 +1,5 @@
-// Scripts of statements that are drawn at random: two tables of one form of columns, with other dimensions.
+// Scripts of statements that are drawn at random: two tables of one form of columns, with other dimensions, in transactions and
+// outside.
 use crate::dice::Dice;
 use std::alloc::Global;
 use std::test::Fail;
@@ -9,7 +10,19 @@ CREATE TABLE Q (A INTEGER NOT NULL, B CHAR(4), C BIGINT, D DATE, E CHAR(8)) ORGA
 ";
 
 const END: &[u8] = b"SELECT * FROM P;
-SELECT * FROM Q";
+SELECT * FROM Q;
+";
+
+static CONTROLS: [&[u8]; 3] = [b"BEGIN", b"COMMIT WORK", b"ROLLBACK"];
+
+// Definitions, of which most are refused: the tables are mostly there.
+static DEFINITIONS: [&[u8]; 5] = [
+    b"CREATE TABLE P (A INTEGER, B CHAR(4), C BIGINT, D DATE, E CHAR(8)) ORGANIZE BY (A)",
+    b"CREATE TABLE Q (A INTEGER NOT NULL, B CHAR(4), C BIGINT, D DATE, E CHAR(8)) ORGANIZE BY (D, (B, A))",
+    b"CREATE TABLE R (A INTEGER, A DATE) ORGANIZE BY (A)",
+    b"DROP TABLE Q",
+    b"CREATE TABLE Q (A INTEGER, B CHAR(4), C BIGINT, D DATE, E CHAR(8)) ORGANIZE BY (A, B, C, E)",
+];
 
 static TABLES: [&[u8]; 2] = [b"P", b"Q"];
 
@@ -129,13 +142,93 @@ fn put_statement(script: &mut Vec<u8>, dice: &mut Dice) -> Result<(), Fail> {
     put_all(script, &[b";\n"])
 }
 
-/// A script of so many statements besides the first two and the last two.
-pub fn script_of(alloc: Global, seed: u64, many: u32) -> Result<Vec<u8>, Fail> {
-    let mut dice = Dice { number: seed };
-    let mut script = Vec::from_slice(alloc, BEGINNING)?;
-    for _ in 0..many {
-        put_statement(&mut script, &mut dice)?;
+/// A script, and of its statements but BEGIN, COMMIT and ROLLBACK those that no ROLLBACK takes back.
+#[derive(Debug, Drop)]
+pub struct Drawn {
+    pub script: Vec<u8>,
+    pub kept: Vec<u8>,
+    // Those of the transaction that is open, if one is.
+    pending: Vec<u8>,
+    is_open: bool,
+    /// How many ROLLBACKs took statements back.
+    pub taken_back: u32,
+}
+
+impl Drawn {
+    // The script of the first two statements.
+    fn new(alloc: Global) -> Result<Drawn, Fail> {
+        Ok(Drawn {
+            script: Vec::from_slice(alloc, BEGINNING)?,
+            kept: Vec::from_slice(alloc, BEGINNING)?,
+            pending: Vec::new(alloc),
+            is_open: false,
+            taken_back: 0,
+        })
     }
-    script.extend_from_slice(END)?;
-    Ok(script)
+
+    // A statement more, which isn't one of BEGIN, COMMIT and ROLLBACK.
+    fn add(&mut self, statement: &[u8]) -> Result<(), Fail> {
+        self.script.extend_from_slice(statement)?;
+        if self.is_open {
+            self.pending.extend_from_slice(statement)?;
+        } else {
+            self.kept.extend_from_slice(statement)?;
+        }
+        Ok(())
+    }
+
+    // A BEGIN, COMMIT or ROLLBACK more, as it is drawn. It is refused where the transaction isn't in its state.
+    fn add_control(&mut self, control: &[u8]) -> Result<(), Fail> {
+        put_all(&mut self.script, &[control, b";\n"])?;
+        match control {
+            b"BEGIN" => self.is_open = true,
+            b"ROLLBACK" => self.roll_back(),
+            _ => self.commit()?,
+        }
+        Ok(())
+    }
+
+    // The transaction, if one is open, is kept.
+    fn commit(&mut self) -> Result<(), Fail> {
+        self.kept.extend_from_slice(self.pending.as_slice())?;
+        self.pending.clear();
+        self.is_open = false;
+        Ok(())
+    }
+
+    // The transaction, if one is open, is gone.
+    fn roll_back(&mut self) {
+        if self.pending.len() > 0 {
+            self.taken_back = self.taken_back.saturating_add(1);
+        }
+        self.pending.clear();
+        self.is_open = false;
+    }
+}
+
+// One more: every fifth time a BEGIN, COMMIT or ROLLBACK, and every tenth a definition.
+fn draw(alloc: Global, dice: &mut Dice, drawn: &mut Drawn) -> Result<(), Fail> {
+    let kind = dice.roll(10);
+    if kind < 2 {
+        return drawn.add_control(dice.pick(&CONTROLS));
+    }
+    let mut statement = Vec::new(alloc);
+    if kind == 2 {
+        put_all(&mut statement, &[dice.pick(&DEFINITIONS), b";\n"])?;
+    } else {
+        put_statement(&mut statement, dice)?;
+    }
+    drawn.add(statement.as_slice())
+}
+
+/// A script of so many statements besides the first two, and a COMMIT and two queries at the end.
+pub fn script_of(alloc: Global, seed: u64, many: u32) -> Result<Drawn, Fail> {
+    let mut dice = Dice { number: seed };
+    let mut drawn = Drawn::new(alloc)?;
+    for _ in 0..many {
+        draw(alloc, &mut dice, &mut drawn)?;
+    }
+    drawn.add_control(b"COMMIT")?;
+    drawn.add(END)?;
+    Ok(drawn)
 }

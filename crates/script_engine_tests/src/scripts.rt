@@ -1,5 +1,7 @@
 // Scripts on an engine, as the program runs them.
-ghost use Rattle.std.specs.Prelude.{◌≡◌, false, None, IfOk, OnOk};
+ghost use Rattle.std.specs.Prelude.{◌≡◌, false, Err, None, IfNone, IfOk, OnOk};
+ghost use Rattle.store_api.specs.declared.fault.Damage.{Damage};
+ghost use Rattle.script_engine.specs.Breaking.{StaysAtDamage};
 ghost use Rattle.script_engine.specs.Serving.{MayCall};
 ghost use Rattle.script_session.specs.Written.{IsReadWritten};
 
@@ -12,7 +14,7 @@ use script_engine::{Engine, EngineStop};
 use sql_reader::Read;
 use std::alloc::Global;
 use std::test::Fail;
-use store_api::Store;
+use store_api::{Damage, Store};
 
 /// How many extents the tests have where they don't run full.
 pub const AMPLE: u32 = 64;
@@ -29,11 +31,19 @@ pub fn reply_to(alloc: Global, outcome: &Outcome) -> Result<Vec<u8>, Fail> {
     Ok(reply)
 }
 
+/// What came of a script: all replies, up to the damage at which the engine stopped, if it did.
+#[derive(Debug, Drop)]
+pub struct Came {
+    pub said: Vec<u8>,
+    pub damage: Option<Damage>,
+}
+
 // The outcome of an item: a statement is executed, and what can't be read is refused.
 fn outcome_of<S: Store>(engine: &mut Engine<S>, read: Read) -> Result<Outcome, EngineStop>
     requires may { MayCall S.Pages engine.old }
     requires written { IsReadWritten read }
     ensures may { OnOk result (MayCall S.Pages engine.new) }
+    ensures stays { (damage : Damage) → result ≡ Err (EngineStop.Damaged damage) → StaysAtDamage S.Pages engine.old engine.new }
 {
     match read {
         Read::Stmt(stmt) => engine.execute(stmt.get()),
@@ -41,50 +51,86 @@ fn outcome_of<S: Store>(engine: &mut Engine<S>, read: Read) -> Result<Outcome, E
     }
 }
 
-// Answers an item: its reply is told, and lent.
-fn answer<S: Store>(alloc: Global, engine: &mut Engine<S>, read: Read) -> Result<Vec<u8>, Fail>
+// Tells the reply to an outcome, and puts it behind the others.
+fn say<S: Store>(
+    alloc: Global,
+    engine: &mut Engine<S>,
+    outcome: &Outcome,
+    said: &mut Vec<u8>,
+) -> Result<(), Fail>
     requires may { MayCall S.Pages engine.old }
-    requires written { IsReadWritten read }
     ensures may { OnOk result (MayCall S.Pages engine.new) }
 {
-    let outcome = outcome_of(engine, read)?;
-    let reply = reply_to(alloc, &outcome)?;
+    let reply = reply_to(alloc, outcome)?;
     engine.tell(reply.as_slice())?;
     engine.settle()?;
-    Ok(reply)
+    said.extend_from_slice(reply.as_slice())?;
+    Ok(())
 }
 
-// Answers all items of a script.
+// Answers an item. At damage nothing is told, and the damage is given.
+fn answer<S: Store>(
+    alloc: Global,
+    engine: &mut Engine<S>,
+    read: Read,
+    said: &mut Vec<u8>,
+) -> Result<Option<Damage>, Fail>
+    requires may { MayCall S.Pages engine.old }
+    requires written { IsReadWritten read }
+    ensures may { IfOk result (λ damage. IfNone damage (MayCall S.Pages engine.new)) }
+    ensures going { OnOk result ((S.state engine.new.store).ended ≡ false) }
+    ensures unmarked { OnOk result ((S.state engine.new.store).marked ≡ None) }
+{
+    match outcome_of(engine, read) {
+        Ok(outcome) => {
+            say(alloc, engine, &outcome, said)?;
+            Ok(None)
+        }
+        Err(EngineStop::Damaged(damage)) => Ok(Some(damage)),
+        Err(stop) => Err(stop)?,
+    }
+}
+
+// Answers the items of a script, up to damage.
 fn answer_all<I: Source, S: Store>(
     alloc: Global,
     engine: &mut Engine<S>,
     source: &mut I,
-) -> Result<Vec<u8>, Fail>
+) -> Result<Came, Fail>
     requires may { MayCall S.Pages engine.old }
-    ensures may { OnOk result (MayCall S.Pages engine.new) }
+    ensures going { OnOk result ((S.state engine.new.store).ended ≡ false) }
+    ensures unmarked { OnOk result ((S.state engine.new.store).marked ≡ None) }
 {
     let mut statements = reader(alloc)?;
     let mut said = Vec::new(alloc);
     while let Some(read) = next_written(&mut statements, source)? {
-        let reply = answer(alloc, engine, read)?;
-        said.extend_from_slice(reply.as_slice())?;
+        let damage = answer(alloc, engine, read, &mut said)?;
+        if damage.is_some() {
+            return Ok(Came { said, damage });
+        }
     }
-    Ok(said)
+    Ok(Came { said, damage: None })
 }
 
-/// What an engine answers to a script.
-pub fn answers<S: Store>(
+/// What comes of a script on a store, and the store as it is then.
+pub fn try_on<S: Store + Drop>(
     alloc: Global,
-    engine: &mut Engine<S>,
+    store: S,
+    cap: u32,
     script: &[u8],
-) -> Result<Vec<u8>, Fail>
-    requires may { MayCall S.Pages engine.old }
-    ensures may { OnOk result (MayCall S.Pages engine.new) }
+) -> Result<(Came, S), Fail>
+    requires going { (S.state store).ended ≡ false }
+    requires unmarked { (S.state store).marked ≡ None }
+    ensures going { IfOk result (λ run. (S.state run.1).ended ≡ false) }
+    ensures unmarked { IfOk result (λ run. (S.state run.1).marked ≡ None) }
 {
-    answer_all(alloc, engine, &mut source_of(alloc, script)?)
+    let mut engine = engine_on(alloc, store, cap)?;
+    let mut source = source_of(alloc, script)?;
+    let came = answer_all(alloc, &mut engine, &mut source)?;
+    Ok((came, engine.close()))
 }
 
-/// What an engine on a store answers to a script, and the store as it is then.
+/// What an engine on a store answers to a script, in which it meets no damage, and the store as it is then.
 pub fn run_on<S: Store + Drop>(
     alloc: Global,
     store: S,
@@ -96,7 +142,9 @@ pub fn run_on<S: Store + Drop>(
     ensures going { IfOk result (λ run. (S.state run.1).ended ≡ false) }
     ensures unmarked { IfOk result (λ run. (S.state run.1).marked ≡ None) }
 {
-    let mut engine = engine_on(alloc, store, cap)?;
-    let said = answers(alloc, &mut engine, script)?;
-    Ok((said, engine.close()))
+    let (came, store) = try_on(alloc, store, cap, script)?;
+    if came.damage.is_some() {
+        return Err("damage where there is none")?;
+    }
+    Ok((came.said, store))
 }

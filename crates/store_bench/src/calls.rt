@@ -1,7 +1,7 @@
 // Calls of a store. Each tests first what it requires.
 ghost use Rattle.std.specs.Prelude.{◌≡◌, false, None, IsSome, OnOk};
 
-use crate::stop::Stop;
+use bench_plan::Stop;
 use store_api::{Page, Pages, Store, put, stated_count};
 
 // Where in a page bytes are written over.

@@ -5,17 +5,15 @@
 #![tactic(auto)]
 
 mod calls;
-mod plan;
 mod setup;
-mod stop;
+mod what;
 mod work;
 
+use bench_plan::{Plan, Stop, plan_of, words};
 use host_edge::FileHost;
 use mdc_outside::Host;
-use plan::{Plan, What, plan_of};
 use std::alloc::Global;
-use std::{env, io};
-use stop::Stop;
+use what::What;
 
 fn main(rt: HostRuntime) -> Result<(), Stop> {
     let words = words(&rt)?;
@@ -30,7 +28,7 @@ fn main(rt: HostRuntime) -> Result<(), Stop> {
 }
 
 // Does the work, and answers the sum of what it saw.
-fn carry_out<H: Host + Drop>(alloc: Global, host: H, plan: Plan) -> Result<u64, Stop> {
+fn carry_out<H: Host + Drop>(alloc: Global, host: H, plan: Plan<What>) -> Result<u64, Stop> {
     match plan.what {
         What::Open => work::open(alloc, host, plan.size, plan.times),
         What::Hot => work::hot(alloc, host, plan.size, plan.times),
@@ -40,13 +38,4 @@ fn carry_out<H: Host + Drop>(alloc: Global, host: H, plan: Plan) -> Result<u64, 
         What::First => work::first(alloc, host, plan.size, plan.times),
         What::Again => work::again(alloc, host, plan.size, plan.times),
     }
-}
-
-// The words after the program's name.
-fn words(rt: &HostRuntime) -> io::Result<Vec<String>> {
-    let mut words = Vec::new(rt.alloc());
-    for word in env::args(rt)?.skip(1) {
-        words.push(word)?;
-    }
-    Ok(words)
 }

@@ -2,18 +2,12 @@
 ghost use Rattle.std.specs.Prelude.{◌≡◌, ◌+◌, ◌≤◌, false, None, IsTrue, IfOk, OnOk};
 
 use crate::calls::{commit, fetch, write};
-use crate::stop::Stop;
+use bench_plan::{Stop, make_empty, opened};
 use byteorder::{BigEndian, ByteOrder};
 use mdc_outside::Host;
-use page_store::{FileStore, make};
+use page_store::FileStore;
 use std::alloc::Global;
 use store_api::{MAX_PAGES, Page, Pages, Store};
-
-// The scratch file in memory.
-const FILE: &str = "-";
-
-// How many clean pages a store keeps.
-const CACHE: usize = 1024;
 
 // A database may grow to so many extents. An empty one then has as many pages as an extent.
 const EXTENTS: u32 = 7680;
@@ -28,29 +22,10 @@ pub fn made<H: Host + Drop>(alloc: Global, mut host: H, pages: u32) -> Result<Fi
     ensures going { IfOk result (λ store. (⟦<FileStore<H> as Pages>⟧.state store).ended ≡ false) }
     ensures unmarked { IfOk result (λ store. (⟦<FileStore<H> as Pages>⟧.state store).marked ≡ None) }
 {
-    make_empty(&mut host)?;
+    make_empty(&mut host, EXTENTS, EXTENT_PAGES)?;
     let mut store = opened(alloc, host)?;
     grow_to(&mut store, pages)?;
     Ok(store)
-}
-
-// Makes an empty database.
-fn make_empty<H: Host>(host: &mut H) -> Result<(), Stop> {
-    host.attach(FILE, true)?;
-    make(host, EXTENTS, EXTENT_PAGES)?;
-    Ok(())
-}
-
-/// Opens the file.
-pub fn opened<H: Host + Drop>(alloc: Global, mut host: H) -> Result<FileStore<H>, Stop>
-    ensures going { IfOk result (λ store. (⟦<FileStore<H> as Pages>⟧.state store).ended ≡ false) }
-    ensures unmarked { IfOk result (λ store. (⟦<FileStore<H> as Pages>⟧.state store).marked ≡ None) }
-{
-    host.attach(FILE, false)?;
-    match FileStore::open(alloc, host, CACHE) {
-        Ok(store) => Ok(store),
-        Err(unopened) => Err(Stop::Unopened(unopened.fault)),
-    }
 }
 
 // Adds whole extents until there are at least so many pages.

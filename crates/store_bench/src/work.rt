@@ -2,8 +2,8 @@
 ghost use Rattle.std.specs.Prelude.{◌≡◌, ◌<◌, false, None, OnOk};
 
 use crate::calls;
-use crate::setup::{made, opened};
-use crate::stop::Stop;
+use crate::setup::made;
+use bench_plan::{Stop, opened};
 use mdc_outside::Host;
 use std::alloc::Global;
 use store_api::{Page, Pages, Store};

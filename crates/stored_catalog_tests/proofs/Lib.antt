@@ -1,3 +1,2 @@
-mod FittingLemmas
 mod RowsLemmas
 mod TablesLemmas

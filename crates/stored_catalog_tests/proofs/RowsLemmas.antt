@@ -1,5 +1,5 @@
 -- A definition after a row was inserted.
-use Rattle.std.proofs.Common.{◌≡◌, ◌+◌, ◌<◌, ℕ, Result, Ok, Err, sym, subst}
+use Rattle.std.proofs.Common.{◌≡◌, ◌+◌, ◌<◌, Result, Ok, Err, sym, subst}
 use Rattle.std.specs.Prelude.{OnOk, OnErr}
 use Rattle.mdc_ast.specs.declared.definition.TableDef.{TableDef}
 use Rattle.table_page.specs.TableLimits.{IsTableDef}

@@ -1,8 +1,12 @@
 // Table pages that aren't those of definitions, and tables of one name.
-ghost use Rattle.std.specs.Prelude.{◌≡◌, ◌+◌, ◌≤◌, false};
+ghost use Rattle.std.specs.Prelude.{◌≡◌, false};
+ghost use Rattle.stored_catalog.specs.StoredDefinitions.{AreWithinLimits};
 
-use crate::stores::{extents_of, fresh_store, store_with};
-use crate::tables::{create, wide_page};
+use crate::stores::{fresh_store, store_with};
+use crate::tables::{create, loaded, wide_page};
+use catalog::Catalog;
+use cell_change_tests::extents_of;
+use extent_map::Extents;
 use std::alloc::Global;
 use std::test::Fail;
 use store_api::{Damage, Page, Pages, StoreFault, patch_page, write_page};
@@ -24,16 +28,30 @@ fn damage_in<P: Pages>(alloc: Global, pages: &mut P) -> Result<Option<Damage>, F
     }
 }
 
+// Makes the tables A and B.
+fn create_two<P: Pages>(
+    alloc: Global,
+    catalog: &mut Catalog,
+    ext: &mut Extents,
+    pages: &mut P,
+) -> Result<(), Fail>
+    requires catalog { AreWithinLimits catalog.old }
+    requires going { (P.state pages.old).ended ≡ false }
+    ensures going { (P.state pages.new).ended ≡ false }
+{
+    create(alloc, catalog, ext, pages, b'A')?;
+    create(alloc, catalog, ext, pages, b'B')?;
+    Ok(())
+}
+
 // Makes the tables A and B, in the places 0 and 1.
 fn make_two<P: Pages>(alloc: Global, pages: &mut P) -> Result<(), Fail>
     requires going { (P.state pages.old).ended ≡ false }
     ensures going { (P.state pages.new).ended ≡ false }
 {
     let mut ext = extents_of(16)?;
-    let mut catalog = load_catalog(alloc, pages)?;
-    create(alloc, &mut catalog, &mut ext, pages, b'A')?;
-    create(alloc, &mut catalog, &mut ext, pages, b'B')?;
-    Ok(())
+    let mut catalog = loaded(alloc, pages)?;
+    create_two(alloc, &mut catalog, &mut ext, pages)
 }
 
 // Which damage is named once these bytes are written over a page beside two tables.
@@ -54,22 +72,27 @@ fn patched<P: Pages>(
     damage_in(alloc, pages)
 }
 
-// The same, of a new store.
-fn named(alloc: Global, p: u32, at: usize, bytes: &[u8]) -> Result<Option<Damage>, Fail> {
-    patched(alloc, &mut fresh_store(alloc)?, p, at, bytes)
+// Whether rule 3 names a page of a new store with two tables once these bytes are written over one.
+fn is_named(alloc: Global, p: u32, at: usize, bytes: &[u8], named: u32) -> Result<bool, Fail> {
+    Ok(patched(alloc, &mut fresh_store(alloc)?, p, at, bytes)? == rule_three(named))
+}
+
+// Whether nothing is named of such a store.
+fn is_fine(alloc: Global, p: u32, at: usize, bytes: &[u8]) -> Result<bool, Fail> {
+    Ok(patched(alloc, &mut fresh_store(alloc)?, p, at, bytes)?.is_none())
 }
 
 #[test]
 fn a_table_page_that_is_no_definition_is_named(rt: HostRuntime) -> Result<(), Fail> {
     let alloc = rt.alloc();
-    assert_eq!(rt; named(alloc, 1, 0, b"\x55")?, rule_three(1));
-    assert_eq!(rt; named(alloc, 2, 0, b"\x00")?, rule_three(2));
-    assert_eq!(rt; named(alloc, 2, 4000, b"\x01")?, rule_three(2));
-    assert_eq!(rt; named(alloc, 1, 72, b"\x05")?, rule_three(1));
-    assert_eq!(rt; named(alloc, 2, 135, b"\x00")?, rule_three(2));
-    assert_eq!(rt; named(alloc, 2, 551, b"\x05")?, rule_three(2));
-    assert_eq!(rt; named(alloc, 6, 100, b"\x01")?, rule_three(6));
-    assert_eq!(rt; named(alloc, 16, 0, b"\x54")?, rule_three(16));
+    assert!(rt; is_named(alloc, 1, 0, b"\x55", 1)?);
+    assert!(rt; is_named(alloc, 2, 0, b"\x00", 2)?);
+    assert!(rt; is_named(alloc, 2, 4000, b"\x01", 2)?);
+    assert!(rt; is_named(alloc, 1, 72, b"\x05", 1)?);
+    assert!(rt; is_named(alloc, 2, 135, b"\x00", 2)?);
+    assert!(rt; is_named(alloc, 2, 551, b"\x05", 2)?);
+    assert!(rt; is_named(alloc, 6, 100, b"\x01", 6)?);
+    assert!(rt; is_named(alloc, 16, 0, b"\x54", 16)?);
     Ok(())
 }
 
@@ -77,14 +100,11 @@ fn a_table_page_that_is_no_definition_is_named(rt: HostRuntime) -> Result<(), Fa
 #[test]
 fn roots_and_row_numbers_are_not_looked_at(rt: HostRuntime) -> Result<(), Fail> {
     let alloc = rt.alloc();
-    assert_eq!(rt; named(alloc, 1, 30, b"\x00\x00\x10\x00")?, None);
-    assert_eq!(rt;
-        named(alloc, 2, 22, b"\xff\xff\xff\xff\xff\xff\xff\xff")?,
-        None
-    );
-    assert_eq!(rt; named(alloc, 1, 1, b"C")?, None);
-    assert_eq!(rt; named(alloc, 17, 0, b"\x07")?, None);
-    assert_eq!(rt; named(alloc, 0, 0, b"\x07")?, None);
+    assert!(rt; is_fine(alloc, 1, 30, b"\x00\x00\x10\x00")?);
+    assert!(rt; is_fine(alloc, 2, 22, b"\xff\xff\xff\xff\xff\xff\xff\xff")?);
+    assert!(rt; is_fine(alloc, 1, 1, b"C")?);
+    assert!(rt; is_fine(alloc, 17, 0, b"\x07")?);
+    assert!(rt; is_fine(alloc, 0, 0, b"\x07")?);
     Ok(())
 }
 
@@ -103,21 +123,20 @@ fn twice<P: Pages>(alloc: Global, pages: &mut P, page: &Page) -> Result<Option<D
 #[test]
 fn the_lower_page_of_two_tables_of_one_name_is_named(rt: HostRuntime) -> Result<(), Fail> {
     let alloc = rt.alloc();
-    assert_eq!(rt; named(alloc, 2, 1, b"A")?, rule_three(1));
-    assert_eq!(rt; named(alloc, 1, 1, b"B")?, rule_three(1));
+    assert!(rt; is_named(alloc, 2, 1, b"A", 1)?);
+    assert!(rt; is_named(alloc, 1, 1, b"B", 1)?);
     let page = wide_page(b'T', [18, 19, 20]);
-    assert_eq!(rt;
-        twice(alloc, &mut fresh_store(alloc)?, &page)?,
-        rule_three(4)
-    );
+    let named = twice(alloc, &mut fresh_store(alloc)?, &page)?;
+    assert!(rt; named == rule_three(4));
     Ok(())
 }
 
 #[test]
 fn a_store_without_all_table_pages_is_named(rt: HostRuntime) -> Result<(), Fail> {
     let alloc = rt.alloc();
-    let damage = Some(Damage { page: 0, rule: 1 });
-    assert_eq!(rt; damage_in(alloc, &mut store_with(alloc, 16)?)?, damage);
-    assert_eq!(rt; damage_in(alloc, &mut store_with(alloc, 17)?)?, None);
+    let lacking = damage_in(alloc, &mut store_with(alloc, 16)?)?;
+    assert!(rt; lacking == Some(Damage { page: 0, rule: 1 }));
+    let whole = damage_in(alloc, &mut store_with(alloc, 17)?)?;
+    assert!(rt; whole.is_none());
     Ok(())
 }

@@ -11,8 +11,6 @@ mod damaged;
 #[cfg(test)]
 mod dropping;
 #[cfg(test)]
-mod fitting;
-#[cfg(test)]
 mod full;
 #[cfg(test)]
 mod looks;

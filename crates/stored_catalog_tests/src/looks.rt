@@ -7,7 +7,7 @@ use std::test::Fail;
 use store_api::{Page, Pages, blank_page, bring, put};
 
 /// What is seen of a definition. The roots are those of the block map, of the index of all dimensions and of the first dimension.
-#[derive(Clone, Copy, Debug, PartialEq, Eq)]
+#[derive(Clone, Copy, PartialEq)]
 pub struct Look {
     pub name: u8,
     pub number: u8,
@@ -59,7 +59,6 @@ pub fn tables_in(catalog: &Catalog) -> u32 {
 pub fn is_page<P: Pages>(pages: &mut P, p: u32, bytes: &Page) -> Result<bool, Fail>
     requires going { (P.state pages.old).ended ≡ false }
     ensures going { (P.state pages.new).ended ≡ false }
-    ensures marked { (P.state pages.new).marked ≡ (P.state pages.old).marked }
 {
     if p >= pages.count() {
         return Err("no such page")?;

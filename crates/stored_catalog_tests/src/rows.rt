@@ -1,9 +1,10 @@
 // Rows of the wide tables, each told by its number in the table and by D.
 ghost use Rattle.std.specs.Prelude.{◌≡◌, [], false, IfOk};
 ghost use Rattle.table_page.specs.TableLimits.{IsTableDef};
+ghost use Rattle.mdc_sound.specs.FittingRows.{RowFits};
 
-use crate::fitting::does_fit;
 use cell_change::{delete_row, insert_row};
+use cell_change_tests::does_fit;
 use extent_map::{Extents, SpaceFault};
 use mdc_ast::{Row, TableDef};
 use mdc_table::Rooms;
@@ -12,17 +13,35 @@ use std::alloc::Global;
 use std::test::Fail;
 use store_api::Pages;
 
-/// The row of a number with this D.
+// The row of a number with this D.
 fn row_of(alloc: Global, number: u64, d: u32) -> Result<Row, Memory>
     ensures number { IfOk result (λ row. row.number ≡ number) }
 {
-    let mut values = List::new(alloc);
-    values.push(Value::Int(i64::from(d)))?;
-    values.push(Value::Int((number % 1_000_000) as i64))?;
-    values.push(Value::Text(Chars::of(alloc, b"NORTH")?))?;
-    values.push(Value::Text(Chars::of(alloc, b"")?))?;
-    values.push(Value::Null)?;
-    Ok(Row { number, values })
+    let x = Chars::of(alloc, b"NORTH")?;
+    let y = Chars::of(alloc, b"")?;
+    let values = vec![in alloc;
+        Value::Int(i64::from(d)),
+        Value::Int((number % 1_000_000) as i64),
+        Value::Text(x),
+        Value::Text(y),
+        Value::Null,
+    ]?;
+    Ok(Row {
+        number,
+        values: List::from_vec(values),
+    })
+}
+
+// The row of a number with this D, which fits the definition.
+fn fitting_row(alloc: Global, def: &TableDef, number: u64, d: u32) -> Result<Row, Fail>
+    ensures number { IfOk result (λ row. row.number ≡ number) }
+    ensures fits { IfOk result (RowFits def.now) }
+{
+    let row = row_of(alloc, number, d)?;
+    if !does_fit(def, &row) {
+        return Err("a row that doesn't fit")?;
+    }
+    Ok(row)
 }
 
 /// What inserting the next row answers, with this D.
@@ -41,10 +60,10 @@ pub fn try_insert<P: Pages>(
     ensures going { (P.state pages.new).ended ≡ false }
     ensures marked { (P.state pages.new).marked ≡ (P.state pages.old).marked }
 {
-    let row = row_of(alloc, def.next, d)?;
-    if def.next == u64::MAX || !does_fit(def, &row) {
-        return Err("a row that doesn't fit")?;
+    if def.next == u64::MAX {
+        return Err("no number is left")?;
     }
+    let row = fitting_row(alloc, def, def.next, d)?;
     let mut rooms = Rooms::new(alloc);
     Ok(insert_row(alloc, def, ext, &mut rooms, pages, &row))
 }
@@ -82,12 +101,8 @@ pub fn delete<P: Pages>(
     requires no_indexes { def.now.indexes ≡ [] }
     requires going { (P.state pages.old).ended ≡ false }
     ensures going { (P.state pages.new).ended ≡ false }
-    ensures marked { (P.state pages.new).marked ≡ (P.state pages.old).marked }
 {
-    let row = row_of(alloc, number, d)?;
-    if !does_fit(def, &row) {
-        return Err("a row that doesn't fit")?;
-    }
+    let row = fitting_row(alloc, def, number, d)?;
     let mut rooms = Rooms::new(alloc);
     delete_row(alloc, def, ext, &mut rooms, pages, rid, &row)?;
     Ok(())

@@ -1,7 +1,7 @@
 // Stores in memory.
 ghost use Rattle.std.specs.Prelude.{◌≡◌, false, None, IfOk};
 
-use extent_map::Extents;
+use cell_change_tests::store_of;
 use std::alloc::Global;
 use std::test::Fail;
 use store_api::{MemStore, Page, Pages, blank_page, put};
@@ -30,29 +30,10 @@ pub fn store_with(alloc: Global, many: u32) -> Result<MemStore, Fail>
     store_of(alloc, pages)
 }
 
-// A store of these pages.
-fn store_of(alloc: Global, pages: Vec<Page>) -> Result<MemStore, Fail>
-    ensures going { IfOk result (λ store. (⟦<MemStore as Pages>⟧.state store).ended ≡ false) }
-    ensures unmarked { IfOk result (λ store. (⟦<MemStore as Pages>⟧.state store).marked ≡ None) }
-{
-    if pages.len() > 1000 {
-        return Err("more pages than a test has")?;
-    }
-    Ok(MemStore::new(alloc, pages))
-}
-
 /// The root page of a store of so many pages.
 pub fn root_page(many: u32) -> Page {
     let mut page = *blank_page();
     put(&mut page, 0, b"ROOT\x00\x00\x00\x01");
     put(&mut page, 8, &many.to_be_bytes());
     page
-}
-
-/// So many extents of two pages each.
-pub fn extents_of(cap: u32) -> Result<Extents, Fail> {
-    match Extents::new(cap, 2) {
-        Some(ext) => Ok(ext),
-        None => Err("no shape of a database")?,
-    }
 }

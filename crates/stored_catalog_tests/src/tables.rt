@@ -32,6 +32,16 @@ pub fn wide_page(name: u8, roots: [u32; 3]) -> Page {
     page
 }
 
+/// The catalog that the pages have.
+pub fn loaded<P: Pages>(alloc: Global, pages: &mut P) -> Result<Catalog, Fail>
+    requires going { (P.state pages.old).ended ≡ false }
+    ensures catalog { IfOk result AreWithinLimits }
+    ensures going { (P.state pages.new).ended ≡ false }
+    ensures marked { (P.state pages.new).marked ≡ (P.state pages.old).marked }
+{
+    Ok(load_catalog(alloc, pages)?)
+}
+
 // The definition of a table that is to be made.
 fn definition(alloc: Global, name: u8) -> Result<TableDef, Fail>
     ensures new { IfOk result IsNewTableDef }
@@ -129,7 +139,6 @@ pub fn drop_at<P: Pages>(
     requires going { (P.state pages.old).ended ≡ false }
     ensures catalog { OnOk result (AreWithinLimits catalog.new) }
     ensures going { (P.state pages.new).ended ≡ false }
-    ensures marked { (P.state pages.new).marked ≡ (P.state pages.old).marked }
 {
     if !may_drop(catalog, table) {
         return Err("no table to drop")?;
@@ -157,25 +166,17 @@ pub fn taken(catalog: &mut Catalog, table: u8) -> Result<TableDef, Fail>
     Ok(def)
 }
 
-/// Puts a definition back, writes its page, and loads the catalog again.
-pub fn saved<P: Pages>(
-    alloc: Global,
-    mut catalog: Catalog,
-    pages: &mut P,
-    def: TableDef,
-) -> Result<Catalog, Fail>
-    requires catalog { AreWithinLimits catalog }
+/// Puts a definition back, and writes its page.
+pub fn save<P: Pages>(catalog: &mut Catalog, pages: &mut P, def: TableDef) -> Result<(), Fail>
     requires defined { IsTableDef def.number def }
     requires going { (P.state pages.old).ended ≡ false }
-    ensures catalog { IfOk result AreWithinLimits }
     ensures going { (P.state pages.new).ended ≡ false }
-    ensures marked { (P.state pages.new).marked ≡ (P.state pages.old).marked }
 {
     let table = def.number;
     if table >= 16 {
         return Err("no such place")?;
     }
     catalog.put(table, def);
-    save_table(&catalog, pages, table)?;
-    Ok(load_catalog(alloc, pages)?)
+    save_table(catalog, pages, table)?;
+    Ok(())
 }

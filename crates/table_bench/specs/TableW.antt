@@ -10,24 +10,31 @@ use Rattle.mdc_ast.specs.declared.definition.TableDef.{TableDef}
 abbrev pub column_named : ℕ → ColType → Bool → ColumnDef
 column_named letter ty not_null = record { name = record { 0 = letter ∷ [] }; ty = ty; not_null = not_null; made = None }
 
+-- K INTEGER NOT NULL, the one column that has no nulls
 abbrev pub column_k : ColumnDef
 column_k = column_named 75 Integer true
 
+-- D INTEGER, the first dimension
 abbrev pub column_d : ColumnDef
 column_d = column_named 68 Integer false
 
+-- R INTEGER, in the second dimension
 abbrev pub column_r : ColumnDef
 column_r = column_named 82 Integer false
 
+-- V BIGINT, in no dimension
 abbrev pub column_v : ColumnDef
 column_v = column_named 86 Bigint false
 
+-- T CHAR(8), in the second dimension behind R
 abbrev pub column_t : ColumnDef
 column_t = column_named 84 (Char 8) false
 
+-- S DATE, in no dimension
 abbrev pub column_s : ColumnDef
 column_s = column_named 83 Date false
 
+-- the six columns in table order
 abbrev pub columns_w : List ColumnDef
 columns_w = column_k ∷ column_d ∷ column_r ∷ column_v ∷ column_t ∷ column_s ∷ []
 

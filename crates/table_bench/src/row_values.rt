@@ -52,7 +52,7 @@ fn values_of(alloc: Global, seed: u32, number: u64, which: Which) -> Result<List
     let mut values = List::new(alloc);
     values.push(key_of(others.below(1_000_000)))?;
     values.push(small_of((of_cell.below(5) + turn) % 5, 4))?;
-    values.push(small_of(of_cell.below(3), 2))?;
+    values.push(small_of(of_cell.below(4), 3))?;
     values.push(large_of(others.below(1_000_000), others.below(16)))?;
     values.push(word_of(alloc, of_cell.below(3))?)?;
     values.push(date_of(others.below(200), others.below(12), others.below(29)))?;

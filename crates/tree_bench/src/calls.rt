@@ -3,7 +3,7 @@ ghost use Rattle.std.specs.Prelude.{◌≡◌, false, None, IfOk, OnOk, length};
 ghost use Rattle.entry_tree.specs.Reading.{BoundFits};
 
 use crate::entries::{Bytes, WIDTH};
-use crate::stop::Stop;
+use bench_plan::Stop;
 use entry_tree::{Leaf, Tree};
 use extent_map::Extents;
 use std::alloc::Global;

@@ -6,17 +6,15 @@
 
 mod calls;
 mod entries;
-mod plan;
 mod setup;
-mod stop;
+mod what;
 mod work;
 
+use bench_plan::{Plan, Stop, plan_of, words};
 use host_edge::FileHost;
 use mdc_outside::Host;
-use plan::{Plan, What, plan_of};
 use std::alloc::Global;
-use std::{env, io};
-use stop::Stop;
+use what::What;
 
 fn main(rt: HostRuntime) -> Result<(), Stop> {
     let words = words(&rt)?;
@@ -33,7 +31,7 @@ fn main(rt: HostRuntime) -> Result<(), Stop> {
 }
 
 // Does the work, and answers a number that tells of it.
-fn carry_out<H: Host + Drop>(alloc: Global, host: H, plan: Plan) -> Result<u64, Stop> {
+fn carry_out<H: Host + Drop>(alloc: Global, host: H, plan: Plan<What>) -> Result<u64, Stop> {
     let Plan { what, size, times } = plan;
     match what {
         What::Add => work::add(alloc, host, size, times),
@@ -45,13 +43,4 @@ fn carry_out<H: Host + Drop>(alloc: Global, host: H, plan: Plan) -> Result<u64, 
         What::Fill => work::fill(alloc, host, size),
         What::FillRising => work::fill_rising(alloc, host, size),
     }
-}
-
-// The words after the program's name.
-fn words(rt: &HostRuntime) -> io::Result<Vec<String>> {
-    let mut words = Vec::new(rt.alloc());
-    for word in env::args(rt)?.skip(1) {
-        words.push(word)?;
-    }
-    Ok(words)
 }

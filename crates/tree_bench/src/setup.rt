@@ -1,18 +1,12 @@
 // The file that is worked on.
 ghost use Rattle.std.specs.Prelude.{◌≡◌, false, None, IfOk};
 
-use crate::stop::Stop;
+use bench_plan::{Stop, make_empty, opened};
 use extent_map::Extents;
 use mdc_outside::Host;
-use page_store::{FileStore, make};
+use page_store::FileStore;
 use std::alloc::Global;
 use store_api::Pages;
-
-// The scratch file in memory.
-const FILE: &str = "-";
-
-// How many clean pages a store keeps.
-const CACHE: usize = 1024;
 
 // A database may grow to so many extents, the most that there can be.
 const EXTENTS: u32 = 65_536;
@@ -24,13 +18,8 @@ pub fn made<H: Host + Drop>(alloc: Global, mut host: H) -> Result<FileStore<H>, 
     ensures going { IfOk result (λ store. (⟦<FileStore<H> as Pages>⟧.state store).ended ≡ false) }
     ensures unmarked { IfOk result (λ store. (⟦<FileStore<H> as Pages>⟧.state store).marked ≡ None) }
 {
-    host.attach(FILE, true)?;
-    make(&mut host, EXTENTS, EXTENT_PAGES)?;
-    host.attach(FILE, false)?;
-    match FileStore::open(alloc, host, CACHE) {
-        Ok(store) => Ok(store),
-        Err(unopened) => Err(Stop::Unopened(unopened.fault)),
-    }
+    make_empty(&mut host, EXTENTS, EXTENT_PAGES)?;
+    opened(alloc, host)
 }
 
 /// The extents of that database.

@@ -4,7 +4,7 @@ ghost use Rattle.std.specs.Prelude.{◌≡◌, false, None, IfOk, OnOk};
 use crate::calls;
 use crate::entries::{Order, WIDTH, entry};
 use crate::setup::{extents, made};
-use crate::stop::Stop;
+use bench_plan::Stop;
 use entry_tree::{Entry, Leaf, Tree};
 use extent_map::Extents;
 use mdc_outside::Host;

@@ -2,4 +2,4 @@ use Rattle.cell_change.proofs.ReadValuesLemmas.{read_of_fitting}
 use Rattle.cell_change_tests.proofs.changes.change.Goals as goal
 
 pub change_row-requires-clause-was : goal.change_row-requires-clause-was
-change_row-requires-clause-was g c = let fitted = c.does_fit.ensures c.if-not-does_fit.false in read_of_fitting c.args.table.now.def.columns c.in_ok-was.was' fitted.values
+change_row-requires-clause-was g c = read_of_fitting c.args.table.now.def.columns c.in_ok-was.was' c.in_ok-was.ensures.fits.values

@@ -2,11 +2,10 @@ use Rattle.std.proofs.Common.{◌≡◌, false, []}
 use Rattle.table_page.specs.TableLimits.{IsTableDef}
 use Rattle.cell_change_tests.proofs.places.insert_many.Given as goal
 
--- the definition stays one of a table without indexes, the store goes on, and its mark is as it was
+-- the definition stays one of a table without indexes, and the store goes on
 abbrev pub invariant-loop : goal.invariant-loop
 invariant-loop g l = record {
   defined : IsTableDef l.table.def.number l.table.def;
   no_indexes : l.table.def.indexes ≡ [];
   going : (g.P.Pages.state l.pages).ended ≡ false;
-  marked : (g.P.Pages.state l.pages).marked ≡ (g.P.Pages.state l.initial.pages).marked;
 }

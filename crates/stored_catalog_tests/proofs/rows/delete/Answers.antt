@@ -2,4 +2,4 @@ use Rattle.cell_change.proofs.ReadValuesLemmas.{read_of_fitting}
 use Rattle.stored_catalog_tests.proofs.rows.delete.Goals as goal
 
 pub delete_row-requires-clause-row : goal.delete_row-requires-clause-row
-delete_row-requires-clause-row g c = let fitted = c.does_fit.ensures c.if-not-does_fit.false in read_of_fitting c.args.def.now.columns c.in_ok-row.row fitted.values
+delete_row-requires-clause-row g c = read_of_fitting c.args.def.now.columns c.in_ok-row.row c.in_ok-row.ensures.fits.values

@@ -1,4 +1,4 @@
-use Rattle.std.proofs.Common.{◌≡◌, ◌+◌, ◌<◌, arith}
+use Rattle.std.proofs.Common.{◌+◌, ◌<◌, arith}
 use Rattle.stored_catalog_tests.proofs.RowsLemmas.{inserted_def}
 use Rattle.stored_catalog_tests.proofs.rows.try_insert.Goals as goal
 

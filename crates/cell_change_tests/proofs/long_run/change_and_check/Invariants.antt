@@ -1,6 +1,6 @@
 use Rattle.std.proofs.Common.{◌≡◌, false, []}
 use Rattle.table_page.specs.TableLimits.{IsTableDef}
-use Rattle.cell_change_tests.proofs.long_run.run.Given as goal
+use Rattle.cell_change_tests.proofs.long_run.change_and_check.Given as goal
 
 -- the definition stays one of a table without indexes, and the store goes on
 abbrev pub invariant-loop : goal.invariant-loop

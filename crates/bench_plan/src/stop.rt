@@ -4,7 +4,7 @@ use mdc_outside::Failed;
 use page_store::OpenFault;
 use std::alloc::AllocError;
 use std::io;
-use store_api::{PageFault, StoreFault};
+use store_api::{DeviceFault, PageFault, StoreFault};
 
 /// Why a run stopped.
 #[derive(Debug, Drop)]
@@ -15,14 +15,16 @@ pub enum Stop {
     Unattached(Failed),
     /// The file wasn't made or opened.
     Unopened(OpenFault),
-    /// A call on pages failed.
-    Pages(PageFault),
-    /// A call on a tree or the extents failed.
+    /// A call on pages, on a tree or on the extents failed.
     Store(StoreFault),
+    /// None of so many extents is free.
+    Full(u32),
     /// Memory ran out before there was a store.
     Memory,
-    /// No extent is free.
-    Full(u32),
+    /// The size is more than the store has or can have.
+    TooLarge,
+    /// Page 0 states another number of pages.
+    Uncounted,
     /// The extents are more than a database may have.
     Shape,
 }
@@ -51,15 +53,21 @@ impl From<OpenFault> for Stop {
     }
 }
 
-impl From<PageFault> for Stop {
-    fn from(fault: PageFault) -> Self {
-        Stop::Pages(fault)
-    }
-}
-
 impl From<StoreFault> for Stop {
     fn from(fault: StoreFault) -> Self {
         Stop::Store(fault)
+    }
+}
+
+impl From<PageFault> for Stop {
+    fn from(fault: PageFault) -> Self {
+        Stop::Store(StoreFault::from(fault))
+    }
+}
+
+impl From<DeviceFault> for Stop {
+    fn from(fault: DeviceFault) -> Self {
+        Stop::Store(StoreFault::from(fault))
     }
 }
 

@@ -1,0 +1,215 @@
+// A file that is full at each claim of a row: that of its block, and those of the trees in which a leaf is cut for it.
+//
+// The narrow table by D and S has the rows of D = 0, 1, 2 and so on, each of a cell of its own, so each in a block of its own, and
+// its entries come last in every tree. A leaf has room for 4,080 bytes: for 582 entries of the block map (width 7), for 291 of
+// the index of D and S (14), and for 453 of that of D and that of S (9 each). An extent has two pages.
+//
+// - The four roots fill two extents, so with 291 rows 291 + 2 extents are in use, and no index page is unused. The next row
+//   asks for an extent as its block. Then the index of D and S asks for two pages, since its full leaf is the root: for an extent.
+// - 146 entries go into the upper leaf, which is full with 437 rows and is cut for the next one; that asks for one page. So with
+//   453 rows 4 + 2 + 1 index pages fill four extents but for one page, and 453 + 4 extents are in use. The next row asks for an
+//   extent as its block. Then the index of D, and behind it that of S, asks for two pages, of which one is there: for an extent.
+// - No other leaf is cut up to 582 rows: 4 + 2 + 1 + 2 + 2 index pages fill six extents but for one page, and 582 + 6 extents
+//   are in use. The next row asks for an extent as its block. Then the block map asks for two pages, of which one is there.
+//
+// What the next row meets where there are so many extents:
+//
+// | rows | as many as are in use | one more | two more | three more |
+// |---|---|---|---|---|
+// | 291 | 293: no block | 294: no page for D and S | 295: done | |
+// | 453 | 457: no block | 458: no page for D | 459: no page for S | 460: done |
+// | 582 | 588: no block | 589: no page for the block map | 590: done | |
+ghost use Rattle.std.specs.Prelude.{◌≡◌, [], false, None, OnOk};
+ghost use Rattle.table_page.specs.TableLimits.{IsTableDef};
+
+use crate::changes::{insert, try_insert};
+use crate::stores::{extents_of, fresh_store, store_with_map};
+use crate::tables::{Shape, Table, table_of};
+use extent_map::SpaceFault;
+use mdc_values::Rid;
+use std::alloc::Global;
+use std::test::Fail;
+use store_api::{Page, Pages};
+
+// What an insert answered, by how many pages the file had grown then, and whether all pages are what they were once it was undone.
+#[derive(Clone, Copy, PartialEq)]
+struct Tried {
+    answer: Result<Rid, SpaceFault>,
+    grown: u32,
+    is_undone: bool,
+}
+
+// All pages of the work.
+fn all_pages<P: Pages>(alloc: Global, pages: &mut P) -> Result<Vec<Page>, Fail>
+    requires going { (P.state pages.old).ended ≡ false }
+    ensures going { (P.state pages.new).ended ≡ false }
+    ensures marked { (P.state pages.new).marked ≡ (P.state pages.old).marked }
+{
+    let mut all = Vec::new(alloc);
+    for p in 0..pages.count() {
+        all.push(page_of(pages, p)?)?;
+    }
+    Ok(all)
+}
+
+// A page of the work.
+fn page_of<P: Pages>(pages: &mut P, p: u32) -> Result<Page, Fail>
+    requires going { (P.state pages.old).ended ≡ false }
+    ensures going { (P.state pages.new).ended ≡ false }
+    ensures marked { (P.state pages.new).marked ≡ (P.state pages.old).marked }
+{
+    if p >= pages.count() {
+        return Err("no such page")?;
+    }
+    pages.fetch(p)?;
+    Ok(*pages.page())
+}
+
+// Inserts so many rows of a cell each.
+fn fill<P: Pages>(alloc: Global, table: &mut Table, pages: &mut P, rows: u64) -> Result<(), Fail>
+    requires defined { IsTableDef table.old.def.number table.old.def }
+    requires no_indexes { table.old.def.indexes ≡ [] }
+    requires going { (P.state pages.old).ended ≡ false }
+    ensures defined { IsTableDef table.new.def.number table.new.def }
+    ensures no_indexes { table.new.def.indexes ≡ [] }
+    ensures going { (P.state pages.new).ended ≡ false }
+    ensures marked { (P.state pages.new).marked ≡ (P.state pages.old).marked }
+{
+    for seed in 0..rows {
+        insert(alloc, table, pages, seed)?;
+    }
+    Ok(())
+}
+
+// Inserts a row of a new cell and undoes that. Answers what the insert answered, and by how many pages the file had grown.
+fn insert_and_undo<P: Pages>(
+    alloc: Global,
+    table: &mut Table,
+    pages: &mut P,
+) -> Result<(Result<Rid, SpaceFault>, u32), Fail>
+    requires defined { IsTableDef table.old.def.number table.old.def }
+    requires no_indexes { table.old.def.indexes ≡ [] }
+    requires going { (P.state pages.old).ended ≡ false }
+    requires unmarked { (P.state pages.old).marked ≡ None }
+    ensures defined { IsTableDef table.new.def.number table.new.def }
+    ensures no_indexes { table.new.def.indexes ≡ [] }
+    ensures going { (P.state pages.new).ended ≡ false }
+    ensures unmarked { OnOk result ((P.state pages.new).marked ≡ None) }
+{
+    pages.mark();
+    let before = pages.count();
+    let seed = table.def.next;
+    let answer = try_insert(alloc, table, pages, seed)?;
+    let grown = pages.count().wrapping_sub(before);
+    pages.undo();
+    table.rooms.forget();
+    Ok((answer, grown))
+}
+
+// The same where there are so many extents.
+fn try_with<P: Pages>(
+    alloc: Global,
+    table: &mut Table,
+    pages: &mut P,
+    extents: u32,
+) -> Result<Tried, Fail>
+    requires defined { IsTableDef table.old.def.number table.old.def }
+    requires no_indexes { table.old.def.indexes ≡ [] }
+    requires going { (P.state pages.old).ended ≡ false }
+    requires unmarked { (P.state pages.old).marked ≡ None }
+    ensures defined { IsTableDef table.new.def.number table.new.def }
+    ensures no_indexes { table.new.def.indexes ≡ [] }
+    ensures going { (P.state pages.new).ended ≡ false }
+    ensures unmarked { OnOk result ((P.state pages.new).marked ≡ None) }
+{
+    table.ext = extents_of(extents)?;
+    let before = all_pages(alloc, pages)?;
+    let (answer, grown) = insert_and_undo(alloc, table, pages)?;
+    Ok(Tried {
+        answer,
+        grown,
+        is_undone: all_pages(alloc, pages)? == before,
+    })
+}
+
+// The same for each of these numbers of extents, of which the last alone may be enough.
+fn try_each<P: Pages>(
+    alloc: Global,
+    table: &mut Table,
+    pages: &mut P,
+    each: &[u32],
+) -> Result<Vec<Tried>, Fail>
+    requires defined { IsTableDef table.old.def.number table.old.def }
+    requires no_indexes { table.old.def.indexes ≡ [] }
+    requires going { (P.state pages.old).ended ≡ false }
+    requires unmarked { (P.state pages.old).marked ≡ None }
+{
+    let mut tried = Vec::new(alloc);
+    for extents in each {
+        tried.push(try_with(alloc, table, pages, *extents)?)?;
+    }
+    Ok(tried)
+}
+
+// The same behind so many rows of a table in an empty database. These have room in the first number of extents.
+fn fill_and_try<P: Pages>(
+    alloc: Global,
+    pages: &mut P,
+    rows: u64,
+    each: &[u32],
+) -> Result<Vec<Tried>, Fail>
+    requires going { (P.state pages.old).ended ≡ false }
+    requires unmarked { (P.state pages.old).marked ≡ None }
+{
+    let Some(first) = each.first() else {
+        return Err("nothing to try")?;
+    };
+    let mut table = table_of(alloc, Shape::Narrow, *first, pages)?;
+    fill(alloc, &mut table, pages, rows)?;
+    try_each(alloc, &mut table, pages, each)
+}
+
+// What a row meets where that many extents are too few, and so many pages came before the claim that fails.
+fn full(extents: u32, grown: u32) -> Tried {
+    Tried {
+        answer: Err(SpaceFault::Full(extents)),
+        grown,
+        is_undone: true,
+    }
+}
+
+// What a row meets that has its block, where so many pages came for it.
+fn done(block: u32, grown: u32) -> Tried {
+    Tried {
+        answer: Ok(Rid { block, slot: 0 }),
+        grown,
+        is_undone: true,
+    }
+}
+
+#[test]
+fn a_row_finds_no_page_for_the_index_of_all_dimensions(rt: HostRuntime) -> Result<(), Fail> {
+    let mut store = fresh_store(rt.alloc())?;
+    let tried = fill_and_try(rt.alloc(), &mut store, 291, &[293, 294, 295])?;
+    let wanted = [full(293, 0), full(294, 2), done(293, 4)];
+    assert!(rt; tried.as_slice() == wanted.as_slice());
+    Ok(())
+}
+
+#[test]
+fn a_row_finds_no_page_for_the_index_of_a_dimension(rt: HostRuntime) -> Result<(), Fail> {
+    let mut store = fresh_store(rt.alloc())?;
+    let tried = fill_and_try(rt.alloc(), &mut store, 453, &[457, 458, 459, 460])?;
+    let wanted = [full(457, 0), full(458, 2), full(459, 4), done(457, 6)];
+    assert!(rt; tried.as_slice() == wanted.as_slice());
+    Ok(())
+}
+
+#[test]
+fn a_row_finds_no_page_for_the_block_map(rt: HostRuntime) -> Result<(), Fail> {
+    let mut store = store_with_map(rt.alloc(), 2)?;
+    let tried = fill_and_try(rt.alloc(), &mut store, 582, &[588, 589, 590])?;
+    let wanted = [full(588, 0), full(589, 2), done(588, 4)];
+    assert!(rt; tried.as_slice() == wanted.as_slice());
+    Ok(())
+}

@@ -1,0 +1,39 @@
+// The pieces of work, by their names.
+use bench_plan::NoWork;
+use std::str::FromStr;
+
+/// A piece of work.
+#[derive(Clone, Copy, Debug)]
+pub enum What {
+    /// Open a file of so many pages.
+    Open,
+    /// Fetch so many pages, all of which are in the cache.
+    Hot,
+    /// Fetch so many pages, none of which is in the cache.
+    Cold,
+    /// Write so many pages, and commit them.
+    Commit,
+    /// Write so many pages under a mark, and go back to it.
+    Undo,
+    /// Edit each of so many pages once under a mark.
+    First,
+    /// Edit pages that were edited under the mark so many times.
+    Again,
+}
+
+impl FromStr for What {
+    type Err = NoWork;
+
+    fn from_str(word: &str) -> Result<What, NoWork> {
+        match word {
+            "open" => Ok(What::Open),
+            "hot" => Ok(What::Hot),
+            "cold" => Ok(What::Cold),
+            "commit" => Ok(What::Commit),
+            "undo" => Ok(What::Undo),
+            "first" => Ok(What::First),
+            "again" => Ok(What::Again),
+            _ => Err(NoWork),
+        }
+    }
+}
