@@ -1,6 +1,7 @@
 // Rules 7 to 9: row pages, counts and cells.
-use crate::patches::{THREE_CELLS, broken, bytes_at, verdict, verdict_on_cells};
+use crate::patches::{THREE_CELLS, broken, verdict, verdict_on_cells};
 use file_check::Verdict;
+use script_engine_tests::bytes_at;
 use std::test::Fail;
 
 // A row of two columns has 18 bytes, and a page 225 slots, which begin at 45. Page 25 has none filled.

@@ -1,6 +1,7 @@
 // Rules 10 to 12: block indexes, record indexes, row numbers and unique keys.
-use crate::patches::{Patch, THREE_CELLS, broken, bytes_at, verdict, verdict_on_cells};
+use crate::patches::{THREE_CELLS, broken, verdict, verdict_on_cells};
 use file_check::Verdict;
+use script_engine_tests::{Patch, bytes_at};
 use std::alloc::Global;
 use std::test::Fail;
 

@@ -6,11 +6,13 @@ use extent_map::Extents;
 use file_check::{Verdict, check};
 use mdc_outside::{MemSource, Source};
 use script_engine::Engine;
-use script_engine_tests::{engine_on, fresh_store, next_written, reader};
+use script_engine_tests::{
+    Patch, bytes_at, engine_on, fresh_store, next_written, reader, write_over,
+};
 use sql_reader::Read;
 use std::alloc::Global;
 use std::test::Fail;
-use store_api::{Damage, Pages, Store, patch_page};
+use store_api::{Damage, Store};
 
 // How many extents the databases may have.
 const CAP: u32 = 16;
@@ -19,19 +21,6 @@ const CAP: u32 = 16;
 /// that of A page 20 and that of R page 21; block 2 has the pages 22 and 23, block 3 24 and 25, block 4 26 and 27.
 pub const THREE_CELLS: &[u8] = b"CREATE TABLE T (A INTEGER, R INTEGER) ORGANIZE BY (A, R);
 INSERT INTO T VALUES (1, 7), (2, 7), (1, 7), (NULL, 9)";
-
-/// Bytes that are written over those of a page from a place on.
-#[derive(Clone, Copy)]
-pub struct Patch {
-    pub page: u32,
-    pub at: usize,
-    pub bytes: &'static [u8],
-}
-
-/// These bytes, in that place of a page.
-pub fn bytes_at(page: u32, at: usize, bytes: &'static [u8]) -> Patch {
-    Patch { page, at, bytes }
-}
 
 /// The verdict that names a rule and a page.
 pub fn broken(rule: u16, page: u32) -> Verdict {
@@ -62,25 +51,12 @@ fn made<S: Store + Drop>(alloc: Global, store: S, script: &[u8]) -> Result<S, Fa
     requires going { (S.state store).ended ≡ false }
     requires unmarked { (S.state store).marked ≡ None }
     ensures going { IfOk result (λ store. (S.state store).ended ≡ false) }
+    ensures unmarked { IfOk result (λ store. (S.state store).marked ≡ None) }
 {
     let mut engine = engine_on(alloc, store, CAP)?;
     let mut source = MemSource::new(Vec::from_slice(alloc, script)?, 100, Vec::new(alloc));
     execute_all(alloc, &mut engine, &mut source)?;
     Ok(engine.close())
-}
-
-// Writes the patches over the pages of a store.
-fn write_over<P: Pages>(pages: &mut P, patches: &[Patch]) -> Result<(), Fail>
-    requires going { (P.state pages.old).ended ≡ false }
-    ensures going { OnOk result ((P.state pages.new).ended ≡ false) }
-{
-    for patch in patches {
-        if patch.page >= pages.count() || patch.at > 4095 || patch.bytes.len() > 4096 - patch.at {
-            return Err("no such part of a page")?;
-        }
-        patch_page(pages, patch.page, patch.at, patch.bytes)?;
-    }
-    Ok(())
 }
 
 // What is checked on a store of a script, once the patches are written.

@@ -1,6 +1,7 @@
 // Rules 1 to 6: the root page, the extent map, table pages, trees, their pages, and block maps.
-use crate::patches::{THREE_CELLS, broken, bytes_at, verdict, verdict_on_cells};
+use crate::patches::{THREE_CELLS, broken, verdict, verdict_on_cells};
 use file_check::Verdict;
+use script_engine_tests::bytes_at;
 use std::test::Fail;
 
 #[test]
