@@ -8,9 +8,24 @@ use crate::program::{Ended, run};
 use mdc_outside::{Call, Host, MemHost, MemSource, Source};
 use page_store::{FileStore, OpenFault};
 use std::alloc::Global;
+use std::mem::replace;
+use std::process::Abort;
 use std::test::Fail;
 
-const T: &str = "CREATE TABLE T (A INTEGER, B INTEGER) ORGANIZE BY DIMENSIONS (A);";
+const TABLE: &str = "CREATE TABLE T (A INTEGER, B INTEGER) ORGANIZE BY DIMENSIONS (A);";
+
+const TABLE_AND_ROW: &str =
+    "CREATE TABLE T (A INTEGER, B INTEGER) ORGANIZE BY DIMENSIONS (A);INSERT INTO T VALUES (1, 2);";
+
+const QUERY: &str = "SELECT * FROM T;";
+
+const TABLE_AND_QUERIES: &str =
+    "CREATE TABLE T (A INTEGER, B INTEGER) ORGANIZE BY DIMENSIONS (A);SELECT * FROM T;SELECT * FROM T;";
+
+const FOUR_STATEMENTS: &str =
+    "CREATE TABLE T (A INTEGER, B INTEGER) ORGANIZE BY DIMENSIONS (A);SELECT * FROM T; SELECT; ;SELECT * FROM T";
+
+const CREATE: &str = "create f 16 2";
 
 /// Words behind the program's name, cut at each blank: an empty line is one empty word.
 fn words_of(alloc: Global, line: &str) -> Result<Vec<String>, Fail> {
@@ -21,16 +36,15 @@ fn words_of(alloc: Global, line: &str) -> Result<Vec<String>, Fail> {
     Ok(words)
 }
 
-/// The status that the words of a line end with, and the host.
-fn run_line<I: Source, H: Host + Drop>(
+/// The status that a command line ends with, and the host.
+fn run_owned<I: Source, H: Host>(
     alloc: Global,
-    line: &str,
+    words: &Vec<String>,
     input: &mut I,
     host: H,
-) -> Result<(u8, H), Fail> {
-    let words = words_of(alloc, line)?;
-    let ended = run(alloc, &words, input, host);
-    Ok((ended.status.0, ended.host))
+) -> (u8, H) {
+    let ended = run(alloc, words, input, host);
+    (ended.status.0, ended.host)
 }
 
 /// Two command lines on one host, one after the other. Its contract shows that the promise of a run on a file goes on to the next.
@@ -50,100 +64,227 @@ fn run_both<I: Source, H: Host>(
     run(alloc, second, input, between.host)
 }
 
-/// The status that the words of a line end with where they are run a second time, and the host.
-fn run_line_twice<I: Source, H: Host + Drop>(
+/// The status that a command line ends with where it is run a second time, and the host.
+fn run_owned_twice<I: Source, H: Host>(
     alloc: Global,
-    line: &str,
+    words: &Vec<String>,
     input: &mut I,
     host: H,
-) -> Result<(u8, H), Fail> {
-    let words = words_of(alloc, line)?;
-    let ended = run_both(alloc, &words, &words, input, host);
-    Ok((ended.status.0, ended.host))
+) -> (u8, H) {
+    let ended = run_both(alloc, words, words, input, host);
+    (ended.status.0, ended.host)
 }
 
-/// How `run -` ends on a script that comes in pieces of at most `step` bytes, where these reads and calls fail.
-fn run_script(
+/// Takes a host from where it is lent, and leaves a new one there.
+fn take_host(alloc: Global, host: &mut MemHost) -> MemHost {
+    replace(host, MemHost::new(alloc, None, Vec::new(alloc)))
+}
+
+/// The status that a command line ends with on a host that is lent.
+fn run_lent(alloc: Global, words: &Vec<String>, input: &mut MemSource, host: &mut MemHost) -> u8 {
+    let taken = take_host(alloc, host);
+    let (status, left) = run_owned(alloc, words, input, taken);
+    *host = left;
+    status
+}
+
+/// The same where it is run a second time.
+fn run_lent_twice(
+    alloc: Global,
+    words: &Vec<String>,
+    input: &mut MemSource,
+    host: &mut MemHost,
+) -> u8 {
+    let taken = take_host(alloc, host);
+    let (status, left) = run_owned_twice(alloc, words, input, taken);
+    *host = left;
+    status
+}
+
+/// A host with no file, where these calls fail.
+fn host_of(alloc: Global, fails: &[u64]) -> Result<MemHost, Fail> {
+    Ok(MemHost::new(alloc, None, fails.to_vec(alloc)?))
+}
+
+/// A script that comes in pieces of at most `step` bytes, where these reads fail.
+fn source_of(
     alloc: Global,
     script: &str,
     step: usize,
     read_fails: &[u64],
-    fails: &[u64],
-) -> Result<(u8, MemHost), Fail> {
+) -> Result<MemSource, Fail> {
     let bytes = script.as_bytes().to_vec(alloc)?;
-    let mut source = MemSource::new(bytes, step.max(1), read_fails.to_vec(alloc)?);
-    let host = MemHost::new(alloc, None, fails.to_vec(alloc)?);
-    run_line(alloc, "run -", &mut source, host)
+    Ok(MemSource::new(bytes, step.max(1), read_fails.to_vec(alloc)?))
 }
 
-/// The numbers of the calls of this kind that a host has recorded, from the first on.
-fn calls_of(alloc: Global, host: &MemHost, kind: Call) -> Result<Vec<u64>, Fail> {
-    let mut numbers = Vec::new(alloc);
+/// The status that the words of a line end with.
+fn run_words(
+    alloc: Global,
+    line: &str,
+    input: &mut MemSource,
+    host: &mut MemHost,
+) -> Result<u8, Fail> {
+    let words = words_of(alloc, line)?;
+    Ok(run_lent(alloc, &words, input, host))
+}
+
+/// The same on a script that comes in pieces of at most `step` bytes, where these reads fail.
+fn run_pieces(
+    alloc: Global,
+    line: &str,
+    script: &str,
+    step: usize,
+    read_fails: &[u64],
+    host: &mut MemHost,
+) -> Result<u8, Fail> {
+    let mut source = source_of(alloc, script, step, read_fails)?;
+    run_words(alloc, line, &mut source, host)
+}
+
+/// The same on a script that comes whole.
+fn run_script(alloc: Global, line: &str, script: &str, host: &mut MemHost) -> Result<u8, Fail> {
+    run_pieces(alloc, line, script, 4096, &[], host)
+}
+
+/// The same on a statement that comes byte by byte.
+fn run_line(alloc: Global, line: &str, host: &mut MemHost) -> Result<u8, Fail> {
+    run_pieces(alloc, line, "SELECT;", 1, &[], host)
+}
+
+/// A line ended with this status, and its host has taken this in all.
+fn expect_end(rt: &impl Abort, line: &str, ended: u8, host: &MemHost, status: u8, said: &str) {
+    assert_eq!(*rt; (ended, host.said()), (status, said.as_bytes()), "{line}");
+}
+
+/// Runs a line, which ends with this status; then the host has taken this in all.
+fn expect_line(
+    rt: &impl Abort,
+    alloc: Global,
+    line: &str,
+    host: &mut MemHost,
+    status: u8,
+    said: &str,
+) -> Result<(), Fail> {
+    let ended = run_line(alloc, line, host)?;
+    expect_end(rt, line, ended, host, status, said);
+    Ok(())
+}
+
+/// Runs a line on a script, which ends with this status; then the host has taken this in all.
+fn expect_script(
+    rt: &impl Abort,
+    alloc: Global,
+    line: &str,
+    script: &str,
+    host: &mut MemHost,
+    status: u8,
+    said: &str,
+) -> Result<(), Fail> {
+    let ended = run_script(alloc, line, script, host)?;
+    expect_end(rt, line, ended, host, status, said);
+    Ok(())
+}
+
+/// How many calls of this kind a host has recorded.
+fn count_calls(host: &MemHost, kind: Call) -> u64 {
+    let mut count: u64 = 0;
     for before in 0..host.calls() {
         if host.call(before + 1) == kind {
-            numbers.push(before + 1)?;
+            count = count.wrapping_add(1);
         }
     }
-    Ok(numbers)
+    count
+}
+
+/// The number of the recorded call of this kind that has so many of its kind before it.
+fn call_behind(host: &MemHost, kind: Call, earlier: u64) -> Result<u64, Fail> {
+    let mut left = earlier;
+    for before in 0..host.calls() {
+        if host.call(before + 1) == kind {
+            if left == 0 {
+                return Ok(before + 1);
+            }
+            left = left.wrapping_sub(1);
+        }
+    }
+    Err("no such call")?
+}
+
+/// The status of a script with four replies, and how often it speaks.
+fn count_replies(alloc: Global, step: usize, host: &mut MemHost) -> Result<(u8, u64), Fail> {
+    let status = run_pieces(alloc, "run -", FOUR_STATEMENTS, step, &[], host)?;
+    Ok((status, count_calls(host, Call::Say)))
+}
+
+/// The same on a new host.
+fn replies_of(alloc: Global, step: usize) -> Result<(u8, u64), Fail> {
+    let mut host = host_of(alloc, &[])?;
+    count_replies(alloc, step, &mut host)
 }
 
 // No clause says that replies aren't put together into one call.
 #[test]
 fn each_reply_is_said_in_a_call_of_its_own(rt: HostRuntime) -> Result<(), Fail> {
-    let alloc = rt.alloc();
-    let script = format!(in alloc; "{T}SELECT * FROM T; SELECT; ;SELECT * FROM T")?;
     for step in [1, 7, 4096] {
-        let (status, host) = run_script(alloc, &script, step, &[], &[])?;
-        assert_eq!(rt; status, 1);
-        assert_eq!(rt; calls_of(alloc, &host, Call::Say)?.len(), 4);
+        assert_eq!(rt; replies_of(rt.alloc(), step)?, (1, 4), "{step}");
     }
+    Ok(())
+}
+
+/// The first statements close in the first piece, and the second read fails.
+fn fail_read(rt: &impl Abort, alloc: Global, host: &mut MemHost) -> Result<(), Fail> {
+    let step = TABLE.len() + 20;
+    let status = run_pieces(alloc, "run -", TABLE_AND_QUERIES, step, &[2], host)?;
+    expect_end(rt, "run -", status, host, 4, "OK\nA|B\n0 ROWS\n");
     Ok(())
 }
 
 #[test]
 fn a_failed_read_stops_a_script(rt: HostRuntime) -> Result<(), Fail> {
-    let script = format!(in rt.alloc(); "{T}SELECT * FROM T;SELECT * FROM T;")?;
-    // The first statements close in the first piece, and the second read fails.
-    let (status, host) = run_script(rt.alloc(), &script, T.len() + 20, &[2], &[])?;
-    assert_eq!(rt; status, 4);
-    assert_eq!(rt; host.said(), b"OK\nA|B\n0 ROWS\n".as_slice());
-    Ok(())
+    let mut host = host_of(rt.alloc(), &[])?;
+    fail_read(&rt, rt.alloc(), &mut host)
 }
 
-/// How `run -` ends where a call of this kind fails that has so many of its kind before it, and what is said.
-fn run_failing(
+/// The number of the call of this kind, with so many of its kind before it, that a script on this host makes.
+fn find_call(alloc: Global, kind: Call, earlier: u64, host: &mut MemHost) -> Result<u64, Fail> {
+    run_script(alloc, "run -", TABLE_AND_QUERIES, host)?;
+    call_behind(host, kind, earlier)
+}
+
+/// The same on a new host.
+fn call_of_script(alloc: Global, kind: Call, earlier: u64) -> Result<u64, Fail> {
+    let mut host = host_of(alloc, &[])?;
+    find_call(alloc, kind, earlier, &mut host)
+}
+
+/// How a script ends, and what is said, where a call of this kind fails that has so many of its kind before it.
+fn expect_failing(
+    rt: &impl Abort,
     alloc: Global,
-    script: &str,
     kind: Call,
-    earlier: usize,
-) -> Result<(u8, Vec<u8>), Fail> {
-    let (_, host) = run_script(alloc, script, 4096, &[], &[])?;
-    let calls = calls_of(alloc, &host, kind)?;
-    let Some(number) = calls.get(earlier) else {
-        return Err("no such call")?;
-    };
-    let (status, host) = run_script(alloc, script, 4096, &[], &[*number])?;
-    Ok((status, host.said().to_vec(alloc)?))
+    earlier: u64,
+    status: u8,
+    said: &str,
+) -> Result<(), Fail> {
+    let number = call_of_script(alloc, kind, earlier)?;
+    let mut host = host_of(alloc, &[number])?;
+    expect_script(
+        rt,
+        alloc,
+        "run -",
+        TABLE_AND_QUERIES,
+        &mut host,
+        status,
+        said,
+    )
 }
 
 #[test]
 fn what_fails_stops_a_script(rt: HostRuntime) -> Result<(), Fail> {
-    let script = format!(in rt.alloc(); "{T}SELECT * FROM T;SELECT * FROM T;")?;
-    let (status, said) = run_failing(rt.alloc(), &script, Call::Say, 0)?;
-    assert_eq!(rt; (status, said.len()), (5, 0));
-    let (status, said) = run_failing(rt.alloc(), &script, Call::Say, 1)?;
-    assert_eq!(rt; (status, said.as_slice()), (5, b"OK\n".as_slice()));
+    expect_failing(&rt, rt.alloc(), Call::Say, 0, 5, "")?;
+    expect_failing(&rt, rt.alloc(), Call::Say, 1, 5, "OK\n")?;
     // The first sync is one of the making.
-    let (status, said) = run_failing(rt.alloc(), &script, Call::Sync, 0)?;
-    assert_eq!(rt; (status, said.len()), (3, 0));
-    Ok(())
-}
-
-/// How a line ends on a host with no file, where these calls fail, and the host.
-fn run_words(alloc: Global, line: &str, fails: &[u64]) -> Result<(u8, MemHost), Fail> {
-    let mut source = MemSource::new(b"SELECT;".to_vec(alloc)?, 1, Vec::new(alloc));
-    let host = MemHost::new(alloc, None, fails.to_vec(alloc)?);
-    run_line(alloc, line, &mut source, host)
+    expect_failing(&rt, rt.alloc(), Call::Sync, 0, 3, "")
 }
 
 const USAGE: &str = "usage: mdc create FILE EXTENTS PAGES | run FILE | check FILE | work N\n";
@@ -186,12 +327,23 @@ const OTHER_LINES: [&str; 34] = [
     "--",
 ];
 
+/// Runs a line that is no command line, with a call that says the usage and no other.
+fn say_usage(rt: &impl Abort, alloc: Global, line: &str, host: &mut MemHost) -> Result<(), Fail> {
+    expect_line(rt, alloc, line, host, 2, USAGE)?;
+    assert_eq!(*rt; host.calls(), 1, "{line}");
+    Ok(())
+}
+
+/// The same on a new host.
+fn expect_usage(rt: &impl Abort, alloc: Global, line: &str) -> Result<(), Fail> {
+    let mut host = host_of(alloc, &[])?;
+    say_usage(rt, alloc, line, &mut host)
+}
+
 #[test]
 fn other_words_are_no_command_line(rt: HostRuntime) -> Result<(), Fail> {
     for line in OTHER_LINES {
-        let (status, host) = run_words(rt.alloc(), line, &[])?;
-        assert_eq!(rt; (status, host.calls()), (2, 1), "{line}");
-        assert_eq!(rt; host.said(), USAGE.as_bytes(), "{line}");
+        expect_usage(&rt, rt.alloc(), line)?;
     }
     Ok(())
 }
@@ -206,25 +358,38 @@ const CREATE_LINES: [&str; 6] = [
     "create f-/g 512 8",
 ];
 
+/// Runs a line that makes a database on a new host.
+fn expect_made(rt: &impl Abort, alloc: Global, line: &str) -> Result<(), Fail> {
+    let mut host = host_of(alloc, &[])?;
+    expect_line(rt, alloc, line, &mut host, 0, "OK\n")
+}
+
 #[test]
 fn databases_within_the_limits_are_made(rt: HostRuntime) -> Result<(), Fail> {
     for line in CREATE_LINES {
-        let (status, host) = run_words(rt.alloc(), line, &[])?;
-        assert_eq!(rt; status, 0, "{line}");
-        assert_eq!(rt; host.said(), b"OK\n".as_slice(), "{line}");
+        expect_made(&rt, rt.alloc(), line)?;
     }
     Ok(())
 }
 
+/// Makes a file, and makes it again.
+fn make_twice(rt: &impl Abort, alloc: Global, host: &mut MemHost) -> Result<(), Fail> {
+    let status = run_twice(alloc, CREATE, host)?;
+    expect_end(rt, CREATE, status, host, 6, "OK\nFILE EXISTS\n");
+    Ok(())
+}
+
+/// The status that the words of a line end with where they are run a second time, on no script.
+fn run_twice(alloc: Global, line: &str, host: &mut MemHost) -> Result<u8, Fail> {
+    let words = words_of(alloc, line)?;
+    let mut source = MemSource::new(Vec::new(alloc), 1, Vec::new(alloc));
+    Ok(run_lent_twice(alloc, &words, &mut source, host))
+}
+
 #[test]
 fn a_file_is_made_once(rt: HostRuntime) -> Result<(), Fail> {
-    let alloc = rt.alloc();
-    let mut source = MemSource::new(Vec::new(alloc), 1, Vec::new(alloc));
-    let host = MemHost::new(alloc, None, Vec::new(alloc));
-    let (status, host) = run_line_twice(alloc, "create f 16 2", &mut source, host)?;
-    assert_eq!(rt; status, 6);
-    assert_eq!(rt; host.said(), b"OK\nFILE EXISTS\n".as_slice());
-    Ok(())
+    let mut host = host_of(rt.alloc(), &[])?;
+    make_twice(&rt, rt.alloc(), &mut host)
 }
 
 /// Why the file of a host isn't opened, if it isn't.
@@ -236,79 +401,123 @@ fn refusal_of<H: Host + Drop>(alloc: Global, mut host: H) -> Result<Option<OpenF
     }
 }
 
+/// How many calls a create makes.
+fn calls_of_create(alloc: Global) -> Result<u64, Fail> {
+    let mut host = host_of(alloc, &[])?;
+    run_line(alloc, CREATE, &mut host)?;
+    Ok(host.calls())
+}
+
+/// Runs a create, which ends with this status and says nothing; then the file is opened, or refused for this.
+fn stop_create(
+    rt: &impl Abort,
+    alloc: Global,
+    host: &mut MemHost,
+    status: u8,
+    refusal: Option<OpenFault>,
+) -> Result<(), Fail> {
+    expect_line(rt, alloc, CREATE, host, status, "")?;
+    assert_eq!(*rt; refusal_of(alloc, take_host(alloc, host))?, refusal);
+    Ok(())
+}
+
+/// The same on a new host, where the call of this number fails.
+fn expect_stop(
+    rt: &impl Abort,
+    alloc: Global,
+    call: u64,
+    status: u8,
+    refusal: Option<OpenFault>,
+) -> Result<(), Fail> {
+    let mut host = host_of(alloc, &[call])?;
+    stop_create(rt, alloc, &mut host, status, refusal)
+}
+
 #[test]
 fn what_fails_stops_a_create(rt: HostRuntime) -> Result<(), Fail> {
-    let alloc = rt.alloc();
-    let (_, host) = run_words(alloc, "create f 16 2", &[])?;
-    let calls = host.calls();
+    let calls = calls_of_create(rt.alloc())?;
     assert!(rt; calls > 2);
     // The last call says the line. The last of the disk is the sync behind the write that has the file made.
-    let (status, host) = run_words(alloc, "create f 16 2", &[calls])?;
-    assert_eq!(rt; (status, host.said().len()), (5, 0));
-    assert_eq!(rt; refusal_of(alloc, host)?, None);
-    let (status, host) = run_words(alloc, "create f 16 2", &[calls - 1])?;
-    assert_eq!(rt; (status, host.said().len()), (3, 0));
-    assert_eq!(rt; refusal_of(alloc, host)?, None);
+    expect_stop(&rt, rt.alloc(), calls, 5, None)?;
+    expect_stop(&rt, rt.alloc(), calls - 1, 3, None)?;
     for call in 1..calls - 1 {
-        let (status, host) = run_words(alloc, "create f 16 2", &[call])?;
-        assert_eq!(rt; (status, host.said().len()), (3, 0), "{call}");
-        assert_eq!(rt; refusal_of(alloc, host)?, Some(OpenFault::Unmade), "{call}");
+        expect_stop(&rt, rt.alloc(), call, 3, Some(OpenFault::Unmade))?;
     }
     Ok(())
 }
 
-/// How a script ends on the file of a host, and the host.
-fn run_file<H: Host + Drop>(alloc: Global, script: &str, host: H) -> Result<(u8, H), Fail> {
-    let mut source = MemSource::new(script.as_bytes().to_vec(alloc)?, 4096, Vec::new(alloc));
-    run_line(alloc, "run f", &mut source, host)
+/// Makes a file, runs a script on it, and a query.
+fn run_and_query(rt: &impl Abort, alloc: Global, host: &mut MemHost) -> Result<(), Fail> {
+    expect_line(rt, alloc, CREATE, host, 0, "OK\n")?;
+    expect_script(
+        rt,
+        alloc,
+        "run f",
+        TABLE_AND_ROW,
+        host,
+        0,
+        "OK\nOK\n1 ROWS INSERTED\n",
+    )?;
+    expect_script(
+        rt,
+        alloc,
+        "run f",
+        QUERY,
+        host,
+        0,
+        "OK\nOK\n1 ROWS INSERTED\nA|B\n1|2\n1 ROWS\n",
+    )
 }
 
 #[test]
 fn a_second_run_sees_the_rows_of_the_first(rt: HostRuntime) -> Result<(), Fail> {
-    let alloc = rt.alloc();
-    let (_, host) = run_words(alloc, "create f 16 2", &[])?;
-    let script = format!(in alloc; "{T}INSERT INTO T VALUES (1, 2);")?;
-    let (status, host) = run_file(alloc, &script, host)?;
-    assert_eq!(rt; status, 0);
-    let (status, host) = run_file(alloc, "SELECT * FROM T;", host)?;
-    assert_eq!(rt; status, 0);
-    assert_eq!(rt;
-        host.said(),
-        b"OK\nOK\n1 ROWS INSERTED\nA|B\n1|2\n1 ROWS\n".as_slice()
-    );
-    Ok(())
+    let mut host = host_of(rt.alloc(), &[])?;
+    run_and_query(&rt, rt.alloc(), &mut host)
 }
 
-/// How a script ends on a file that is made before, where these calls of both fail, and the host.
-fn make_and_run(alloc: Global, script: &str, fails: &[u64]) -> Result<(u8, MemHost), Fail> {
-    let (_, host) = run_words(alloc, "create f 16 2", fails)?;
-    run_file(alloc, script, host)
+/// The number of the call that says the first reply of a script on a file that is made before.
+fn find_first_reply(alloc: Global, host: &mut MemHost) -> Result<u64, Fail> {
+    run_line(alloc, CREATE, host)?;
+    run_script(alloc, "run f", TABLE, host)?;
+    // The first line is that of the making, and the second the first reply.
+    call_behind(host, Call::Say, 1)
+}
+
+/// The same on a new host.
+fn first_reply(alloc: Global) -> Result<u64, Fail> {
+    let mut host = host_of(alloc, &[])?;
+    find_first_reply(alloc, &mut host)
+}
+
+/// Makes a file, runs a script on it whose first reply fails, and a query.
+fn fail_and_query(rt: &impl Abort, alloc: Global, host: &mut MemHost) -> Result<(), Fail> {
+    expect_line(rt, alloc, CREATE, host, 0, "OK\n")?;
+    expect_script(rt, alloc, "run f", TABLE, host, 5, "OK\n")?;
+    expect_script(rt, alloc, "run f", QUERY, host, 0, "OK\nA|B\n0 ROWS\n")
 }
 
 #[test]
 fn a_first_reply_that_fails_is_that_of_a_commit(rt: HostRuntime) -> Result<(), Fail> {
-    let alloc = rt.alloc();
-    let (_, host) = make_and_run(alloc, T, &[])?;
-    // The first line is that of the making, and the second the first reply.
-    let says = calls_of(alloc, &host, Call::Say)?;
-    let (status, host) = make_and_run(alloc, T, says.get(1..).unwrap_or_default())?;
-    assert_eq!(rt; (status, host.said()), (5, b"OK\n".as_slice()));
-    let (status, host) = run_file(alloc, "SELECT * FROM T;", host)?;
-    assert_eq!(rt; status, 0);
-    assert_eq!(rt; host.said(), b"OK\nA|B\n0 ROWS\n".as_slice());
-    Ok(())
+    let number = first_reply(rt.alloc())?;
+    let mut host = host_of(rt.alloc(), &[number])?;
+    fail_and_query(&rt, rt.alloc(), &mut host)
 }
 
 /// How a line ends on a host whose file has these bytes, and what is said.
-fn run_on_bytes(alloc: Global, line: &str, bytes: Vec<u8>) -> Result<(u8, Vec<u8>), Fail> {
-    let mut source = MemSource::new(b"SELECT;".to_vec(alloc)?, 1, Vec::new(alloc));
-    let host = MemHost::new(alloc, Some(bytes), Vec::new(alloc));
-    let (status, host) = run_line(alloc, line, &mut source, host)?;
-    Ok((status, host.said().to_vec(alloc)?))
+fn expect_on_bytes(
+    rt: &impl Abort,
+    alloc: Global,
+    line: &str,
+    bytes: Vec<u8>,
+    status: u8,
+    said: &str,
+) -> Result<(), Fail> {
+    let mut host = MemHost::new(alloc, Some(bytes), Vec::new(alloc));
+    expect_line(rt, alloc, line, &mut host, status, said)
 }
 
 /// The bytes of the file of a host.
-fn file_bytes<H: Host + Drop>(alloc: Global, mut host: H) -> Result<Vec<u8>, Fail> {
+fn file_bytes<H: Host>(alloc: Global, host: &mut H) -> Result<Vec<u8>, Fail> {
     host.attach("f", false)?;
     let length = host.len()?;
     let mut bytes = vec![in alloc; 0u8; length as usize]?;
@@ -316,66 +525,81 @@ fn file_bytes<H: Host + Drop>(alloc: Global, mut host: H) -> Result<Vec<u8>, Fai
     Ok(bytes)
 }
 
-/// What is said of a whole file in which a byte is changed, and the status.
-fn run_changed(alloc: Global, at: usize, byte: u8) -> Result<(u8, Vec<u8>), Fail> {
-    let (_, host) = run_words(alloc, "create f 16 2", &[])?;
-    let mut bytes = file_bytes(alloc, host)?;
+/// The bytes of a file that is made on this host.
+fn make_bytes(alloc: Global, host: &mut MemHost) -> Result<Vec<u8>, Fail> {
+    run_line(alloc, CREATE, host)?;
+    file_bytes(alloc, host)
+}
+
+/// The same on a new host.
+fn made_bytes(alloc: Global) -> Result<Vec<u8>, Fail> {
+    let mut host = host_of(alloc, &[])?;
+    make_bytes(alloc, &mut host)
+}
+
+/// What is said of a whole file in which a byte is changed.
+fn expect_changed(
+    rt: &impl Abort,
+    alloc: Global,
+    at: usize,
+    byte: u8,
+    said: &str,
+) -> Result<(), Fail> {
+    let mut bytes = made_bytes(alloc)?;
     if let Some(place) = bytes.get_mut(at) {
         *place = byte;
     }
-    run_on_bytes(alloc, "run f", bytes)
+    expect_on_bytes(rt, alloc, "run f", bytes, 6, said)
 }
 
 #[test]
 fn files_that_are_not_served_are_named(rt: HostRuntime) -> Result<(), Fail> {
-    let alloc = rt.alloc();
-    let (status, said) = run_on_bytes(alloc, "run f", vec![in alloc; 0u8; 4096]?)?;
-    assert_eq!(rt; (status, said.as_slice()), (6, b"NOT MADE\n".as_slice()));
+    let zeros = vec![in rt.alloc(); 0u8; 4096]?;
+    expect_on_bytes(&rt, rt.alloc(), "run f", zeros, 6, "NOT MADE\n")?;
     // The first byte of the birth page.
-    let (status, said) = run_changed(alloc, 4_096, 0)?;
-    assert_eq!(rt; (status, said.as_slice()), (6, b"NOT MDC\n".as_slice()));
+    expect_changed(&rt, rt.alloc(), 4_096, 0, "NOT MDC\n")?;
     // The last byte of the version, in file page 66.
-    let (status, said) = run_changed(alloc, 270_343, 2)?;
-    assert_eq!(rt; (status, said.as_slice()), (6, b"VERSION 2\n".as_slice()));
-    Ok(())
+    expect_changed(&rt, rt.alloc(), 270_343, 2, "VERSION 2\n")
 }
 
 #[test]
 fn a_page_that_is_cut_off_is_named(rt: HostRuntime) -> Result<(), Fail> {
-    let alloc = rt.alloc();
-    let (_, host) = run_words(alloc, "create f 16 2", &[])?;
-    let mut bytes = file_bytes(alloc, host)?;
+    let mut bytes = made_bytes(rt.alloc())?;
     bytes.pop();
-    let (status, said) = run_on_bytes(alloc, "run f", bytes)?;
-    assert_eq!(rt;
-        (status, said.as_slice()),
-        (9, b"DAMAGED page 17 rule 1\n".as_slice())
-    );
-    Ok(())
+    expect_on_bytes(
+        &rt,
+        rt.alloc(),
+        "run f",
+        bytes,
+        9,
+        "DAMAGED page 17 rule 1\n",
+    )
 }
 
-/// How another `create` ends on the first bytes of a database, and what is said.
-fn create_on_first(alloc: Global, length: usize) -> Result<(u8, Vec<u8>), Fail> {
-    let (_, host) = run_words(alloc, "create f 16 2", &[])?;
-    let mut bytes = file_bytes(alloc, host)?;
+/// How another `create` ends on the first bytes of a database.
+fn expect_exists(rt: &impl Abort, alloc: Global, length: usize) -> Result<(), Fail> {
+    let mut bytes = made_bytes(alloc)?;
     bytes.truncate(length);
-    run_on_bytes(alloc, "create f 16 2", bytes)
+    expect_on_bytes(rt, alloc, CREATE, bytes, 6, "FILE EXISTS\n")
 }
 
 #[test]
 fn a_file_with_a_byte_exists(rt: HostRuntime) -> Result<(), Fail> {
     // The made byte alone, cut off before and behind the journal's gate, the first page, all but the last byte, and whole.
     for length in [1, 512, 513, 4_096, 344_063, 344_064] {
-        let (status, said) = create_on_first(rt.alloc(), length)?;
-        assert_eq!(rt; status, 6, "{length}");
-        assert_eq!(rt; said.as_slice(), b"FILE EXISTS\n".as_slice(), "{length}");
+        expect_exists(&rt, rt.alloc(), length)?;
     }
     Ok(())
 }
 
 #[test]
 fn a_scratch_file_with_a_byte_is_refused(rt: HostRuntime) -> Result<(), Fail> {
-    let (status, said) = run_on_bytes(rt.alloc(), "run -", b"?".to_vec(rt.alloc())?)?;
-    assert_eq!(rt; (status, said.as_slice()), (6, b"FILE EXISTS\n".as_slice()));
-    Ok(())
+    expect_on_bytes(
+        &rt,
+        rt.alloc(),
+        "run -",
+        b"?".to_vec(rt.alloc())?,
+        6,
+        "FILE EXISTS\n",
+    )
 }
