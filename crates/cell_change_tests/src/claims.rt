@@ -23,8 +23,9 @@ ghost use Rattle.std.specs.Prelude.{◌≡◌, [], false, None, OnOk};
 ghost use Rattle.table_page.specs.TableLimits.{IsTableDef};
 
 use crate::changes::{insert, try_insert};
-use crate::stores::{extents_of, fresh_store, store_with_map};
+use crate::stores::{fresh_store, store_with_map};
 use crate::tables::{Shape, Table, table_of};
+use entry_tree_tests::extents_of;
 use extent_map::SpaceFault;
 use mdc_values::Rid;
 use std::alloc::Global;

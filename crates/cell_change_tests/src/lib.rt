@@ -4,7 +4,7 @@
 //!
 //! What a clause of `cell_change` says isn't tested but where many calls follow one another. Each scenario is a function over any
 //! pages, so that its proof knows no concrete ones. Tables are made by hand: their trees, and their definition by the bytes of its
-//! page. It lends tests of other crates a store, the extents of a database, and a look at whether a row fits.
+//! page. It lends tests of other crates a look at whether a row fits (`does_fit`).
 #![tactic(auto)]
 
 #[cfg(test)]
@@ -26,9 +26,9 @@ mod plain_list;
 mod plain_pages;
 #[cfg(test)]
 mod rows;
+#[cfg(test)]
 mod stores;
 #[cfg(test)]
 mod tables;
 
 pub use fitting::does_fit;
-pub use stores::{extents_of, store_of};

@@ -2,8 +2,8 @@
 ghost use Rattle.std.specs.Prelude.{◌≡◌, ◌≤◌, [], false, IfOk};
 ghost use Rattle.table_page.specs.TableLimits.{IsTableDef};
 
-use crate::stores::extents_of;
 use entry_tree::Tree;
+use entry_tree_tests::extents_of;
 use extent_map::Extents;
 use mdc_ast::TableDef;
 use mdc_table::Rooms;

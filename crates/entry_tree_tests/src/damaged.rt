@@ -1,7 +1,8 @@
 // Pages that aren't those of a tree: each call answers.
 ghost use Rattle.std.specs.Prelude.{◌≡◌, ◌+◌, ◌≤◌, false, length};
 
-use crate::stores::{extents_of, first_pages, store_of};
+use crate::fresh::first_pages;
+use crate::stores::{extents_of, store_of};
 use entry_tree::Tree;
 use extent_map::{Extents, SpaceFault};
 use mdc_values::Blocks;

@@ -2,9 +2,10 @@
 ghost use Rattle.std.specs.Prelude.{◌≡◌, false, None};
 
 use crate::changes::add_some;
+use crate::fresh::fresh_store;
 use crate::numbers::{NUMBERS, Order, entry_of};
 use crate::reading::all_pages;
-use crate::stores::{extents_of, fresh_store};
+use crate::stores::extents_of;
 use entry_tree::Tree;
 use extent_map::{Extents, SpaceFault};
 use std::alloc::Global;

@@ -2,9 +2,10 @@
 ghost use Rattle.std.specs.Prelude.{◌≡◌, ◌≤◌, false, None, OnOk};
 
 use crate::changes::{add_some, remove_some, sweep};
+use crate::fresh::fresh_store;
 use crate::numbers::{NUMBERS, Order};
 use crate::reading::{expected, read_all, used_pages};
-use crate::stores::{extents_of, fresh_store, save};
+use crate::stores::{extents_of, save};
 use entry_tree::Tree;
 use extent_map::Extents;
 use std::alloc::Global;

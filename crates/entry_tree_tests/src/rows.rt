@@ -2,8 +2,9 @@
 ghost use Rattle.std.specs.Prelude.{◌≡◌, ◌<◌, false};
 
 use crate::changes::add_some;
+use crate::fresh::fresh_store;
 use crate::numbers::{NUMBERS, Order, entry_of};
-use crate::stores::{extents_of, fresh_store};
+use crate::stores::extents_of;
 use entry_tree::Tree;
 use extent_map::{Extents, Kind};
 use std::alloc::Global;

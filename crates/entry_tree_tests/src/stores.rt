@@ -1,26 +1,10 @@
-// Stores in memory.
+// Stores in memory, their commits, and the extents of a database, lent to tests of other crates.
 ghost use Rattle.std.specs.Prelude.{◌≡◌, false, None, IfOk, OnOk};
 
 use extent_map::Extents;
-use std::alloc::{AllocError, Global};
+use std::alloc::Global;
 use std::test::Fail;
 use store_api::{MemStore, Page, Pages, Store, stated_count};
-
-// How many pages lie before the map: the root page and the tables.
-const BEFORE_MAP: u32 = 17;
-
-/// The pages before the extents of a database of at most 512 extents. Page 0 states so many pages.
-pub fn first_pages(alloc: Global, count: u8, map: Page) -> Result<Vec<Page>, AllocError> {
-    let mut pages = Vec::new(alloc);
-    let mut root = [0; 4096];
-    root[11] = count;
-    pages.push(root)?;
-    for _ in 1..BEFORE_MAP {
-        pages.push([0; 4096])?;
-    }
-    pages.push(map)?;
-    Ok(pages)
-}
 
 /// A store of these pages.
 pub fn store_of(alloc: Global, pages: Vec<Page>) -> Result<MemStore, Fail>
@@ -31,14 +15,6 @@ pub fn store_of(alloc: Global, pages: Vec<Page>) -> Result<MemStore, Fail>
         return Err("more pages than a test has")?;
     }
     Ok(MemStore::new(alloc, pages))
-}
-
-/// A store of a database of at most 512 extents, none of which is in use.
-pub fn fresh_store(alloc: Global) -> Result<MemStore, Fail>
-    ensures going { IfOk result (λ store. (⟦<MemStore as Pages>⟧.state store).ended ≡ false) }
-    ensures unmarked { IfOk result (λ store. (⟦<MemStore as Pages>⟧.state store).marked ≡ None) }
-{
-    store_of(alloc, first_pages(alloc, 18, [0; 4096])?)
 }
 
 /// So many extents of two pages each.

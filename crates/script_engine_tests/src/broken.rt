@@ -1,35 +1,17 @@
 // Databases that are broken behind the engine's back, between two openings.
-ghost use Rattle.std.specs.Prelude.{◌≡◌, false, None, IfOk, OnOk};
+ghost use Rattle.std.specs.Prelude.{◌≡◌, false, None, IfOk};
 
 use crate::patches::{Patch, write_over};
 use crate::scripts::{AMPLE, Came, run_on, try_on};
 use crate::stores::fresh_store;
+use entry_tree_tests::save;
 use std::alloc::Global;
 use std::test::Fail;
-use store_api::{Damage, Store, stated_count};
+use store_api::{Damage, Store};
 
 /// The damage that names a rule and a page.
 pub fn damage_of(rule: u16, page: u32) -> Option<Damage> {
     Some(Damage { page, rule })
-}
-
-// Makes the work of a store its base. Its page 0 must state how many pages there are.
-fn commit_pages<S: Store>(store: &mut S) -> Result<(), Fail>
-    requires going { (S.state store.old).ended ≡ false }
-    requires unmarked { (S.state store.old).marked ≡ None }
-    ensures going { OnOk result ((S.state store.new).ended ≡ false) }
-    ensures unmarked { OnOk result ((S.state store.new).marked ≡ None) }
-{
-    if store.count() == 0 {
-        return Err("no page 0")?;
-    }
-    store.fetch(0)?;
-    if stated_count(store.page()) != store.count() {
-        return Err("another count of pages")?;
-    }
-    store.prepare()?;
-    store.commit()?;
-    Ok(())
 }
 
 // A store with what a script makes in it, over which patches are written. They are of the last commit.
@@ -47,7 +29,7 @@ fn broken<S: Store + Drop>(
     let (_, made) = run_on(alloc, store, AMPLE, making)?;
     let mut store = made;
     write_over(&mut store, patches)?;
-    commit_pages(&mut store)?;
+    save(&mut store)?;
     Ok(store)
 }
 

@@ -2,7 +2,7 @@
 ghost use Rattle.std.specs.Prelude.{◌≡◌, false, None, IfOk};
 ghost use Rattle.script_engine.specs.Serving.{MayCall};
 
-use extent_map::Extents;
+use entry_tree_tests::{extents_of, store_of};
 use script_engine::Engine;
 use std::alloc::Global;
 use std::test::Fail;
@@ -24,31 +24,12 @@ pub fn fresh_store(alloc: Global) -> Result<MemStore, Fail>
     store_of(alloc, pages)
 }
 
-// A store of these pages.
-fn store_of(alloc: Global, pages: Vec<Page>) -> Result<MemStore, Fail>
-    ensures going { IfOk result (λ store. (⟦<MemStore as Pages>⟧.state store).ended ≡ false) }
-    ensures unmarked { IfOk result (λ store. (⟦<MemStore as Pages>⟧.state store).marked ≡ None) }
-{
-    if pages.len() > 1000 {
-        return Err("more pages than a test has")?;
-    }
-    Ok(MemStore::new(alloc, pages))
-}
-
 // The root page of the first pages.
 fn root_page() -> Page {
     let mut page = *blank_page();
     put(&mut page, 0, b"ROOT\x00\x00\x00\x01");
     put(&mut page, 8, &FIRST_PAGES.to_be_bytes());
     page
-}
-
-// So many extents of two pages each.
-fn extents_of(cap: u32) -> Result<Extents, Fail> {
-    match Extents::new(cap, 2) {
-        Some(ext) => Ok(ext),
-        None => Err("no shape of a database")?,
-    }
 }
 
 /// An engine on a store of at most so many extents of two pages.

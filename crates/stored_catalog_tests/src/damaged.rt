@@ -5,7 +5,7 @@ ghost use Rattle.stored_catalog.specs.StoredDefinitions.{AreWithinLimits};
 use crate::stores::{fresh_store, store_with};
 use crate::tables::{create, loaded, wide_page};
 use catalog::Catalog;
-use cell_change_tests::extents_of;
+use entry_tree_tests::extents_of;
 use extent_map::Extents;
 use std::alloc::Global;
 use std::test::Fail;

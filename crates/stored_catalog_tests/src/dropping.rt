@@ -7,7 +7,7 @@ use crate::rows::{fill, insert};
 use crate::stores::fresh_store;
 use crate::tables::{create, drop_at, loaded, save, taken};
 use catalog::Catalog;
-use cell_change_tests::extents_of;
+use entry_tree_tests::extents_of;
 use extent_map::Extents;
 use mdc_table::row_at;
 use mdc_values::Rid;

@@ -8,7 +8,7 @@ use crate::rows::{delete, fill, insert, try_insert};
 use crate::stores::fresh_store;
 use crate::tables::{create, loaded, taken, try_create};
 use catalog::Catalog;
-use cell_change_tests::extents_of;
+use entry_tree_tests::extents_of;
 use extent_map::{Extents, SpaceFault};
 use mdc_ast::TableDef;
 use mdc_values::Rid;

@@ -6,7 +6,7 @@ use crate::looks::{Look, is_page, looked_at, map_page, tables_in};
 use crate::stores::{fresh_store, root_page};
 use crate::tables::{create, loaded, wide_page};
 use catalog::Catalog;
-use cell_change_tests::extents_of;
+use entry_tree_tests::extents_of;
 use extent_map::Extents;
 use std::alloc::Global;
 use std::test::Fail;

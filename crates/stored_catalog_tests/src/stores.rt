@@ -1,7 +1,7 @@
 // Stores in memory.
 ghost use Rattle.std.specs.Prelude.{◌≡◌, false, None, IfOk};
 
-use cell_change_tests::store_of;
+use entry_tree_tests::store_of;
 use std::alloc::Global;
 use std::test::Fail;
 use store_api::{MemStore, Page, Pages, blank_page, put};
