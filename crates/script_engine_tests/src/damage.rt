@@ -2,7 +2,7 @@
 use crate::broken::{damage_of, found_on, is_answered, tried};
 use crate::patches::{Patch, bytes_at};
 use crate::stores::fresh_store;
-use std::alloc::Global;
+use std::process::Abort;
 use std::test::Fail;
 use store_api::Damage;
 
@@ -14,42 +14,46 @@ INSERT INTO T VALUES (1, 7, 10), (2, 7, 20), (1, 7, 30), (NULL, 9, 40);
 CREATE TABLE U (X INTEGER) ORGANIZE BY (X);
 INSERT INTO U VALUES (1), (2)";
 
-// The damage at which a statement on the broken tables stops, if it does. It comes behind one that is answered, and its own reply
-// isn't told.
-fn stop(alloc: Global, patches: &[Patch], script: &[u8]) -> Result<Option<Damage>, Fail> {
+// On the broken tables a statement stops at the damage that is named. It comes behind one that is answered, and its own reply isn't
+// told.
+fn stops(
+    rt: &(impl Abort + AllocGlobal),
+    patches: &[Patch],
+    script: &[u8],
+    named: Option<Damage>,
+) -> Result<(), Fail> {
+    let alloc = rt.alloc();
     let mut all = Vec::from_slice(alloc, b"INSERT INTO U VALUES (3); ")?;
     all.extend_from_slice(script)?;
     let came = tried(alloc, TABLES, patches, all.as_slice())?;
-    if came.said.as_slice() != b"1 ROWS INSERTED\n".as_slice() {
-        return Err("another reply than that of the first statement")?;
-    }
-    Ok(came.damage)
+    let first = b"1 ROWS INSERTED\n".as_slice();
+    assert_eq!(rt; came.said.as_slice(), first, "{}", script.escape_ascii());
+    assert_eq!(rt; came.damage, named, "{}", script.escape_ascii());
+    Ok(())
 }
 
-// Whether a script on the broken tables meets no damage, and is answered so.
-fn goes_on(alloc: Global, patches: &[Patch], script: &[u8], replies: &[u8]) -> Result<bool, Fail> {
-    is_answered(alloc, TABLES, patches, script, replies)
+// On the broken tables a script meets no damage, and is answered so.
+fn goes_on(
+    rt: &(impl Abort + AllocGlobal),
+    patches: &[Patch],
+    script: &[u8],
+    replies: &[u8],
+) -> Result<(), Fail> {
+    let came = tried(rt.alloc(), TABLES, patches, script)?;
+    assert_eq!(rt; came.damage, None, "{}", script.escape_ascii());
+    assert_eq!(rt; came.said.as_slice(), replies, "{}", script.escape_ascii());
+    Ok(())
 }
 
 #[test]
 fn what_reads_a_row_page_without_its_letters_stops(rt: HostRuntime) -> Result<(), Fail> {
-    let alloc = rt.alloc();
     let broken = [bytes_at(22, 0, b"S")];
     let named = damage_of(7, 22);
-    assert_eq!(rt; stop(alloc, &broken, b"SELECT * FROM T")?, named);
-    assert_eq!(rt;
-        stop(alloc, &broken, b"SELECT B FROM T WHERE R = 7")?,
-        named
-    );
-    assert_eq!(rt;
-        stop(alloc, &broken, b"INSERT INTO T VALUES (1, 7, 50)")?,
-        named
-    );
-    assert_eq!(rt;
-        stop(alloc, &broken, b"UPDATE T SET B = 0 WHERE A = 1")?,
-        named
-    );
-    assert_eq!(rt; stop(alloc, &broken, b"DELETE FROM T WHERE A < 3")?, named);
+    stops(&rt, &broken, b"SELECT * FROM T", named)?;
+    stops(&rt, &broken, b"SELECT B FROM T WHERE R = 7", named)?;
+    stops(&rt, &broken, b"INSERT INTO T VALUES (1, 7, 50)", named)?;
+    stops(&rt, &broken, b"UPDATE T SET B = 0 WHERE A = 1", named)?;
+    stops(&rt, &broken, b"DELETE FROM T WHERE A < 3", named)?;
     Ok(())
 }
 
@@ -81,17 +85,14 @@ USED 3 FREE 1 PENDING 0
 // The second page is looked at by what reads all rows of the block alone.
 #[test]
 fn a_page_that_a_statement_does_not_read_is_not_met(rt: HostRuntime) -> Result<(), Fail> {
-    let alloc = rt.alloc();
     let first = [bytes_at(22, 0, b"S")];
-    assert!(rt; goes_on(alloc, &first, OTHER_BLOCKS, OTHER_BLOCKS_SAID)?);
+    goes_on(&rt, &first, OTHER_BLOCKS, OTHER_BLOCKS_SAID)?;
     let second = [bytes_at(23, 1, b"S")];
-    assert!(rt; goes_on(alloc, &second, OTHER_BLOCKS, OTHER_BLOCKS_SAID)?);
+    goes_on(&rt, &second, OTHER_BLOCKS, OTHER_BLOCKS_SAID)?;
     let insert = b"INSERT INTO T VALUES (1, 7, 50)";
-    assert!(rt; goes_on(alloc, &second, insert, b"1 ROWS INSERTED\n")?);
-    assert_eq!(rt;
-        stop(alloc, &second, b"SELECT B FROM T WHERE A = 1")?,
-        damage_of(7, 23)
-    );
+    goes_on(&rt, &second, insert, b"1 ROWS INSERTED\n")?;
+    let read = b"SELECT B FROM T WHERE A = 1";
+    stops(&rt, &second, read, damage_of(7, 23))?;
     Ok(())
 }
 
@@ -99,15 +100,14 @@ fn a_page_that_a_statement_does_not_read_is_not_met(rt: HostRuntime) -> Result<(
 // room for.
 #[test]
 fn what_needs_the_stated_rows_of_a_page_stops(rt: HostRuntime) -> Result<(), Fail> {
-    let alloc = rt.alloc();
     let full = [bytes_at(22, 5, b"\xb8"), bytes_at(23, 5, b"\xb8")];
     let insert = b"INSERT INTO T VALUES (1, 7, 50)";
-    assert_eq!(rt; stop(alloc, &full, insert)?, damage_of(7, 22));
-    assert!(rt; goes_on(alloc, &full, OTHER_BLOCKS, OTHER_BLOCKS_SAID)?);
+    stops(&rt, &full, insert, damage_of(7, 22))?;
+    goes_on(&rt, &full, OTHER_BLOCKS, OTHER_BLOCKS_SAID)?;
     let read = b"SELECT B FROM T WHERE A = 1";
-    assert!(rt; goes_on(alloc, &full, read, b"B\n10\n30\n2 ROWS\n")?);
+    goes_on(&rt, &full, read, b"B\n10\n30\n2 ROWS\n")?;
     let one = [bytes_at(22, 5, b"\xb8")];
-    assert!(rt; goes_on(alloc, &one, insert, b"1 ROWS INSERTED\n")?);
+    goes_on(&rt, &one, insert, b"1 ROWS INSERTED\n")?;
     Ok(())
 }
 
@@ -115,16 +115,12 @@ fn what_needs_the_stated_rows_of_a_page_stops(rt: HostRuntime) -> Result<(), Fai
 // and the second isn't where it was.
 #[test]
 fn a_block_with_fewer_rows_than_it_has_stops_what_takes_them(rt: HostRuntime) -> Result<(), Fail> {
-    let alloc = rt.alloc();
     let fewer = [bytes_at(18, 22, b"\x01")];
     let named = damage_of(8, 22);
-    assert_eq!(rt; stop(alloc, &fewer, b"DELETE FROM T WHERE A = 1")?, named);
-    assert_eq!(rt; stop(alloc, &fewer, b"DELETE FROM T")?, named);
-    assert_eq!(rt;
-        stop(alloc, &fewer, b"UPDATE T SET A = 5 WHERE A = 1")?,
-        named
-    );
-    assert!(rt; goes_on(alloc, &fewer, OTHER_BLOCKS, OTHER_BLOCKS_SAID)?);
+    stops(&rt, &fewer, b"DELETE FROM T WHERE A = 1", named)?;
+    stops(&rt, &fewer, b"DELETE FROM T", named)?;
+    stops(&rt, &fewer, b"UPDATE T SET A = 5 WHERE A = 1", named)?;
+    goes_on(&rt, &fewer, OTHER_BLOCKS, OTHER_BLOCKS_SAID)?;
     Ok(())
 }
 
@@ -157,46 +153,26 @@ fn a_full_block_with_room_by_its_line_stops_what_puts_a_row(rt: HostRuntime) -> 
 fn an_index_with_a_block_under_another_cell_stops_what_frees_it(
     rt: HostRuntime,
 ) -> Result<(), Fail> {
-    let alloc = rt.alloc();
     let moved = [bytes_at(19, 34, b"\x03")];
     let named = damage_of(10, 19);
-    assert_eq!(rt; stop(alloc, &moved, b"DELETE FROM T")?, named);
-    assert_eq!(rt; stop(alloc, &moved, b"DELETE FROM T WHERE R = 7")?, named);
-    assert_eq!(rt;
-        stop(alloc, &moved, b"UPDATE T SET A = 9 WHERE R = 7")?,
-        named
-    );
+    stops(&rt, &moved, b"DELETE FROM T", named)?;
+    stops(&rt, &moved, b"DELETE FROM T WHERE R = 7", named)?;
+    stops(&rt, &moved, b"UPDATE T SET A = 9 WHERE R = 7", named)?;
     let read = b"SELECT B FROM T WHERE A = 1; SELECT B FROM T; LIST BLOCKS T";
-    assert!(rt;
-        goes_on(
-            alloc,
-            &moved,
-            read,
-            b"B\n10\n30\n2 ROWS\nB\n10\n20\n30\n40\n4 ROWS\nUSED 3 FREE 0 PENDING 0\n"
-        )?
-    );
+    let said = b"B\n10\n30\n2 ROWS\nB\n10\n20\n30\n40\n4 ROWS\nUSED 3 FREE 0 PENDING 0\n";
+    goes_on(&rt, &moved, read, said)?;
     Ok(())
 }
 
 // The second entry of the index of A has its A at 26 of page 20, which only what lists or unlists a block looks at.
 #[test]
 fn an_index_of_a_dimension_stops_what_frees_a_block(rt: HostRuntime) -> Result<(), Fail> {
-    let alloc = rt.alloc();
     let moved = [bytes_at(20, 29, b"\x03")];
-    assert_eq!(rt;
-        stop(alloc, &moved, b"DELETE FROM T WHERE A = 2")?,
-        damage_of(10, 20)
-    );
+    stops(&rt, &moved, b"DELETE FROM T WHERE A = 2", damage_of(10, 20))?;
     let other =
         b"SELECT B FROM T WHERE A = 2; INSERT INTO T VALUES (2, 7, 50); UPDATE T SET B = 0 WHERE A = 2";
-    assert!(rt;
-        goes_on(
-            alloc,
-            &moved,
-            other,
-            b"B\n20\n1 ROWS\n1 ROWS INSERTED\n2 ROWS UPDATED\n"
-        )?
-    );
+    let said = b"B\n20\n1 ROWS\n1 ROWS INSERTED\n2 ROWS UPDATED\n";
+    goes_on(&rt, &moved, other, said)?;
     Ok(())
 }
 
@@ -204,77 +180,44 @@ fn an_index_of_a_dimension_stops_what_frees_a_block(rt: HostRuntime) -> Result<(
 // is named all the same, for they break no rule.
 #[test]
 fn an_index_with_a_block_that_is_none_of_the_table_stops(rt: HostRuntime) -> Result<(), Fail> {
-    let alloc = rt.alloc();
     let named = damage_of(10, 19);
     let free = [bytes_at(19, 43, b"\x0b")];
-    assert_eq!(rt;
-        stop(alloc, &free, b"INSERT INTO T VALUES (2, 7, 50)")?,
-        named
-    );
-    assert_eq!(rt; stop(alloc, &free, b"SELECT B FROM T WHERE A = 2")?, named);
+    stops(&rt, &free, b"INSERT INTO T VALUES (2, 7, 50)", named)?;
+    stops(&rt, &free, b"SELECT B FROM T WHERE A = 2", named)?;
     let other = [bytes_at(19, 43, b"\x07")];
-    assert_eq!(rt;
-        stop(alloc, &other, b"INSERT INTO T VALUES (2, 7, 50)")?,
-        named
-    );
-    assert_eq!(rt; stop(alloc, &other, b"SELECT B FROM T WHERE A = 2")?, named);
-    assert_eq!(rt;
-        stop(alloc, &other, b"UPDATE T SET B = 0 WHERE A = 2")?,
-        named
-    );
-    assert_eq!(rt; stop(alloc, &other, b"DELETE FROM T WHERE A = 2")?, named);
+    stops(&rt, &other, b"INSERT INTO T VALUES (2, 7, 50)", named)?;
+    stops(&rt, &other, b"SELECT B FROM T WHERE A = 2", named)?;
+    stops(&rt, &other, b"UPDATE T SET B = 0 WHERE A = 2", named)?;
+    stops(&rt, &other, b"DELETE FROM T WHERE A = 2", named)?;
     Ok(())
 }
 
 #[test]
 fn a_block_map_that_is_no_node_stops(rt: HostRuntime) -> Result<(), Fail> {
-    let alloc = rt.alloc();
     let broken = [bytes_at(18, 0, b"\x4d")];
     let named = damage_of(4, 18);
-    assert_eq!(rt; stop(alloc, &broken, b"SELECT * FROM T")?, named);
-    assert_eq!(rt;
-        stop(alloc, &broken, b"INSERT INTO T VALUES (1, 7, 50)")?,
-        named
-    );
-    assert_eq!(rt;
-        stop(alloc, &broken, b"UPDATE T SET B = 0 WHERE A = 1")?,
-        named
-    );
-    assert_eq!(rt; stop(alloc, &broken, b"DELETE FROM T WHERE A = 1")?, named);
-    assert_eq!(rt; stop(alloc, &broken, b"LIST BLOCKS T")?, named);
-    assert_eq!(rt; stop(alloc, &broken, b"DROP TABLE T")?, named);
+    stops(&rt, &broken, b"SELECT * FROM T", named)?;
+    stops(&rt, &broken, b"INSERT INTO T VALUES (1, 7, 50)", named)?;
+    stops(&rt, &broken, b"UPDATE T SET B = 0 WHERE A = 1", named)?;
+    stops(&rt, &broken, b"DELETE FROM T WHERE A = 1", named)?;
+    stops(&rt, &broken, b"LIST BLOCKS T", named)?;
+    stops(&rt, &broken, b"DROP TABLE T", named)?;
     let read = b"SELECT B FROM T WHERE A = 1";
-    assert!(rt; goes_on(alloc, &broken, read, b"B\n10\n30\n2 ROWS\n")?);
+    goes_on(&rt, &broken, read, b"B\n10\n30\n2 ROWS\n")?;
     Ok(())
 }
 
 #[test]
 fn an_index_of_cells_that_is_no_node_stops(rt: HostRuntime) -> Result<(), Fail> {
-    let alloc = rt.alloc();
     let broken = [bytes_at(19, 0, b"\x4d")];
     let named = damage_of(4, 19);
-    assert_eq!(rt;
-        stop(alloc, &broken, b"SELECT * FROM T WHERE A = 1")?,
-        named
-    );
-    assert_eq!(rt;
-        stop(alloc, &broken, b"INSERT INTO T VALUES (1, 7, 50)")?,
-        named
-    );
-    assert_eq!(rt;
-        stop(alloc, &broken, b"UPDATE T SET B = 0 WHERE A = 1")?,
-        named
-    );
-    assert_eq!(rt; stop(alloc, &broken, b"DELETE FROM T")?, named);
+    stops(&rt, &broken, b"SELECT * FROM T WHERE A = 1", named)?;
+    stops(&rt, &broken, b"INSERT INTO T VALUES (1, 7, 50)", named)?;
+    stops(&rt, &broken, b"UPDATE T SET B = 0 WHERE A = 1", named)?;
+    stops(&rt, &broken, b"DELETE FROM T", named)?;
     let read = b"SELECT B FROM T; LIST BLOCKS T";
-    assert!(rt;
-        goes_on(
-            alloc,
-            &broken,
-            read,
-            b"B\n10\n20\n30\n40\n4 ROWS\nUSED 3 FREE 0 PENDING 0\n"
-        )?
-    );
+    let said = b"B\n10\n20\n30\n40\n4 ROWS\nUSED 3 FREE 0 PENDING 0\n";
+    goes_on(&rt, &broken, read, said)?;
     Ok(())
 }
 
@@ -299,22 +242,13 @@ fn the_root_of_a_leaf_that_is_no_node_is_named(rt: HostRuntime) -> Result<(), Fa
 // What is met is page 26, then page 22, then page 32; what is named is the lowest page of the first rule.
 #[test]
 fn the_first_rule_and_the_lowest_page_are_named(rt: HostRuntime) -> Result<(), Fail> {
-    let alloc = rt.alloc();
     let two_pages = [bytes_at(26, 0, b"S"), bytes_at(23, 0, b"S")];
-    assert_eq!(rt;
-        stop(alloc, &two_pages, b"SELECT B FROM T WHERE R = 9")?,
-        damage_of(7, 23)
-    );
+    let read = b"SELECT B FROM T WHERE R = 9";
+    stops(&rt, &two_pages, read, damage_of(7, 23))?;
     let two_rules = [bytes_at(22, 0, b"S"), bytes_at(20, 0, b"\x4d")];
-    assert_eq!(rt;
-        stop(alloc, &two_rules, b"SELECT * FROM T")?,
-        damage_of(4, 20)
-    );
+    stops(&rt, &two_rules, b"SELECT * FROM T", damage_of(4, 20))?;
     let two_tables = [bytes_at(32, 0, b"S"), bytes_at(22, 0, b"S")];
-    assert_eq!(rt;
-        stop(alloc, &two_tables, b"SELECT * FROM U")?,
-        damage_of(7, 22)
-    );
+    stops(&rt, &two_tables, b"SELECT * FROM U", damage_of(7, 22))?;
     Ok(())
 }
 
@@ -360,46 +294,47 @@ Y
 1 ROWS
 ";
 
-// Whether the statements beside the broken table are answered as if nothing was.
-fn goes_on_beside(alloc: Global, patch: Patch) -> Result<bool, Fail> {
-    goes_on(alloc, &[patch], BESIDE, BESIDE_SAID)
+// The statements beside the broken table are answered as if nothing was.
+fn goes_on_beside(rt: &(impl Abort + AllocGlobal), patch: Patch) -> Result<(), Fail> {
+    goes_on(rt, &[patch], BESIDE, BESIDE_SAID)
 }
 
 #[test]
 fn a_table_beside_a_broken_one_goes_on(rt: HostRuntime) -> Result<(), Fail> {
-    let alloc = rt.alloc();
-    assert!(rt; goes_on(alloc, &[], BESIDE, BESIDE_SAID)?);
-    assert!(rt; goes_on_beside(alloc, bytes_at(22, 0, b"S"))?);
-    assert!(rt; goes_on_beside(alloc, bytes_at(22, 5, b"\xb8"))?);
-    assert!(rt; goes_on_beside(alloc, bytes_at(18, 22, b"\x01"))?);
-    assert!(rt; goes_on_beside(alloc, bytes_at(19, 34, b"\x03"))?);
-    assert!(rt; goes_on_beside(alloc, bytes_at(18, 0, b"\x4d"))?);
-    assert!(rt; goes_on_beside(alloc, bytes_at(19, 0, b"\x4d"))?);
+    goes_on(&rt, &[], BESIDE, BESIDE_SAID)?;
+    goes_on_beside(&rt, bytes_at(22, 0, b"S"))?;
+    goes_on_beside(&rt, bytes_at(22, 5, b"\xb8"))?;
+    goes_on_beside(&rt, bytes_at(18, 22, b"\x01"))?;
+    goes_on_beside(&rt, bytes_at(19, 34, b"\x03"))?;
+    goes_on_beside(&rt, bytes_at(18, 0, b"\x4d"))?;
+    goes_on_beside(&rt, bytes_at(19, 0, b"\x4d"))?;
     Ok(())
 }
 
-// What is found by whoever opens the broken tables again.
-fn found(alloc: Global, patches: &[Patch], script: &[u8], last: &[u8]) -> Result<Vec<u8>, Fail> {
-    found_on(alloc, fresh_store(alloc)?, TABLES, patches, script, last)
+// Whoever opens the broken tables again, once a script was run on them, is answered so.
+fn finds(
+    rt: &(impl Abort + AllocGlobal),
+    patches: &[Patch],
+    script: &[u8],
+    last: &[u8],
+    replies: &[u8],
+) -> Result<(), Fail> {
+    let alloc = rt.alloc();
+    let found = found_on(alloc, fresh_store(alloc)?, TABLES, patches, script, last)?;
+    assert_eq!(rt; found.as_slice(), replies, "{}", script.escape_ascii());
+    Ok(())
 }
 
 // A DELETE that stops is undone, with the row that it had taken out; what was answered stays, unless it was in a transaction.
 #[test]
 fn what_was_answered_before_a_stop_stays(rt: HostRuntime) -> Result<(), Fail> {
-    let alloc = rt.alloc();
     let fewer = [bytes_at(18, 22, b"\x01")];
     let last = b"SELECT X FROM U; SELECT B FROM T WHERE A = 1";
     let script = b"INSERT INTO U VALUES (3); DELETE FROM T WHERE A = 1";
-    let said = found(alloc, &fewer, script, last)?;
-    assert_eq!(rt;
-        said.as_slice(),
-        b"X\n1\n2\n3\n3 ROWS\nB\n10\n30\n2 ROWS\n".as_slice()
-    );
+    let said = b"X\n1\n2\n3\n3 ROWS\nB\n10\n30\n2 ROWS\n";
+    finds(&rt, &fewer, script, last, said)?;
     let script = b"BEGIN; INSERT INTO U VALUES (3); DELETE FROM T WHERE A = 1";
-    let said = found(alloc, &fewer, script, last)?;
-    assert_eq!(rt;
-        said.as_slice(),
-        b"X\n1\n2\n2 ROWS\nB\n10\n30\n2 ROWS\n".as_slice()
-    );
+    let said = b"X\n1\n2\n2 ROWS\nB\n10\n30\n2 ROWS\n";
+    finds(&rt, &fewer, script, last, said)?;
     Ok(())
 }
