@@ -13,34 +13,34 @@ mod work;
 use bench_plan::{Plan, Stop, plan_of, words};
 use host_edge::FileHost;
 use mdc_outside::Host;
+use setup::{extents, made};
 use std::alloc::Global;
 use what::What;
+use work::do_work;
 
 fn main(rt: HostRuntime) -> Result<(), Stop> {
     let words = words(&rt)?;
-    let Some(plan) = plan_of(&words) else {
-        println!(rt;
+    run(&rt, &words)
+}
+
+// Does what the words ask for, and prints a number that tells of it.
+fn run(rt: &HostRuntime, words: &[String]) -> Result<(), Stop> {
+    let Some(plan) = plan_of(words) else {
+        println!(*rt;
             "usage: tree_bench add|rise|has|walk|remove|claim|fill|fill-rising SIZE TIMES"
         )?;
         return Ok(());
     };
     let host = FileHost::new(rt.alloc(), rt.clone()?, rt.stdout());
     let number = carry_out(rt.alloc(), host, plan)?;
-    println!(rt; "{number}")?;
+    println!(*rt; "{number}")?;
     Ok(())
 }
 
-// Does the work, and answers a number that tells of it.
+// Does the work on a new database, and answers a number that tells of it. What owns the database makes one call, to which
+// it is lent.
 fn carry_out<H: Host + Drop>(alloc: Global, host: H, plan: Plan<What>) -> Result<u64, Stop> {
-    let Plan { what, size, times } = plan;
-    match what {
-        What::Add => work::add(alloc, host, size, times),
-        What::Rise => work::rise(alloc, host, size, times),
-        What::Has => work::has(alloc, host, size, times),
-        What::Walk => work::walk(alloc, host, size, times),
-        What::Remove => work::remove(alloc, host, size, times),
-        What::Claim => work::claim(alloc, host, size, times),
-        What::Fill => work::fill(alloc, host, size),
-        What::FillRising => work::fill_rising(alloc, host, size),
-    }
+    let mut ext = extents()?;
+    let mut store = made(alloc, host)?;
+    do_work(alloc, &mut ext, &mut store, plan)
 }

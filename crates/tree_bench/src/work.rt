@@ -3,11 +3,10 @@ ghost use Rattle.std.specs.Prelude.{◌≡◌, false, None, IfOk, OnOk};
 
 use crate::calls;
 use crate::entries::{Order, WIDTH, entry};
-use crate::setup::{extents, made};
-use bench_plan::Stop;
+use crate::what::What;
+use bench_plan::{Plan, Stop};
 use entry_tree::{Entry, Leaf, Tree};
 use extent_map::Extents;
-use mdc_outside::Host;
 use std::alloc::Global;
 use store_api::Pages;
 
@@ -20,74 +19,81 @@ const LEAF_ROOM: u64 = 272;
 // The parts of a whole in which a fill is told.
 const PARTS: u64 = 1000;
 
-/// Adds so many entries in shuffled order to new trees.
-pub fn add<H: Host + Drop>(alloc: Global, host: H, size: u32, times: u32) -> Result<u64, Stop> {
-    let mut store = made(alloc, host)?;
-    make_trees(
-        alloc,
-        &mut extents()?,
-        &mut store,
-        Order::Shuffled,
-        size,
-        times,
-    )
+/// Does a piece of work of that size so many times.
+pub fn do_work<S: Pages>(
+    alloc: Global,
+    ext: &mut Extents,
+    store: &mut S,
+    plan: Plan<What>,
+) -> Result<u64, Stop>
+    requires going { (S.state store.old).ended ≡ false }
+    requires unmarked { (S.state store.old).marked ≡ None }
+{
+    let Plan { what, size, times } = plan;
+    match what {
+        What::Add => make_trees(alloc, ext, store, Order::Shuffled, size, times),
+        What::Rise => make_trees(alloc, ext, store, Order::Rising, size, times),
+        What::Has => has(alloc, ext, store, size, times),
+        What::Walk => walk(alloc, ext, store, size, times),
+        What::Remove => remove_times(alloc, ext, store, size, times),
+        What::Claim => claim(ext, store, size, times),
+        What::Fill => fill(alloc, ext, store, Order::Shuffled, size),
+        What::FillRising => fill(alloc, ext, store, Order::Rising, size),
+    }
 }
 
-/// Adds so many entries in rising order to new trees.
-pub fn rise<H: Host + Drop>(alloc: Global, host: H, size: u32, times: u32) -> Result<u64, Stop> {
-    let mut store = made(alloc, host)?;
-    make_trees(
-        alloc,
-        &mut extents()?,
-        &mut store,
-        Order::Rising,
-        size,
-        times,
-    )
+// Looks for each entry of a tree, and answers how many were found.
+fn has<S: Pages>(
+    alloc: Global,
+    ext: &mut Extents,
+    store: &mut S,
+    size: u32,
+    times: u32,
+) -> Result<u64, Stop>
+    requires going { (S.state store.old).ended ≡ false }
+    requires unmarked { (S.state store.old).marked ≡ None }
+{
+    let tree = made_tree(alloc, ext, store, Order::Shuffled, size)?;
+    find_times(&tree, store, size, times)
 }
 
-/// Looks for each entry of a tree, and answers how many were found.
-pub fn has<H: Host + Drop>(alloc: Global, host: H, size: u32, times: u32) -> Result<u64, Stop> {
-    let mut store = made(alloc, host)?;
-    let tree = made_tree(alloc, &mut extents()?, &mut store, Order::Shuffled, size)?;
-    find_times(&tree, &mut store, size, times)
+// Reads all entries of a tree, and answers how many there were.
+fn walk<S: Pages>(
+    alloc: Global,
+    ext: &mut Extents,
+    store: &mut S,
+    size: u32,
+    times: u32,
+) -> Result<u64, Stop>
+    requires going { (S.state store.old).ended ≡ false }
+    requires unmarked { (S.state store.old).marked ≡ None }
+{
+    let tree = made_tree(alloc, ext, store, Order::Shuffled, size)?;
+    walk_times(&tree, store, &mut Leaf::new(alloc), times)
 }
 
-/// Reads all entries of a tree, and answers how many there were.
-pub fn walk<H: Host + Drop>(alloc: Global, host: H, size: u32, times: u32) -> Result<u64, Stop> {
-    let mut store = made(alloc, host)?;
-    let tree = made_tree(alloc, &mut extents()?, &mut store, Order::Shuffled, size)?;
-    walk_times(alloc, &tree, &mut store, times)
+// Claims a thousand blocks so many times, behind so many extents in use. Answers the sum of their numbers.
+fn claim<S: Pages>(ext: &mut Extents, store: &mut S, size: u32, times: u32) -> Result<u64, Stop>
+    requires going { (S.state store.old).ended ≡ false }
+    requires unmarked { (S.state store.old).marked ≡ None }
+{
+    claim_many(ext, store, size)?;
+    claim_many(ext, store, times.saturating_mul(CLAIMS))
 }
 
-/// Adds so many entries in shuffled order to new trees, and removes them. Answers how many were removed.
-pub fn remove<H: Host + Drop>(alloc: Global, host: H, size: u32, times: u32) -> Result<u64, Stop> {
-    let mut store = made(alloc, host)?;
-    remove_times(alloc, &mut extents()?, &mut store, size, times)
-}
-
-/// Claims a thousand blocks so many times, behind so many extents in use. Answers the last one.
-pub fn claim<H: Host + Drop>(alloc: Global, host: H, size: u32, times: u32) -> Result<u64, Stop> {
-    let mut store = made(alloc, host)?;
-    let mut ext = extents()?;
-    claim_many(&mut ext, &mut store, size)?;
-    claim_many(&mut ext, &mut store, times.saturating_mul(CLAIMS))
-}
-
-/// How full the leaves are of so many entries that came in shuffled order, in thousandths.
-pub fn fill<H: Host + Drop>(alloc: Global, host: H, size: u32) -> Result<u64, Stop> {
-    fill_of(alloc, host, Order::Shuffled, size)
-}
-
-/// How full the leaves are of so many entries that came in rising order, in thousandths.
-pub fn fill_rising<H: Host + Drop>(alloc: Global, host: H, size: u32) -> Result<u64, Stop> {
-    fill_of(alloc, host, Order::Rising, size)
-}
-
-fn fill_of<H: Host + Drop>(alloc: Global, host: H, order: Order, size: u32) -> Result<u64, Stop> {
-    let mut store = made(alloc, host)?;
-    let tree = made_tree(alloc, &mut extents()?, &mut store, order, size)?;
-    let Reads { entries, leaves } = walk_once(&tree, &mut store, &mut Leaf::new(alloc))?;
+// How full the leaves are of so many entries that came in an order, in thousandths.
+fn fill<S: Pages>(
+    alloc: Global,
+    ext: &mut Extents,
+    store: &mut S,
+    order: Order,
+    size: u32,
+) -> Result<u64, Stop>
+    requires going { (S.state store.old).ended ≡ false }
+    requires unmarked { (S.state store.old).marked ≡ None }
+{
+    let tree = made_tree(alloc, ext, store, order, size)?;
+    let Reads { entries, leaves } = walk_once(&tree, store, &mut Leaf::new(alloc))?;
     Ok(entries.saturating_mul(PARTS) / leaves.saturating_mul(LEAF_ROOM).max(1))
 }
 
@@ -199,14 +205,18 @@ fn remove_all<S: Pages>(
 }
 
 // Reads all entries of a tree so many times. Answers how many there were.
-fn walk_times<S: Pages>(alloc: Global, tree: &Tree, store: &mut S, times: u32) -> Result<u64, Stop>
+fn walk_times<S: Pages>(
+    tree: &Tree,
+    store: &mut S,
+    leaf: &mut Leaf,
+    times: u32,
+) -> Result<u64, Stop>
     requires width { tree.now.width ≡ WIDTH }
     requires going { (S.state store.old).ended ≡ false }
 {
-    let mut leaf = Leaf::new(alloc);
     let mut read: u64 = 0;
     for _ in 0..times {
-        read = read.wrapping_add(walk_once(tree, store, &mut leaf)?.entries);
+        read = read.wrapping_add(walk_once(tree, store, leaf)?.entries);
     }
     Ok(read)
 }
