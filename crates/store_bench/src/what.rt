@@ -7,6 +7,13 @@ use std::str::FromStr;
 pub enum What {
     /// Open a file of so many pages.
     Open,
+    /// Work on a store that is opened once.
+    Store(StoreWork),
+}
+
+/// A piece of work on a store.
+#[derive(Clone, Copy, Debug)]
+pub enum StoreWork {
     /// Fetch so many pages, all of which are in the cache.
     Hot,
     /// Fetch so many pages, none of which is in the cache.
@@ -27,12 +34,12 @@ impl FromStr for What {
     fn from_str(word: &str) -> Result<What, NoWork> {
         match word {
             "open" => Ok(What::Open),
-            "hot" => Ok(What::Hot),
-            "cold" => Ok(What::Cold),
-            "commit" => Ok(What::Commit),
-            "undo" => Ok(What::Undo),
-            "first" => Ok(What::First),
-            "again" => Ok(What::Again),
+            "hot" => Ok(What::Store(StoreWork::Hot)),
+            "cold" => Ok(What::Store(StoreWork::Cold)),
+            "commit" => Ok(What::Store(StoreWork::Commit)),
+            "undo" => Ok(What::Store(StoreWork::Undo)),
+            "first" => Ok(What::Store(StoreWork::First)),
+            "again" => Ok(What::Store(StoreWork::Again)),
             _ => Err(NoWork),
         }
     }

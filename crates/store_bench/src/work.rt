@@ -2,79 +2,90 @@
 ghost use Rattle.std.specs.Prelude.{◌≡◌, ◌<◌, false, None, OnOk};
 
 use crate::calls;
-use crate::setup::made;
-use bench_plan::{Stop, opened};
-use mdc_outside::Host;
-use std::alloc::Global;
+use crate::what::StoreWork;
+use bench_plan::Stop;
 use store_api::{Page, Pages, Store};
 
 // How many clean pages are in the cache once it is full.
 const CACHED: u32 = 1024;
 
-// How many pages there are where none is found in the cache, and where pages are committed.
-const MANY: u32 = 8192;
+/// How many pages there are: so many that, fetched around, none is found in the cache.
+pub const MANY: u32 = 8192;
 
 // How many pages there are where each is edited again and again.
 const FEW: u32 = 8;
 
-/// Opens a file of at least so many pages, and closes it.
-pub fn open<H: Host + Drop>(alloc: Global, host: H, pages: u32, times: u32) -> Result<u64, Stop> {
-    let mut host = made(alloc, host, pages)?.close();
-    let mut sum: u64 = 0;
-    for _ in 0..times {
-        let store = opened(alloc, host)?;
-        sum = sum.wrapping_add(u64::from(store.count()));
-        host = store.close();
+/// Does a piece of work of that size so many times, on a store of many pages.
+pub fn do_work<S: Store>(store: &mut S, work: StoreWork, size: u32, times: u32) -> Result<u64, Stop>
+    requires going { (S.state store.old).ended ≡ false }
+    requires unmarked { (S.state store.old).marked ≡ None }
+{
+    match work {
+        StoreWork::Hot => hot(store, size, times),
+        StoreWork::Cold => cold(store, size, times),
+        StoreWork::Commit => commit(store, size, times),
+        StoreWork::Undo => undo(store, size, times),
+        StoreWork::First => first(store, size, times),
+        StoreWork::Again => again(store, size, times),
     }
-    Ok(sum)
 }
 
-/// Fetches so many pages, all of which are in the cache.
-pub fn hot<H: Host + Drop>(alloc: Global, host: H, pages: u32, times: u32) -> Result<u64, Stop> {
-    let mut store = made(alloc, host, MANY)?;
-    fetch_around(&mut store, CACHED, CACHED)?;
-    fetch_around(&mut store, CACHED, pages.saturating_mul(times))
+// Fetches so many pages, all of which are in the cache.
+fn hot<S: Pages>(store: &mut S, pages: u32, times: u32) -> Result<u64, Stop>
+    requires going { (S.state store.old).ended ≡ false }
+{
+    fetch_around(store, CACHED, CACHED)?;
+    fetch_around(store, CACHED, pages.saturating_mul(times))
 }
 
-/// Fetches so many pages, none of which is in the cache.
-pub fn cold<H: Host + Drop>(alloc: Global, host: H, pages: u32, times: u32) -> Result<u64, Stop> {
-    let mut store = made(alloc, host, MANY)?;
-    fetch_around(&mut store, MANY, MANY)?;
-    fetch_around(&mut store, MANY, pages.saturating_mul(times))
+// Fetches so many pages, none of which is in the cache.
+fn cold<S: Pages>(store: &mut S, pages: u32, times: u32) -> Result<u64, Stop>
+    requires going { (S.state store.old).ended ≡ false }
+{
+    fetch_around(store, MANY, MANY)?;
+    fetch_around(store, MANY, pages.saturating_mul(times))
 }
 
-/// Writes so many pages and commits them, over a full cache.
-pub fn commit<H: Host + Drop>(alloc: Global, host: H, pages: u32, times: u32) -> Result<u64, Stop> {
-    let mut store = made(alloc, host, MANY)?;
-    fetch_around(&mut store, CACHED, CACHED)?;
-    commit_times(&mut store, pages, times)?;
-    fetch_around(&mut store, MANY, MANY)
+// Writes so many pages and commits them, over a full cache.
+fn commit<S: Store>(store: &mut S, pages: u32, times: u32) -> Result<u64, Stop>
+    requires going { (S.state store.old).ended ≡ false }
+    requires unmarked { (S.state store.old).marked ≡ None }
+{
+    fetch_around(store, CACHED, CACHED)?;
+    commit_times(store, pages, times)?;
+    fetch_around(store, MANY, MANY)
 }
 
-/// Writes so many pages under a mark, over pages that were written before it, and goes back to the mark.
-pub fn undo<H: Host + Drop>(alloc: Global, host: H, pages: u32, times: u32) -> Result<u64, Stop> {
-    let mut store = made(alloc, host, MANY)?;
-    write_pages(&mut store, pages, &[5; 4096])?;
-    undo_times(&mut store, pages, times)?;
-    fetch_around(&mut store, MANY, MANY)
+// Writes so many pages under a mark, over pages that were written before it, and goes back to the mark.
+fn undo<S: Pages>(store: &mut S, pages: u32, times: u32) -> Result<u64, Stop>
+    requires going { (S.state store.old).ended ≡ false }
+    requires unmarked { (S.state store.old).marked ≡ None }
+{
+    write_pages(store, pages, &[5; 4096])?;
+    undo_times(store, pages, times)?;
+    fetch_around(store, MANY, MANY)
 }
 
-/// Edits each of so many pages once under a mark, over pages that were written before it, and keeps what was done.
-pub fn first<H: Host + Drop>(alloc: Global, host: H, pages: u32, times: u32) -> Result<u64, Stop> {
-    let mut store = made(alloc, host, MANY)?;
-    write_pages(&mut store, pages, &[5; 4096])?;
-    edit_times(&mut store, pages, times)?;
-    fetch_around(&mut store, MANY, MANY)
+// Edits each of so many pages once under a mark, over pages that were written before it, and keeps what was done.
+fn first<S: Pages>(store: &mut S, pages: u32, times: u32) -> Result<u64, Stop>
+    requires going { (S.state store.old).ended ≡ false }
+    requires unmarked { (S.state store.old).marked ≡ None }
+{
+    write_pages(store, pages, &[5; 4096])?;
+    edit_times(store, pages, times)?;
+    fetch_around(store, MANY, MANY)
 }
 
-/// Edits pages under one mark so many times, each of which was edited under it before.
-pub fn again<H: Host + Drop>(alloc: Global, host: H, edits: u32, times: u32) -> Result<u64, Stop> {
-    let mut store = made(alloc, host, MANY)?;
-    write_pages(&mut store, FEW, &[5; 4096])?;
+// Edits pages under one mark so many times, each of which was edited under it before.
+fn again<S: Pages>(store: &mut S, edits: u32, times: u32) -> Result<u64, Stop>
+    requires going { (S.state store.old).ended ≡ false }
+    requires unmarked { (S.state store.old).marked ≡ None }
+{
+    write_pages(store, FEW, &[5; 4096])?;
     store.mark();
-    edit_pages(&mut store, FEW)?;
-    edit_rounds(&mut store, FEW, (edits / FEW).saturating_mul(times))?;
-    fetch_around(&mut store, MANY, MANY)
+    edit_pages(store, FEW)?;
+    edit_rounds(store, FEW, (edits / FEW).saturating_mul(times))?;
+    fetch_around(store, MANY, MANY)
 }
 
 // Fetches so many pages, from page 0 again after each round of that many.
