@@ -1,4 +1,4 @@
--- Each form that is built, and each refusal that a short statement can have.
+-- Statements of each kind, and most refusals that a short one can have.
 CREATE TABLE SALES (SOLD DATE NOT NULL, REGION CHAR(8), AMOUNT BIGINT) ORGANIZE BY DIMENSIONS (SOLD, (REGION));
 INSERT INTO SALES VALUES ('2003-01-31', 'NORTH', 250), ('2003-02-01', 'it''s', NULL);
 INSERT INTO SALES (AMOUNT, SOLD) VALUES (7, DATE '2003-02-28'), (DEFAULT, '2003-03-01');
