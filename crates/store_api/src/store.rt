@@ -40,7 +40,7 @@ pub trait Store: Pages {
         ensures time { OverTime Self.clock Self.left (OnlyBase (Self.state self.old)) self.old self.new };
 
     /// Makes the work the base. A crash within it leaves the one or the other, and after a fault so does each later
-    /// crash: the store then takes no further call. Where no page differs, it can't fail, and no time passes.
+    /// crash: the store then takes no further call. Where no page was written, it can't fail, and no time passes.
     fn commit(&mut self) -> Result<(), DeviceFault>
         requires going { (Self.state self.old).ended ≡ false }
         requires prepared { (Self.state self.old).prepared ≡ true }
