@@ -21,71 +21,44 @@ pub fn do_work<S: Store>(store: &mut S, work: StoreWork, size: u32, times: u32) 
     requires unmarked { (S.state store.old).marked ≡ None }
 {
     match work {
-        StoreWork::Hot => hot(store, size, times),
-        StoreWork::Cold => cold(store, size, times),
-        StoreWork::Commit => commit(store, size, times),
-        StoreWork::Undo => undo(store, size, times),
-        StoreWork::First => first(store, size, times),
-        StoreWork::Again => again(store, size, times),
+        StoreWork::Hot => return fetch_times(store, CACHED, size, times),
+        StoreWork::Cold => return fetch_times(store, MANY, size, times),
+        StoreWork::Commit => {
+            fetch_around(store, CACHED, CACHED)?;
+            commit_times(store, size, times)?;
+        }
+        StoreWork::Undo => {
+            write_pages(store, size, &[5; 4096])?;
+            undo_times(store, size, times)?;
+        }
+        StoreWork::First => {
+            write_pages(store, size, &[5; 4096])?;
+            edit_times(store, size, times)?;
+        }
+        StoreWork::Again => again(store, size, times)?,
     }
-}
-
-// Fetches so many pages, all of which are in the cache.
-fn hot<S: Pages>(store: &mut S, pages: u32, times: u32) -> Result<u64, Stop>
-    requires going { (S.state store.old).ended ≡ false }
-{
-    fetch_around(store, CACHED, CACHED)?;
-    fetch_around(store, CACHED, pages.saturating_mul(times))
-}
-
-// Fetches so many pages, none of which is in the cache.
-fn cold<S: Pages>(store: &mut S, pages: u32, times: u32) -> Result<u64, Stop>
-    requires going { (S.state store.old).ended ≡ false }
-{
-    fetch_around(store, MANY, MANY)?;
-    fetch_around(store, MANY, pages.saturating_mul(times))
-}
-
-// Writes so many pages and commits them, over a full cache.
-fn commit<S: Store>(store: &mut S, pages: u32, times: u32) -> Result<u64, Stop>
-    requires going { (S.state store.old).ended ≡ false }
-    requires unmarked { (S.state store.old).marked ≡ None }
-{
-    fetch_around(store, CACHED, CACHED)?;
-    commit_times(store, pages, times)?;
     fetch_around(store, MANY, MANY)
 }
 
-// Writes so many pages under a mark, over pages that were written before it, and goes back to the mark.
-fn undo<S: Pages>(store: &mut S, pages: u32, times: u32) -> Result<u64, Stop>
+// Fetches so many pages so many times, around as many pages as were fetched before it.
+fn fetch_times<S: Pages>(store: &mut S, round: u32, pages: u32, times: u32) -> Result<u64, Stop>
     requires going { (S.state store.old).ended ≡ false }
-    requires unmarked { (S.state store.old).marked ≡ None }
+    requires round { 0 < round }
 {
-    write_pages(store, pages, &[5; 4096])?;
-    undo_times(store, pages, times)?;
-    fetch_around(store, MANY, MANY)
-}
-
-// Edits each of so many pages once under a mark, over pages that were written before it, and keeps what was done.
-fn first<S: Pages>(store: &mut S, pages: u32, times: u32) -> Result<u64, Stop>
-    requires going { (S.state store.old).ended ≡ false }
-    requires unmarked { (S.state store.old).marked ≡ None }
-{
-    write_pages(store, pages, &[5; 4096])?;
-    edit_times(store, pages, times)?;
-    fetch_around(store, MANY, MANY)
+    fetch_around(store, round, round)?;
+    fetch_around(store, round, pages.saturating_mul(times))
 }
 
 // Edits pages under one mark so many times, each of which was edited under it before.
-fn again<S: Pages>(store: &mut S, edits: u32, times: u32) -> Result<u64, Stop>
+fn again<S: Pages>(store: &mut S, edits: u32, times: u32) -> Result<(), Stop>
     requires going { (S.state store.old).ended ≡ false }
     requires unmarked { (S.state store.old).marked ≡ None }
+    ensures { (S.state store.new).ended ≡ false }
 {
     write_pages(store, FEW, &[5; 4096])?;
     store.mark();
     edit_pages(store, FEW)?;
-    edit_rounds(store, FEW, (edits / FEW).saturating_mul(times))?;
-    fetch_around(store, MANY, MANY)
+    edit_rounds(store, FEW, (edits / FEW).saturating_mul(times))
 }
 
 // Fetches so many pages, from page 0 again after each round of that many.

@@ -33,43 +33,19 @@ pub fn do_work<S: Pages>(
     match what {
         What::Add => make_trees(alloc, ext, store, Order::Shuffled, size, times),
         What::Rise => make_trees(alloc, ext, store, Order::Rising, size, times),
-        What::Has => has(alloc, ext, store, size, times),
-        What::Walk => walk(alloc, ext, store, size, times),
+        What::Has => {
+            let tree = made_tree(alloc, ext, store, Order::Shuffled, size)?;
+            find_times(&tree, store, size, times)
+        }
+        What::Walk => {
+            let tree = made_tree(alloc, ext, store, Order::Shuffled, size)?;
+            walk_times(&tree, store, &mut Leaf::new(alloc), times)
+        }
         What::Remove => remove_times(alloc, ext, store, size, times),
         What::Claim => claim(ext, store, size, times),
         What::Fill => fill(alloc, ext, store, Order::Shuffled, size),
         What::FillRising => fill(alloc, ext, store, Order::Rising, size),
     }
-}
-
-// Looks for each entry of a tree, and answers how many were found.
-fn has<S: Pages>(
-    alloc: Global,
-    ext: &mut Extents,
-    store: &mut S,
-    size: u32,
-    times: u32,
-) -> Result<u64, Stop>
-    requires going { (S.state store.old).ended ≡ false }
-    requires unmarked { (S.state store.old).marked ≡ None }
-{
-    let tree = made_tree(alloc, ext, store, Order::Shuffled, size)?;
-    find_times(&tree, store, size, times)
-}
-
-// Reads all entries of a tree, and answers how many there were.
-fn walk<S: Pages>(
-    alloc: Global,
-    ext: &mut Extents,
-    store: &mut S,
-    size: u32,
-    times: u32,
-) -> Result<u64, Stop>
-    requires going { (S.state store.old).ended ≡ false }
-    requires unmarked { (S.state store.old).marked ≡ None }
-{
-    let tree = made_tree(alloc, ext, store, Order::Shuffled, size)?;
-    walk_times(&tree, store, &mut Leaf::new(alloc), times)
 }
 
 // Claims a thousand blocks so many times, behind so many extents in use. Answers the sum of their numbers.
