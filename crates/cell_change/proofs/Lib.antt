@@ -2,7 +2,6 @@ pub mod ChangeRunsLemmas
 pub mod ChangedRowLemmas
 pub mod ChangedSpaceLemmas
 pub mod KeptOthersLemmas
-pub mod ReadValuesLemmas
 pub mod RowChangesLemmas
 pub mod StandsForRowLemmas
 pub mod TableStepsLemmas

@@ -4,6 +4,7 @@ pub mod KnownBlocksLemmas
 pub mod LaterPlacesLemmas
 pub mod NextBlocksLemmas
 pub mod PlacingRowsLemmas
+pub mod ReadValuesLemmas
 pub mod RowSpaceLemmas
 pub mod SearchedRoomLemmas
 pub mod StandingBlocksLemmas

@@ -20,6 +20,7 @@ use Rattle.mdc_ast.proofs.TestsLemmas.{and_true, both}
 use Rattle.key_codec.specs.Keys.{has_key, type_or_none}
 use Rattle.block_rows.specs.HeldRows.{HasReadValues, HaveReadValues}
 use Rattle.block_rows.specs.declared.hit.Hit.{Hit}
+use Rattle.mdc_table.proofs.ReadValuesLemmas.{read_length}
 use Rattle.answer_text.specs.Lines.{are_outs_within, is_out_within, lines_shown, with_line}
 use Rattle.answer_text.proofs.ShownLines.{with_line-lines_shown}
 use Rattle.row_filter.specs.Filtering.{may_filter}
@@ -41,14 +42,10 @@ kind_of_key (Char n) (Text text) h = refl
 kind_of_key Date (Day day) h = refl
 kind_of_key ty value h = cc
 
--- there is a value for each column
-pub read_wide : (columns : List ColumnDef) (row : Row) → HasReadValues columns row → length columns ≤ length row.values
-read_wide [] row read = omega arith
-read_wide (column ∷ columns) row read = omega (arith, (read.each (length columns) (omega arith)).0)
-
+-- there is a value of its kind for each column
 pub read_kinds : (columns : List ColumnDef) (row : Row) → HasReadValues columns row → HaveKinds columns row.values
 read_kinds columns row read = record {
-  wide = read_wide columns row read;
+  wide = read_length columns row read;
   each = λ place column at.
       kind_of_key column.ty (value_at row.values place)
       (subst (λ (ty : ColType). IsTrue (has_key ty (value_at row.values place))) (ap type_or_none at) (read.each place (slice_get_within columns place column at)).1);
@@ -75,7 +72,7 @@ pub outs_in_row : (columns : List ColumnDef) (outs shown : List BoundOut) (hits 
     → shown ≡ outs → IsTrue (are_outs_within (length columns) outs) → IsTrue (are_outs_within (length hit.row.values) shown)
 outs_in_row columns outs shown hits i hit read low is same within =
     let here : HasReadValues columns hit.row = subst (λ (h : Hit). HasReadValues columns h.row) (sym is) (All-get_or (λ (h : Hit). HasReadValues columns h.row) hits i hit low read) in
-    subst (λ l. IsTrue (are_outs_within (length hit.row.values) l)) (sym same) (outs_wider (length columns) (length hit.row.values) outs (read_wide columns hit.row here) within)
+    subst (λ l. IsTrue (are_outs_within (length hit.row.values) l)) (sym same) (outs_wider (length columns) (length hit.row.values) outs (read_length columns hit.row here) within)
 
 -- the line of the next row
 pub line_of_hit : (columns : List ColumnDef) (outs : List BoundOut) (hits : List Hit) (i : ℕ) (hit : Hit) → i < length hits → hit ≡ get_or hits i hit

@@ -1,17 +1,18 @@
 use Rattle.std.proofs.Common.{◌∙◌, arith, None, Some}
 use Rattle.std.proofs.lemmas.Result.{IfErr-weaker, IfOk-weaker}
+use Rattle.mdc_ast.proofs.FitsLemmas.{length-fits_all}
 use Rattle.store_api.specs.Causes.{store_fault_in}
 use Rattle.store_api.proofs.FrameLemmas.{touches_wider}
 use Rattle.store_api.proofs.RunsOverPagesLemmas.{runs_exit_as}
 use Rattle.extent_map.specs.Damages.{store_part_of}
 use Rattle.table_trees.specs.RowCells.{AreOfOneCell}
 use Rattle.table_blocks.specs.BlockSteps.{HasThisRow}
+use Rattle.mdc_table.proofs.ReadValuesLemmas.{read_length}
 use Rattle.cell_change.proofs.ChangeRunsLemmas.{in_space, runs_known, runs_moved, runs_within, touches_of_row}
 use Rattle.cell_change.proofs.ChangedRowLemmas.{full_as, moves, ready_then, sound_moved, stays}
 use Rattle.cell_change.proofs.ChangedSpaceLemmas.{if_ok_both, moves_makes, stays_makes, update_full}
 use Rattle.cell_change.proofs.KeptOthersLemmas.{keeps_moved}
 use Rattle.cell_change.proofs.RowChangesLemmas.{has_row, sound_overwritten}
-use Rattle.cell_change.proofs.ReadValuesLemmas.{fits_length, read_length}
 use Rattle.cell_change.proofs.StandsForRowLemmas.{database_changed}
 use Rattle.cell_change.proofs.changing.change_row.Goals as goal
 
@@ -24,7 +25,7 @@ pub are_of_one_cell-requires-clause-a : goal.are_of_one_cell-requires-clause-a
 are_of_one_cell-requires-clause-a g c = read_length c.args.def.now.columns c.args.was.now c.requires.was
 
 pub are_of_one_cell-requires-clause-b : goal.are_of_one_cell-requires-clause-b
-are_of_one_cell-requires-clause-b g c = omega (arith, fits_length c.args.def.now.columns c.args.is.now.values c.requires.fits.values)
+are_of_one_cell-requires-clause-b g c = omega (arith, length-fits_all c.args.def.now.columns c.args.is.now.values c.requires.fits.values)
 
 pub returns-then-are_of_one_cell-clause-changes : goal.returns-then-are_of_one_cell-clause-changes
 returns-then-are_of_one_cell-clause-changes g c owners forests ready has =

@@ -1,4 +1,4 @@
-use Rattle.cell_change.proofs.ReadValuesLemmas.{read_of_fitting}
+use Rattle.mdc_table.proofs.ReadValuesLemmas.{read_of_fitting}
 use Rattle.cell_change_tests.proofs.changes.change.Goals as goal
 
 pub change_row-requires-clause-was : goal.change_row-requires-clause-was

@@ -1,4 +1,4 @@
-use Rattle.cell_change.proofs.ReadValuesLemmas.{read_of_fitting}
+use Rattle.mdc_table.proofs.ReadValuesLemmas.{read_of_fitting}
 use Rattle.stored_catalog_tests.proofs.rows.delete.Goals as goal
 
 pub delete_row-requires-clause-row : goal.delete_row-requires-clause-row
