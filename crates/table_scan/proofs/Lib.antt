@@ -3,3 +3,5 @@ mod ChoosingLemmas
 mod RisingNumbersLemmas
 pub mod ScannedRowsLemmas
 pub mod ScanningLemmas
+mod SettledLemmas
+mod SettledRowsLemmas

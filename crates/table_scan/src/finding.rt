@@ -12,6 +12,7 @@ ghost use Rattle.row_filter.specs.Filtering.{may_filter};
 ghost use Rattle.table_scan.specs.FoundRows.{FindsRows, IsChoicePage, IsChosenRowPage, IsScannedPage, ScansOnce};
 
 use crate::choosing::chosen_blocks;
+use crate::settling::unsettled;
 use extent_map::Extents;
 use mdc_ast::{Pred, TableDef};
 use mdc_table::{Hit, push_rows_of_used_block};
@@ -20,7 +21,8 @@ use std::alloc::Global;
 use store_api::{Pages, StoreFault};
 
 /// Copies of the rows of a table that qualify, each with its place, by rising row number. Of row pages only those of blocks come to
-/// hand in whose cells a row may qualify, each once. It needs a predicate that may be judged on each row that was read.
+/// hand in whose cells a row may qualify, each once. It needs a predicate that may be judged on each row that was read. What a cell
+/// settles isn't judged on its rows.
 pub fn find_rows<P: Pages>(
     alloc: Global,
     def: &TableDef,
@@ -38,7 +40,10 @@ pub fn find_rows<P: Pages>(
     ensures once { ScansOnce P.Pages (IsChoicePage P.Pages ext.now pages.old def.now) (IsChosenRowPage P.Pages ext.now pages.old def.now pred.now) pages.old pages.new }
     ensures runs { RunsOverPages P.Pages NoPage (IsScannedPage P.Pages ext.now pages.old def.now pred.now) (BreaksTable P.Pages ext.now pages.old def.now) pages.old pages.new (fault_of result) }
 {
-    let Ok(mut filter) = RowFilter::new(alloc, pred, def.columns.len()) else {
+    let Ok(left) = unsettled(alloc, def, pred) else {
+        return Err(StoreFault::Memory);
+    };
+    let Ok(mut filter) = RowFilter::new(alloc, &left, def.columns.len()) else {
         return Err(StoreFault::Memory);
     };
     let mut hits = Vec::new(alloc);

@@ -1,12 +1,14 @@
 //! The rows of a table that a predicate is true of, found by reading the Used blocks in whose cells it may hold.
 //!
 //! It promises that exactly the rows that qualify are found, each with its place, by rising row number, and that of row pages only
-//! those of such blocks come to hand, each once: the composite index says which these are. A row that doesn't qualify isn't copied,
-//! which no clause says. It stands on `block_index` for the cells, on `mdc_table` for blocks, on `predicate` for what may hold in a
-//! cell, and on `row_filter` for what is true of a row.
+//! those of such blocks come to hand, each once: the composite index says which these are. No clause says that a row that doesn't
+//! qualify isn't copied, nor that what all rows of a cell pass isn't judged on each of them. It stands on `block_index` for the
+//! cells, on `mdc_table` for blocks, on `predicate` for what may hold in a cell, and on `row_filter` for what is true of a row.
 #![tactic(auto)]
 
 mod choosing;
+mod copying;
 mod finding;
+mod settling;
 
 pub use finding::find_rows;

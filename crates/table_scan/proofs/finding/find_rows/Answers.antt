@@ -1,23 +1,25 @@
-use Rattle.std.proofs.Common.{◌+◌, ◌++◌, ◌∙◌, ℕ, IsTrue, List, None, Some, ap, arith, get_or, length, map, rules, subst, sym}
+use Rattle.std.proofs.Common.{◌+◌, ◌∙◌, ℕ, List, None, Some, ap, arith, length, map, rules, subst, sym}
 use Rattle.std.proofs.lemmas.List.Sorted.{IsNonDecreasingBy-from_sort, All-permutation, answers_always}
 use Rattle.store_api.proofs.FetchingLemmas.{only_none}
 use Rattle.store_api.proofs.RunsOverPagesLemmas.{runs_exit}
 use Rattle.extent_map.specs.declared.kind.Kind.{Kind}
-use Rattle.row_filter.specs.Filtering.{may_filter}
-use Rattle.block_rows.specs.HeldRows.{HasReadValues, placed_row, qualifying}
+use Rattle.block_rows.specs.HeldRows.{HasReadValues, placed_row}
 use Rattle.block_rows.specs.declared.hit.Hit.{Hit}
-use Rattle.mdc_sound.specs.StandingTable.{StandsTable, TableForests, pages_of}
-use Rattle.mdc_sound.specs.TableRows.{rows_in_block}
+use Rattle.mdc_sound.specs.StandingTable.{StandsTable, TableForests}
 use Rattle.table_scan.specs.FoundRows.{HaveQualifying, IsChoicePage}
-use Rattle.table_scan.proofs.ScanningLemmas.{found_all, rows_more, runs_block, runs_choice, scans_chosen, scans_more, scans_none}
+use Rattle.table_scan.specs.Settled.{IsLeftOf}
+use Rattle.table_scan.proofs.ScanningLemmas.{found_all, runs_block, runs_choice, scans_chosen, scans_more, scans_none}
+use Rattle.table_scan.proofs.SettledRowsLemmas.{rows_left_more}
 use Rattle.table_scan.proofs.finding.find_rows.Goals as goal
 
 pub push_rows_of_used_block-requires-clause-judged : goal.push_rows_of_used_block-requires-clause-judged
-push_rows_of_used_block-requires-clause-judged g c = λ row read.
-    subst (λ pred. IsTrue (may_filter pred row.values)) (sym c.loop-block.invariant.pred) (c.requires.judged row read)
+push_rows_of_used_block-requires-clause-judged g c = λ row read. c.loop-block.invariant.left.judged row.values (c.requires.judged row read)
 
 pub returns-in_default-clause-once : goal.returns-in_default-clause-once
 returns-in_default-clause-once g c = scans_none only_none
+
+pub returns-in_default-new-clause-once : goal.returns-in_default-new-clause-once
+returns-in_default-new-clause-once g c = scans_none only_none
 
 pub returns-in_err-blocks-clause-once : goal.returns-in_err-blocks-clause-once
 returns-in_err-blocks-clause-once g c = scans_none c.in_err-blocks.ensures.runs.brings
@@ -26,8 +28,8 @@ pub loop-block-init : goal.loop-block-init
 loop-block-init g c = record {
   rows = λ owners forests st. ap (map placed_row) c.new-hits.ensures.items;
   keyed = λ k d low. absurd (omega (arith, low, ap length c.new-hits.ensures.items));
-  pred = c.in-Ok.ensures.pred;
-  width = c.in-Ok.ensures.width ∙ c.len.ensures;
+  left = subst (IsLeftOf c.args.def.now c.args.pred.now) (sym c.in-Ok-new.ensures.pred) c.in-Ok.ensures;
+  width = c.in-Ok-new.ensures.width ∙ c.len.ensures;
   same = c.chosen_blocks.ensures.same;
   going = c.in_ok-blocks.ensures.runs.works.steady.ended ∙ c.requires.going;
   once = scans_none c.in_ok-blocks.ensures.runs.brings;
@@ -60,12 +62,10 @@ loop-block-preserved g c =
     λ owners forests st. subst (λ l. HaveQualifying g.P.Pages c.args.ext.now c.args.pages.now c.args.def.now c.args.pred.now l forests) (sym c.as_slice-block-items.ensures.value) (c.in_ok-blocks.ensures.chosen owners forests st) in
     let low = c.loop-block-test.true in
     record {
-      rows = rows_more c.args.ext.now c.args.def.now c.args.pages.now c.loop-block.pages c.args.pred.now items c.loop-block.block-index inv.runs.works.steady.is_told inv.same chosen low
-          c.loop-block.hits.items c.push_rows_of_used_block.new.hits.items inv.rows
-          (λ owners forests st used. c.in_ok-push_rows_of_used_block.ensures.rows owners forests st used
-          ∙ ap (λ pred. map placed_row c.loop-block.hits.items ++ qualifying pred (rows_in_block c.args.ext.now (pages_of g.P.Pages c.loop-block.pages) c.args.def.now (get_or items c.loop-block.block-index 0))) inv.pred);
+      rows = rows_left_more c.args.ext.now c.args.def.now c.args.pages.now c.loop-block.pages c.args.pred.now c.loop-block.filter.pred.now items c.loop-block.block-index inv.runs.works.steady.is_told inv.same chosen low
+          inv.left c.requires.judged c.loop-block.hits.items c.push_rows_of_used_block.new.hits.items inv.rows c.in_ok-push_rows_of_used_block.ensures.rows;
       keyed = c.in_ok-push_rows_of_used_block.ensures.keyed inv.keyed;
-      pred = c.in_ok-push_rows_of_used_block.ensures.pred ∙ inv.pred;
+      left = subst (IsLeftOf c.args.def.now c.args.pred.now) (sym c.in_ok-push_rows_of_used_block.ensures.pred) inv.left;
       width = c.in_ok-push_rows_of_used_block.ensures.width ∙ inv.width;
       same = c.push_rows_of_used_block.ensures.same ∙ inv.same;
       going = c.in_ok-push_rows_of_used_block.ensures.runs.works.steady.ended ∙ inv.going;

@@ -7,6 +7,7 @@ use Rattle.block_rows.specs.HeldRows.{HaveReadValues, placed_row, qualifying}
 use Rattle.mdc_sound.specs.StandingTable.{BreaksTable, StandsTable, TableForests, pages_of}
 use Rattle.mdc_sound.specs.TableRows.{rows_in_block}
 use Rattle.table_scan.specs.FoundRows.{IsChoicePage, IsScannedPage, ScansOnce}
+use Rattle.table_scan.specs.Settled.{IsLeftOf}
 use Rattle.table_scan.proofs.ScanningLemmas.{IsPageBefore}
 use Rattle.table_scan.proofs.finding.find_rows.Given as goal
 
@@ -16,7 +17,7 @@ invariant-loop-block g l = record {
   rows : (owners : List Kind) (forests : TableForests) → StandsTable g.P.Pages l.ext l.fn.pages l.def owners forests
       → map placed_row l.hits.items ≡ qualifying l.pred (flat_map (rows_in_block l.ext (pages_of g.P.Pages l.fn.pages) l.def) (take l.block-index l.block-items));
   keyed : HaveReadValues l.def.columns l.hits.items;
-  pred : l.filter.pred.now ≡ l.pred;
+  left : IsLeftOf l.def l.pred l.filter.pred.now;
   width : length l.filter.values ≡ length l.def.columns;
   same : (g.P.Pages.state l.pages).work ≡ (g.P.Pages.state l.fn.pages).work;
   going : (g.P.Pages.state l.pages).ended ≡ false;
