@@ -101,11 +101,16 @@ fn may_filter(pred: &Option<Pred>, values: &List<Value>) -> bool
     }
 }
 
-/// Which of the three rows one filter takes.
-fn taken(alloc: Global, pred: &Option<Pred>) -> Result<(bool, bool, bool), Memory> {
-    let columns = pair(alloc)?;
+/// Which of the three rows one filter takes, of columns that are there.
+fn taken_of(
+    alloc: Global,
+    columns: &List<ColumnDef>,
+    pred: &Option<Pred>,
+) -> Result<(bool, bool, bool), Memory>
+    requires { AreRowColumns columns.now }
+{
     let page = page_of_three();
-    let Some(view) = RowPageView::look(&page, &columns) else {
+    let Some(view) = RowPageView::look(&page, columns) else {
         return Ok((false, false, false));
     };
     let mut filter = RowFilter::new(alloc, pred, columns.len())?;
@@ -115,34 +120,40 @@ fn taken(alloc: Global, pred: &Option<Pred>) -> Result<(bool, bool, bool), Memor
     Ok((first, second, third))
 }
 
-/// A test of a column, as a predicate.
-fn tested(column: u8, negated: bool, test: Test) -> Option<Pred> {
-    Some(Pred::Atom(Atom {
+/// Which of the three rows one filter takes.
+fn taken(alloc: Global, pred: &Option<Pred>) -> Result<(bool, bool, bool), Memory> {
+    let columns = pair(alloc)?;
+    taken_of(alloc, &columns, pred)
+}
+
+/// Which of the three rows a test of a column takes.
+fn tested(
+    alloc: Global,
+    column: u8,
+    negated: bool,
+    test: Test,
+) -> Result<(bool, bool, bool), Memory> {
+    let pred = Some(Pred::Atom(Atom {
         column,
         negated,
         test,
-    }))
+    }));
+    taken(alloc, &pred)
+}
+
+/// Which of them a comparison of a column with a number takes.
+fn compared(alloc: Global, column: u8, op: Op, n: i64) -> Result<(bool, bool, bool), Memory> {
+    let test = Test::Compare(op, Right::Value(Value::Int(n)));
+    tested(alloc, column, false, test)
 }
 
 #[test]
 fn each_row_is_judged_by_its_own_values(rt: HostRuntime) -> Result<(), Fail> {
     let alloc = rt.alloc();
-    let three = tested(
-        0,
-        false,
-        Test::Compare(Op::Equal, Right::Value(Value::Int(3))),
-    );
-    assert!(rt; taken(alloc, &three)? == (true, true, false));
-    let below = tested(
-        1,
-        false,
-        Test::Compare(Op::Less, Right::Value(Value::Int(99))),
-    );
-    assert!(rt; taken(alloc, &below)? == (false, false, true));
-    let null = tested(1, false, Test::IsNull);
-    assert!(rt; taken(alloc, &null)? == (false, true, false));
-    let not_null = tested(1, true, Test::IsNull);
-    assert!(rt; taken(alloc, &not_null)? == (true, false, true));
+    assert!(rt; compared(alloc, 0, Op::Equal, 3)? == (true, true, false));
+    assert!(rt; compared(alloc, 1, Op::Less, 99)? == (false, false, true));
+    assert!(rt; tested(alloc, 1, false, Test::IsNull)? == (false, true, false));
+    assert!(rt; tested(alloc, 1, true, Test::IsNull)? == (true, false, true));
     assert!(rt; taken(alloc, &None)? == (true, true, true));
     Ok(())
 }
