@@ -1,5 +1,5 @@
 -- What the cells of rows settle of predicates, and what is left of them.
-use Rattle.std.proofs.Common.{◌≡◌, ◌∙◌, ◌<◌, ◌+◌, ℕ, suc, List, [], ◌∷◌, ◌++◌, Bool, true, false, not, length, map, refl, sym, ap, arith, subst, inl, inr, None, Some, if◌then◌else◌, get_or, take}
+use Rattle.std.proofs.Common.{◌≡◌, ◌⊎◌, ◌∙◌, ◌<◌, ◌+◌, ℕ, suc, List, [], ◌∷◌, ◌++◌, Bool, true, false, not, length, map, refl, sym, ap, arith, subst, inl, inr, None, Some, if◌then◌else◌, get_or, take}
 use Rattle.std.specs.Prelude.{◌&&◌, ◌||◌, Contains, IsTrue}
 use Rattle.std.specs.List.{All}
 use Rattle.std.proofs.lemmas.Bool.{cases_eq, eq-eqb, false≢true, ne_eqb}
@@ -115,17 +115,21 @@ joined-Any values parts false = any_true-is_true (truth values) parts ∙ sym (a
 joined-Any values parts true =
     all_true-is_true (λ part. not_of (truth values part)) parts ∙ ap is_true (all_of-not_of (truth values) parts) ∙ sym (ap (λ t. is_true (not_of t)) (truth-Any values parts))
 
-pub IsSettled-All : (def : TableDef) (parts : List Pred) → All (IsSettled def) parts → IsSettled def (pred.All parts)
+IsSettled-All : (def : TableDef) (parts : List Pred) → All (IsSettled def) parts → IsSettled def (pred.All parts)
 IsSettled-All def parts settled values judged negated =
     may_hold_under-All (cell_places def) (cell_values def values) parts negated
     ∙ ap (joined_by (not negated)) (each_settled def values negated parts settled (subst IsTrue (may_judge-All values parts) judged))
     ∙ joined-All values parts negated
 
-pub IsSettled-Any : (def : TableDef) (parts : List Pred) → All (IsSettled def) parts → IsSettled def (pred.Any parts)
+IsSettled-Any : (def : TableDef) (parts : List Pred) → All (IsSettled def) parts → IsSettled def (pred.Any parts)
 IsSettled-Any def parts settled values judged negated =
     may_hold_under-Any (cell_places def) (cell_values def values) parts negated
     ∙ ap (joined_by negated) (each_settled def values negated parts settled (subst IsTrue (may_judge-Any values parts) judged))
     ∙ joined-Any values parts negated
+
+pub IsSettled-joined : (def : TableDef) (whole : Pred) (parts : List Pred) → (whole ≡ pred.All parts) ⊎ (whole ≡ pred.Any parts) → All (IsSettled def) parts → IsSettled def whole
+IsSettled-joined def whole parts (inl by_and) settled = subst (IsSettled def) (sym by_and) (IsSettled-All def parts settled)
+IsSettled-joined def whole parts (inr by_or) settled = subst (IsSettled def) (sym by_or) (IsSettled-Any def parts settled)
 
 pub IsSettled-Not : (def : TableDef) (part : Pred) → IsSettled def part → IsSettled def (pred.Not part)
 IsSettled-Not def part settled values judged negated =

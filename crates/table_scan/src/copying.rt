@@ -1,5 +1,7 @@
 // Predicates, copied.
-ghost use Rattle.std.specs.Prelude.{◌≡◌, IfOk};
+ghost use Rattle.std.specs.Prelude.{◌≡◌, List, IfOk};
+ghost use Rattle.mdc_ast.specs.declared.predicate.Pred.{Pred};
+ghost use Rattle.mdc_ast.specs.declared.predicate.Pred.TheVariants.{All, Any};
 
 use mdc_ast::{Atom, Pred, Right, Test};
 use mdc_values::{Boxed, List, Memory, Value};
@@ -11,21 +13,25 @@ pub(crate) fn copy_of(alloc: Global, pred: &Pred) -> Result<Pred, Memory>
 {
     match pred {
         Pred::Atom(atom) => Ok(Pred::Atom(copy_of_atom(alloc, atom)?)),
-        Pred::All(preds) => {
+        Pred::All(preds) | Pred::Any(preds) => {
             let mut parts = List::new(alloc);
-            for pred in preds.as_slice() {
-                parts.push(copy_of(alloc, pred)?)?;
+            for part in preds.as_slice() {
+                parts.push(copy_of(alloc, part)?)?;
             }
-            Ok(Pred::All(parts))
-        }
-        Pred::Any(preds) => {
-            let mut parts = List::new(alloc);
-            for pred in preds.as_slice() {
-                parts.push(copy_of(alloc, pred)?)?;
-            }
-            Ok(Pred::Any(parts))
+            Ok(joined(pred, parts))
         }
         Pred::Not(pred) => Ok(Pred::Not(Boxed::new(alloc, copy_of(alloc, pred.get())?)?)),
+    }
+}
+
+/// Parts joined as those of another predicate are.
+fn joined(pred: &Pred, parts: List<Pred>) -> Pred
+    ensures all { (preds : List Pred) → pred.now ≡ All preds → result ≡ All parts }
+    ensures any { (preds : List Pred) → pred.now ≡ Any preds → result ≡ Any parts }
+{
+    match pred {
+        Pred::Any(_) => Pred::Any(parts),
+        _ => Pred::All(parts),
     }
 }
 

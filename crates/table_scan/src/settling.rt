@@ -55,15 +55,7 @@ fn is_settled(pred: &Pred, def: &TableDef) -> bool
 {
     match pred {
         Pred::Atom(atom) => is_against_literals(&atom.test) && is_of_cells(def, atom.column),
-        Pred::All(preds) => {
-            for pred in preds.as_slice() {
-                if !is_settled(pred, def) {
-                    return false;
-                }
-            }
-            true
-        }
-        Pred::Any(preds) => {
+        Pred::All(preds) | Pred::Any(preds) => {
             for pred in preds.as_slice() {
                 if !is_settled(pred, def) {
                     return false;

@@ -9,6 +9,3 @@ decreases-is_settled l = goal.size-is_settled l
 -- the parts so far are settled
 abbrev pub invariant-loop-pred : goal.invariant-loop-pred
 invariant-loop-pred l = All (IsSettled l.def) (take l.pred-index l.pred-items)
-
-abbrev pub invariant-loop-pred-2 : goal.invariant-loop-pred-2
-invariant-loop-pred-2 l = All (IsSettled l.def) (take l.pred-index l.pred-items)
