@@ -6,6 +6,7 @@ ghost use Rattle.mdc_sound.specs.FittingRows.{RowFits};
 use crate::fitting::does_fit;
 use crate::rows::{is_same_row, row_of};
 use crate::tables::{Shape, Table};
+use crate::wrong::Wrong;
 use cell_change::{change_row, delete_row, insert_row};
 use extent_map::SpaceFault;
 use mdc_ast::{Row, TableDef};
@@ -36,7 +37,7 @@ fn fitting_row(
 {
     let row = row_of(alloc, shape, number, seed)?;
     if !does_fit(def, &row) {
-        return Err("a row that doesn't fit")?;
+        return Err(Fail::new("a row that doesn't fit"));
     }
     Ok(row)
 }
@@ -63,7 +64,7 @@ pub fn try_insert<P: Pages>(
         rooms,
     } = table;
     if def.next == u64::MAX {
-        return Err("no number is left")?;
+        return Err(Fail::new("no number is left"));
     }
     let row = fitting_row(alloc, *shape, def, def.next, seed)?;
     Ok(insert_row(alloc, def, ext, rooms, pages, &row))
@@ -87,6 +88,32 @@ pub fn insert<P: Pages>(
     let number = table.def.next;
     let rid = try_insert(alloc, table, pages, seed)??;
     Ok(Held { rid, number, seed })
+}
+
+// Fails where a row is another one.
+fn check_row(is: Held, wanted: Held) -> Result<(), Fail> {
+    if is != wanted {
+        return Err(Fail::from(Wrong::Row(is.rid, is.number)));
+    }
+    Ok(())
+}
+
+/// Inserts the next row, which has to be this one.
+pub fn insert_as<P: Pages>(
+    alloc: Global,
+    table: &mut Table,
+    pages: &mut P,
+    wanted: Held,
+) -> Result<(), Fail>
+    requires defined { IsTableDef table.old.def.number table.old.def }
+    requires no_indexes { table.old.def.indexes ≡ [] }
+    requires going { (P.state pages.old).ended ≡ false }
+    ensures defined { IsTableDef table.new.def.number table.new.def }
+    ensures no_indexes { table.new.def.indexes ≡ [] }
+    ensures going { (P.state pages.new).ended ≡ false }
+    ensures marked { (P.state pages.new).marked ≡ (P.state pages.old).marked }
+{
+    check_row(insert(alloc, table, pages, wanted.seed)?, wanted)
 }
 
 /// Deletes a row.
@@ -145,12 +172,47 @@ pub fn change<P: Pages>(
     })
 }
 
+/// Makes a row this other one, which has to go where it is.
+pub fn change_to<P: Pages>(
+    alloc: Global,
+    table: &mut Table,
+    pages: &mut P,
+    held: Held,
+    wanted: Held,
+) -> Result<(), Fail>
+    requires defined { IsTableDef table.old.def.number table.old.def }
+    requires no_indexes { table.old.def.indexes ≡ [] }
+    requires going { (P.state pages.old).ended ≡ false }
+    ensures defined { IsTableDef table.new.def.number table.new.def }
+    ensures no_indexes { table.new.def.indexes ≡ [] }
+    ensures going { (P.state pages.new).ended ≡ false }
+{
+    check_row(change(alloc, table, pages, held, wanted.seed)?, wanted)
+}
+
 /// How many blocks the table has in each state.
 pub fn blocks_of<P: Pages>(alloc: Global, table: &Table, pages: &mut P) -> Result<Account, Fail>
     requires going { (P.state pages.old).ended ≡ false }
     ensures going { (P.state pages.new).ended ≡ false }
 {
     Ok(account_of(alloc, &table.def, &table.ext, pages)?)
+}
+
+/// Fails where the table has another number of blocks in a state.
+pub fn check_blocks<P: Pages>(
+    alloc: Global,
+    table: &Table,
+    pages: &mut P,
+    wanted: Account,
+) -> Result<(), Fail>
+    requires going { (P.state pages.old).ended ≡ false }
+    ensures going { (P.state pages.new).ended ≡ false }
+{
+    let account = blocks_of(alloc, table, pages)?;
+    if account != wanted {
+        return Err(Fail::from(Wrong::Blocks(account)));
+    }
+    Ok(())
 }
 
 /// Whether a row of a number and a seed lies in a place, and whether no row does.
@@ -171,10 +233,29 @@ pub fn looked_at<P: Pages>(
     }
 }
 
+/// Fails where a row doesn't lie in its place, or where its place isn't empty.
+pub fn check_place<P: Pages>(
+    alloc: Global,
+    table: &Table,
+    pages: &mut P,
+    held: Held,
+    is_there: bool,
+) -> Result<(), Fail>
+    requires defined { IsTableDef table.now.def.number table.now.def }
+    requires going { (P.state pages.old).ended ≡ false }
+    ensures going { (P.state pages.new).ended ≡ false }
+{
+    let seen = looked_at(alloc, table, pages, held)?;
+    if seen != (is_there, !is_there) {
+        return Err(Fail::from(Wrong::Place(held.rid)));
+    }
+    Ok(())
+}
+
 /// The row that came at this place.
 pub fn held_at(all: &[Held], i: usize) -> Result<Held, Fail> {
     match all.get(i) {
         Some(held) => Ok(*held),
-        None => Err("no such row")?,
+        None => Err(Fail::new("no such row")),
     }
 }

@@ -25,6 +25,7 @@ ghost use Rattle.table_page.specs.TableLimits.{IsTableDef};
 use crate::changes::{insert, try_insert};
 use crate::stores::{fresh_store, store_with_map};
 use crate::tables::{Shape, Table, table_of};
+use crate::wrong::Wrong;
 use entry_tree_tests::extents_of;
 use extent_map::SpaceFault;
 use mdc_values::Rid;
@@ -32,12 +33,12 @@ use std::alloc::Global;
 use std::test::Fail;
 use store_api::{Page, Pages};
 
-// What an insert answered, by how many pages the file had grown then, and whether all pages are what they were once it was undone.
-#[derive(Clone, Copy, PartialEq)]
-struct Tried {
+// What the next row meets where there are so many extents: what its insert answers, and by how many pages the file has grown then.
+#[derive(Clone, Copy)]
+struct Claim {
+    extents: u32,
     answer: Result<Rid, SpaceFault>,
     grown: u32,
-    is_undone: bool,
 }
 
 // All pages of the work.
@@ -60,7 +61,7 @@ fn page_of<P: Pages>(pages: &mut P, p: u32) -> Result<Page, Fail>
     ensures marked { (P.state pages.new).marked ≡ (P.state pages.old).marked }
 {
     if p >= pages.count() {
-        return Err("no such page")?;
+        return Err(Fail::new("no such page"));
     }
     pages.fetch(p)?;
     Ok(*pages.page())
@@ -107,13 +108,14 @@ fn insert_and_undo<P: Pages>(
     Ok((answer, grown))
 }
 
-// The same where there are so many extents.
-fn try_with<P: Pages>(
+// The row meets what it should, and all pages are what they were once it is undone.
+fn check_claim<P: Pages>(
     alloc: Global,
     table: &mut Table,
     pages: &mut P,
-    extents: u32,
-) -> Result<Tried, Fail>
+    before: &[Page],
+    claim: Claim,
+) -> Result<(), Fail>
     requires defined { IsTableDef table.old.def.number table.old.def }
     requires no_indexes { table.old.def.indexes ≡ [] }
     requires going { (P.state pages.old).ended ≡ false }
@@ -123,94 +125,124 @@ fn try_with<P: Pages>(
     ensures going { (P.state pages.new).ended ≡ false }
     ensures unmarked { OnOk result ((P.state pages.new).marked ≡ None) }
 {
-    table.ext = extents_of(extents)?;
-    let before = all_pages(alloc, pages)?;
     let (answer, grown) = insert_and_undo(alloc, table, pages)?;
-    Ok(Tried {
-        answer,
-        grown,
-        is_undone: all_pages(alloc, pages)? == before,
-    })
+    let is_undone = all_pages(alloc, pages)?.as_slice() == before;
+    if answer != claim.answer || grown != claim.grown || !is_undone {
+        return Err(Fail::from(Wrong::Extents(claim.extents)));
+    }
+    Ok(())
 }
 
-// The same for each of these numbers of extents, of which the last alone may be enough.
+// The same where there are as many extents as it says.
+fn try_claim<P: Pages>(
+    alloc: Global,
+    table: &mut Table,
+    pages: &mut P,
+    claim: Claim,
+) -> Result<(), Fail>
+    requires defined { IsTableDef table.old.def.number table.old.def }
+    requires no_indexes { table.old.def.indexes ≡ [] }
+    requires going { (P.state pages.old).ended ≡ false }
+    requires unmarked { (P.state pages.old).marked ≡ None }
+    ensures defined { IsTableDef table.new.def.number table.new.def }
+    ensures no_indexes { table.new.def.indexes ≡ [] }
+    ensures going { (P.state pages.new).ended ≡ false }
+    ensures unmarked { OnOk result ((P.state pages.new).marked ≡ None) }
+{
+    table.ext = extents_of(claim.extents)?;
+    let before = all_pages(alloc, pages)?;
+    check_claim(alloc, table, pages, before.as_slice(), claim)
+}
+
+// The same of each of these, of which the last alone may have extents enough.
 fn try_each<P: Pages>(
     alloc: Global,
     table: &mut Table,
     pages: &mut P,
-    each: &[u32],
-) -> Result<Vec<Tried>, Fail>
+    claims: &[Claim],
+) -> Result<(), Fail>
     requires defined { IsTableDef table.old.def.number table.old.def }
     requires no_indexes { table.old.def.indexes ≡ [] }
     requires going { (P.state pages.old).ended ≡ false }
     requires unmarked { (P.state pages.old).marked ≡ None }
 {
-    let mut tried = Vec::new(alloc);
-    for extents in each {
-        tried.push(try_with(alloc, table, pages, *extents)?)?;
+    for claim in claims {
+        try_claim(alloc, table, pages, *claim)?;
     }
-    Ok(tried)
+    Ok(())
 }
 
-// The same behind so many rows of a table in an empty database. These have room in the first number of extents.
+// The same behind so many rows.
 fn fill_and_try<P: Pages>(
     alloc: Global,
+    table: &mut Table,
     pages: &mut P,
     rows: u64,
-    each: &[u32],
-) -> Result<Vec<Tried>, Fail>
+    claims: &[Claim],
+) -> Result<(), Fail>
+    requires defined { IsTableDef table.old.def.number table.old.def }
+    requires no_indexes { table.old.def.indexes ≡ [] }
     requires going { (P.state pages.old).ended ≡ false }
     requires unmarked { (P.state pages.old).marked ≡ None }
 {
-    let Some(first) = each.first() else {
-        return Err("nothing to try")?;
+    fill(alloc, table, pages, rows)?;
+    try_each(alloc, table, pages, claims)
+}
+
+// The same of a table in an empty database. The rows have room in the first number of extents.
+fn run_claims<P: Pages>(
+    alloc: Global,
+    pages: &mut P,
+    rows: u64,
+    claims: &[Claim],
+) -> Result<(), Fail>
+    requires going { (P.state pages.old).ended ≡ false }
+    requires unmarked { (P.state pages.old).marked ≡ None }
+{
+    let Some(first) = claims.first() else {
+        return Err(Fail::new("nothing to try"));
     };
-    let mut table = table_of(alloc, Shape::Narrow, *first, pages)?;
-    fill(alloc, &mut table, pages, rows)?;
-    try_each(alloc, &mut table, pages, each)
+    let mut table = table_of(alloc, Shape::Narrow, first.extents, pages)?;
+    fill_and_try(alloc, &mut table, pages, rows, claims)
 }
 
 // What a row meets where that many extents are too few, and so many pages came before the claim that fails.
-fn full(extents: u32, grown: u32) -> Tried {
-    Tried {
+fn full(extents: u32, grown: u32) -> Claim {
+    Claim {
+        extents,
         answer: Err(SpaceFault::Full(extents)),
         grown,
-        is_undone: true,
     }
 }
 
 // What a row meets that has its block, where so many pages came for it.
-fn done(block: u32, grown: u32) -> Tried {
-    Tried {
+fn done(extents: u32, block: u32, grown: u32) -> Claim {
+    Claim {
+        extents,
         answer: Ok(Rid { block, slot: 0 }),
         grown,
-        is_undone: true,
     }
 }
 
 #[test]
 fn a_row_finds_no_page_for_the_index_of_all_dimensions(rt: HostRuntime) -> Result<(), Fail> {
-    let mut store = fresh_store(rt.alloc())?;
-    let tried = fill_and_try(rt.alloc(), &mut store, 291, &[293, 294, 295])?;
-    let wanted = [full(293, 0), full(294, 2), done(293, 4)];
-    assert!(rt; tried.as_slice() == wanted.as_slice());
-    Ok(())
+    let claims = [full(293, 0), full(294, 2), done(295, 293, 4)];
+    run_claims(rt.alloc(), &mut fresh_store(rt.alloc())?, 291, &claims)
 }
 
 #[test]
 fn a_row_finds_no_page_for_the_index_of_a_dimension(rt: HostRuntime) -> Result<(), Fail> {
-    let mut store = fresh_store(rt.alloc())?;
-    let tried = fill_and_try(rt.alloc(), &mut store, 453, &[457, 458, 459, 460])?;
-    let wanted = [full(457, 0), full(458, 2), full(459, 4), done(457, 6)];
-    assert!(rt; tried.as_slice() == wanted.as_slice());
-    Ok(())
+    let claims = [full(457, 0), full(458, 2), full(459, 4), done(460, 457, 6)];
+    run_claims(rt.alloc(), &mut fresh_store(rt.alloc())?, 453, &claims)
 }
 
 #[test]
 fn a_row_finds_no_page_for_the_block_map(rt: HostRuntime) -> Result<(), Fail> {
-    let mut store = store_with_map(rt.alloc(), 2)?;
-    let tried = fill_and_try(rt.alloc(), &mut store, 582, &[588, 589, 590])?;
-    let wanted = [full(588, 0), full(589, 2), done(588, 4)];
-    assert!(rt; tried.as_slice() == wanted.as_slice());
-    Ok(())
+    let claims = [full(588, 0), full(589, 2), done(590, 588, 4)];
+    run_claims(
+        rt.alloc(),
+        &mut store_with_map(rt.alloc(), 2)?,
+        582,
+        &claims,
+    )
 }

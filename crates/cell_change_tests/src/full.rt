@@ -2,7 +2,7 @@
 ghost use Rattle.std.specs.Prelude.{◌≡◌, [], false, None};
 ghost use Rattle.table_page.specs.TableLimits.{IsTableDef};
 
-use crate::changes::{blocks_of, delete, insert, try_insert};
+use crate::changes::{Held, check_blocks, delete, insert, insert_as, try_insert};
 use crate::stores::fresh_store;
 use crate::tables::{Shape, Table, table_of};
 use extent_map::SpaceFault;
@@ -15,14 +15,29 @@ use store_api::Pages;
 // How many extents there are. The three trees take two of them, so there are fourteen blocks.
 const EXTENTS: u32 = 16;
 
-// What was seen.
-#[derive(Clone, Copy, PartialEq)]
-struct Seen {
-    answer: Result<Rid, SpaceFault>,
-    undone: Account,
-    retried: Rid,
-    at_last: Account,
-}
+// All blocks are in use.
+const ALL_USED: Account = Account {
+    used: 14,
+    free: 0,
+    pending: 0,
+};
+
+// The block of the first row.
+const FIRST_BLOCK: Rid = Rid { block: 2, slot: 0 };
+
+// The first row.
+const FIRST: Held = Held {
+    rid: FIRST_BLOCK,
+    number: 0,
+    seed: 1,
+};
+
+// The row of the fifteenth cell, where it lies once the first has left.
+const LAST: Held = Held {
+    rid: FIRST_BLOCK,
+    number: 14,
+    seed: 15,
+};
 
 // Inserts a row of each seed from 2 to 14.
 fn fill<P: Pages>(alloc: Global, table: &mut Table, pages: &mut P) -> Result<(), Fail>
@@ -40,12 +55,8 @@ fn fill<P: Pages>(alloc: Global, table: &mut Table, pages: &mut P) -> Result<(),
     Ok(())
 }
 
-// Inserts a row of a fifteenth cell and undoes that. Answers what the insert answered, and the blocks then.
-fn insert_and_undo<P: Pages>(
-    alloc: Global,
-    table: &mut Table,
-    pages: &mut P,
-) -> Result<(Result<Rid, SpaceFault>, Account), Fail>
+// Inserts a row of a fifteenth cell, which doesn't find a block, and undoes that.
+fn insert_and_undo<P: Pages>(alloc: Global, table: &mut Table, pages: &mut P) -> Result<(), Fail>
     requires defined { IsTableDef table.old.def.number table.old.def }
     requires no_indexes { table.old.def.indexes ≡ [] }
     requires going { (P.state pages.old).ended ≡ false }
@@ -55,36 +66,42 @@ fn insert_and_undo<P: Pages>(
     ensures going { (P.state pages.new).ended ≡ false }
 {
     pages.mark();
-    let answer = try_insert(alloc, table, pages, 15)?;
+    let answer = try_insert(alloc, table, pages, LAST.seed)?;
     pages.undo();
     table.ext.forget();
     table.rooms.forget();
-    Ok((answer, blocks_of(alloc, table, pages)?))
+    if answer != Err(SpaceFault::Full(EXTENTS)) {
+        return Err(Fail::new("a file that isn't full"));
+    }
+    check_blocks(alloc, table, pages, ALL_USED)
+}
+
+// The first row leaves, and the one of the fifteenth cell takes its block.
+fn retry<P: Pages>(alloc: Global, table: &mut Table, pages: &mut P) -> Result<(), Fail>
+    requires defined { IsTableDef table.old.def.number table.old.def }
+    requires no_indexes { table.old.def.indexes ≡ [] }
+    requires going { (P.state pages.old).ended ≡ false }
+{
+    delete(alloc, table, pages, FIRST)?;
+    insert_as(alloc, table, pages, LAST)?;
+    check_blocks(alloc, table, pages, ALL_USED)
 }
 
 // Rows of fourteen cells come, and one of a fifteenth doesn't find a block; it is undone, and tried again once a block is Free.
-fn fill_and_retry<P: Pages>(alloc: Global, table: &mut Table, pages: &mut P) -> Result<Seen, Fail>
+fn fill_and_retry<P: Pages>(alloc: Global, table: &mut Table, pages: &mut P) -> Result<(), Fail>
     requires defined { IsTableDef table.old.def.number table.old.def }
     requires no_indexes { table.old.def.indexes ≡ [] }
     requires going { (P.state pages.old).ended ≡ false }
     requires unmarked { (P.state pages.old).marked ≡ None }
 {
-    let first = insert(alloc, table, pages, 1)?;
+    insert_as(alloc, table, pages, FIRST)?;
     fill(alloc, table, pages)?;
-    let (answer, undone) = insert_and_undo(alloc, table, pages)?;
-    delete(alloc, table, pages, first)?;
-    let retried = insert(alloc, table, pages, 15)?.rid;
-    let at_last = blocks_of(alloc, table, pages)?;
-    Ok(Seen {
-        answer,
-        undone,
-        retried,
-        at_last,
-    })
+    insert_and_undo(alloc, table, pages)?;
+    retry(alloc, table, pages)
 }
 
 // The same in an empty database.
-fn run_full<P: Pages>(alloc: Global, pages: &mut P) -> Result<Seen, Fail>
+fn run_full<P: Pages>(alloc: Global, pages: &mut P) -> Result<(), Fail>
     requires going { (P.state pages.old).ended ≡ false }
     requires unmarked { (P.state pages.old).marked ≡ None }
 {
@@ -94,18 +111,5 @@ fn run_full<P: Pages>(alloc: Global, pages: &mut P) -> Result<Seen, Fail>
 
 #[test]
 fn a_row_of_a_new_cell_finds_no_block(rt: HostRuntime) -> Result<(), Fail> {
-    let seen = run_full(rt.alloc(), &mut fresh_store(rt.alloc())?)?;
-    let all_used = Account {
-        used: 14,
-        free: 0,
-        pending: 0,
-    };
-    let wanted = Seen {
-        answer: Err(SpaceFault::Full(16)),
-        undone: all_used,
-        retried: Rid { block: 2, slot: 0 },
-        at_last: all_used,
-    };
-    assert!(rt; seen == wanted);
-    Ok(())
+    run_full(rt.alloc(), &mut fresh_store(rt.alloc())?)
 }

@@ -30,5 +30,7 @@ mod rows;
 mod stores;
 #[cfg(test)]
 mod tables;
+#[cfg(test)]
+mod wrong;
 
 pub use fitting::does_fit;

@@ -99,7 +99,7 @@ fn move_one<P: Pages>(
         return put_last(list, is);
     }
     if is.rid != was.rid {
-        return Err("a row left its place")?;
+        return Err(Fail::new("a row left its place"));
     }
     list.rows.push(is)?;
     Ok(())
@@ -157,7 +157,7 @@ fn rows_of<P: Pages>(
 // How many rows there are of these, which are those of the list, at least one, and of one cell.
 fn count_right(alloc: Global, shape: Shape, list: &PlainList, hits: &[Hit]) -> Result<usize, Fail> {
     if hits.len() == 0 || !are_right(alloc, shape, list, hits)? {
-        return Err("other rows")?;
+        return Err(Fail::new("other rows"));
     }
     Ok(hits.len())
 }
@@ -175,7 +175,7 @@ fn rows_in<P: Pages>(
     ensures going { (P.state pages.new).ended ≡ false }
 {
     if block >= table.ext.cap {
-        return Err("a block that there isn't")?;
+        return Err(Fail::new("a block that there isn't"));
     }
     let hits = rows_of(alloc, table, pages, block)?;
     count_right(alloc, table.shape, list, hits.as_slice())
@@ -228,12 +228,12 @@ fn check<P: Pages>(
     ensures going { (P.state pages.new).ended ≡ false }
 {
     if !stand_for_list(alloc, table, pages, list)? {
-        return Err("pages of another database")?;
+        return Err(Fail::new("pages of another database"));
     }
     let (blocks, rows) = look_at_blocks(alloc, table, pages, list)?;
     let account = blocks_of(alloc, table, pages)?;
     if rows != list.rows.len() || account.used != blocks as u64 || account.pending != 0 {
-        return Err("another number of rows")?;
+        return Err(Fail::new("another number of rows"));
     }
     Ok(())
 }
@@ -251,7 +251,7 @@ fn look_each<P: Pages>(
     for held in &list.rows {
         let (is_there, _) = looked_at(alloc, table, pages, *held)?;
         if !is_there {
-            return Err("another row, or none")?;
+            return Err(Fail::new("another row, or none"));
         }
     }
     Ok(())

@@ -35,7 +35,7 @@ pub fn any_row(list: &PlainList, any: u64) -> Option<usize> {
 /// Takes a row out.
 pub fn take_out(list: &mut PlainList, i: usize) -> Result<Held, Fail> {
     if i >= list.rows.len() {
-        return Err("no such row")?;
+        return Err(Fail::new("no such row"));
     }
     Ok(list.rows.remove(i))
 }
@@ -45,7 +45,7 @@ pub fn put_last(list: &mut PlainList, held: Held) -> Result<(), Fail> {
     match place_for(list, held.seed) {
         Some(place) => {
             if held.rid != place {
-                return Err("another place")?;
+                return Err(Fail::new("another place"));
             }
         }
         None => note_block(list, held.rid)?,
@@ -57,7 +57,7 @@ pub fn put_last(list: &mut PlainList, held: Held) -> Result<(), Fail> {
 // Notes a block of which a row took the first slot, above all blocks before it.
 fn note_block(list: &mut PlainList, rid: Rid) -> Result<(), Fail> {
     if rid.slot != 0 || list.blocks.iter().any(|block| *block >= rid.block) {
-        return Err("no new block")?;
+        return Err(Fail::new("no new block"));
     }
     list.blocks.push(rid.block)?;
     Ok(())

@@ -38,7 +38,7 @@ fn write_definition<P: Pages>(table: &Table, pages: &mut P) -> Result<(), Fail>
     ensures going { (P.state pages.new).ended ≡ false }
 {
     if pages.count() <= TABLE_PAGE {
-        return Err("no table page")?;
+        return Err(Fail::new("no table page"));
     }
     let mut page = *blank_page();
     def_page(&table.def, &mut page);

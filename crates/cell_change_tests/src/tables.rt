@@ -56,6 +56,18 @@ pub fn table_of<P: Pages>(
     })
 }
 
+// How wide the entries of the index of all dimensions are.
+fn width_of_all(shape: Shape) -> u16
+    ensures wide { 5 ≤ result }
+    ensures narrow { result ≤ 134 }
+{
+    match shape {
+        Shape::Wide => 9,
+        Shape::Mixed => 23,
+        Shape::Narrow => 14,
+    }
+}
+
 // Makes the trees of a table, and its page.
 fn page_of<P: Pages>(
     alloc: Global,
@@ -68,21 +80,15 @@ fn page_of<P: Pages>(
     ensures marked { (P.state pages.new).marked ≡ (P.state pages.old).marked }
 {
     let map = root_of(alloc, 7, ext, pages)?;
+    let all = root_of(alloc, width_of_all(shape), ext, pages)?;
+    let by_d = root_of(alloc, 9, ext, pages)?;
     match shape {
-        Shape::Wide => {
-            let all = root_of(alloc, 9, ext, pages)?;
-            let by_d = root_of(alloc, 9, ext, pages)?;
-            Ok(wide_page(map, all, by_d))
-        }
+        Shape::Wide => Ok(wide_page(map, all, by_d)),
         Shape::Mixed => {
-            let all = root_of(alloc, 23, ext, pages)?;
-            let by_d = root_of(alloc, 9, ext, pages)?;
             let by_rt = root_of(alloc, 18, ext, pages)?;
             Ok(mixed_page(map, all, by_d, by_rt))
         }
         Shape::Narrow => {
-            let all = root_of(alloc, 14, ext, pages)?;
-            let by_d = root_of(alloc, 9, ext, pages)?;
             let by_s = root_of(alloc, 9, ext, pages)?;
             Ok(narrow_page(map, all, by_d, by_s))
         }
@@ -112,10 +118,10 @@ fn definition_on(alloc: Global, page: &Page) -> Result<TableDef, Fail>
 {
     let found = def_of(alloc, page, 0)?;
     let Some(def) = found else {
-        return Err("a page of zeros")?;
+        return Err(Fail::new("a page of zeros"));
     };
     if def.indexes.len() > 0 {
-        return Err("a table with indexes")?;
+        return Err(Fail::new("a table with indexes"));
     }
     Ok(def)
 }

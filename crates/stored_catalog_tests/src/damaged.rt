@@ -1,20 +1,48 @@
 // Table pages that aren't those of definitions, and tables of one name.
 ghost use Rattle.std.specs.Prelude.{◌≡◌, false};
-ghost use Rattle.stored_catalog.specs.StoredDefinitions.{AreWithinLimits};
 
 use crate::stores::{fresh_store, store_with};
-use crate::tables::{create, loaded, wide_page};
-use catalog::Catalog;
+use crate::tables::{make_two, wide_page};
+use crate::wrong::Wrong;
 use entry_tree_tests::extents_of;
-use extent_map::Extents;
 use std::alloc::Global;
 use std::test::Fail;
 use store_api::{Damage, Page, Pages, StoreFault, patch_page, write_page};
 use stored_catalog::load_catalog;
 
-// Rule 3 of a page.
-fn rule_three(page: u32) -> Option<Damage> {
-    Some(Damage { page, rule: 3 })
+// A page of a store with two tables, a place in it, bytes that are written there, and the page that rule 3 then names, if any.
+type Patch = (u32, usize, &'static [u8], Option<u32>);
+
+// What makes a page no definition.
+const NO_DEFINITION: [Patch; 8] = [
+    (1, 0, b"\x55", Some(1)),
+    (2, 0, b"\x00", Some(2)),
+    (2, 4000, b"\x01", Some(2)),
+    (1, 72, b"\x05", Some(1)),
+    (2, 135, b"\x00", Some(2)),
+    (2, 551, b"\x05", Some(2)),
+    (6, 100, b"\x01", Some(6)),
+    (16, 0, b"\x54", Some(16)),
+];
+
+// Roots and row numbers are no part of what makes a page a definition, and the other pages are none of the table pages.
+const NOT_LOOKED_AT: [Patch; 5] = [
+    (1, 30, b"\x00\x00\x10\x00", None),
+    (2, 22, b"\xff\xff\xff\xff\xff\xff\xff\xff", None),
+    (1, 1, b"C", None),
+    (17, 0, b"\x07", None),
+    (0, 0, b"\x07", None),
+];
+
+// What gives the two tables one name.
+const ONE_NAME: [Patch; 2] = [(2, 1, b"A", Some(1)), (1, 1, b"B", Some(1))];
+
+// Rule 3 of a page, if there is one.
+fn rule_three(page: Option<u32>) -> Option<Damage> {
+    match page {
+        Some(page) => Some(Damage { page, rule: 3 }),
+        None => None,
+    }
 }
 
 // Which damage loading the catalog names, if any.
@@ -24,88 +52,49 @@ fn damage_in<P: Pages>(alloc: Global, pages: &mut P) -> Result<Option<Damage>, F
     match load_catalog(alloc, pages) {
         Ok(_) => Ok(None),
         Err(StoreFault::Damaged(damage)) => Ok(Some(damage)),
-        Err(fault) => Err(fault)?,
+        Err(fault) => Err(Fail::from(fault)),
     }
 }
 
-// Makes the tables A and B.
-fn create_two<P: Pages>(
-    alloc: Global,
-    catalog: &mut Catalog,
-    ext: &mut Extents,
-    pages: &mut P,
-) -> Result<(), Fail>
-    requires catalog { AreWithinLimits catalog.old }
-    requires going { (P.state pages.old).ended ≡ false }
-    ensures going { (P.state pages.new).ended ≡ false }
-{
-    create(alloc, catalog, ext, pages, b'A')?;
-    create(alloc, catalog, ext, pages, b'B')?;
-    Ok(())
-}
-
-// Makes the tables A and B, in the places 0 and 1.
-fn make_two<P: Pages>(alloc: Global, pages: &mut P) -> Result<(), Fail>
-    requires going { (P.state pages.old).ended ≡ false }
-    ensures going { (P.state pages.new).ended ≡ false }
-{
-    let mut ext = extents_of(16)?;
-    let mut catalog = loaded(alloc, pages)?;
-    create_two(alloc, &mut catalog, &mut ext, pages)
-}
-
-// Which damage is named once these bytes are written over a page beside two tables.
-fn patched<P: Pages>(
-    alloc: Global,
-    pages: &mut P,
-    p: u32,
-    at: usize,
-    bytes: &[u8],
-) -> Result<Option<Damage>, Fail>
+// Which damage is named once a patch is written beside two tables.
+fn patched<P: Pages>(alloc: Global, pages: &mut P, patch: Patch) -> Result<Option<Damage>, Fail>
     requires going { (P.state pages.old).ended ≡ false }
 {
-    make_two(alloc, pages)?;
-    if p >= pages.count() || at > 4000 || bytes.len() > 96 {
-        return Err("no such part of a page")?;
+    let (page, at, bytes, _) = patch;
+    make_two(alloc, &mut extents_of(16)?, pages)?;
+    if page >= pages.count() || at > 4000 || bytes.len() > 96 {
+        return Err(Fail::new("no such part of a page"));
     }
-    patch_page(pages, p, at, bytes)?;
+    patch_page(pages, page, at, bytes)?;
     damage_in(alloc, pages)
 }
 
-// Whether rule 3 names a page of a new store with two tables once these bytes are written over one.
-fn is_named(alloc: Global, p: u32, at: usize, bytes: &[u8], named: u32) -> Result<bool, Fail> {
-    Ok(patched(alloc, &mut fresh_store(alloc)?, p, at, bytes)? == rule_three(named))
+// Fails where another damage is named of a new store with the two tables and a patch.
+fn check_patch(alloc: Global, patch: Patch) -> Result<(), Fail> {
+    let named = patched(alloc, &mut fresh_store(alloc)?, patch)?;
+    let (page, at, _, wanted) = patch;
+    if named != rule_three(wanted) {
+        return Err(Fail::from(Wrong::Damage(page, at)));
+    }
+    Ok(())
 }
 
-// Whether nothing is named of such a store.
-fn is_fine(alloc: Global, p: u32, at: usize, bytes: &[u8]) -> Result<bool, Fail> {
-    Ok(patched(alloc, &mut fresh_store(alloc)?, p, at, bytes)?.is_none())
+// The same of each of these, in a store of its own.
+fn check_patches(alloc: Global, patches: &[Patch]) -> Result<(), Fail> {
+    for patch in patches {
+        check_patch(alloc, *patch)?;
+    }
+    Ok(())
 }
 
 #[test]
 fn a_table_page_that_is_no_definition_is_named(rt: HostRuntime) -> Result<(), Fail> {
-    let alloc = rt.alloc();
-    assert!(rt; is_named(alloc, 1, 0, b"\x55", 1)?);
-    assert!(rt; is_named(alloc, 2, 0, b"\x00", 2)?);
-    assert!(rt; is_named(alloc, 2, 4000, b"\x01", 2)?);
-    assert!(rt; is_named(alloc, 1, 72, b"\x05", 1)?);
-    assert!(rt; is_named(alloc, 2, 135, b"\x00", 2)?);
-    assert!(rt; is_named(alloc, 2, 551, b"\x05", 2)?);
-    assert!(rt; is_named(alloc, 6, 100, b"\x01", 6)?);
-    assert!(rt; is_named(alloc, 16, 0, b"\x54", 16)?);
-    Ok(())
+    check_patches(rt.alloc(), &NO_DEFINITION)
 }
 
-// Roots and row numbers are no part of what makes a page a definition, and the other pages are none of the table pages.
 #[test]
 fn roots_and_row_numbers_are_not_looked_at(rt: HostRuntime) -> Result<(), Fail> {
-    let alloc = rt.alloc();
-    assert!(rt; is_fine(alloc, 1, 30, b"\x00\x00\x10\x00")?);
-    assert!(rt; is_fine(alloc, 2, 22, b"\xff\xff\xff\xff\xff\xff\xff\xff")?);
-    assert!(rt; is_fine(alloc, 1, 1, b"C")?);
-    assert!(rt; is_fine(alloc, 17, 0, b"\x07")?);
-    assert!(rt; is_fine(alloc, 0, 0, b"\x07")?);
-    Ok(())
+    check_patches(rt.alloc(), &NOT_LOOKED_AT)
 }
 
 // Writes the page of a definition into two places, and says which damage is named.
@@ -113,30 +102,37 @@ fn twice<P: Pages>(alloc: Global, pages: &mut P, page: &Page) -> Result<Option<D
     requires going { (P.state pages.old).ended ≡ false }
 {
     if pages.count() < 18 {
-        return Err("no table pages")?;
+        return Err(Fail::new("no table pages"));
     }
     write_page(pages, 10, page)?;
     write_page(pages, 4, page)?;
     damage_in(alloc, pages)
 }
 
+// The same in a new store, with the page of a table T.
+fn damage_of_twice(alloc: Global) -> Result<Option<Damage>, Fail> {
+    let page = wide_page(b'T', [18, 19, 20]);
+    twice(alloc, &mut fresh_store(alloc)?, &page)
+}
+
 #[test]
 fn the_lower_page_of_two_tables_of_one_name_is_named(rt: HostRuntime) -> Result<(), Fail> {
-    let alloc = rt.alloc();
-    assert!(rt; is_named(alloc, 2, 1, b"A", 1)?);
-    assert!(rt; is_named(alloc, 1, 1, b"B", 1)?);
-    let page = wide_page(b'T', [18, 19, 20]);
-    let named = twice(alloc, &mut fresh_store(alloc)?, &page)?;
-    assert!(rt; named == rule_three(4));
+    check_patches(rt.alloc(), &ONE_NAME)?;
+    let named = damage_of_twice(rt.alloc())?;
+    assert!(rt; named == rule_three(Some(4)));
     Ok(())
+}
+
+// Which damage is named of a new store of so many pages.
+fn damage_of_count(alloc: Global, many: u32) -> Result<Option<Damage>, Fail> {
+    damage_in(alloc, &mut store_with(alloc, many)?)
 }
 
 #[test]
 fn a_store_without_all_table_pages_is_named(rt: HostRuntime) -> Result<(), Fail> {
-    let alloc = rt.alloc();
-    let lacking = damage_in(alloc, &mut store_with(alloc, 16)?)?;
+    let lacking = damage_of_count(rt.alloc(), 16)?;
+    let whole = damage_of_count(rt.alloc(), 17)?;
     assert!(rt; lacking == Some(Damage { page: 0, rule: 1 }));
-    let whole = damage_in(alloc, &mut store_with(alloc, 17)?)?;
     assert!(rt; whole.is_none());
     Ok(())
 }

@@ -1,12 +1,12 @@
 // Databases with no free extent left: one that is full of rows, and one that is full of tables.
-ghost use Rattle.std.specs.Prelude.{◌≡◌, None, [], false, IfOk, OnOk};
+ghost use Rattle.std.specs.Prelude.{◌≡◌, None, [], false, IfOk};
 ghost use Rattle.table_page.specs.TableLimits.{IsTableDef};
 ghost use Rattle.stored_catalog.specs.StoredDefinitions.{AreWithinLimits};
 
-use crate::looks::{Look, is_page, looked_at, map_page};
-use crate::rows::{delete, fill, insert, try_insert};
+use crate::looks::{check_count, check_page, check_tables, map_page};
+use crate::rows::{delete, fill, fill_table, insert, try_insert};
 use crate::stores::fresh_store;
-use crate::tables::{create, loaded, taken, try_create};
+use crate::tables::{TWO, check_loaded, create, create_two, loaded, taken, try_create};
 use catalog::Catalog;
 use entry_tree_tests::extents_of;
 use extent_map::{Extents, SpaceFault};
@@ -16,15 +16,8 @@ use std::alloc::Global;
 use std::test::Fail;
 use store_api::Pages;
 
-// What was seen of rows.
-#[derive(Clone, Copy, PartialEq)]
-struct SeenRows {
-    count: u32,
-    answer: Result<Rid, SpaceFault>,
-    retried: Rid,
-    next: u64,
-    count_at_last: u32,
-}
+// The place of the first row of a table.
+const FIRST: Rid = Rid { block: 2, slot: 0 };
 
 // Makes a table, and takes its definition out of the catalog.
 fn make_and_take<P: Pages>(
@@ -40,8 +33,8 @@ fn make_and_take<P: Pages>(
     ensures going { (P.state pages.new).ended ≡ false }
     ensures marked { (P.state pages.new).marked ≡ (P.state pages.old).marked }
 {
-    let place = create(alloc, catalog, ext, pages, b'W')?;
-    taken(catalog, place)
+    create(alloc, catalog, ext, pages, b'W', 0)?;
+    taken(catalog, 0)
 }
 
 // The definition of a new table in the database that the pages have.
@@ -56,13 +49,21 @@ fn new_table<P: Pages>(alloc: Global, ext: &mut Extents, pages: &mut P) -> Resul
     make_and_take(alloc, &mut catalog, ext, pages)
 }
 
-// Inserts a row of a fifteenth cell and undoes that. Answers what the insert answered.
+// Fails where something else was answered than that there are no more than so many extents.
+fn check_full<T: Copy>(answer: Result<T, SpaceFault>, extents: u32) -> Result<(), Fail> {
+    match answer {
+        Err(SpaceFault::Full(cap)) if cap == extents => Ok(()),
+        _ => Err(Fail::new("a file that isn't full")),
+    }
+}
+
+// Inserts a row of a fifteenth cell, which doesn't find a block, and undoes that.
 fn insert_and_undo<P: Pages>(
     alloc: Global,
     def: &mut TableDef,
     ext: &mut Extents,
     pages: &mut P,
-) -> Result<Result<Rid, SpaceFault>, Fail>
+) -> Result<(), Fail>
     requires defined { IsTableDef def.old.number def.old }
     requires no_indexes { def.old.indexes ≡ [] }
     requires going { (P.state pages.old).ended ≡ false }
@@ -75,7 +76,27 @@ fn insert_and_undo<P: Pages>(
     let answer = try_insert(alloc, def, ext, pages, 15)?;
     pages.undo();
     ext.forget();
-    Ok(answer)
+    check_full(answer, 16)
+}
+
+// The first row leaves, and one of the fifteenth cell takes its block.
+fn retry<P: Pages>(
+    alloc: Global,
+    def: &mut TableDef,
+    ext: &mut Extents,
+    pages: &mut P,
+) -> Result<(), Fail>
+    requires defined { IsTableDef def.old.number def.old }
+    requires no_indexes { def.old.indexes ≡ [] }
+    requires going { (P.state pages.old).ended ≡ false }
+    ensures going { (P.state pages.new).ended ≡ false }
+{
+    delete(alloc, def, ext, pages, FIRST, 0, 1)?;
+    insert(alloc, def, ext, pages, 15, FIRST)?;
+    if def.next != 15 {
+        return Err(Fail::new("another next row number"));
+    }
+    check_count(pages, 50)
 }
 
 // Rows of fourteen cells come, and one of a fifteenth doesn't find a block; it is undone, and tried again once a block is Free.
@@ -84,33 +105,20 @@ fn fill_and_retry<P: Pages>(
     def: &mut TableDef,
     ext: &mut Extents,
     pages: &mut P,
-) -> Result<SeenRows, Fail>
+) -> Result<(), Fail>
     requires defined { IsTableDef def.old.number def.old }
     requires no_indexes { def.old.indexes ≡ [] }
     requires going { (P.state pages.old).ended ≡ false }
     requires unmarked { (P.state pages.old).marked ≡ None }
 {
-    fill(alloc, def, ext, pages)?;
-    let count = pages.count();
-    let answer = insert_and_undo(alloc, def, ext, pages)?;
-    let first = Rid { block: 2, slot: 0 };
-    delete(alloc, def, ext, pages, first, 0, 1)?;
-    let retried = insert(alloc, def, ext, pages, 15)?;
-    Ok(SeenRows {
-        count,
-        answer,
-        retried,
-        next: def.next,
-        count_at_last: pages.count(),
-    })
+    fill(alloc, def, ext, pages, 14, 2)?;
+    check_count(pages, 50)?;
+    insert_and_undo(alloc, def, ext, pages)?;
+    retry(alloc, def, ext, pages)
 }
 
 // The same in a new table.
-fn fill_with_rows<P: Pages>(
-    alloc: Global,
-    ext: &mut Extents,
-    pages: &mut P,
-) -> Result<SeenRows, Fail>
+fn fill_with_rows<P: Pages>(alloc: Global, ext: &mut Extents, pages: &mut P) -> Result<(), Fail>
     requires going { (P.state pages.old).ended ≡ false }
     requires unmarked { (P.state pages.old).marked ≡ None }
 {
@@ -122,76 +130,26 @@ fn fill_with_rows<P: Pages>(
 #[test]
 fn a_row_of_a_new_cell_finds_no_extent(rt: HostRuntime) -> Result<(), Fail> {
     let alloc = rt.alloc();
-    let seen = fill_with_rows(alloc, &mut extents_of(16)?, &mut fresh_store(alloc)?)?;
-    let wanted = SeenRows {
-        count: 50,
-        answer: Err(SpaceFault::Full(16)),
-        retried: Rid { block: 2, slot: 0 },
-        next: 15,
-        count_at_last: 50,
-    };
-    assert!(rt; seen == wanted);
-    Ok(())
+    fill_with_rows(alloc, &mut extents_of(16)?, &mut fresh_store(alloc)?)
 }
 
-// What was seen of tables.
-#[derive(Clone, Copy, PartialEq)]
-struct SeenTables {
-    counts: [u32; 2],
-    answer: Result<u8, SpaceFault>,
-    count_undone: u32,
-    has_old_map: bool,
-    kept: [Option<Look>; 3],
-    loaded: [Option<Look>; 3],
-    row: Rid,
-    count_at_last: u32,
-}
-
-// Whether the page of the map says that three of four extents are full of index pages.
-fn is_map_of_three<P: Pages>(pages: &mut P) -> Result<bool, Fail>
+// The page of the map says that three of four extents are full of index pages.
+fn check_map_of_three<P: Pages>(pages: &mut P) -> Result<(), Fail>
     requires going { (P.state pages.old).ended ≡ false }
     ensures going { (P.state pages.new).ended ≡ false }
 {
     let full = b"\x02\x00\x00\x00\x00\x00\x00\x03";
     let free = b"\x00\x00\x00\x00\x00\x00\x00\x00";
-    is_page(pages, 17, &map_page([full, full, full, free]))
+    check_page(pages, 17, &map_page([full, full, full, free]))
 }
 
-// What is seen of the first three places of a catalog.
-fn looks(catalog: &Catalog) -> [Option<Look>; 3] {
-    [
-        looked_at(catalog, 0),
-        looked_at(catalog, 1),
-        looked_at(catalog, 2),
-    ]
-}
-
-// Makes the tables A and B, and answers how many pages there are after each.
-fn make_two<P: Pages>(
-    alloc: Global,
-    catalog: &mut Catalog,
-    ext: &mut Extents,
-    pages: &mut P,
-) -> Result<[u32; 2], Fail>
-    requires catalog { AreWithinLimits catalog.old }
-    requires going { (P.state pages.old).ended ≡ false }
-    ensures catalog { OnOk result (AreWithinLimits catalog.new) }
-    ensures going { (P.state pages.new).ended ≡ false }
-    ensures marked { (P.state pages.new).marked ≡ (P.state pages.old).marked }
-{
-    create(alloc, catalog, ext, pages, b'A')?;
-    let first = pages.count();
-    create(alloc, catalog, ext, pages, b'B')?;
-    Ok([first, pages.count()])
-}
-
-// Makes a table C and undoes that. Answers what making it answered.
+// Makes a table C, which has no room for its third tree, and undoes that.
 fn make_third_and_undo<P: Pages>(
     alloc: Global,
     catalog: &mut Catalog,
     ext: &mut Extents,
     pages: &mut P,
-) -> Result<Result<u8, SpaceFault>, Fail>
+) -> Result<(), Fail>
     requires catalog { AreWithinLimits catalog.old }
     requires going { (P.state pages.old).ended ≡ false }
     requires unmarked { (P.state pages.old).marked ≡ None }
@@ -201,37 +159,26 @@ fn make_third_and_undo<P: Pages>(
     let answer = try_create(alloc, catalog, ext, pages, b'C')?;
     pages.undo();
     ext.forget();
-    Ok(answer)
+    check_full(answer, 4)
 }
 
-// Inserts a row into the second table of a catalog, and answers where it lies.
-fn insert_into_second<P: Pages>(
-    alloc: Global,
-    catalog: &mut Catalog,
-    ext: &mut Extents,
-    pages: &mut P,
-) -> Result<Rid, Fail>
-    requires catalog { AreWithinLimits catalog.old }
+// The pages have the two tables alone.
+fn check_undone<P: Pages>(alloc: Global, pages: &mut P) -> Result<(), Fail>
     requires going { (P.state pages.old).ended ≡ false }
     ensures going { (P.state pages.new).ended ≡ false }
 {
-    let mut def = taken(catalog, 1)?;
-    insert(alloc, &mut def, ext, pages, 1)
+    check_count(pages, 24)?;
+    check_map_of_three(pages)?;
+    check_loaded(alloc, pages, &TWO)
 }
 
-// What is seen of the tables of the pages, and where a row of the second then lies.
-fn look_and_insert<P: Pages>(
-    alloc: Global,
-    ext: &mut Extents,
-    pages: &mut P,
-) -> Result<([Option<Look>; 3], Rid), Fail>
+// Inserts a row into the second table of the pages. It takes the block 3.
+fn insert_into_second<P: Pages>(alloc: Global, ext: &mut Extents, pages: &mut P) -> Result<(), Fail>
     requires going { (P.state pages.old).ended ≡ false }
     ensures going { (P.state pages.new).ended ≡ false }
 {
     let mut catalog = loaded(alloc, pages)?;
-    let seen = looks(&catalog);
-    let row = insert_into_second(alloc, &mut catalog, ext, pages)?;
-    Ok((seen, row))
+    fill_table(alloc, &mut catalog, ext, pages, 1, 1, 3)
 }
 
 // Two tables come, and a third has no room for its third tree; it is undone. A row of the second takes the extent that is left.
@@ -240,34 +187,21 @@ fn make_three<P: Pages>(
     catalog: &mut Catalog,
     ext: &mut Extents,
     pages: &mut P,
-) -> Result<SeenTables, Fail>
+) -> Result<(), Fail>
     requires catalog { AreWithinLimits catalog.old }
     requires going { (P.state pages.old).ended ≡ false }
     requires unmarked { (P.state pages.old).marked ≡ None }
 {
-    let counts = make_two(alloc, catalog, ext, pages)?;
-    let answer = make_third_and_undo(alloc, catalog, ext, pages)?;
-    let count_undone = pages.count();
-    let has_old_map = is_map_of_three(pages)?;
-    let (loaded, row) = look_and_insert(alloc, ext, pages)?;
-    Ok(SeenTables {
-        counts,
-        answer,
-        count_undone,
-        has_old_map,
-        kept: looks(catalog),
-        loaded,
-        row,
-        count_at_last: pages.count(),
-    })
+    create_two(alloc, catalog, ext, pages)?;
+    make_third_and_undo(alloc, catalog, ext, pages)?;
+    check_undone(alloc, pages)?;
+    insert_into_second(alloc, ext, pages)?;
+    check_tables(catalog, &TWO)?;
+    check_count(pages, 26)
 }
 
 // The same in the database that the pages have.
-fn fill_with_tables<P: Pages>(
-    alloc: Global,
-    ext: &mut Extents,
-    pages: &mut P,
-) -> Result<SeenTables, Fail>
+fn fill_with_tables<P: Pages>(alloc: Global, ext: &mut Extents, pages: &mut P) -> Result<(), Fail>
     requires going { (P.state pages.old).ended ≡ false }
     requires unmarked { (P.state pages.old).marked ≡ None }
 {
@@ -275,35 +209,8 @@ fn fill_with_tables<P: Pages>(
     make_three(alloc, &mut catalog, ext, pages)
 }
 
-fn empty(name: u8, number: u8, roots: [u32; 3]) -> Option<Look> {
-    Some(Look {
-        name,
-        number,
-        next: 0,
-        roots,
-    })
-}
-
-// The first takes the pages 18, 19 and 20, and the second the page 21 that is left of extent 1, and then 22 and 23 of extent 2.
 #[test]
 fn a_table_finds_no_page_for_a_tree(rt: HostRuntime) -> Result<(), Fail> {
     let alloc = rt.alloc();
-    let seen = fill_with_tables(alloc, &mut extents_of(4)?, &mut fresh_store(alloc)?)?;
-    let tables = [
-        empty(b'A', 0, [18, 19, 20]),
-        empty(b'B', 1, [21, 22, 23]),
-        None,
-    ];
-    let wanted = SeenTables {
-        counts: [22, 24],
-        answer: Err(SpaceFault::Full(4)),
-        count_undone: 24,
-        has_old_map: true,
-        kept: tables,
-        loaded: tables,
-        row: Rid { block: 3, slot: 0 },
-        count_at_last: 26,
-    };
-    assert!(rt; seen == wanted);
-    Ok(())
+    fill_with_tables(alloc, &mut extents_of(4)?, &mut fresh_store(alloc)?)
 }

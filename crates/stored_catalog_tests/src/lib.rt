@@ -2,8 +2,8 @@
 //! table pages that aren't those of definitions.
 //!
 //! What a clause of `stored_catalog` says isn't tested but where many calls follow one another. All of it is tests, and each
-//! scenario is a function over any pages, so that its proof knows no concrete ones. What is expected is written by hand from
-//! docs/FORMAT.md.
+//! scenario is a function over any pages, or a list of steps that one plays, so that its proof knows no concrete ones. What is
+//! expected is written by hand from docs/FORMAT.md.
 #![tactic(auto)]
 
 #[cfg(test)]
@@ -19,6 +19,10 @@ mod making;
 #[cfg(test)]
 mod rows;
 #[cfg(test)]
+mod steps;
+#[cfg(test)]
 mod stores;
 #[cfg(test)]
 mod tables;
+#[cfg(test)]
+mod wrong;

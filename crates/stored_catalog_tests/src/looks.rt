@@ -1,6 +1,7 @@
-// What a test sees of catalogs and pages.
+// What a test sees of catalogs and pages, beside what it should see.
 ghost use Rattle.std.specs.Prelude.{◌≡◌, false};
 
+use crate::wrong::Wrong;
 use catalog::Catalog;
 use mdc_ast::TableDef;
 use std::test::Fail;
@@ -15,8 +16,8 @@ pub struct Look {
     pub roots: [u32; 3],
 }
 
-/// What is seen of the table in a place, if there is one.
-pub fn looked_at(catalog: &Catalog, table: u8) -> Option<Look> {
+// What is seen of the table in a place, if there is one.
+fn looked_at(catalog: &Catalog, table: u8) -> Option<Look> {
     if table >= 16 {
         return None;
     }
@@ -44,27 +45,46 @@ fn letter_of(name: &[u8]) -> u8 {
     if name.len() == 1 { name[0] } else { 0 }
 }
 
-/// How many tables a catalog has.
-pub fn tables_in(catalog: &Catalog) -> u32 {
-    let mut many: u32 = 0;
-    for t in 0..16u8 {
-        if catalog.def(t).is_some() {
-            many = many.wrapping_add(1);
-        }
+// What should be seen in a place of a catalog whose first places are these, and whose others are empty.
+fn wanted_at(first: &[Option<Look>], table: u8) -> Option<Look> {
+    match first.get(usize::from(table)) {
+        Some(look) => *look,
+        None => None,
     }
-    many
 }
 
-/// Whether a page has these bytes.
-pub fn is_page<P: Pages>(pages: &mut P, p: u32, bytes: &Page) -> Result<bool, Fail>
+/// Fails where a catalog isn't one whose first places are these, and whose others are empty.
+pub fn check_tables(catalog: &Catalog, first: &[Option<Look>]) -> Result<(), Fail> {
+    for table in 0..16u8 {
+        if looked_at(catalog, table) != wanted_at(first, table) {
+            return Err(Fail::from(Wrong::Table(table)));
+        }
+    }
+    Ok(())
+}
+
+/// Fails where a page has other bytes.
+pub fn check_page<P: Pages>(pages: &mut P, p: u32, bytes: &Page) -> Result<(), Fail>
     requires going { (P.state pages.old).ended ≡ false }
     ensures going { (P.state pages.new).ended ≡ false }
 {
     if p >= pages.count() {
-        return Err("no such page")?;
+        return Err(Fail::from(Wrong::Page(p)));
     }
     bring(pages, p)?;
-    Ok(pages.page()[..] == bytes[..])
+    if pages.page()[..] != bytes[..] {
+        return Err(Fail::from(Wrong::Page(p)));
+    }
+    Ok(())
+}
+
+/// Fails where there is another number of pages.
+pub fn check_count<P: Pages>(pages: &P, wanted: u32) -> Result<(), Fail> {
+    let count = pages.count();
+    if count != wanted {
+        return Err(Fail::from(Wrong::Count(count)));
+    }
+    Ok(())
 }
 
 /// The page of an extent map whose first four entries are these, and whose others are of free extents.

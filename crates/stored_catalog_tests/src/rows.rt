@@ -2,7 +2,11 @@
 ghost use Rattle.std.specs.Prelude.{◌≡◌, [], false, IfOk};
 ghost use Rattle.table_page.specs.TableLimits.{IsTableDef};
 ghost use Rattle.mdc_sound.specs.FittingRows.{RowFits};
+ghost use Rattle.stored_catalog.specs.StoredDefinitions.{AreWithinLimits};
 
+use crate::tables::{save, taken};
+use crate::wrong::Wrong;
+use catalog::Catalog;
 use cell_change::{delete_row, insert_row};
 use cell_change_tests::does_fit;
 use extent_map::{Extents, SpaceFault};
@@ -39,7 +43,7 @@ fn fitting_row(alloc: Global, def: &TableDef, number: u64, d: u32) -> Result<Row
 {
     let row = row_of(alloc, number, d)?;
     if !does_fit(def, &row) {
-        return Err("a row that doesn't fit")?;
+        return Err(Fail::new("a row that doesn't fit"));
     }
     Ok(row)
 }
@@ -61,21 +65,22 @@ pub fn try_insert<P: Pages>(
     ensures marked { (P.state pages.new).marked ≡ (P.state pages.old).marked }
 {
     if def.next == u64::MAX {
-        return Err("no number is left")?;
+        return Err(Fail::new("no number is left"));
     }
     let row = fitting_row(alloc, def, def.next, d)?;
     let mut rooms = Rooms::new(alloc);
     Ok(insert_row(alloc, def, ext, &mut rooms, pages, &row))
 }
 
-/// Inserts the next row, with this D, and answers where it lies.
+/// Inserts the next row, with this D, which has to come in this place.
 pub fn insert<P: Pages>(
     alloc: Global,
     def: &mut TableDef,
     ext: &mut Extents,
     pages: &mut P,
     d: u32,
-) -> Result<Rid, Fail>
+    place: Rid,
+) -> Result<(), Fail>
     requires defined { IsTableDef def.old.number def.old }
     requires no_indexes { def.old.indexes ≡ [] }
     requires going { (P.state pages.old).ended ≡ false }
@@ -84,7 +89,11 @@ pub fn insert<P: Pages>(
     ensures going { (P.state pages.new).ended ≡ false }
     ensures marked { (P.state pages.new).marked ≡ (P.state pages.old).marked }
 {
-    Ok(try_insert(alloc, def, ext, pages, d)??)
+    let rid = try_insert(alloc, def, ext, pages, d)??;
+    if rid != place {
+        return Err(Fail::from(Wrong::Row(rid)));
+    }
+    Ok(())
 }
 
 /// Deletes the row of a number with this D, which lies there.
@@ -108,12 +117,14 @@ pub fn delete<P: Pages>(
     Ok(())
 }
 
-/// Inserts fourteen rows, with D from 1 to 14: each is alone in its cell, so it has a block of its own, from block 2 on.
+/// Inserts so many rows, with D from 1 on: each is alone in its cell, so it has a block of its own, from this block on.
 pub fn fill<P: Pages>(
     alloc: Global,
     def: &mut TableDef,
     ext: &mut Extents,
     pages: &mut P,
+    rows: u32,
+    first: u32,
 ) -> Result<(), Fail>
     requires defined { IsTableDef def.old.number def.old }
     requires no_indexes { def.old.indexes ≡ [] }
@@ -123,11 +134,31 @@ pub fn fill<P: Pages>(
     ensures going { (P.state pages.new).ended ≡ false }
     ensures marked { (P.state pages.new).marked ≡ (P.state pages.old).marked }
 {
-    for d in 1..15 {
-        let rid = insert(alloc, def, ext, pages, d)?;
-        if rid.block != d + 1 || rid.slot != 0 {
-            return Err("a row in another place")?;
-        }
+    for i in 0..rows {
+        let place = Rid {
+            block: first.wrapping_add(i),
+            slot: 0,
+        };
+        insert(alloc, def, ext, pages, i.wrapping_add(1), place)?;
     }
     Ok(())
+}
+
+/// The same in a table of a catalog, whose page is written then.
+pub fn fill_table<P: Pages>(
+    alloc: Global,
+    catalog: &mut Catalog,
+    ext: &mut Extents,
+    pages: &mut P,
+    table: u8,
+    rows: u32,
+    first: u32,
+) -> Result<(), Fail>
+    requires catalog { AreWithinLimits catalog.old }
+    requires going { (P.state pages.old).ended ≡ false }
+    ensures going { (P.state pages.new).ended ≡ false }
+{
+    let mut def = taken(catalog, table)?;
+    fill(alloc, &mut def, ext, pages, rows, first)?;
+    save(catalog, pages, def)
 }

@@ -5,6 +5,8 @@ ghost use Rattle.table_page.specs.TableLimits.{IsTableDef};
 ghost use Rattle.stored_catalog.specs.NewTables.{IsNewTableDef};
 ghost use Rattle.stored_catalog.specs.StoredDefinitions.{AreWithinLimits};
 
+use crate::looks::{Look, check_count, check_tables};
+use crate::wrong::Wrong;
 use catalog::Catalog;
 use extent_map::{Extents, SpaceFault};
 use mdc_ast::{Name, TableDef};
@@ -42,16 +44,30 @@ pub fn loaded<P: Pages>(alloc: Global, pages: &mut P) -> Result<Catalog, Fail>
     Ok(load_catalog(alloc, pages)?)
 }
 
+/// Fails where the catalog that the pages have isn't one whose first places are these, and whose others are empty.
+pub fn check_loaded<P: Pages>(
+    alloc: Global,
+    pages: &mut P,
+    first: &[Option<Look>],
+) -> Result<(), Fail>
+    requires going { (P.state pages.old).ended ≡ false }
+    ensures going { (P.state pages.new).ended ≡ false }
+    ensures marked { (P.state pages.new).marked ≡ (P.state pages.old).marked }
+{
+    let catalog = loaded(alloc, pages)?;
+    check_tables(&catalog, first)
+}
+
 // The definition of a table that is to be made.
 fn definition(alloc: Global, name: u8) -> Result<TableDef, Fail>
     ensures new { IfOk result IsNewTableDef }
 {
     let found = def_of(alloc, &wide_page(name, [0, 0, 0]), 0)?;
     let Some(def) = found else {
-        return Err("a page of zeros")?;
+        return Err(Fail::new("a page of zeros"));
     };
     if def.indexes.len() > 0 {
-        return Err("a table with indexes")?;
+        return Err(Fail::new("a table with indexes"));
     }
     Ok(def)
 }
@@ -87,7 +103,7 @@ pub fn try_create<P: Pages>(
 {
     let def = definition(alloc, name)?;
     if !has_room(catalog) || !is_free(catalog, &def.name) {
-        return Err("no place for a table of this name")?;
+        return Err(Fail::new("no place for a table of this name"));
     }
     match add_table(alloc, catalog, ext, pages, def) {
         Ok(place) => Ok(Ok(place)),
@@ -95,21 +111,71 @@ pub fn try_create<P: Pages>(
     }
 }
 
-/// Makes a table of this name.
+/// Makes a table of this name, which has to come in this place.
 pub fn create<P: Pages>(
     alloc: Global,
     catalog: &mut Catalog,
     ext: &mut Extents,
     pages: &mut P,
     name: u8,
-) -> Result<u8, Fail>
+    place: u8,
+) -> Result<(), Fail>
     requires catalog { AreWithinLimits catalog.old }
     requires going { (P.state pages.old).ended ≡ false }
     ensures catalog { OnOk result (AreWithinLimits catalog.new) }
     ensures going { (P.state pages.new).ended ≡ false }
     ensures marked { (P.state pages.new).marked ≡ (P.state pages.old).marked }
 {
-    Ok(try_create(alloc, catalog, ext, pages, name)??)
+    let made = try_create(alloc, catalog, ext, pages, name)??;
+    if made != place {
+        return Err(Fail::from(Wrong::Table(made)));
+    }
+    Ok(())
+}
+
+/// The tables A and B of a database that had none. The first takes the pages 18, 19 and 20, and the second the page 21 that is
+/// left of extent 1, and then 22 and 23 of extent 2.
+pub const TWO: [Option<Look>; 2] = [
+    Some(Look {
+        name: b'A',
+        number: 0,
+        next: 0,
+        roots: [18, 19, 20],
+    }),
+    Some(Look {
+        name: b'B',
+        number: 1,
+        next: 0,
+        roots: [21, 22, 23],
+    }),
+];
+
+/// Makes these two tables, and looks after each at how many pages there are.
+pub fn create_two<P: Pages>(
+    alloc: Global,
+    catalog: &mut Catalog,
+    ext: &mut Extents,
+    pages: &mut P,
+) -> Result<(), Fail>
+    requires catalog { AreWithinLimits catalog.old }
+    requires going { (P.state pages.old).ended ≡ false }
+    ensures catalog { OnOk result (AreWithinLimits catalog.new) }
+    ensures going { (P.state pages.new).ended ≡ false }
+    ensures marked { (P.state pages.new).marked ≡ (P.state pages.old).marked }
+{
+    create(alloc, catalog, ext, pages, b'A', 0)?;
+    check_count(pages, 22)?;
+    create(alloc, catalog, ext, pages, b'B', 1)?;
+    check_count(pages, 24)
+}
+
+/// Makes them in the database that the pages have.
+pub fn make_two<P: Pages>(alloc: Global, ext: &mut Extents, pages: &mut P) -> Result<(), Fail>
+    requires going { (P.state pages.old).ended ≡ false }
+    ensures going { (P.state pages.new).ended ≡ false }
+{
+    let mut catalog = loaded(alloc, pages)?;
+    create_two(alloc, &mut catalog, ext, pages)
 }
 
 // Whether there is a table in a place, which has no record index.
@@ -141,7 +207,7 @@ pub fn drop_at<P: Pages>(
     ensures going { (P.state pages.new).ended ≡ false }
 {
     if !may_drop(catalog, table) {
-        return Err("no table to drop")?;
+        return Err(Fail::new("no table to drop"));
     }
     drop_table(alloc, catalog, ext, pages, table)?;
     Ok(())
@@ -155,13 +221,13 @@ pub fn taken(catalog: &mut Catalog, table: u8) -> Result<TableDef, Fail>
     ensures no_indexes { IfOk result (λ def. def.indexes ≡ []) }
 {
     if table >= 16 {
-        return Err("no such place")?;
+        return Err(Fail::new("no such place"));
     }
     let Some(def) = catalog.take(table) else {
-        return Err("no such table")?;
+        return Err(Fail::new("no such table"));
     };
     if def.indexes.len() > 0 {
-        return Err("a table with indexes")?;
+        return Err(Fail::new("a table with indexes"));
     }
     Ok(def)
 }
@@ -174,7 +240,7 @@ pub fn save<P: Pages>(catalog: &mut Catalog, pages: &mut P, def: TableDef) -> Re
 {
     let table = def.number;
     if table >= 16 {
-        return Err("no such place")?;
+        return Err(Fail::new("no such place"));
     }
     catalog.put(table, def);
     save_table(catalog, pages, table)?;

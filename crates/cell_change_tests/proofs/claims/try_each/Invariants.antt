@@ -4,8 +4,8 @@ use Rattle.table_page.specs.TableLimits.{IsTableDef}
 use Rattle.cell_change_tests.proofs.claims.try_each.Given as goal
 
 -- the definition stays one of a table without indexes, the store goes on, and no mark is open
-abbrev pub invariant-loop-extents : goal.invariant-loop-extents
-invariant-loop-extents g l = record {
+abbrev pub invariant-loop-claim : goal.invariant-loop-claim
+invariant-loop-claim g l = record {
   defined : IsTableDef l.table.def.number l.table.def;
   no_indexes : l.table.def.indexes ≡ [];
   going : (g.P.Pages.state l.pages).ended ≡ false;
