@@ -22,19 +22,19 @@ const ALL_USED: Account = Account {
     pending: 0,
 };
 
-// The block of the first row.
-const FIRST_BLOCK: Rid = Rid { block: 2, slot: 0 };
+// The place of the first row.
+const FIRST_PLACE: Rid = Rid { block: 2, slot: 0 };
 
 // The first row.
 const FIRST: Held = Held {
-    rid: FIRST_BLOCK,
+    rid: FIRST_PLACE,
     number: 0,
     seed: 1,
 };
 
 // The row of the fifteenth cell, where it lies once the first has left.
 const LAST: Held = Held {
-    rid: FIRST_BLOCK,
+    rid: FIRST_PLACE,
     number: 14,
     seed: 15,
 };

@@ -3,8 +3,8 @@
 //! notes that are lost.
 //!
 //! What a clause of `cell_change` says isn't tested but where many calls follow one another. Each scenario is a function over any
-//! pages, so that its proof knows no concrete ones. Tables are made by hand: their trees, and their definition by the bytes of its
-//! page. It lends tests of other crates a look at whether a row fits (`does_fit`).
+//! pages, or a list that such a function plays, so that its proof knows no concrete ones. Tables are made by hand: their trees, and
+//! their definition by the bytes of its page. It lends tests of other crates a look at whether a row fits (`does_fit`).
 #![tactic(auto)]
 
 #[cfg(test)]

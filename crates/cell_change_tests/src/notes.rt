@@ -119,7 +119,7 @@ fn lie_right(all: &[Held]) -> bool {
         && rid_at(all, 57) == Some(Rid { block: 7, slot: 5 })
 }
 
-// Puts the rows into two stores, the one with notes and the other without.
+// Puts the rows into two stores, with notes and without; fails where they lie differently, or elsewhere than placing says.
 fn put_twice(alloc: Global, kept: &mut Vec<Held>, lost: &mut Vec<Held>) -> Result<(), Fail> {
     put_in_new(alloc, &mut fresh_store(alloc)?, kept, false)?;
     put_in_new(alloc, &mut fresh_store(alloc)?, lost, true)?;

@@ -46,7 +46,7 @@ fn insert_eleven<P: Pages>(alloc: Global, table: &mut Table, pages: &mut P) -> R
     Ok(())
 }
 
-// Makes the change, or looks.
+// Makes a change, or fails where something else is seen.
 fn play<P: Pages>(alloc: Global, table: &mut Table, pages: &mut P, step: Step) -> Result<(), Fail>
     requires defined { IsTableDef table.old.def.number table.old.def }
     requires no_indexes { table.old.def.indexes ≡ [] }
@@ -66,7 +66,7 @@ fn play<P: Pages>(alloc: Global, table: &mut Table, pages: &mut P, step: Step) -
     }
 }
 
-// Makes these changes, one after another.
+// Plays these steps, one after another.
 fn play_all<P: Pages>(
     alloc: Global,
     table: &mut Table,
@@ -83,7 +83,7 @@ fn play_all<P: Pages>(
     Ok(())
 }
 
-// These changes of an empty database.
+// Plays these steps on a new table in an empty database.
 fn run_steps<P: Pages>(alloc: Global, pages: &mut P, steps: &[Step]) -> Result<(), Fail>
     requires going { (P.state pages.old).ended ≡ false }
 {

@@ -101,7 +101,7 @@ fn may_filter(pred: &Option<Pred>, values: &List<Value>) -> bool
     }
 }
 
-/// Which of the three rows one filter takes, of columns that are there.
+/// Which of the three rows one filter takes. The columns are lent, so that there is no list of them to drop.
 fn taken_of(
     alloc: Global,
     columns: &List<ColumnDef>,

@@ -25,7 +25,8 @@ const NO_DEFINITION: [Patch; 8] = [
     (16, 0, b"\x54", Some(16)),
 ];
 
-// Roots and row numbers are no part of what makes a page a definition, and the other pages are none of the table pages.
+// Roots, row numbers and which name it is are no part of what makes a page a definition, and the other pages are none of the table
+// pages.
 const NOT_LOOKED_AT: [Patch; 5] = [
     (1, 30, b"\x00\x00\x10\x00", None),
     (2, 22, b"\xff\xff\xff\xff\xff\xff\xff\xff", None),

@@ -3,10 +3,10 @@ ghost use Rattle.std.specs.Prelude.{◌≡◌, None, [], false, IfOk};
 ghost use Rattle.table_page.specs.TableLimits.{IsTableDef};
 ghost use Rattle.stored_catalog.specs.StoredDefinitions.{AreWithinLimits};
 
-use crate::looks::{check_count, check_page, check_tables, map_page};
+use crate::looks::{check_count, check_map, check_tables};
 use crate::rows::{delete, fill, fill_table, insert, try_insert};
 use crate::stores::fresh_store;
-use crate::tables::{TWO, check_loaded, create, create_two, loaded, taken, try_create};
+use crate::tables::{TWO_TABLES, check_loaded, create, create_two, loaded, taken, try_create};
 use catalog::Catalog;
 use entry_tree_tests::extents_of;
 use extent_map::{Extents, SpaceFault};
@@ -17,7 +17,7 @@ use std::test::Fail;
 use store_api::Pages;
 
 // The place of the first row of a table.
-const FIRST: Rid = Rid { block: 2, slot: 0 };
+const FIRST_PLACE: Rid = Rid { block: 2, slot: 0 };
 
 // Makes a table, and takes its definition out of the catalog.
 fn make_and_take<P: Pages>(
@@ -49,7 +49,7 @@ fn new_table<P: Pages>(alloc: Global, ext: &mut Extents, pages: &mut P) -> Resul
     make_and_take(alloc, &mut catalog, ext, pages)
 }
 
-// Fails where something else was answered than that there are no more than so many extents.
+// Fails unless the answer is Full, with so many extents.
 fn check_full<T: Copy>(answer: Result<T, SpaceFault>, extents: u32) -> Result<(), Fail> {
     match answer {
         Err(SpaceFault::Full(cap)) if cap == extents => Ok(()),
@@ -91,8 +91,8 @@ fn retry<P: Pages>(
     requires going { (P.state pages.old).ended ≡ false }
     ensures going { (P.state pages.new).ended ≡ false }
 {
-    delete(alloc, def, ext, pages, FIRST, 0, 1)?;
-    insert(alloc, def, ext, pages, 15, FIRST)?;
+    delete(alloc, def, ext, pages, FIRST_PLACE, 0, 1)?;
+    insert(alloc, def, ext, pages, 15, FIRST_PLACE)?;
     if def.next != 15 {
         return Err(Fail::new("another next row number"));
     }
@@ -133,15 +133,10 @@ fn a_row_of_a_new_cell_finds_no_extent(rt: HostRuntime) -> Result<(), Fail> {
     fill_with_rows(alloc, &mut extents_of(16)?, &mut fresh_store(alloc)?)
 }
 
-// The page of the map says that three of four extents are full of index pages.
-fn check_map_of_three<P: Pages>(pages: &mut P) -> Result<(), Fail>
-    requires going { (P.state pages.old).ended ≡ false }
-    ensures going { (P.state pages.new).ended ≡ false }
-{
-    let full = b"\x02\x00\x00\x00\x00\x00\x00\x03";
-    let free = b"\x00\x00\x00\x00\x00\x00\x00\x00";
-    check_page(pages, 17, &map_page([full, full, full, free]))
-}
+// The entries of an extent that is full of index pages, and of a free one.
+const FULL_OF_INDEX: [u8; 8] = *b"\x02\x00\x00\x00\x00\x00\x00\x03";
+
+const FREE: [u8; 8] = [0; 8];
 
 // Makes a table C, which has no room for its third tree, and undoes that.
 fn make_third_and_undo<P: Pages>(
@@ -168,8 +163,8 @@ fn check_undone<P: Pages>(alloc: Global, pages: &mut P) -> Result<(), Fail>
     ensures going { (P.state pages.new).ended ≡ false }
 {
     check_count(pages, 24)?;
-    check_map_of_three(pages)?;
-    check_loaded(alloc, pages, &TWO)
+    check_map(pages, &[FULL_OF_INDEX, FULL_OF_INDEX, FULL_OF_INDEX, FREE])?;
+    check_loaded(alloc, pages, &TWO_TABLES)
 }
 
 // Inserts a row into the second table of the pages. It takes the block 3.
@@ -196,7 +191,7 @@ fn make_three<P: Pages>(
     make_third_and_undo(alloc, catalog, ext, pages)?;
     check_undone(alloc, pages)?;
     insert_into_second(alloc, ext, pages)?;
-    check_tables(catalog, &TWO)?;
+    check_tables(catalog, &TWO_TABLES)?;
     check_count(pages, 26)
 }
 

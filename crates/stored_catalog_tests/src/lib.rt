@@ -2,7 +2,7 @@
 //! table pages that aren't those of definitions.
 //!
 //! What a clause of `stored_catalog` says isn't tested but where many calls follow one another. All of it is tests, and each
-//! scenario is a function over any pages, or a list of steps that one plays, so that its proof knows no concrete ones. What is
+//! scenario is a function over any pages, or a list of steps that such a function plays, so that its proof knows no concrete ones. What is
 //! expected is written by hand from docs/FORMAT.md.
 #![tactic(auto)]
 

@@ -87,12 +87,20 @@ pub fn check_count<P: Pages>(pages: &P, wanted: u32) -> Result<(), Fail> {
     Ok(())
 }
 
-/// The page of an extent map whose first four entries are these, and whose others are of free extents.
-pub fn map_page(entries: [&[u8; 8]; 4]) -> Page {
+// The page of an extent map whose first four entries are these, and whose others are of free extents.
+fn map_page(entries: &[[u8; 8]; 4]) -> Page {
     let mut page = *blank_page();
-    put(&mut page, 0, entries[0]);
-    put(&mut page, 8, entries[1]);
-    put(&mut page, 16, entries[2]);
-    put(&mut page, 24, entries[3]);
+    put(&mut page, 0, &entries[0]);
+    put(&mut page, 8, &entries[1]);
+    put(&mut page, 16, &entries[2]);
+    put(&mut page, 24, &entries[3]);
     page
+}
+
+/// Fails where the page of the extent map has other entries than these first, and those of free extents.
+pub fn check_map<P: Pages>(pages: &mut P, entries: &[[u8; 8]; 4]) -> Result<(), Fail>
+    requires going { (P.state pages.old).ended ≡ false }
+    ensures going { (P.state pages.new).ended ≡ false }
+{
+    check_page(pages, 17, &map_page(entries))
 }

@@ -1,9 +1,9 @@
 // Scripts of changes of a catalog and its pages, and of looks at them.
-ghost use Rattle.std.specs.Prelude.{◌≡◌, [], false, OnOk};
+ghost use Rattle.std.specs.Prelude.{◌≡◌, false, OnOk};
 ghost use Rattle.table_page.specs.TableLimits.{IsTableDef};
 ghost use Rattle.stored_catalog.specs.StoredDefinitions.{AreWithinLimits};
 
-use crate::looks::{Look, check_count, check_page, check_tables, map_page};
+use crate::looks::{Look, check_count, check_map, check_page, check_tables};
 use crate::rows::fill_table;
 use crate::stores::{fresh_store, root_page};
 use crate::tables::{check_loaded, create, drop_at, loaded, taken, wide_page};
@@ -125,15 +125,6 @@ fn check_loaded_row<P: Pages>(
 {
     let mut catalog = loaded(alloc, pages)?;
     check_row_of_second(alloc, &mut catalog, ext, pages, rid)
-}
-
-// Fails where the page of the extent map has other entries than these first, and those of free extents.
-fn check_map<P: Pages>(pages: &mut P, entries: &[[u8; 8]; 4]) -> Result<(), Fail>
-    requires going { (P.state pages.old).ended ≡ false }
-    ensures going { (P.state pages.new).ended ≡ false }
-{
-    let [a, b, c, d] = entries;
-    check_page(pages, 17, &map_page([a, b, c, d]))
 }
 
 // Makes the change, or fails where something else is seen.

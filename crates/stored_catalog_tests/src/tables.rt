@@ -135,7 +135,7 @@ pub fn create<P: Pages>(
 
 /// The tables A and B of a database that had none. The first takes the pages 18, 19 and 20, and the second the page 21 that is
 /// left of extent 1, and then 22 and 23 of extent 2.
-pub const TWO: [Option<Look>; 2] = [
+pub const TWO_TABLES: [Option<Look>; 2] = [
     Some(Look {
         name: b'A',
         number: 0,

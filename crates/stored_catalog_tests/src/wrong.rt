@@ -4,7 +4,7 @@ use mdc_values::Rid;
 /// What a test sees and shouldn't.
 #[derive(Clone, Copy, Debug)]
 pub enum Wrong {
-    /// The table in a place of a catalog.
+    /// The place of a catalog where another table is seen, or where one came that should have come elsewhere.
     Table(u8),
     /// The place of a row that came.
     Row(Rid),

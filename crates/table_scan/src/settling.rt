@@ -9,8 +9,8 @@ use mdc_ast::{Pred, Right, TableDef, Test};
 use mdc_values::{List, Memory};
 use std::alloc::Global;
 
-/// What is left of a predicate to be judged on a row in whose cell it may hold: without the parts, joined by an outermost AND, that
-/// the row's cell settles.
+/// What is left of a predicate to be judged on a row in whose cell it may hold: nothing if the row's cell settles it, and else the
+/// predicate without those parts of an outermost AND that the cell settles.
 pub(crate) fn unsettled(
     alloc: Global,
     def: &TableDef,
@@ -49,7 +49,7 @@ fn unsettled_parts(alloc: Global, def: &TableDef, parts: &[Pred]) -> Result<List
     Ok(left)
 }
 
-/// Whether each test of a predicate compares a dimension column with literals alone, so that all rows of a cell have one truth.
+/// Whether each test of a predicate is of a dimension column and names no other, so that all rows of a cell have one truth.
 fn is_settled(pred: &Pred, def: &TableDef) -> bool
     ensures { result ≡ true → IsSettled def.now pred.now }
 {
