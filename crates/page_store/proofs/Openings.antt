@@ -1,13 +1,13 @@
 -- What opening a database leaves, from the clauses of its sync and of its repair.
-use Rattle.std.proofs.Common.{◌≡◌, ◌≤◌, ℕ, Bool, true, false, List, [], length, Option, Some, None, is_some, Result, Ok, Err, OnOk, IfErr, IsErrAnd, arith, refl, sym, ap, subst, ◌∙◌, inl, inr}
+use Rattle.std.proofs.Common.{◌≡◌, ◌≤◌, ℕ, Bool, true, false, List, [], length, Option, Some, None, is_some, Result, Ok, Err, OnOk, IfErr, IsErrAnd, IfSome, arith, refl, sym, ap, subst, ◌∙◌, inl, inr}
 use Rattle.std.specs.Option.{ForSome, option_map}
 use Rattle.std.proofs.lemmas.List.{length-replicate}
-use Rattle.mdc_outside.specs.Disk.{File, settled}
+use Rattle.mdc_outside.specs.Disk.{File, IsSound, settled}
 use Rattle.std.proofs.Common.{◌↔◌}
 use Rattle.mdc_words.proofs.TimeLemmas.{over_time_wider}
 use Rattle.mdc_outside.specs.Moments.{Beside, IsMoment, WhereTold}
-use Rattle.page_file.specs.Runs.{Runs, IsWithin}
-use Rattle.page_file.proofs.RunsLemmas.{cases_Option}
+use Rattle.page_file.specs.Runs.{Runs, IsWithin, IsCovered}
+use Rattle.page_file.proofs.RunsLemmas.{cases_Option, runs_then, runs_within}
 use Rattle.page_store.specs.declared.desk.Desk.{Desk}
 use Rattle.page_store.specs.declared.shape.Shape.{Shape}
 use Rattle.page_file.specs.Leaving.{Leaves}
@@ -17,14 +17,14 @@ use Rattle.mdc_words.specs.Listed.{listed}
 use Rattle.page_store.specs.Standing.{pages_of, Stands, IsFormedAs, Reopens}
 use Rattle.page_store.specs.Desk.{IsKept, base_of, base_in, work_of, state_of}
 use Rattle.page_store.specs.Opening.{IsServed, IsAtRest, StandsAs}
-use Rattle.page_store.specs.Opened.{Opens, LeavesBaseSince, IsEmptyDesk, IsJustOpened, file_bytes}
+use Rattle.page_store.specs.Opened.{CouldBeLeft, Opens, LeavesBaseSince, IsEmptyDesk, IsJustOpened, file_bytes}
 use Rattle.page_store.proofs.Commits.{pages_at_rest}
 use Rattle.page_store.proofs.Desks.{unchanged_work}
 use Rattle.page_store.proofs.FrontAgreesLemmas.{front_agrees_stays, front_agrees_then, front_agrees_back}
 use Rattle.page_store.proofs.Judged.{served_formed}
 use Rattle.page_store.proofs.Repairs.{itself_stands}
 use Rattle.mdc_outside.proofs.MomentLemmas.{where_told}
-use Rattle.page_file.proofs.LeavesLemmas.{nothing_said}
+use Rattle.page_file.proofs.LeavesLemmas.{nothing_said, runs_leave, sound_image}
 
 -- what holds whatever a call answered
 pub on_ok : {T E : Type 0} (result : Result T E) {P : Type 0} → P → OnOk result P
@@ -80,6 +80,17 @@ module _ {D : Type 0} {file : D → Option File} {aside : D → Beside} {attache
     listed = leaves.listed ∙ run.listed;
     beside = leaves.beside ∙ run.beside;
   }
+
+  -- a sync, and then a run that only reads
+  pub read_leaves : {old middle new : D}
+      → Runs file aside attaches is_attached clock moment IsWithin (λ since. since) old middle
+      → Runs file aside attaches is_attached clock moment IsCovered (λ since. since) middle new
+      → IfSome (file new) IsSound
+      → Leaves file aside attaches is_attached clock moment CouldBeLeft old new
+  read_leaves {old} {middle} {new} synced read sound =
+      let both : Runs file aside attaches is_attached clock moment IsWithin (λ since. since) old new =
+      runs_then synced (runs_within read) (λ before half is_before is_half within. within) (λ before half after is_before is_half is_after within later image left. within image (later image left)) in
+      runs_leave both (λ f is. sound_image (file new) f sound is) (λ before image is left. left)
 
   -- the file that was served stands for what it rests with
   pub served_base : {old new : D} (desk : Desk) → Opens file aside attaches is_attached clock moment old new

@@ -45,7 +45,7 @@ impl<H: Host> FileStore<H> {
     /// It answers the first of these that the file is: `Unmade`, `NotMdc`, `Damaged` or of another `Version`. It answers
     /// `Memory` where memory ran out. The bytes of the file are then as they were. It answers `Device` where the disk
     /// failed. The file then stands for what it stood for, unless the first sync failed: then it may be what a crash could
-    /// leave.
+    /// leave. Nothing is written to a file that can't be served, whatever failed: it is at most what a crash could leave.
     pub fn open(alloc: Global, mut host: H, cache: usize) -> Result<FileStore<H>, Unopened<H>>
         requires attached { IsTrue (H.is_attached host) }
         requires cache { 8 ≤ cache }
@@ -60,6 +60,8 @@ impl<H: Host> FileStore<H> {
         ensures never { IfErr result (λ unopened. unopened.fault ≢ OpenFault.Exists) }
         // Nothing is written to a file that is refused: at each moment a crash leaves what it could leave before.
         ensures left_alone { IfErr result (λ unopened. unopened.fault ≢ OpenFault.Device → LeavesOf H.Disk CouldBeLeft host unopened.host) }
+        // The same of a file that can't be served, also where the disk failed.
+        ensures unserved { IfErr result (λ unopened. ForSome (H.file host) (λ file. (IsServed file.bytes → ⊥) → LeavesOf H.Disk CouldBeLeft host unopened.host)) }
         ensures untouched { IfErr result (λ unopened. unopened.fault ≢ OpenFault.Device → file_bytes (H.file unopened.host) ≡ file_bytes (H.file host)) }
         ensures count { IfOk result (λ store. H.disk_faults store.host ≡ H.disk_faults host) }
         ensures cause { IfErr result (λ unopened. CountsFault (unopened.fault ≡ OpenFault.Device) (H.disk_faults host) (H.disk_faults unopened.host)) }
@@ -124,6 +126,7 @@ fn lay_out<D: Disk>(alloc: Global, disk: &mut D, cache: usize) -> Result<Desk, O
     ensures refused { IfErr result (λ fault. ForSome (D.file disk.old) (λ file. Refuses fault file.bytes)) }
     ensures untouched { IfErr result (λ fault. fault ≢ OpenFault.Device → file_bytes (D.file disk.new) ≡ file_bytes (D.file disk.old)) }
     ensures left_alone { IfErr result (λ fault. fault ≢ OpenFault.Device → LeavesOf D.Disk CouldBeLeft disk.old disk.new) }
+    ensures unserved { IfErr result (λ fault. ForSome (D.file disk.old) (λ file. (IsServed file.bytes → ⊥) → LeavesOf D.Disk CouldBeLeft disk.old disk.new)) }
     ensures never { IsErrOf result OpenFault.Exists → ⊥ }
     ensures cause { CountsFault (IsErrOf result OpenFault.Device) (D.disk_faults disk.old) (D.disk_faults disk.new) }
     ensures opens { OnOk result (OpensOf D.Disk disk.old disk.new) }
@@ -163,6 +166,7 @@ fn come_to_rest<D: Disk>(alloc: Global, disk: &mut D) -> Result<Opened, OpenFaul
     ensures refused { IfErr result (λ fault. ForSome (D.file disk.old) (λ file. Refuses fault file.bytes)) }
     ensures untouched { IfErr result (λ fault. fault ≢ OpenFault.Device → file_bytes (D.file disk.new) ≡ file_bytes (D.file disk.old)) }
     ensures left_alone { IfErr result (λ fault. fault ≢ OpenFault.Device → LeavesOf D.Disk CouldBeLeft disk.old disk.new) }
+    ensures unserved { IfErr result (λ fault. ForSome (D.file disk.old) (λ file. (IsServed file.bytes → ⊥) → LeavesOf D.Disk CouldBeLeft disk.old disk.new)) }
     ensures never { IsErrOf result OpenFault.Exists → ⊥ }
     ensures cause { CountsFault (IsErrOf result OpenFault.Device) (D.disk_faults disk.old) (D.disk_faults disk.new) }
     ensures opens { OnOk result (OpensOf D.Disk disk.old disk.new) }

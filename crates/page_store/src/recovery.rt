@@ -49,6 +49,7 @@ pub(crate) fn recover<D: Disk>(alloc: Global, disk: &mut D) -> Result<Opened, Op
     ensures refused { IfErr result (λ fault. ForSome (D.file disk.old) (λ file. Refuses fault file.bytes)) }
     ensures untouched { IfErr result (λ fault. fault ≢ OpenFault.Device → D.file disk.new ≡ D.file disk.old) }
     ensures left_alone { IfErr result (λ fault. fault ≢ OpenFault.Device → RunsOf D.Disk IsCovered (λ since. since) disk.old disk.new) }
+    ensures unserved { IfErr result (λ fault. ForSome (D.file disk.old) (λ file. (IsServed file.bytes → ⊥) → RunsOf D.Disk IsCovered (λ since. since) disk.old disk.new)) }
     ensures never { IsErrOf result OpenFault.Exists → ⊥ }
     ensures cause { CountsFault (IsErrOf result OpenFault.Device) (D.disk_faults disk.old) (D.disk_faults disk.new) }
     ensures leaves { LeavesOf D.Disk (λ before image. StandsAs before.bytes image) disk.old disk.new }

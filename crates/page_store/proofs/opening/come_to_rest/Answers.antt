@@ -6,8 +6,7 @@ use Rattle.page_store.specs.declared.fault.OpenFault.TheVariants.{Device}
 use Rattle.page_store.specs.Opened.{file_bytes}
 use Rattle.page_file.proofs.LeavesLemmas.{sound_image}
 use Rattle.page_file.proofs.LeavesLemmas.{runs_leave}
-use Rattle.page_file.proofs.RunsLemmas.{runs_then, runs_within}
-use Rattle.page_store.proofs.Openings.{opens, on_ok, if_err, if_err_as, settled_bytes, settled_told}
+use Rattle.page_store.proofs.Openings.{opens, read_leaves, on_ok, if_err, if_err_as, settled_bytes, settled_told}
 use Rattle.page_store.proofs.opening.come_to_rest.Goals as goal
 
 pub returns-in_err-settle-clause-opens_or_leaves : goal.returns-in_err-settle-clause-opens_or_leaves
@@ -29,9 +28,19 @@ returns-in_err-settle-clause-left_alone g c = if_err_as c.from_residual.result D
 
 pub returns-clause-left_alone : goal.returns-clause-left_alone
 returns-clause-left_alone g c =
-    IfErr-weaker c.recover.result _ _ (λ fault unwritten other.
-    runs_leave (runs_then c.settle.ensures.runs (runs_within (unwritten other)) (λ before half is_before is_half settled. settled) (λ before half after is_before is_half is_after settled later image left. settled image (later image left)))
-    (λ f is. sound_image _ f (g.met.D.Disk.sound c.recover.new.disk) is) (λ before image is left. left)) c.recover.ensures.left_alone
+    IfErr-weaker c.recover.result _ _ (λ fault unwritten other. read_leaves c.settle.ensures.runs (unwritten other) (g.met.D.Disk.sound c.recover.new.disk))
+    c.recover.ensures.left_alone
+
+pub returns-in_err-settle-clause-unserved : goal.returns-in_err-settle-clause-unserved
+returns-in_err-settle-clause-unserved g c =
+    let leaves = runs_leave c.settle.ensures.runs (λ f is. sound_image _ f (g.met.D.Disk.sound c.settle.new.disk) is) (λ before image is left. left) in
+    if_err c.from_residual.result (λ fault file is unserved. leaves)
+
+pub returns-clause-unserved : goal.returns-clause-unserved
+returns-clause-unserved g c =
+    IfErr-weaker c.recover.result _ _ (λ fault unwritten file is unserved.
+    read_leaves c.settle.ensures.runs (unwritten (settled file) (settled_told file c.in_ok-settle.ensures.settled is) unserved) (g.met.D.Disk.sound c.recover.new.disk))
+    c.recover.ensures.unserved
 
 pub returns-clause-opens : goal.returns-clause-opens
 returns-clause-opens g c = on_ok c.recover.result (opens c.in_ok-settle.ensures.settled c.settle.ensures.runs (g.met.D.Disk.only_now c.settle.new.disk) c.recover.ensures.leaves)

@@ -52,3 +52,10 @@ returns-in_err-found-clause-left_alone g c = if_err c.from_residual.result (λ f
 
 pub returns-in_err-bring_home-clause-left_alone : goal.returns-in_err-bring_home-clause-left_alone
 returns-in_err-bring_home-clause-left_alone g c = if_err_as c.from_residual-in_err-bring_home.result Device _ c.from_residual-in_err-bring_home.ensures.1 (λ other. absurd (other refl))
+
+pub returns-in_err-found-clause-unserved : goal.returns-in_err-found-clause-unserved
+returns-in_err-found-clause-unserved g c = if_err c.from_residual.result (λ fault file is unserved. c.inspect.ensures.runs)
+
+pub returns-in_err-bring_home-clause-unserved : goal.returns-in_err-bring_home-clause-unserved
+returns-in_err-bring_home-clause-unserved g c =
+    if_err c.from_residual-in_err-bring_home.result (λ fault file is unserved. absurd (unserved (c.in_ok-found.ensures.served file is).0))
