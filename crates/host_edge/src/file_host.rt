@@ -1,9 +1,10 @@
 // A file of the system, or one in memory, and standard output.
-ghost use Rattle.std.specs.Prelude.{◌≡◌, ◌↔◌, ◌||◌, None, false, is_some, refl, IsFalse, IsOk, IsTrue, OnOk};
+ghost use Rattle.std.specs.Prelude.{◌≡◌, ◌↔◌, ◌||◌, ◌<◌, ◌≤◌, None, Err, false, is_some, length, refl, IsOk, IsSome, IsTrue, MatchOption, OnOk};
 ghost use Rattle.std.specs.Io.KnownBytes.{Appends};
-ghost use Rattle.host_edge.specs.Attached.{has_lost};
+ghost use Rattle.host_edge.specs.Attached.{lost_by};
 
-use crate::faults::counted;
+use crate::faults::Faults;
+use crate::last_said::LastSaid;
 use crate::positioned;
 use crate::real_file::RealFile;
 use mdc_outside::{Disk, Failed, Host};
@@ -20,7 +21,8 @@ const SCRATCH: &str = "-";
 const ROOT: &str = "/";
 
 /// The files of the system, and standard output. Each reply is written through before `say` answers. Under the path `-`
-/// lies a scratch file in memory, which is there once it was made and lasts as long as the host.
+/// lies a scratch file in memory, which is there once it was made and lasts as long as the host. It keeps why its calls
+/// failed, and what was said last.
 #[derive(Drop)]
 pub struct FileHost<R: Files, W> {
     alloc: Global,
@@ -29,8 +31,9 @@ pub struct FileHost<R: Files, W> {
     attached: Option<Attached<R::File>>,
     scratch: Cursor<Vec<u8>>,
     has_scratch: bool,
-    disk_faults: u64,
-    say_faults: u64,
+    disk_faults: Faults,
+    say_faults: Faults,
+    last_said: LastSaid,
 }
 
 // What is attached.
@@ -54,22 +57,44 @@ impl<R: Files + Drop, W: Write + Drop> FileHost<R, W> {
             attached: None,
             scratch: Cursor::new(Vec::new(alloc)),
             has_scratch: false,
-            disk_faults: 0,
-            say_faults: 0,
+            disk_faults: Faults::new(),
+            say_faults: Faults::new(),
+            last_said: LastSaid::new(),
         }
+    }
+
+    /// Why the last call of the disk that failed did: it is there exactly where one has failed.
+    pub fn disk_error(&self) -> Option<io::Error>
+        ensures { IsSome result ↔ (0 < ⟦<FileHost<R, W> as Disk>⟧.disk_faults self.now) }
+    {
+        self.disk_faults.last()
+    }
+
+    /// Why the last reply that couldn't be said wasn't: it is there exactly where one couldn't.
+    pub fn say_error(&self) -> Option<io::Error>
+        ensures { IsSome result ↔ (0 < ⟦<FileHost<R, W> as Host>⟧.say_faults self.now) }
+    {
+        self.say_faults.last()
+    }
+
+    /// Lends the bytes of the last reply, or none where it had more than 64.
+    pub fn last_said(&self) -> &[u8]
+        ensures { length result.now ≤ 64 }
+    {
+        self.last_said.bytes()
     }
 }
 
 impl<R: Files + Drop, W: Write + Drop> Disk for FileHost<R, W> {
     ghost file = { λ _. None };
 
-    ghost beside = { λ host. record { tape = None; say_faults = host.say_faults } };
+    ghost beside = { λ host. record { tape = None; say_faults = host.say_faults.count } };
 
     ghost attaches = { λ _. None };
 
     ghost is_attached = { λ host. is_some host.attached };
 
-    ghost disk_faults = { λ host. host.disk_faults };
+    ghost disk_faults = { λ host. host.disk_faults.count };
 
     ghost clock = { λ _. 0 };
 
@@ -87,7 +112,7 @@ impl<R: Files + Drop, W: Write + Drop> Disk for FileHost<R, W> {
             Ok(()) if path == SCRATCH => scratch(&mut self.has_scratch, make),
             Ok(()) => open(self.alloc, &self.files, path, make),
         };
-        self.attached = Some(counted(&mut self.disk_faults, found)?);
+        self.attached = Some(self.disk_faults.counted(found)?);
         Ok(())
     }
 
@@ -96,7 +121,7 @@ impl<R: Files + Drop, W: Write + Drop> Disk for FileHost<R, W> {
             Attached::File(file) => file.len(),
             Attached::Scratch => positioned::len(&mut self.scratch),
         };
-        counted(&mut self.disk_faults, outcome)
+        self.disk_faults.counted(outcome)
     }
 
     fn read(&mut self, at: u64, out: &mut [u8]) -> Result<(), Failed> {
@@ -104,7 +129,7 @@ impl<R: Files + Drop, W: Write + Drop> Disk for FileHost<R, W> {
             Attached::File(file) => file.read_at(at, out),
             Attached::Scratch => positioned::read_at(&mut self.scratch, at, out),
         };
-        counted(&mut self.disk_faults, outcome)
+        self.disk_faults.counted(outcome)
     }
 
     fn write(&mut self, at: u64, bytes: &[u8]) -> Result<(), Failed> {
@@ -112,7 +137,7 @@ impl<R: Files + Drop, W: Write + Drop> Disk for FileHost<R, W> {
             Attached::File(file) => file.write_at(at, bytes),
             Attached::Scratch => positioned::write_at(&mut self.scratch, at, bytes),
         };
-        counted(&mut self.disk_faults, outcome)
+        self.disk_faults.counted(outcome)
     }
 
     fn sync(&mut self) -> Result<(), Failed> {
@@ -120,26 +145,27 @@ impl<R: Files + Drop, W: Write + Drop> Disk for FileHost<R, W> {
             Attached::File(file) => file.sync(),
             Attached::Scratch => Ok(()),
         };
-        counted(&mut self.disk_faults, outcome)
+        self.disk_faults.counted(outcome)
     }
 }
 
 impl<R: Files + Drop, W: Write + Drop> Host for FileHost<R, W> {
     ghost tape = { λ _. None };
 
-    ghost say_faults = { λ host. host.say_faults };
+    ghost say_faults = { λ host. host.say_faults.count };
 
     ghost lies_beside = { λ _. (refl, refl) };
 
     fn say(&mut self, bytes: &[u8]) -> Result<(), Failed> {
+        self.last_said.keep(bytes);
         let outcome = write_through(&mut self.output, bytes);
-        counted(&mut self.say_faults, outcome)
+        self.say_faults.counted(outcome)
     }
 }
 
-// Fails where a sync of the attached file has failed: opened anew, it may seem whole.
+// Fails where a sync of the attached file has failed, as that one did: opened anew, the file may seem whole.
 fn check<F: Read + Write + Seek + OpenFile>(attached: &Option<Attached<F>>) -> io::Result<()>
-    ensures { IsOk result ↔ IsFalse (has_lost attached.now) }
+    ensures { MatchOption (lost_by attached.now) (IsOk result) (λ error. result ≡ Err error) }
 {
     match attached {
         Some(Attached::File(file)) => file.check(),

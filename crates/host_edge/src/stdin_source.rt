@@ -1,15 +1,15 @@
 // The script on standard input.
-ghost use Rattle.std.specs.Prelude.{◌≡◌, None, IfSome, ◌≤◌, length};
+ghost use Rattle.std.specs.Prelude.{◌≡◌, ◌↔◌, ◌<◌, ◌≤◌, None, IfOk, IsSome, length};
 
+use crate::faults::Faults;
 use mdc_outside::{Failed, Source};
-use mdc_words::count_fault;
-use std::io::{ErrorKind, Read};
+use std::io::{self, ErrorKind, Read};
 
 /// A script on standard input.
 #[derive(Drop)]
 pub struct StdinSource<R> {
     input: R,
-    faults: u64,
+    faults: Faults,
 }
 
 impl<R: Read + Drop> StdinSource<R> {
@@ -17,34 +17,40 @@ impl<R: Read + Drop> StdinSource<R> {
     pub fn new(input: R) -> StdinSource<R>
         ensures { ⟦<StdinSource<R> as Source>⟧.read_faults result ≡ 0 }
     {
-        StdinSource { input, faults: 0 }
+        StdinSource {
+            input,
+            faults: Faults::new(),
+        }
+    }
+
+    /// Why the last read that failed did: it is there exactly where one has failed.
+    pub fn read_error(&self) -> Option<io::Error>
+        ensures { IsSome result ↔ (0 < ⟦<StdinSource<R> as Source>⟧.read_faults self.now) }
+    {
+        self.faults.last()
     }
 }
 
 impl<R: Read + Drop> Source for StdinSource<R> {
     ghost left = { λ _. None };
 
-    ghost read_faults = { λ source. source.faults };
+    ghost read_faults = { λ source. source.faults.count };
 
     fn read(&mut self, out: &mut [u8]) -> Result<usize, Failed> {
-        if let Some(count) = read_through_signals(&mut self.input, out) {
-            return Ok(count);
-        }
-        count_fault(&mut self.faults);
-        Err(Failed)
+        let outcome = read_through_signals(&mut self.input, out);
+        self.faults.counted(outcome)
     }
 }
 
-// Reads again as often as a signal cuts a read short. `None` is a fault.
-fn read_through_signals<R: Read>(input: &mut R, out: &mut [u8]) -> Option<usize>
-    ensures { IfSome result (λ count. count ≤ length out.new) }
+// Reads again as often as a signal cuts a read short.
+fn read_through_signals<R: Read>(input: &mut R, out: &mut [u8]) -> io::Result<usize>
+    ensures { IfOk result (λ count. count ≤ length out.new) }
 {
     for _ in 0..u64::MAX {
         match input.read(out) {
-            Ok(count) => return Some(count),
             Err(error) if error.kind() == ErrorKind::Interrupted => {}
-            Err(_) => return None,
+            outcome => return outcome,
         }
     }
-    None
+    Err(ErrorKind::Interrupted.into())
 }

@@ -1,4 +1,4 @@
-// A file system that stands in for the real one, and counts the syncs.
+// A file system that stands in for the real one, and counts its syncs and writes.
 use std::alloc::Allocator;
 use std::cell::Cell;
 use std::fs::{Metadata, OpenFile, OpenOptions};
@@ -13,14 +13,23 @@ const FOLDER: &str = "/elsewhere";
 
 const FILE: &str = "/elsewhere/new.mdc";
 
-/// What was called of the files so far, whether a sync fails, and how long the file is.
+// The numbers of the system's errors with which syncs of the file and of its folder fail.
+pub const FILE_ERROR: i32 = 5;
+
+pub const FOLDER_ERROR: i32 = 13;
+
+// How many bytes a write takes at most.
+const MOST_TAKEN: usize = 4;
+
+/// What was called of the files so far, which syncs fail, and the bytes that the file holds.
 #[derive(Drop)]
 pub struct Calls {
     pub file_syncs: Cell<u64>,
     pub folder_syncs: Cell<u64>,
     pub writes: Cell<u64>,
-    pub sync_fails: Cell<bool>,
-    pub length: Cell<u64>,
+    pub file_fails: Cell<bool>,
+    pub folder_fails: Cell<bool>,
+    pub bytes: Cell<[u8; 16]>,
 }
 
 impl Calls {
@@ -29,8 +38,9 @@ impl Calls {
             file_syncs: Cell::new(0),
             folder_syncs: Cell::new(0),
             writes: Cell::new(0),
-            sync_fails: Cell::new(false),
-            length: Cell::new(0),
+            file_fails: Cell::new(false),
+            folder_fails: Cell::new(false),
+            bytes: Cell::new([0; 16]),
         }
     }
 }
@@ -41,11 +51,12 @@ pub struct CountedFiles<'a> {
     pub calls: &'a Calls,
 }
 
-/// The file or its folder. It keeps no bytes, and reads as zeros.
+/// The file or its folder. It reads as zeros, whatever was written.
 #[derive(Drop)]
 pub struct CountedFile<'a> {
     calls: &'a Calls,
     is_folder: bool,
+    place: u64,
 }
 
 // Counts one call more.
@@ -62,7 +73,12 @@ impl Read for CountedFile<'_> {
 impl Write for CountedFile<'_> {
     fn write(&mut self, bytes: &[u8]) -> io::Result<usize> {
         count(&self.calls.writes);
-        Ok(bytes.len())
+        let mut file = Cursor::new(self.calls.bytes.get());
+        file.set_position(self.place);
+        let taken = file.write(&bytes[..bytes.len().min(MOST_TAKEN)])?;
+        self.place = file.position();
+        self.calls.bytes.set(file.into_inner());
+        Ok(taken)
     }
 
     fn flush(&mut self) -> io::Result<()> {
@@ -72,10 +88,19 @@ impl Write for CountedFile<'_> {
 
 impl Seek for CountedFile<'_> {
     fn seek(&mut self, to: SeekFrom) -> io::Result<u64> {
-        match to {
-            SeekFrom::End(_) => Ok(self.calls.length.get()),
-            SeekFrom::Start(_) | SeekFrom::Current(_) => Ok(0),
+        if let SeekFrom::Start(place) = to {
+            self.place = place;
         }
+        Ok(self.place)
+    }
+}
+
+// Answers a sync, which may be one that fails with an error of the system.
+fn failing(fails: bool, error: i32) -> io::Result<()> {
+    if fails {
+        Err(io::Error::from_raw_os_error(error))
+    } else {
+        Ok(())
     }
 }
 
@@ -89,15 +114,12 @@ impl OpenFile for CountedFile<'_> {
     }
 
     fn sync_all(&self) -> io::Result<()> {
-        if self.calls.sync_fails.get() {
-            return Err(ErrorKind::Other.into());
-        }
         if self.is_folder {
             count(&self.calls.folder_syncs);
-        } else {
-            count(&self.calls.file_syncs);
+            return failing(self.calls.folder_fails.get(), FOLDER_ERROR);
         }
-        Ok(())
+        count(&self.calls.file_syncs);
+        failing(self.calls.file_fails.get(), FILE_ERROR)
     }
 
     fn sync_data(&self) -> io::Result<()> {
@@ -117,6 +139,7 @@ impl<'a> Files for CountedFiles<'a> {
         Ok(CountedFile {
             calls: self.calls,
             is_folder: path == FOLDER,
+            place: 0,
         })
     }
 

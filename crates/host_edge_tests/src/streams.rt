@@ -11,6 +11,10 @@ fn a_reply_is_written_through(rt: HostRuntime) -> Result<(), Fail> {
     let mut host = FileHost::new(rt.alloc(), rt.clone()?, output);
     assert_eq!(rt; host.say(b"OK\n"), Ok(()));
     assert_eq!(rt; host.say(b"lost"), Err(Failed));
+    assert_eq!(rt;
+        host.say_error().map(|error| error.kind()),
+        Some(ErrorKind::WriteZero)
+    );
     Ok(())
 }
 
@@ -37,7 +41,12 @@ fn a_signal_is_no_fault(rt: HostRuntime) -> Result<(), Fail> {
     let mut out = [0u8; 4];
     assert_eq!(rt; source.read(&mut out), Ok(4));
     assert_eq!(rt; &out, b"SELE");
+    assert!(rt; source.read_error().is_none());
     assert_eq!(rt; source.read(&mut out), Err(Failed));
     assert_eq!(rt; source.read(&mut out), Ok(4));
+    assert_eq!(rt;
+        source.read_error().map(|error| error.kind()),
+        Some(ErrorKind::BrokenPipe)
+    );
     Ok(())
 }
