@@ -5,8 +5,8 @@
 //! Its one call is `run` (`program`). Of a script on a file that is well it promises that the replies are those of plain lists of
 //! rows, up to a stop, and that a crash at each moment leaves a well file, which stands for those lists after some of the items,
 //! with each whose reply had begun; for a create, what the file holds, what was said, and what a crash leaves; for all other words,
-//! that nothing is read. `main` only makes the real source and host, of which nothing is told, and sees to it that no file is taken
-//! for a standard stream.
+//! that nothing is read. `main` only makes the real source and host, of which nothing is told, sees to it that no file is taken for
+//! a standard stream, and says on standard error why a call stopped (`explaining`).
 //!
 //! It stands on `file_session` for scripts on files, on `page_store` for making one and on the law of `made_database` for what is
 //! made, on `host_edge` for the real source and host (`mdc_outside`), and on `clap` for the words.
@@ -15,6 +15,9 @@
 mod command;
 mod create;
 mod ending;
+mod explaining;
+#[cfg(test)]
+mod explaining_tests;
 mod grammar;
 mod laws;
 mod numeral;
@@ -25,6 +28,7 @@ mod program_tests;
 mod running;
 mod status;
 
+use explaining::{explain, say_error};
 use host_edge::{FileHost, StandIns, StdinSource};
 use program::run;
 use status::Status;
@@ -35,28 +39,51 @@ fn main(rt: HostRuntime) -> ExitCode {
     ExitCode::from(status_of_call(&rt).0)
 }
 
-// Calls the program on the real words, standard input and output. What can't be made for want of memory, or of descriptors,
-// ends it.
+// Calls the program once there is something under the number of each standard stream.
 fn status_of_call(rt: &HostRuntime) -> Status {
-    let Ok(_stand_ins) = StandIns::take(rt) else {
-        return Status::MEMORY;
-    };
-    let Ok(files) = rt.clone() else {
-        return Status::MEMORY;
-    };
-    let words = match words(rt) {
-        Ok(words) => words,
-        // A word that is no text is no word of a command line.
-        Err(error) if error.kind() == io::ErrorKind::InvalidData => Vec::new(rt.alloc()),
-        Err(_) => return Status::MEMORY,
+    match StandIns::take(rt) {
+        Ok(_stand_ins) => status_of_words(rt),
+        Err(error) => begin_without(rt, "/dev/null", error),
+    }
+}
+
+// Calls the program on the real words.
+fn status_of_words(rt: &HostRuntime) -> Status {
+    match words(rt) {
+        Ok(words) => status_of_run(rt, &words),
+        Err(error) => begin_without(rt, "command line", error),
+    }
+}
+
+// Calls the program on words and on standard input and output, and says why it stopped. What can't be said changes no status.
+fn status_of_run(rt: &HostRuntime, words: &Vec<String>) -> Status {
+    let files = match rt.clone() {
+        Ok(files) => files,
+        Err(error) => return begin_without(rt, "files", error.into()),
     };
     let mut input = StdinSource::new(rt.reader());
     let host = FileHost::new(rt.alloc(), files, rt.stdout());
-    run(rt.alloc(), &words, &mut input, host).status
+    let ended = run(rt.alloc(), words, &mut input, host);
+    let _ = explain(&mut rt.stderr(), ended.status, words, &ended.host, &input);
+    ended.status
+}
+
+// Says what couldn't be had before the program began, for want of memory or of descriptors.
+fn begin_without(rt: &HostRuntime, what: &str, error: io::Error) -> Status {
+    let _ = say_error(&mut rt.stderr(), what, error);
+    Status::MEMORY
+}
+
+// The words after the program's name, or none where one of them is no text: such a word is none of a command line.
+fn words(rt: &HostRuntime) -> io::Result<Vec<String>> {
+    match texts(rt) {
+        Err(error) if error.kind() == io::ErrorKind::InvalidData => Ok(Vec::new(rt.alloc())),
+        outcome => outcome,
+    }
 }
 
 // The words after the program's name. A word that is no text is an error, of the kind `InvalidData`.
-fn words(rt: &HostRuntime) -> io::Result<Vec<String>> {
+fn texts(rt: &HostRuntime) -> io::Result<Vec<String>> {
     let mut words = Vec::new(rt.alloc());
     for word in env::args(rt)?.skip(1) {
         words.push(word)?;
