@@ -1,5 +1,5 @@
 -- Whatever the pages of a file are, what a crash within a run leaves of it is formed.
-use Rattle.std.proofs.Common.{◌≡◌, ◌⊎◌, ◌≤◌, ℕ, List, Option, Some, None, ◌∙◌, ap, inl, inr, arith}
+use Rattle.std.proofs.Common.{◌≡◌, ◌⊎◌, ◌≤◌, ℕ, List, Option, Some, None, inl, inr}
 use Rattle.mdc_words.specs.Time.{OverTime, ReachesBack}
 use Rattle.mdc_outside.specs.Disk.{File}
 use Rattle.mdc_outside.specs.declared.disk.Disk as disk
@@ -13,20 +13,15 @@ use Rattle.page_store.specs.FileStore.{IsLeft}
 use Rattle.page_store.specs.Opened.{CouldBeLeft, LeavesBaseSince, StandsSince}
 use Rattle.page_store.specs.Opening.{StandsAs}
 use Rattle.page_store.specs.Shape.{extents_in, extent_pages_in}
-use Rattle.page_store.specs.Standing.{IsFormed, Stands, pages_of}
+use Rattle.page_store.specs.Standing.{IsFormed, pages_of}
 use Rattle.page_store.specs.declared.shape.Shape.{Shape}
 use Rattle.script_session.specs.Leaving.{ReopensAlways}
-use Rattle.file_session.specs.Leaving.{AreFormed, LeavesSince, StaysFormed}
+use Rattle.file_verdict.specs.Resting.{LeavesSince, StaysFormed}
+use Rattle.file_verdict.proofs.JudgingLemmas.{formed_left}
+use Rattle.file_verdict.proofs.RestingLemmas.{TellsNow, each_since, leaves_since, rests_on_file, rests_refused}
+use Rattle.file_verdict.proofs.SoundFilesLemmas.{formed_along, formed_standing}
+use Rattle.file_session.specs.Leaving.{AreFormed}
 use Rattle.file_session.specs.Running.{LeavesFormed}
-use Rattle.file_session.proofs.FileRunsLemmas.{TellsNow, each_since, said_by_opening, since_origin}
-
--- what stands for the pages of a file is formed as it is
-formed_standing : (file image : List ℕ) (all : PageList) → Stands file all image → StaysFormed file image
-formed_standing file image all stands = record { formed = stands.formed; extents = ap extents_in stands.birth; extent_pages = ap extent_pages_in stands.birth }
-
--- and so is an image that is formed as such a one is
-formed_along : (file middle image : List ℕ) → StaysFormed file middle → StaysFormed middle image → StaysFormed file image
-formed_along file middle image first then = record { formed = then.formed; extents = then.extents ∙ first.extents; extent_pages = then.extent_pages ∙ first.extent_pages }
 
 -- no image reopens to nothing
 never_none : (heard : List ℕ) → ReopensAlways None heard → ⊥
@@ -35,8 +30,7 @@ never_none heard (pages, none) = cc
 -- an image of a store at its end is formed, or the store left a file that doesn't reopen as it was opened
 pub left_formed : {S : Type 0} {clock : S → ℕ} {left : S → ℕ → Outcomes} (shape : Shape) (file at_end : List ℕ) (old last : S) (t : ℕ) (image heard : List ℕ) → OverTime clock left ReopensAlways old last → t ≤ clock old
     → shape.extents ≡ extents_in (file_page file 1) → shape.extent_pages ≡ extent_pages_in (file_page file 1) → IsLeft shape at_end (left last t) image heard → StaysFormed file image ⊎ left old t None heard
-left_formed shape file at_end old last t image heard time early extents extent_pages (inl (is, was)) =
-    inl (record { formed = is.formed.formed; extents = is.formed.extents ∙ extents; extent_pages = is.formed.extent_pages ∙ extent_pages })
+left_formed shape file at_end old last t image heard time early extents extent_pages (inl (is, was)) = inl (formed_left shape file at_end image extents extent_pages is)
 left_formed shape file at_end old last t image heard time early extents extent_pages (inr none) = elim (time.only t None heard early none) [ inl was ↦ inr was | inr within ↦ absurd (never_none heard within) ]
 
 module _ {D : Type 0} (d : disk.Ghosts D) where
@@ -45,35 +39,20 @@ module _ {D : Type 0} (d : disk.Ghosts D) where
       → (origin : D) × StandsSince d.clock d.moment before said old origin opened → g.clock store ≡ d.clock opened → d.clock opened ≤ d.clock new
       → ((t : ℕ) (left : Option PageList) (heard : List ℕ) → g.left store t left heard → (image : List ℕ) × d.moment opened t image heard)
       → LeavesBaseSince (d.moment opened) (g.left store) before.bytes said → LeavesSince d before said (λ image tape. StaysFormed before.bytes image) old new
-  formed_on_file g store before after said old opened new formed same leaves (origin, stands) same_clock later by_host rests =
+  formed_on_file g store before after said old opened new formed same leaves crash same_clock later by_host rests =
       let first = formed_standing before.bytes after.bytes (pages_of before.bytes) (same.1 formed) in
-      inl (record {
-        origin = origin;
-        until = stands.until;
-        later = omega (arith, stands.since.later, later);
-        since = λ image heard now. elim (leaves.since (d.clock origin) (omega (arith, stands.since.later, same_clock)) image heard now) [
-          | inl is ↦ formed_along before.bytes after.bytes image first is
-          | inr none ↦ absurd (never_none heard (pages_of before.bytes, (rests (d.clock origin) (since_origin d before said old origin opened stands) None heard none).0))
-        ];
-        behind = λ t image heard early now. elim (leaves.since t (omega (arith, early, stands.until.later, stands.since.later, same_clock)) image heard now) [
-          | inl is ↦ inl (formed_along before.bytes after.bytes image first is)
-          | inr none ↦ let at_opening = by_host t None heard none in inr (said_by_opening d before said old origin opened stands t at_opening.0 heard early at_opening.1)
-        ];
-      })
+      inl (rests_on_file d g store before said (λ image tape. StaysFormed before.bytes image) old opened new
+      (λ t image heard early now. elim (leaves.since t early image heard now) [
+        | inl is ↦ inl (formed_along before.bytes after.bytes image first is)
+        | inr none ↦ inr (record { pages = None; left = none; kind = λ is told. absurd (never_none heard (pages_of before.bytes, is)) })
+      ]) crash same_clock later by_host rests)
 
   -- where its opening was refused
   pub formed_refused : (before : File) (said : List ℕ) (old new : D) (First : Type 0) → IsFormed before.bytes → d.file old ≡ Some before → (d.beside old).tape ≡ Some said
       → OpensOf d old new ⊎ (First × LeavesOf d CouldBeLeft old new) → LeavesSince d before said (λ image tape. StaysFormed before.bytes image) old new
-  formed_refused before said old new First formed is told (inl opens) =
-      let crash = opens.crash before said is told in
-      inl (record {
-        origin = crash.0;
-        until = crash.1.until;
-        later = crash.1.since.later;
-        since = λ image heard now. formed_standing before.bytes image (pages_of before.bytes) ((since_origin d before said old crash.0 new crash.1 image heard now).0.1 formed);
-        behind = λ t image heard early now. inr (said_by_opening d before said old crash.0 new crash.1 t image heard early now);
-      })
-  formed_refused before said old new First formed is told (inr leaves) = inr (leaves.1.crash before said is told)
+  formed_refused before said old new First formed is told leaves =
+      leaves_since d before said (λ image tape. StaysFormed before.bytes image) old new
+      (rests_refused d before said (λ image tape. StaysFormed before.bytes image) old new First First (λ image heard stands same. formed_standing before.bytes image (pages_of before.bytes) (stands.1 formed)) (λ first. first) is told leaves)
 
   -- after a run each image is formed, where each was before
   pub formed_after : (before after : File) (said heard : List ℕ) (old new : D) → TellsNow d old → TellsNow d new → ReachesBack d.clock d.moment new → d.file old ≡ Some before → (d.beside old).tape ≡ Some said

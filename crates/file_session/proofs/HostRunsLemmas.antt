@@ -25,10 +25,10 @@ use Rattle.script_session.specs.declared.stop.Served.{Served}
 use Rattle.script_session.specs.declared.stop.SessionStop.{SessionStop}
 use Rattle.script_session.specs.declared.stop.SessionStop.TheVariants as session
 use Rattle.script_session.proofs.ToldLemmas.{told_behind}
+use Rattle.file_verdict.specs.SoundFile.{StatesExtents}
 use Rattle.file_session.specs.Ending.{end_of_session}
 use Rattle.file_session.specs.Running.{IsLeftSince, RunsOnStore, ServesStore}
 use Rattle.file_session.specs.Serving.{IsOpened, RunsItems}
-use Rattle.file_session.specs.Well.{StatesExtents}
 use Rattle.file_session.specs.declared.stop.FileStop.{FileStop}
 
 -- the laws by which a run over sound pages is one over lists of rows

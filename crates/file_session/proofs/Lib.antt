@@ -9,5 +9,4 @@ pub mod HostRunsLemmas
 pub mod MadeFilesLemmas
 pub mod NextRunLemmas
 pub mod StoreRunsLemmas
-pub mod ToldLemmas
 pub mod WellFilesLemmas

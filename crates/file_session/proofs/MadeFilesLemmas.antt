@@ -16,7 +16,8 @@ use Rattle.page_store.proofs.FreshDatabase.{fresh_birth, fresh_is_empty, is_birt
 use Rattle.page_store.proofs.Roots.{limits_of}
 use Rattle.made_database.specs.MadePages.{made_pages}
 use Rattle.script_session.specs.Leaving.{AreServedPages}
-use Rattle.file_session.specs.Well.{AreWell, IsWell, StatesExtents}
+use Rattle.file_verdict.specs.SoundFile.{StatesExtents}
+use Rattle.file_session.specs.Well.{AreWell, IsWell}
 use Rattle.file_session.proofs.WellFilesLemmas.{synced_well}
 
 -- the numbers of a shape have four bytes

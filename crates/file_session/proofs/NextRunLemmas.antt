@@ -14,9 +14,9 @@ use Rattle.script_engine.proofs.ShapeLemmas.{stands_for_along}
 use Rattle.script_session.specs.Lists.{IsKeptDatabase}
 use Rattle.script_session.specs.declared.stop.Served.{Served}
 use Rattle.script_session.proofs.KeptDatabaseLemmas.{kept_stand}
+use Rattle.file_verdict.specs.SoundFile.{StatesExtents}
 use Rattle.file_session.specs.Leaving.{LeftByRun}
 use Rattle.file_session.specs.Serving.{IsOpened, RunsItems}
-use Rattle.file_session.specs.Well.{StatesExtents}
 use Rattle.file_session.specs.declared.stop.FileStop.{FileStop}
 use Rattle.file_session.proofs.WellFilesLemmas.{pages_left, synced_image}
 

@@ -1,92 +1,48 @@
--- Well files: they are opened, and what stands for the same pages is well too.
-use Rattle.std.proofs.Common.{◌≡◌, ◌⊎◌, ◌≤◌, ◌<◌, ◌+◌, ◌*◌, ℕ, Bool, true, List, [], length, take, drop, Option, Some, refl, sym, ◌∙◌, ap, subst, inl, inr, arith, length-drop}
-use Rattle.byteorder.specs.Endian.{big_number}
+-- Well files: they are opened, and what a crash within a run leaves is well too.
+use Rattle.std.proofs.Common.{◌≡◌, ◌⊎◌, ℕ, Bool, true, List, Option, Some, refl, sym, ◌∙◌, ap, subst, inl, inr}
 use Rattle.mdc_ast.specs.declared.reply.Outcome.{Outcome}
 use Rattle.mdc_ast.specs.Reading.{Item}
-use Rattle.mdc_words.proofs.ListedLemmas.{get_or-listed, length-listed}
 use Rattle.mdc_outside.specs.Disk.{File, IsImage, all_synced}
-use Rattle.store_api.specs.Extents.{first_count}
-use Rattle.store_api.specs.StoreState.{zero_page}
 use Rattle.store_api.specs.declared.pages.Pages.{Ghosts}
 use Rattle.extent_map.specs.declared.extents.Extents.{Extents}
 use Rattle.table_trees.specs.ToldPages.{PageList}
 use Rattle.mdc_sound.specs.SoundDatabase.{KeepAllRules}
-use Rattle.mdc_sound.specs.SpaceRules.{stated_root}
 use Rattle.stored_catalog.specs.StoredDefinitions.{AreStored}
-use Rattle.page_file.specs.Layout.{file_page, page_start}
 use Rattle.page_store.proofs.Crashes.{only_itself}
-use Rattle.page_store.proofs.FreshBytes.{length-zero_page}
 use Rattle.page_store.specs.Opened.{IsJustOpened}
 use Rattle.page_store.specs.Opening.{IsServed, Refuses}
-use Rattle.page_store.specs.Shape.{extent_pages_in, extents_in}
-use Rattle.page_store.specs.Standing.{Stands, count_of, page_of, pages_of}
+use Rattle.page_store.specs.Standing.{pages_of}
 use Rattle.page_store.specs.declared.fault.OpenFault.{OpenFault}
-use Rattle.page_store.specs.declared.fault.OpenFault.TheVariants as opening
 use Rattle.script_engine.specs.Held.{HeldPages}
 use Rattle.script_engine.specs.Opening.{IsSoundStore}
 use Rattle.script_session.specs.Leaving.{AreServedPages}
 use Rattle.script_session.specs.declared.stop.SessionStop.{SessionStop}
 use Rattle.script_session.specs.declared.stop.SessionStop.TheVariants as session
+use Rattle.file_verdict.specs.SoundFile.{IsSoundFile}
+use Rattle.file_verdict.proofs.SoundFilesLemmas.{refused_served, sound_is_served}
 use Rattle.file_session.specs.Ending.{StopsOpening, stop_of_session}
 use Rattle.file_session.specs.Leaving.{LeftByRun}
-use Rattle.file_session.specs.Well.{AreWell, IsWell, StatesExtents}
+use Rattle.file_session.specs.Well.{AreWell, IsWell}
 use Rattle.file_session.specs.declared.stop.FileStop.{FileStop}
 
 -- ---- a well file is served
 
--- the version that a root page states
-abbrev version_of_page : List ℕ → ℕ
-version_of_page page = big_number 4 (drop 4 page)
-
-root_size : (count : ℕ) (page : List ℕ) → page ≡ stated_root count → length page ≡ 4096
-root_size count page is = ap length is ∙ omega (arith, length-zero_page, length-drop 12 zero_page)
-
-root_version : (count : ℕ) (page : List ℕ) → page ≡ stated_root count → version_of_page page ≡ 1
-root_version count page is = ap version_of_page is
-
--- page 0 of a well file is a sound root page
-root_of_well : (bytes : List ℕ) → IsWell bytes → page_of bytes 0 ≡ stated_root (length (pages_of bytes))
-root_of_well bytes well =
-    let root = well.served.sound.1.first.rule1 in
-    let some : 0 < count_of bytes = omega (arith, root.count.count, length-listed (count_of bytes) (page_of bytes)) in
-    sym (get_or-listed (count_of bytes) (page_of bytes) 0 [] some) ∙ root.root
+-- a well file is sound
+pub sound_of_well : (bytes : List ℕ) → IsWell bytes → IsSoundFile bytes
+sound_of_well bytes well = record { formed = well.formed; ext = well.ext; states = well.states; sound = well.served.sound }
 
 pub well_is_served : (bytes : List ℕ) → IsWell bytes → IsServed bytes
-well_is_served bytes well =
-    let formed = well.formed in
-    let count = well.served.sound.1.first.rule1.count in
-    let page = root_of_well bytes well in
-    let long : page_start 2 ≤ length bytes = omega (arith, formed.whole) in
-    let within : count.extents ≤ extents_in (file_page bytes 1) = subst (λ n. count.extents ≤ n) (sym well.states.extents) count.within in
-    let counts : count_of bytes ≡ first_count (extents_in (file_page bytes 1)) + count.extents * extent_pages_in (file_page bytes 1) =
-    sym (length-listed (count_of bytes) (page_of bytes)) ∙ (count.count
-    ∙ (ap (λ n. first_count n + count.extents * well.ext.extent_pages) (sym well.states.extents)
-    ∙ ap (λ n. first_count (extents_in (file_page bytes 1)) + count.extents * n) (sym well.states.extent_pages))) in (
-      (long, formed.made),
-      formed.birth,
-      record { journal = formed.journal; root = record { size = root_size (length (pages_of bytes)) (page_of bytes 0) page; begins = ap (take 4) page; counts = (count.extents, within, counts) } },
-      formed.whole,
-      root_version (length (pages_of bytes)) (page_of bytes 0) page,
-    )
+well_is_served bytes well = sound_is_served bytes (sound_of_well bytes well)
 
 -- so its opening is refused for a fault of the disk or for want of memory alone
 pub stop_of_well : (fault : OpenFault) (stop : FileStop) (bytes : List ℕ) → IsServed bytes → Refuses fault bytes → StopsOpening fault stop
     → (end_ : SessionStop) × ((end_ ≡ session.Device) ⊎ (end_ ≡ session.Memory)) × (stop ≡ stop_of_session end_)
-stop_of_well opening.Exists stop bytes served refuses stops = absurd refuses
-stop_of_well opening.Unmade stop bytes served (inl short) stops = absurd (omega (arith, short, served.0.0))
-stop_of_well opening.Unmade stop bytes served (inr unmade) stops = let made = served.0.1 in cc
-stop_of_well opening.NotMdc stop bytes served refuses stops = absurd (refuses.1 served.1)
-stop_of_well (opening.Version version) stop bytes served refuses stops = absurd (refuses.5 (refuses.4 ∙ served.4))
-stop_of_well opening.Device stop bytes served refuses stops = (session.Device, inl refl, stops)
-stop_of_well (opening.Damaged damage) stop bytes served (made, birth, inl unread) stops = absurd (unread.0 served.2)
-stop_of_well (opening.Damaged damage) stop bytes served (made, birth, inr short) stops = absurd (short.1 served.3)
-stop_of_well opening.Memory stop bytes served refuses stops = (session.Memory, inr refl, stops)
+stop_of_well fault stop bytes served refuses stops = elim (refused_served fault bytes served refuses) [
+  | inl device ↦ (session.Device, inl refl, subst (λ (f : OpenFault). StopsOpening f stop) device stops)
+  | inr memory ↦ (session.Memory, inr refl, subst (λ (f : OpenFault). StopsOpening f stop) memory stops)
+]
 
 -- ---- what stands for the pages of a well file
-
--- an image that a formed file stands for states its extents
-pub states_standing : (bytes image : List ℕ) (all : List (List ℕ)) (ext : Extents) → Stands bytes all image → StatesExtents bytes ext → StatesExtents image ext
-states_standing bytes image all ext stands states = record { extents = ap extents_in stands.birth ∙ states.extents; extent_pages = ap extent_pages_in stands.birth ∙ states.extent_pages }
 
 -- a store that was just opened on a well file tells sound pages
 pub sound_opened : {S : Type 0} (g : Ghosts S) (s : S) (bytes : List ℕ) (is_told : Bool) (tape : Option (List ℕ)) (attaches : Option (List (List ℕ × Bool))) (well : IsWell bytes) → is_told ≡ true → IsJustOpened is_told tape attaches (g.state s)

@@ -14,8 +14,8 @@ use Rattle.script_session.specs.Damaged.{opened_behind}
 use Rattle.script_session.specs.Replying.{RepliesTo}
 use Rattle.script_session.specs.declared.stop.Served.{Served}
 use Rattle.script_session.specs.declared.stop.SessionStop.{SessionStop}
+use Rattle.file_verdict.specs.SoundFile.{StatesExtents}
 use Rattle.file_session.specs.Ending.{end_of_session}
-use Rattle.file_session.specs.Well.{StatesExtents}
 use Rattle.file_session.specs.declared.stop.FileStop.{FileStop}
 
 -- The damage is that of the pages that the store holds behind these items: the first rule that they break, and the lowest page that

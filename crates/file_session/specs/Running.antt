@@ -17,9 +17,9 @@ use Rattle.script_session.specs.Serving.{EndsScript}
 use Rattle.script_session.specs.declared.stop.Served.{Served}
 use Rattle.script_session.specs.declared.stop.SessionStop.{SessionStop}
 use Rattle.script_session.specs.declared.stop.SessionStop.TheVariants.{Damaged}
-use Rattle.file_session.specs.Leaving.{StaysFormed}
+use Rattle.file_verdict.specs.Resting.{StaysFormed}
+use Rattle.file_verdict.specs.SoundFile.{StatesExtents}
 use Rattle.file_session.specs.Serving.{IsOpened, RunsItems}
-use Rattle.file_session.specs.Well.{StatesExtents}
 use Rattle.file_session.specs.declared.stop.FileStop.{FileStop}
 
 -- A run of a script on a store that tells sound pages, all of which are committed: one run of its items on these, whose texts are

@@ -20,9 +20,10 @@ use Rattle.script_session.specs.Serving.{EndsScript, TakesScript}
 use Rattle.script_session.specs.declared.stop.Served.{Served}
 use Rattle.script_session.specs.declared.stop.SessionStop.{SessionStop}
 use Rattle.script_session.specs.declared.stop.SessionStop.TheVariants.{Damaged}
+use Rattle.file_verdict.specs.Resting.{LeavesSince}
+use Rattle.file_verdict.specs.SoundFile.{StatesExtents}
 use Rattle.file_session.specs.Ending.{end_of_session}
-use Rattle.file_session.specs.Leaving.{LeavesSince, LeftByRun}
-use Rattle.file_session.specs.Well.{StatesExtents}
+use Rattle.file_session.specs.Leaving.{LeftByRun}
 use Rattle.file_session.specs.declared.stop.FileStop.{FileStop}
 
 -- what is held of a file that was opened: its pages, all of which are committed, and no transaction is open

@@ -1,16 +1,10 @@
 -- Which files are well: each bit of what they stand for is as it should be (docs/FORMAT.md).
-use Rattle.std.specs.Prelude.{◌≡◌, ℕ, List}
+use Rattle.std.specs.Prelude.{ℕ, List}
 use Rattle.mdc_outside.specs.Disk.{File, IsImage}
-use Rattle.page_file.specs.Layout.{file_page}
-use Rattle.page_store.specs.Shape.{extents_in, extent_pages_in}
 use Rattle.page_store.specs.Standing.{IsFormed, pages_of}
 use Rattle.extent_map.specs.declared.extents.Extents.{Extents}
+use Rattle.file_verdict.specs.SoundFile.{StatesExtents}
 use Rattle.script_session.specs.Leaving.{AreServedPages}
-
--- the birth page of a file states the extents
-pub record StatesExtents (file : List ℕ) (ext : Extents) : Type 0 where
-  pub extents : extents_in (file_page file 1) ≡ ext.cap
-  pub extent_pages : extent_pages_in (file_page file 1) ≡ ext.extent_pages
 
 -- A file is well: it was made and none of its pages is missing, and the pages that it stands for are a sound database of tables of
 -- built forms.

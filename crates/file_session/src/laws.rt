@@ -14,9 +14,10 @@ ghost use Rattle.page_store.specs.Standing.{pages_of};
 ghost use Rattle.script_engine.specs.Held.{HeldPages};
 ghost use Rattle.script_session.specs.Lists.{IsKeptDatabase};
 ghost use Rattle.script_session.specs.declared.stop.Served.{Served};
+ghost use Rattle.file_verdict.specs.SoundFile.{StatesExtents};
 ghost use Rattle.file_session.specs.Leaving.{LeftByRun};
 ghost use Rattle.file_session.specs.Serving.{RunsItems, RunsOnFile};
-ghost use Rattle.file_session.specs.Well.{AreWell, IsWell, StatesExtents};
+ghost use Rattle.file_session.specs.Well.{AreWell, IsWell};
 ghost use Rattle.file_session.specs.declared.stop.FileStop.{FileStop};
 
 use made_database::made_database_is_sound;

@@ -15,12 +15,14 @@ ghost use Rattle.script_session.specs.Leaving.{ReopensAlways};
 ghost use Rattle.script_session.specs.Replying.{RepliesTo};
 ghost use Rattle.script_session.specs.Serving.{TakesScript};
 ghost use Rattle.script_session.specs.Told.{StaysTold, TellsMore};
+ghost use Rattle.file_verdict.specs.Resting.{LeavesSince, StaysFormed};
+ghost use Rattle.file_verdict.specs.SoundFile.{StatesExtents};
 ghost use Rattle.file_session.specs.Breaking.{BreaksAtEnd, BreaksOnStore, IsDamageOf};
 ghost use Rattle.file_session.specs.Ending.{IsCauseIn, IsRefused, IsUnopened, StopsOpening, end_of_session};
-ghost use Rattle.file_session.specs.Leaving.{AreFormed, LeavesSince, StaysFormed};
+ghost use Rattle.file_session.specs.Leaving.{AreFormed};
 ghost use Rattle.file_session.specs.Running.{LeavesFormed, RunsOnStore, ServesStore};
 ghost use Rattle.file_session.specs.Serving.{RepliesBySession, RunsOnFile, TakesBySession};
-ghost use Rattle.file_session.specs.Well.{AreWell, IsWell, StatesExtents};
+ghost use Rattle.file_session.specs.Well.{AreWell, IsWell};
 
 use crate::stop::FileStop;
 use extent_map::Extents;

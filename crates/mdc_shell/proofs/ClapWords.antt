@@ -1,5 +1,5 @@
 -- What clap makes of words that are no flags.
-use Rattle.std.proofs.Common.{◌≡◌, ◌∙◌, true, false, codes, List, [], ◌∷◌, Some, None, refl, sym, ap₂, subst, inl, inr, is_some}
+use Rattle.std.proofs.Common.{◌≡◌, ◌⊎◌, ◌∙◌, true, false, codes, List, [], ◌∷◌, Some, None, refl, sym, ap₂, subst, inl, inr, is_some}
 use Rattle.std.specs.Prelude.{nat_eq}
 use Rattle.std.specs.List.{All}
 use Rattle.std.specs.Str.{bytes_eq}
@@ -15,7 +15,7 @@ use Rattle.clap.specs.declared.error.kind.ErrorKind.TheVariants.{InvalidSubcomma
 use Rattle.clap.proofs.FaultLemmas.{stopped_fault}
 use Rattle.clap.proofs.OnLiterals.{clap_on_literals}
 use Rattle.clap.proofs.WalkLemmas.{walk_stopped}
-use Rattle.mdc_shell.specs.Found.{FindsCreate, FindsRun, Finds, IsCreateSplit, IsRunSplit, IsSplit}
+use Rattle.mdc_shell.specs.Found.{Finds, FindsCreate, FindsFile, IsCreateSplit, IsFileSplit, IsSplit}
 use Rattle.mdc_shell.specs.Grammar.{mdc_app}
 use Rattle.mdc_shell.specs.Words.{IsPlain}
 
@@ -44,15 +44,24 @@ mdc_is_free = refl
 pub mdc_is_simple : is_simple mdc_app ≡ true
 mdc_is_simple = refl
 
+-- the name of a command that takes one file
+abbrev pub IsOfFile : Text → Type 0
+IsOfFile name = (name ≡ codes "run") ⊎ (name ≡ codes "check")
+
+-- what holds of each such name
+by_name : (P : Text → Type 0) → P (codes "run") → P (codes "check") → (name : Text) → IsOfFile name → P name
+by_name P run check name (inl is) = subst P (sym is) run
+by_name P run check name (inr is) = subst P (sym is) check
+
 -- three words behind `create` are taken
 pub create_takes : (a b c : Text) → IsNoFlag a → IsNoFlag b → IsNoFlag c → fault_of mdc_app (codes "create" ∷ a ∷ b ∷ c ∷ []) ≡ []
 unfolding clap_on_literals
 create_takes a b c one two three = rw (one.dashes, one.long, one.short, two.dashes, two.long, two.short, three.dashes, three.long, three.short) refl
 
--- one word behind `run` is taken
-pub run_takes : (a : Text) → IsNoFlag a → fault_of mdc_app (codes "run" ∷ a ∷ []) ≡ []
+-- one word behind the name of such a command is taken
+pub file_takes : (a : Text) → IsNoFlag a → (name : Text) → IsOfFile name → fault_of mdc_app (name ∷ a ∷ []) ≡ []
 unfolding clap_on_literals
-run_takes a one = rw (one.dashes, one.long, one.short) refl
+file_takes a one = by_name (λ name. fault_of mdc_app (name ∷ a ∷ []) ≡ []) (rw (one.dashes, one.long, one.short) refl) (rw (one.dashes, one.long, one.short) refl)
 
 -- three words behind `create` are its values
 pub create_finds : (a b c : Text) → IsNoFlag a → IsNoFlag b → IsNoFlag c
@@ -69,10 +78,12 @@ create_finds a b c one two three = rw (one.dashes, one.long, one.short, two.dash
   pages_is = refl;
 })
 
--- one word behind `run` is its value
-pub run_finds : (a : Text) → IsNoFlag a → FindsRun (codes "run" ∷ a ∷ []) (subcommand_of mdc_app (codes "run" ∷ a ∷ []))
+-- one word behind the name of a command of one file is its value
+pub file_finds : (a : Text) → IsNoFlag a → (name : Text) → IsOfFile name → FindsFile name (name ∷ a ∷ []) (subcommand_of mdc_app (name ∷ a ∷ []))
 unfolding clap_on_literals
-run_finds a one = rw (one.dashes, one.long, one.short) (record { file = a; are = refl; name = refl; file_is = refl })
+file_finds a one = by_name (λ name. FindsFile name (name ∷ a ∷ []) (subcommand_of mdc_app (name ∷ a ∷ [])))
+    (rw (one.dashes, one.long, one.short) (record { file = a; are = refl; name_is = refl; file_is = refl }))
+    (rw (one.dashes, one.long, one.short) (record { file = a; are = refl; name_is = refl; file_is = refl }))
 
 -- no word
 no_words : fault_of mdc_app [] ≡ MissingSubcommand ∷ []
@@ -80,10 +91,10 @@ unfolding clap_on_literals
 no_words = refl
 
 -- another word in front
-other_word : (w : Text) (rest : List Text) → IsNoFlag w → bytes_eq (codes "create") w ≡ false → bytes_eq (codes "run") w ≡ false
+other_word : (w : Text) (rest : List Text) → IsNoFlag w → bytes_eq (codes "create") w ≡ false → bytes_eq (codes "run") w ≡ false → bytes_eq (codes "check") w ≡ false
     → fault_of mdc_app (w ∷ rest) ≡ UnknownArgument ∷ InvalidSubcommand ∷ []
 unfolding clap_on_literals
-other_word w rest one no_create no_run = rw (no_create, no_run, one.dashes, one.long, one.short) refl
+other_word w rest one no_create no_run no_check = rw (no_create, no_run, no_check, one.dashes, one.long, one.short) refl
 
 -- too few words behind `create`
 create_none : fault_of mdc_app (codes "create" ∷ []) ≡ MissingRequiredArgument ∷ []
@@ -98,10 +109,10 @@ create_two : (a b : Text) → IsNoFlag a → IsNoFlag b → fault_of mdc_app (co
 unfolding clap_on_literals
 create_two a b one two = rw (one.dashes, one.long, one.short, two.dashes, two.long, two.short) refl
 
--- no word behind `run`
-run_none : fault_of mdc_app (codes "run" ∷ []) ≡ MissingRequiredArgument ∷ []
+-- no word behind the name of a command of one file
+file_none : (name : Text) → IsOfFile name → fault_of mdc_app (name ∷ []) ≡ MissingRequiredArgument ∷ []
 unfolding clap_on_literals
-run_none = refl
+file_none = by_name (λ name. fault_of mdc_app (name ∷ []) ≡ MissingRequiredArgument ∷ []) refl refl
 
 -- the kinds at the end of the walk over the words, behind those of the walk
 behind : Walk → Kinds → Kinds
@@ -120,11 +131,14 @@ unfolding clap_on_literals behind stopped_at
 create_fault rest = ap₂ behind (sym (walk_stopped (built mdc_app).top.rules (names_of (built mdc_app)) (walk_from nothing_held) (codes "create") [] rest))
     (stopped_fault (built mdc_app).top (names_of (built mdc_app)) (walk_from nothing_held) (codes "create", []) rest)
 
--- the kinds behind `run`
-run_fault : (rest : List Text) → fault_of mdc_app (codes "run" ∷ rest) ≡ behind (stopped_at (codes "run") rest) []
+-- the kinds behind the name of a command of one file
+file_fault : (rest : List Text) (name : Text) → IsOfFile name → fault_of mdc_app (name ∷ rest) ≡ behind (stopped_at name rest) []
 unfolding clap_on_literals behind stopped_at
-run_fault rest = ap₂ behind (sym (walk_stopped (built mdc_app).top.rules (names_of (built mdc_app)) (walk_from nothing_held) (codes "run") [] rest))
-    (stopped_fault (built mdc_app).top (names_of (built mdc_app)) (walk_from nothing_held) (codes "run", []) rest)
+file_fault rest = by_name (λ name. fault_of mdc_app (name ∷ rest) ≡ behind (stopped_at name rest) [])
+    (ap₂ behind (sym (walk_stopped (built mdc_app).top.rules (names_of (built mdc_app)) (walk_from nothing_held) (codes "run") [] rest))
+    (stopped_fault (built mdc_app).top (names_of (built mdc_app)) (walk_from nothing_held) (codes "run", []) rest))
+    (ap₂ behind (sym (walk_stopped (built mdc_app).top.rules (names_of (built mdc_app)) (walk_from nothing_held) (codes "check") [] rest))
+    (stopped_fault (built mdc_app).top (names_of (built mdc_app)) (walk_from nothing_held) (codes "check", []) rest))
 
 -- too many words behind `create`
 create_many : (a b c d : Text) (rest : List Text) → IsNoFlag a → IsNoFlag b → IsNoFlag c → IsNoFlag d
@@ -133,10 +147,11 @@ unfolding clap_on_literals behind stopped_at
 create_many a b c d rest one two three four =
     rw (one.dashes, one.long, one.short, two.dashes, two.long, two.short, three.dashes, three.long, three.short, four.dashes, four.long, four.short) refl
 
--- too many words behind `run`
-run_many : (a b : Text) (rest : List Text) → IsNoFlag a → IsNoFlag b → behind (stopped_at (codes "run") (a ∷ b ∷ rest)) [] ≡ UnknownArgument ∷ []
+-- too many words behind the name of a command of one file
+file_many : (a b : Text) (rest : List Text) → IsNoFlag a → IsNoFlag b → (name : Text) → IsOfFile name → behind (stopped_at name (a ∷ b ∷ rest)) [] ≡ UnknownArgument ∷ []
 unfolding clap_on_literals behind stopped_at
-run_many a b rest one two = rw (one.dashes, one.long, one.short, two.dashes, two.long, two.short) refl
+file_many a b rest one two = by_name (λ name. behind (stopped_at name (a ∷ b ∷ rest)) [] ≡ UnknownArgument ∷ [])
+    (rw (one.dashes, one.long, one.short, two.dashes, two.long, two.short) refl) (rw (one.dashes, one.long, one.short, two.dashes, two.long, two.short) refl)
 
 -- no word is a flag
 AreNoFlags : List Text → Type 0
@@ -162,30 +177,40 @@ create_only (a ∷ b ∷ c ∷ []) all none = record { file = a; extents = b; pa
 create_only (a ∷ b ∷ c ∷ d ∷ rest) all none =
     absurd (refused _ _ _ (create_fault (a ∷ b ∷ c ∷ d ∷ rest) ∙ create_many a b c d rest all.0 all.1.0 all.1.1.0 all.1.1.1.0) none)
 
--- behind `run` one word is taken and no others
-run_only : (rest : List Text) → AreNoFlags rest → fault_of mdc_app (codes "run" ∷ rest) ≡ [] → IsRunSplit (codes "run" ∷ rest)
+-- behind the name of a command of one file one word is taken and no others
+file_only : (name : Text) → IsOfFile name → (rest : List Text) → AreNoFlags rest → fault_of mdc_app (name ∷ rest) ≡ [] → IsFileSplit name (name ∷ rest)
 unfolding AreNoFlags
-run_only [] all none = absurd (refused _ _ _ run_none none)
-run_only (a ∷ []) all none = record { file = a; are = refl }
-run_only (a ∷ b ∷ rest) all none = absurd (refused _ _ _ (run_fault (a ∷ b ∷ rest) ∙ run_many a b rest all.0 all.1.0) none)
+file_only name of [] all none = absurd (refused _ _ _ (file_none name of) none)
+file_only name of (a ∷ []) all none = record { file = a; are = refl }
+file_only name of (a ∷ b ∷ rest) all none = absurd (refused _ _ _ (file_fault (a ∷ b ∷ rest) name of ∙ file_many a b rest all.0 all.1.0 name of) none)
+
+-- words that begin with this name
+named : (name w : Text) (rest : List Text) (Split : List Text → Type 0) → bytes_eq name w ≡ true → fault_of mdc_app (w ∷ rest) ≡ [] → (fault_of mdc_app (name ∷ rest) ≡ [] → Split (name ∷ rest)) → Split (w ∷ rest)
+named name w rest Split same none split =
+    let is : name ≡ w = (bytes_eq-Decides name w).0 same in
+    subst (λ (t : Text). Split (t ∷ rest)) is (split (subst (λ (t : Text). fault_of mdc_app (t ∷ rest) ≡ []) (sym is) none))
 
 -- only words of the form of a command line are taken
 split_of : (words : List Text) → AreNoFlags words → fault_of mdc_app words ≡ [] → IsSplit words
 unfolding AreNoFlags
 split_of [] all none = absurd (refused _ _ _ no_words none)
 split_of (w ∷ rest) all none = elim (cases_Bool (bytes_eq (codes "create") w)) [
-  | inl create ↦ (let is : codes "create" ≡ w = (bytes_eq-Decides (codes "create") w).0 create in
-      let P : Text → Type 0 = λ (t : Text). fault_of mdc_app (t ∷ rest) ≡ [] in
-      let Q : Text → Type 0 = λ (t : Text). IsCreateSplit (t ∷ rest) in
-      inl (subst Q is (create_only rest all.1 (subst P (sym is) none))))
+  | inl create ↦ inl (named (codes "create") w rest IsCreateSplit create none (create_only rest all.1))
   | inr no_create ↦ elim (cases_Bool (bytes_eq (codes "run") w)) [
-    | inl run ↦ (let is : codes "run" ≡ w = (bytes_eq-Decides (codes "run") w).0 run in
-        let P : Text → Type 0 = λ (t : Text). fault_of mdc_app (t ∷ rest) ≡ [] in
-        let Q : Text → Type 0 = λ (t : Text). IsRunSplit (t ∷ rest) in
-        inr (subst Q is (run_only rest all.1 (subst P (sym is) none))))
-    | inr no_run ↦ absurd (refused _ _ _ (other_word w rest all.0 no_create no_run) none)
+    | inl run ↦ inr (inl (named (codes "run") w rest (IsFileSplit (codes "run")) run none (file_only (codes "run") (inl refl) rest all.1)))
+    | inr no_run ↦ elim (cases_Bool (bytes_eq (codes "check") w)) [
+      | inl check ↦ inr (inr (named (codes "check") w rest (IsFileSplit (codes "check")) check none (file_only (codes "check") (inr refl) rest all.1)))
+      | inr no_check ↦ absurd (refused _ _ _ (other_word w rest all.0 no_create no_run no_check) none)
+    ]
   ]
 ]
+
+-- one word behind the name of a command of one file
+found_file : (name : Text) → IsOfFile name → (words : List Text) → AreNoFlags words → IsFileSplit name words → (fault_of mdc_app words ≡ []) × FindsFile name words (subcommand_of mdc_app words)
+unfolding AreNoFlags
+found_file name of words all s =
+    let flags = subst AreNoFlags s.are all in
+    subst (λ (ws : List Text). (fault_of mdc_app ws ≡ []) × FindsFile name ws (subcommand_of mdc_app ws)) (sym s.are) (file_takes s.file flags.1.0 name of, file_finds s.file flags.1.0 name of)
 
 -- words of the form of a command line are taken, and clap finds what they say
 found_in : (words : List Text) → AreNoFlags words → IsSplit words → (fault_of mdc_app words ≡ []) × Finds words (subcommand_of mdc_app words)
@@ -194,10 +219,8 @@ found_in words all (inl s) =
     let P : List Text → Type 0 = λ (ws : List Text). (fault_of mdc_app ws ≡ []) × Finds ws (subcommand_of mdc_app ws) in
     let flags = subst AreNoFlags s.are all in
     subst P (sym s.are) (create_takes s.file s.extents s.pages flags.1.0 flags.1.1.0 flags.1.1.1.0, inl (create_finds s.file s.extents s.pages flags.1.0 flags.1.1.0 flags.1.1.1.0))
-found_in words all (inr s) =
-    let P : List Text → Type 0 = λ (ws : List Text). (fault_of mdc_app ws ≡ []) × Finds ws (subcommand_of mdc_app ws) in
-    let flags = subst AreNoFlags s.are all in
-    subst P (sym s.are) (run_takes s.file flags.1.0, inr (run_finds s.file flags.1.0))
+found_in words all (inr (inl s)) = let found = found_file (codes "run") (inl refl) words all s in (found.0, inr (inl found.1))
+found_in words all (inr (inr s)) = let found = found_file (codes "check") (inr refl) words all s in (found.0, inr (inr found.1))
 
 -- where plain words are taken, clap finds what they say
 pub taken_finds : (words : List Text) → All IsPlain words → fault_of mdc_app words ≡ [] → Finds words (subcommand_of mdc_app words)

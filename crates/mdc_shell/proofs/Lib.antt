@@ -1,4 +1,5 @@
 pub mod Asking
+pub mod CheckLemmas
 pub mod ClapWords
 pub mod CreateLemmas
 pub mod LeavingLemmas

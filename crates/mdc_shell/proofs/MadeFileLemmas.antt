@@ -21,8 +21,8 @@ use Rattle.script_session.specs.Going.{GoesOnPages}
 use Rattle.script_session.specs.Leaving.{AreServedPages}
 use Rattle.script_session.specs.Lists.{GoesOnLists}
 use Rattle.script_session.specs.declared.stop.Served.{Served}
+use Rattle.file_verdict.specs.SoundFile.{StatesExtents}
 use Rattle.file_session.specs.Serving.{RunsItems}
-use Rattle.file_session.specs.Well.{StatesExtents}
 use Rattle.file_session.specs.declared.stop.FileStop.{FileStop}
 use Rattle.mdc_shell.specs.Run.{IsStopBefore, RunsScratch}
 use Rattle.mdc_shell.specs.Status.{status_of}

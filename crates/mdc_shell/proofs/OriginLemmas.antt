@@ -10,8 +10,9 @@ use Rattle.mdc_outside.proofs.MomentLemmas.{where_told, within_call-told}
 use Rattle.page_file.specs.Leaving.{LeavesImage}
 use Rattle.page_file.proofs.LeavesLemmas.{nothing_said}
 use Rattle.page_store.specs.Opened.{CouldBeLeft}
-use Rattle.file_session.specs.Leaving.{ComesToRest, WasTold}
-use Rattle.file_session.proofs.FileRunsLemmas.{TellsNow}
+use Rattle.file_verdict.specs.Resting.{ComesToRest, WasTold}
+use Rattle.file_verdict.proofs.RestingLemmas.{TellsNow}
+use Rattle.mdc_shell.specs.Leaving.{HasPart}
 
 -- ---- behind an attach
 
@@ -47,21 +48,24 @@ left_before_line g host after heard line t image taken now back is told early mo
     let tells = where_told (g.file host) (g.beside host).tape after heard (λ file said. (image tape : List ℕ) → g.moment host (g.clock host) image tape ↔ IsMoment file.since said [] image tape) is told now in
     back t (g.clock host) image heard early (omega arith) ((tells image heard).1 (record { left = moment.left; said = ([], [], refl, sym (append-nil heard)) }))
 
--- A run that came to rest, and then a line: of the images that were left none is new.
-pub rests_then_said : {D : Type 0} (g : Ghosts D) (before after : File) (said heard line : List ℕ) (Kind : List ℕ → Type 0) (old mid new : D) (tape : Option (List ℕ)) → TellsNow g mid
+-- A run that came to rest, and then a line: of the images that were left none is new, and a first part of the line was said.
+pub rests_then_said : {D : Type 0} (g : Ghosts D) (before after : File) (said heard line : List ℕ) (Left Wide : List ℕ → List ℕ → Type 0) (old mid new : D) (tape : Option (List ℕ)) → TellsNow g mid
     → ReachesBack g.clock g.moment mid → g.file mid ≡ Some after → (g.beside mid).tape ≡ Some heard → tape ≡ Some heard → OverTime g.clock g.moment (IsWithinCall (g.file mid) tape line) mid new
-    → ComesToRest g before said (λ image tape. Kind image) old mid → ComesToRest g before said (λ image tape. Kind image) old new
-rests_then_said g before after said heard line Kind old mid new tape now back is told tape_is saying rest =
-    let kind : (image taken : List ℕ) → IsWithinCall (g.file mid) tape line image taken → Kind image =
-    λ image taken within. rest.since image heard (left_before_line g mid after heard line (g.clock rest.origin) image taken now back is told rest.later (within_call-told after heard image taken is tape_is within)) in
+    → ((image taken : List ℕ) → Left image taken → Wide image taken) → ((image taken : List ℕ) → Left image heard → HasPart line heard taken → Wide image taken)
+    → ComesToRest g before said Left old mid → ComesToRest g before said Wide old new
+rests_then_said g before after said heard line Left Wide old mid new tape now back is told tape_is saying wide part rest =
+    let within_line : (image taken : List ℕ) → IsWithinCall (g.file mid) tape line image taken → Wide image taken =
+    λ image taken within.
+    let moment = within_call-told after heard image taken is tape_is within in
+    part image taken (rest.since image heard (left_before_line g mid after heard line (g.clock rest.origin) image taken now back is told rest.later moment)) moment.said in
     record {
       origin = rest.origin;
       until = rest.until;
       later = omega (arith, rest.later, saying.later);
-      since = λ image taken left. elim (saying.only (g.clock rest.origin) image taken rest.later left) [ inl was ↦ rest.since image taken was | inr within ↦ kind image taken within ];
+      since = λ image taken left. elim (saying.only (g.clock rest.origin) image taken rest.later left) [ inl was ↦ wide image taken (rest.since image taken was) | inr within ↦ within_line image taken within ];
       behind = λ t image taken early left. elim (saying.only t image taken (omega (arith, early, rest.until.later, rest.later)) left) [
-        | inl was ↦ rest.behind t image taken early was
-        | inr within ↦ inl (kind image taken within)
+        | inl was ↦ elim (rest.behind t image taken early was) [ inl by_run ↦ inl (wide image taken by_run) | inr was_told ↦ inr was_told ]
+        | inr within ↦ inl (within_line image taken within)
       ];
     }
 

@@ -26,11 +26,11 @@ use Rattle.script_session.specs.Told.{TellsMore}
 use Rattle.file_session.specs.Breaking.{IsDamageOf}
 use Rattle.file_session.specs.Ending.{IsCauseIn, IsUnopened, end_of_session, IsRefused}
 use Rattle.file_session.specs.Serving.{RepliesBySession, RunsItems, RunsOnFile, TakesBySession}
-use Rattle.file_session.specs.Leaving.{LeavesSince, StaysFormed}
 use Rattle.file_session.specs.Well.{IsWell}
 use Rattle.file_session.specs.declared.stop.FileStop.{FileStop}
 use Rattle.file_session.specs.declared.stop.FileStop.TheVariants.{Damaged, Device, Memory, NotMdc, TooLong, Unmade, Unread, Unsaid, Version}
-use Rattle.file_session.proofs.FileRunsLemmas.{TellsNow}
+use Rattle.file_verdict.specs.Resting.{LeavesSince, StaysFormed}
+use Rattle.file_verdict.proofs.RestingLemmas.{TellsNow}
 use Rattle.file_session.proofs.FirstEndsLemmas.{replies_first}
 use Rattle.std.proofs.lemmas.List.{append-nil}
 use Rattle.script_session.specs.Ending.{script_limit}
@@ -235,7 +235,7 @@ file_of_bytes (Some file) bytes is = (file, refl, cc)
 -- ---- a file that can't be opened
 
 -- an image that could be left before, with nothing said, is one while a line is said
-could_be_left-moment : (before : File) (said line image tape : List ℕ) → LeavesImage (CouldBeLeft before) said image tape → IsMoment before.since said line image tape
+pub could_be_left-moment : (before : File) (said line image tape : List ℕ) → LeavesImage (CouldBeLeft before) said image tape → IsMoment before.since said line image tape
 could_be_left-moment before said line image tape left = record { left = left.0; said = ([], line, refl, left.1 ∙ sym (append-nil said)) }
 
 -- a refusal, and then its line
@@ -268,7 +268,8 @@ pub reopens_file-said : {D : Type 0} (g : Ghosts D) (before after : File) (said 
     → OverTime g.clock g.moment (IsWithinCall (g.file mid) tape (line_of_end end_)) mid new → LeavesSince g before said (λ image tape. StaysFormed before.bytes image) old mid
     → ReopensFile g before said new_tape old new status
 reopens_file-said g before after said heard old mid new tape new_tape end_ status now_old now_mid back is told is_mid sound told_mid tape_is cause ends saying (inl rest) =
-    inl (rests_then_said g before after said heard (line_of_end end_) (StaysFormed before.bytes) old mid new tape now_mid back is_mid told_mid tape_is saying rest)
+    inl (rests_then_said g before after said heard (line_of_end end_) (λ image taken. StaysFormed before.bytes image) (λ image taken. StaysFormed before.bytes image) old mid new tape now_mid back is_mid told_mid tape_is saying
+    (λ image taken is. is) (λ image taken is part. is) rest)
 reopens_file-said g before after said heard old mid new tape new_tape end_ status now_old now_mid back is told is_mid sound told_mid tape_is cause ends saying (inr meanwhile) =
     let could = left_unrested g before after said heard old mid now_old now_mid back is told is_mid told_mid meanwhile in
     let tape_was : tape ≡ Some said = tape_is ∙ ap Some (could after.bytes sound).1 in

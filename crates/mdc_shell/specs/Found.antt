@@ -21,16 +21,16 @@ pub record FindsCreate (words : List Text) (found : Option (Text × List Row)) :
   pub extents_is : value_in (codes "EXTENTS") found ≡ Some extents
   pub pages_is : value_in (codes "PAGES") found ≡ Some pages
 
--- the words are `run` and one more, and this was found
-pub record FindsRun (words : List Text) (found : Option (Text × List Row)) : Type 0 where
+-- the words are the name of a command and one more, and this was found
+pub record FindsFile (name : Text) (words : List Text) (found : Option (Text × List Row)) : Type 0 where
   pub file : Text
-  pub are : words ≡ codes "run" ∷ file ∷ []
-  pub name : subcommand_in found ≡ Some (codes "run")
+  pub are : words ≡ name ∷ file ∷ []
+  pub name_is : subcommand_in found ≡ Some name
   pub file_is : value_in (codes "FILE") found ≡ Some file
 
 -- clap found what the words say
 abbrev pub Finds : List Text → Option (Text × List Row) → Type 0
-Finds words found = FindsCreate words found ⊎ FindsRun words found
+Finds words found = FindsCreate words found ⊎ FindsFile (codes "run") words found ⊎ FindsFile (codes "check") words found
 
 -- the words are `create` and three more
 pub record IsCreateSplit (words : List Text) : Type 0 where
@@ -39,11 +39,11 @@ pub record IsCreateSplit (words : List Text) : Type 0 where
   pub pages : Text
   pub are : words ≡ codes "create" ∷ file ∷ extents ∷ pages ∷ []
 
--- the words are `run` and one more
-pub record IsRunSplit (words : List Text) : Type 0 where
+-- the words are the name of a command and one more
+pub record IsFileSplit (name : Text) (words : List Text) : Type 0 where
   pub file : Text
-  pub are : words ≡ codes "run" ∷ file ∷ []
+  pub are : words ≡ name ∷ file ∷ []
 
 -- the words have the form of a command line
 abbrev pub IsSplit : List Text → Type 0
-IsSplit words = IsCreateSplit words ⊎ IsRunSplit words
+IsSplit words = IsCreateSplit words ⊎ IsFileSplit (codes "run") words ⊎ IsFileSplit (codes "check") words

@@ -1,4 +1,5 @@
 pub mod Asked
+pub mod Check
 pub mod Create
 pub mod Found
 pub mod Grammar

@@ -15,11 +15,11 @@ use Rattle.made_database.specs.MadePages.{made_pages}
 use Rattle.script_session.specs.Ending.{script_limit}
 use Rattle.script_session.specs.Told.{TellsMore}
 use Rattle.script_session.specs.declared.stop.Served.{Served}
+use Rattle.file_verdict.specs.Resting.{ComesToRest, StaysFormed}
+use Rattle.file_verdict.specs.SoundFile.{StatesExtents}
 use Rattle.file_session.specs.Breaking.{IsDamageOf}
 use Rattle.file_session.specs.Ending.{IsCauseIn, IsRefused, IsUnopened}
-use Rattle.file_session.specs.Leaving.{ComesToRest, StaysFormed}
 use Rattle.file_session.specs.Serving.{RepliesBySession, RunsItems, RunsOnFile}
-use Rattle.file_session.specs.Well.{StatesExtents}
 use Rattle.file_session.specs.declared.stop.FileStop.{FileStop}
 use Rattle.file_session.specs.declared.stop.FileStop.TheVariants.{Damaged, Device, Memory}
 use Rattle.mdc_shell.specs.Create.{exists_line}

@@ -2,6 +2,7 @@
 use Rattle.std.specs.Prelude.{◌≡◌, ◌⊎◌, ℕ, List, [], ◌++◌, codes, Option, Result, Ok, Err}
 use Rattle.std.specs.Fmt.{decimal}
 use Rattle.mdc_outside.specs.Outside.{Takes, TakesPart}
+use Rattle.store_api.specs.declared.fault.Damage.{Damage}
 use Rattle.script_session.specs.declared.stop.Served.{Served}
 use Rattle.script_session.specs.declared.stop.Served.TheVariants.{AllDone, SomeRefused}
 use Rattle.file_session.specs.declared.stop.FileStop.{FileStop}
@@ -28,12 +29,16 @@ status_of (Ok AllDone) = 0
 status_of (Ok SomeRefused) = 1
 status_of (Err stop) = status_of_stop stop
 
+-- the line of a page that breaks a rule, behind this word
+abbrev pub damage_line : List ℕ → Damage → List ℕ
+damage_line word damage = word ++ codes " page " ++ decimal damage.page ++ codes " rule " ++ decimal damage.rule ++ codes "\n"
+
 -- the line that is said at a stop, if one is
 abbrev pub line_of_stop : FileStop → List ℕ
 line_of_stop Unmade = codes "NOT MADE\n"
 line_of_stop NotMdc = codes "NOT MDC\n"
 line_of_stop (Version version) = codes "VERSION " ++ decimal version ++ codes "\n"
-line_of_stop (Damaged damage) = codes "DAMAGED page " ++ decimal damage.page ++ codes " rule " ++ decimal damage.rule ++ codes "\n"
+line_of_stop (Damaged damage) = damage_line (codes "DAMAGED") damage
 line_of_stop stop = []
 
 -- the line that is said at the end of a run

@@ -39,16 +39,22 @@ pub record IsCreateLine (words : List (List ℕ)) (path : List ℕ) (extents ext
 abbrev pub IsRunFileLine : List (List ℕ) → List ℕ → Type 0
 IsRunFileLine words path = (words ≡ codes "run" ∷ path ∷ []) × IsPath path
 
+-- the words are `check FILE`, of this path
+abbrev pub IsCheckLine : List (List ℕ) → List ℕ → Type 0
+IsCheckLine words path = (words ≡ codes "check" ∷ path ∷ []) × IsPath path
+
 -- what a command line asks for
 pub data Line : Type 0 where
   RunScratch : Line
   RunFile : (path : List ℕ) → Line
+  CheckFile : (path : List ℕ) → Line
   CreateFile : (path : List ℕ) (extents extent_pages : ℕ) → Line
 
 -- the words spell a command line
 abbrev pub SpellsLine : List (List ℕ) → Line → Type 0
 SpellsLine words RunScratch = IsScratchLine words
 SpellsLine words (RunFile path) = IsRunFileLine words path
+SpellsLine words (CheckFile path) = IsCheckLine words path
 SpellsLine words (CreateFile path extents extent_pages) = IsCreateLine words path extents extent_pages
 
 -- the words spell no command line

@@ -2,7 +2,7 @@
 ghost use Rattle.std.specs.Prelude.{◌≡◌, IfOk, MatchOption, ℕ, List, Some, codes, map, string_bytes};
 ghost use Rattle.std.specs.List.{All};
 ghost use Rattle.clap.specs.Words.{first_value, found_of, subcommand_rows_of};
-ghost use Rattle.mdc_shell.specs.Asked.{Asks, AsksCreate, AsksRun};
+ghost use Rattle.mdc_shell.specs.Asked.{Asks, AsksCheck, AsksCreate, AsksRun};
 ghost use Rattle.mdc_shell.specs.Found.{Finds, IsSplit};
 ghost use Rattle.mdc_shell.specs.Words.{IsPlain};
 
@@ -23,6 +23,8 @@ pub enum Command<'w> {
     RunScratch,
     /// To run the script of the input on the file at the path.
     RunFile { path: &'w str },
+    /// To judge the database in the file at the path.
+    Check { path: &'w str },
 }
 
 impl<'w> Command<'w> {
@@ -62,6 +64,9 @@ fn command_in<'w>(matches: &ArgMatches<'w>) -> Option<Command<'w>>
     if let Some(create) = matches.subcommand_matches("create") {
         return create_in(create);
     }
+    if let Some(check) = matches.subcommand_matches("check") {
+        return check_in(check);
+    }
     run_in(matches.subcommand_matches("run")?)
 }
 
@@ -82,6 +87,13 @@ fn run_in<'w>(matches: &ArgMatches<'w>) -> Option<Command<'w>>
     ensures { (file : List ℕ) → first_value (found_of matches.now) (codes "FILE") ≡ Some file → AsksRun file result }
 {
     run_of(matches.get_str("FILE")?)
+}
+
+// The command of the value behind `check`.
+fn check_in<'w>(matches: &ArgMatches<'w>) -> Option<Command<'w>>
+    ensures { (file : List ℕ) → first_value (found_of matches.now) (codes "FILE") ≡ Some file → AsksCheck file result }
+{
+    check_of(matches.get_str("FILE")?)
 }
 
 // The command of a path and two numbers.
@@ -106,4 +118,14 @@ fn run_of<'w>(file: &'w str) -> Option<Command<'w>>
         return None;
     }
     Some(Command::RunFile { path: file })
+}
+
+// The command of the file that is to be judged, which has to have a path.
+fn check_of<'w>(file: &'w str) -> Option<Command<'w>>
+    ensures { AsksCheck file.now result }
+{
+    if !is_path(file) {
+        return None;
+    }
+    Some(Command::Check { path: file })
 }

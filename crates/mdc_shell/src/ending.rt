@@ -5,7 +5,7 @@ ghost use Rattle.mdc_words.specs.Time.{OverTime};
 ghost use Rattle.mdc_outside.specs.Moments.{IsWithinCall};
 ghost use Rattle.script_session.specs.Told.{StaysTold};
 ghost use Rattle.mdc_outside.specs.Outside.{Takes, TakesPart};
-ghost use Rattle.mdc_shell.specs.Status.{SaysEnd, line_of_end, line_of_stop, status_of};
+ghost use Rattle.mdc_shell.specs.Status.{SaysEnd, damage_line, line_of_end, line_of_stop, status_of};
 ghost use Rattle.mdc_shell.specs.Untouched.{IsUntouched};
 
 use crate::program::Ended;
@@ -39,8 +39,8 @@ pub fn end_run<H: Host>(alloc: Global, end: Result<Served, FileStop>, host: H) -
     }
 }
 
-// Says the line of a stop, whose status this is.
-fn say_line<H: Host>(host: H, line: &[u8], status: Status) -> Ended<H>
+/// Says the line of an end, whose status this is.
+pub(crate) fn say_line<H: Host>(host: H, line: &[u8], status: Status) -> Ended<H>
     ensures said { ((result.status ≡ status) × Takes (H.tape host) line.now (H.tape result.host)) ⊎ ((result.status.0 ≡ 5) × TakesPart (H.tape host) line.now (H.tape result.host)) }
     ensures says { (status.0 ≡ 5 → ⊥) → CountsFault (result.status.0 ≡ 5) (H.say_faults host) (H.say_faults result.host) }
     ensures disk { IsUntouched H.file H.attaches H.disk_faults host result.host }
@@ -68,8 +68,8 @@ fn line_of(alloc: Global, end: &Result<Served, FileStop>) -> Result<Option<Vec<u
     }
 }
 
-// The line of a stop, if it has one.
-fn line_of_stop(alloc: Global, stop: &FileStop) -> Result<Option<Vec<u8>>, Memory>
+/// The line of a stop, if it has one.
+pub(crate) fn line_of_stop(alloc: Global, stop: &FileStop) -> Result<Option<Vec<u8>>, Memory>
     ensures line { IfOk result (λ line. MatchOption line (line_of_stop stop.now ≡ []) (λ line. line.items ≡ line_of_stop stop.now)) }
     ensures some { IfOk result (λ line. MatchOption line (Unit {0}) (λ _. line_of_stop stop.now ≡ [] → ⊥)) }
     ensures memory { OnErr result (line_of_stop stop.now ≡ [] → ⊥) }
@@ -78,7 +78,7 @@ fn line_of_stop(alloc: Global, stop: &FileStop) -> Result<Option<Vec<u8>>, Memor
         FileStop::Unmade => Ok(Some(Vec::from_slice(alloc, b"NOT MADE\n")?)),
         FileStop::NotMdc => Ok(Some(Vec::from_slice(alloc, b"NOT MDC\n")?)),
         FileStop::Version(version) => Ok(Some(version_line(alloc, *version)?)),
-        FileStop::Damaged(damage) => Ok(Some(damage_line(alloc, damage)?)),
+        FileStop::Damaged(damage) => Ok(Some(damage_line(alloc, b"DAMAGED", damage)?)),
         FileStop::Unread
         | FileStop::TooLong
         | FileStop::Unsaid
@@ -97,11 +97,12 @@ fn version_line(alloc: Global, version: u32) -> Result<Vec<u8>, Memory>
     Ok(line)
 }
 
-// The line of a page that breaks a rule.
-fn damage_line(alloc: Global, damage: &Damage) -> Result<Vec<u8>, Memory>
-    ensures { IfOk result (λ line. line.items ≡ codes "DAMAGED page " ++ decimal damage.now.page ++ codes " rule " ++ decimal damage.now.rule ++ codes "\n") }
+/// The line of a page that breaks a rule, behind this word.
+pub(crate) fn damage_line(alloc: Global, word: &[u8], damage: &Damage) -> Result<Vec<u8>, Memory>
+    ensures { IfOk result (λ line. line.items ≡ damage_line word.now damage.now) }
 {
-    let mut line = Vec::from_slice(alloc, b"DAMAGED page ")?;
+    let mut line = Vec::from_slice(alloc, word)?;
+    line.extend_from_slice(b" page ")?;
     line.extend_from_slice(Buffer::new().format(damage.page).as_bytes())?;
     line.extend_from_slice(b" rule ")?;
     line.extend_from_slice(Buffer::new().format(damage.rule).as_bytes())?;

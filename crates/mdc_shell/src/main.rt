@@ -1,17 +1,19 @@
 //! The program `mdc`. `run FILE` runs a script from standard input on a database file, with one reply a statement on standard
-//! output, and `run -` on a scratch file. `create FILE EXTENTS PAGES` makes an empty database in a file. For all other words it
-//! says a usage line.
+//! output, and `run -` on a scratch file. `create FILE EXTENTS PAGES` makes an empty database in a file. `check FILE` says whether
+//! the database in a file is whole. For all other words it says a usage line.
 //!
 //! Its one call is `run` (`program`). Of a script on a file that is well it promises that the replies are those of plain lists of
 //! rows, up to a stop, and that a crash at each moment leaves a well file, which stands for those lists after some of the items,
-//! with each whose reply had begun; for a create, what the file holds, what was said, and what a crash leaves; for all other words,
-//! that nothing is read. `main` only makes the real source and host, of which nothing is told, sees to it that no file is taken for
-//! a standard stream, and says on standard error why a call stopped (`explaining`).
+//! with each whose reply had begun; for a create, what the file holds, what was said, and what a crash leaves; for a check of any
+//! file, that the verdict is exact, and that a crash leaves a file that stands for the same pages; for all other words, that nothing
+//! is read. `main` only makes the real source and host, of which nothing is told, sees to it that no file is taken for a standard
+//! stream, and says on standard error why a call stopped (`explaining`).
 //!
-//! It stands on `file_session` for scripts on files, on `page_store` for making one and on the law of `made_database` for what is
-//! made, on `host_edge` for the real source and host (`mdc_outside`), and on `clap` for the words.
+//! It stands on `file_session` for scripts on files, on `file_verdict` for checks, on `page_store` for making a file and on the law
+//! of `made_database` for what is made, on `host_edge` for the real source and host (`mdc_outside`), and on `clap` for the words.
 #![tactic(auto)]
 
+mod checking;
 mod command;
 mod create;
 mod ending;

@@ -10,13 +10,16 @@ ghost use Rattle.page_store.specs.Standing.{IsFormed};
 ghost use Rattle.script_session.specs.Told.{StaysTold};
 ghost use Rattle.file_session.specs.Leaving.{AreFormed};
 ghost use Rattle.file_session.specs.Well.{AreWell, IsWell};
+ghost use Rattle.file_verdict.specs.SoundFile.{AreSoundFiles, IsSoundFile};
+ghost use Rattle.mdc_shell.specs.Check.{ChecksFormed, ChecksPath, ChecksUnserved, IsCheckComplete, IsCheckStatus, IsStatusOnSound, IsUnsettled, StaysStanding};
 ghost use Rattle.mdc_shell.specs.Create.{Completes, Creates, MayAttach};
 ghost use Rattle.mdc_shell.specs.Leaving.{LeftByCreate};
 ghost use Rattle.mdc_shell.specs.Run.{IsComplete, IsWithinLimit, RefusesFile, RefusesScratch, ReopensFile, RunsPath, RunsScratch, ServesPath, StandsForNothing, TakesByStatus};
 ghost use Rattle.mdc_shell.specs.Status.{IsScriptStatus, IsStatus};
 ghost use Rattle.mdc_shell.specs.Untouched.{IsUntouched};
-ghost use Rattle.mdc_shell.specs.Words.{CreateFile, IsNoLine, RunFile, RunScratch, SaysUsage, SpellsLine, usage};
+ghost use Rattle.mdc_shell.specs.Words.{CheckFile, CreateFile, IsNoLine, RunFile, RunScratch, SaysUsage, SpellsLine, usage};
 
+use crate::checking::check_path;
 use crate::command::Command;
 use crate::create::create;
 use crate::laws::{made_files_are_well, nothing_is_run};
@@ -39,6 +42,7 @@ const USAGE: &[u8] = b"usage: mdc create FILE EXTENTS PAGES | run FILE | check F
 /// Runs the program on the words after its name. `run FILE` runs the script of `input` on the database in the file, and says one
 /// reply for each statement, as the statement closes. `run -` runs it on a scratch file, which is made first. `create FILE EXTENTS
 /// PAGES` makes an empty database in the file, and says `OK` once it is on the disk, or `FILE EXISTS` where the file has a byte.
+/// `check FILE` judges the database in the file, and says `SOUND`, or `BROKEN` with a page and the rule that it breaks.
 /// For all other words nothing is read, and the usage line is said.
 pub fn run<I: Source, H: Host>(
     alloc: Global,
@@ -112,6 +116,54 @@ pub fn run<I: Source, H: Host>(
     ensures makes_well { (path : List ℕ) (extents extent_pages : ℕ) → SpellsLine (map string_bytes words.now.items) (CreateFile path extents extent_pages)
         → result.status.0 ≡ 0 → ForSome (H.file result.host) (λ file. AreWell file × StandsForNothing file.bytes) }
 
+    // `check FILE`, on any file, whatever its bytes: the verdict is that of the file as it was at entry, and its line is said, and
+    // nothing else. Nothing is read.
+    ensures checks { (path : List ℕ) → SpellsLine (map string_bytes words.now.items) (CheckFile path)
+        → ChecksPath (H.file host) (H.tape host) (H.tape result.host) result.status.0
+        × MayAttach (H.attaches host) path false (H.attaches result.host) × IsCheckStatus result.status.0 × (input.new ≡ input.old) }
+    ensures checks_sound { (path : List ℕ) → SpellsLine (map string_bytes words.now.items) (CheckFile path)
+        → (before : File) → H.file host ≡ Some before → IsSoundFile before.bytes → IsStatusOnSound result.status.0 }
+
+    // On a formed file: from the origin of its opening on a crash leaves a file that stands for the same pages. Only at the statuses 3
+    // and 8 it may have stopped before any origin; at all others each image that may be left then stands so.
+    ensures checks_formed { (path : List ℕ) → SpellsLine (map string_bytes words.now.items) (CheckFile path)
+        → (before : File) (said : List ℕ) → H.file host ≡ Some before → H.tape host ≡ Some said → IsFormed before.bytes
+        → ChecksFormed H.Disk before said (H.tape result.host) host result.host result.status.0 }
+    ensures checks_stands { (path : List ℕ) → SpellsLine (map string_bytes words.now.items) (CheckFile path)
+        → (before : File) (said : List ℕ) → H.file host ≡ Some before → H.tape host ≡ Some said → IsFormed before.bytes → (IsUnsettled result.status.0 → ⊥)
+        → StaysStanding before (H.file result.host) }
+
+    // So behind `SOUND` the next check finds a sound file whatever a crash leaves, and the next run keeps its promise on one that is
+    // well.
+    ensures found_sound { (path : List ℕ) → SpellsLine (map string_bytes words.now.items) (CheckFile path)
+        → (before : File) (said : List ℕ) → H.file host ≡ Some before → H.tape host ≡ Some said → result.status.0 ≡ 0
+        → (after : File) × (H.file result.host ≡ Some after) × AreSoundFiles after }
+    ensures found_well { (path : List ℕ) → SpellsLine (map string_bytes words.now.items) (CheckFile path)
+        → (before : File) (said : List ℕ) → H.file host ≡ Some before → H.tape host ≡ Some said → result.status.0 ≡ 0 → IsWell before.bytes
+        → (after : File) × (H.file result.host ≡ Some after) × AreWell after }
+
+    // Where each image that could be left was sound, or well, each is so after a check, however it ends.
+    ensures check_stays_sound { (path : List ℕ) → SpellsLine (map string_bytes words.now.items) (CheckFile path)
+        → (before : File) (said : List ℕ) → H.file host ≡ Some before → H.tape host ≡ Some said → AreSoundFiles before
+        → (after : File) × (H.file result.host ≡ Some after) × AreSoundFiles after }
+    ensures check_stays_well { (path : List ℕ) → SpellsLine (map string_bytes words.now.items) (CheckFile path)
+        → (before : File) (said : List ℕ) → H.file host ≡ Some before → H.tape host ≡ Some said → AreWell before
+        → (after : File) × (H.file result.host ≡ Some after) × AreWell after }
+
+    // A file that can't be opened stays, unless the disk failed.
+    ensures checks_unserved { (path : List ℕ) → SpellsLine (map string_bytes words.now.items) (CheckFile path)
+        → (before : File) (said : List ℕ) → H.file host ≡ Some before → H.tape host ≡ Some said → (IsServed before.bytes → ⊥)
+        → ChecksUnserved H.Disk before said (H.tape result.host) host result.host result.status.0 }
+    ensures keeps_unserved { (path : List ℕ) → SpellsLine (map string_bytes words.now.items) (CheckFile path)
+        → (before : File) → H.file host ≡ Some before → (IsServed before.bytes → ⊥) → (result.status.0 ≡ 3 → ⊥)
+        → (after : File) × (H.file result.host ≡ Some after) × (after.bytes ≡ before.bytes) }
+
+    // Where nothing failed, a told file is judged, unless memory is wanted.
+    ensures check_completes { (path : List ℕ) → SpellsLine (map string_bytes words.now.items) (CheckFile path)
+        → (Rose (H.disk_faults host) (H.disk_faults result.host) → ⊥)
+        → (Rose (H.say_faults host) (H.say_faults result.host) → ⊥)
+        → IsCheckComplete result.status.0 }
+
     // All other words: nothing is read.
     ensures usage { IsNoLine (map string_bytes words.now.items)
         → SaysUsage (H.tape host) (H.tape result.host) result.status.0 × (input.new ≡ input.old)
@@ -150,6 +202,7 @@ pub fn run<I: Source, H: Host>(
     match Command::of_words(alloc, words.as_slice()) {
         Ok(Some(Command::RunScratch)) => run_scratch(alloc, input, host),
         Ok(Some(Command::RunFile { path })) => run_path(alloc, path, input, host),
+        Ok(Some(Command::Check { path })) => check_path(alloc, path, host),
         Ok(Some(Command::Create { path, shape })) => create_file(host, path, shape),
         Ok(None) => say_usage(host),
         Err(Memory) => Ended {

@@ -290,7 +290,7 @@ fn what_fails_stops_a_script(rt: HostRuntime) -> Result<(), Fail> {
 const USAGE: &str = "usage: mdc create FILE EXTENTS PAGES | run FILE | check FILE | work N\n";
 
 /// Lines that are no command line.
-const OTHER_LINES: [&str; 34] = [
+const OTHER_LINES: [&str; 39] = [
     "",
     "run",
     "run - -",
@@ -298,6 +298,11 @@ const OTHER_LINES: [&str; 34] = [
     "run -f",
     "run ",
     "Run -",
+    "check",
+    "check -",
+    "check f g",
+    "check -f",
+    "check ",
     "create",
     "create f 16",
     "create f 16 2 x",
@@ -602,4 +607,116 @@ fn a_scratch_file_with_a_byte_is_refused(rt: HostRuntime) -> Result<(), Fail> {
         6,
         "FILE EXISTS\n",
     )
+}
+
+/// The bytes of the file of a host.
+fn file_of<H: Host>(alloc: Global, host: &mut H) -> Result<Vec<u8>, Fail> {
+    host.attach("f", false)?;
+    let end = host.len()?;
+    let mut bytes = vec![in alloc; 0u8; end as usize]?;
+    host.read(0, &mut bytes)?;
+    Ok(bytes)
+}
+
+/// Makes a database with a table and a row in the file of a host, and gives its bytes.
+fn make_row(alloc: Global, host: &mut MemHost) -> Result<Vec<u8>, Fail> {
+    let made = run_line(alloc, CREATE, host)?;
+    let run = run_script(alloc, "run f", TABLE_AND_ROW, host)?;
+    if made != 0 || run != 0 {
+        return Err(Fail::new("no row"));
+    }
+    file_of(alloc, host)
+}
+
+/// The same on a new host.
+fn bytes_with_row(alloc: Global) -> Result<Vec<u8>, Fail> {
+    let mut host = host_of(alloc, &[])?;
+    make_row(alloc, &mut host)
+}
+
+/// Writes bytes over those of a file from a place on.
+fn put(file: &mut Vec<u8>, at: usize, bytes: &[u8]) -> Result<(), Fail> {
+    for (i, byte) in bytes.iter().enumerate() {
+        let Some(place) = file.get_mut(at.wrapping_add(i)) else {
+            return Err(Fail::new("no such place"));
+        };
+        *place = *byte;
+    }
+    Ok(())
+}
+
+/// A place in the file, the bytes that are written there, and the status and the line of a check then.
+type Checked = (usize, &'static [u8], u8, &'static str);
+
+/// Page p begins at file page 66 + p. The table's block map is page 18, its index of cells page 19, and its row lies in page 22. The
+/// root of the index is an inner node whose first child is itself; the block with one row is counted as of two; the first byte, the
+/// birth page, the version and the form of the root page are written over.
+static CHECKED: [Checked; 7] = [
+    (0, b"", 0, "SOUND\n"),
+    (
+        348_160,
+        b"\x49\x00\x00\x09\x00\x01\x00\x00\x00\x00\x00\x13\x00\x00\x00\x00",
+        9,
+        "BROKEN page 19 rule 4\n",
+    ),
+    (344_086, b"\x02", 9, "BROKEN page 22 rule 8\n"),
+    (0, b"\x00", 6, "NOT MADE\n"),
+    (4_096, b"X", 6, "NOT MDC\n"),
+    (270_343, b"\x02", 6, "VERSION 2\n"),
+    (270_339, b"U", 9, "BROKEN page 0 rule 1\n"),
+];
+
+/// A check of a file with these bytes written over ends so.
+fn expect_checked(
+    rt: &impl Abort,
+    alloc: Global,
+    file: &[u8],
+    checked: &Checked,
+) -> Result<(), Fail> {
+    let &(at, bytes, status, said) = checked;
+    let mut file = file.to_vec(alloc)?;
+    put(&mut file, at, bytes)?;
+    expect_on_bytes(rt, alloc, "check f", file, status, said)
+}
+
+#[test]
+fn a_check_says_its_verdict(rt: HostRuntime) -> Result<(), Fail> {
+    let file = bytes_with_row(rt.alloc())?;
+    for checked in &CHECKED {
+        expect_checked(&rt, rt.alloc(), file.as_slice(), checked)?;
+    }
+    Ok(())
+}
+
+#[test]
+fn a_check_names_a_page_that_is_cut_off(rt: HostRuntime) -> Result<(), Fail> {
+    let mut bytes = bytes_with_row(rt.alloc())?;
+    bytes.truncate(339_968);
+    expect_on_bytes(
+        &rt,
+        rt.alloc(),
+        "check f",
+        bytes,
+        9,
+        "BROKEN page 17 rule 1\n",
+    )
+}
+
+/// Runs a check on a file of these bytes, where these calls fail, and tells its status and how many calls were made.
+fn check_failing(alloc: Global, file: &[u8], fails: &[u64]) -> Result<(u8, u64), Fail> {
+    let mut host = MemHost::new(alloc, Some(file.to_vec(alloc)?), fails.to_vec(alloc)?);
+    let status = run_line(alloc, "check f", &mut host)?;
+    Ok((status, host.calls()))
+}
+
+#[test]
+fn what_fails_stops_a_check(rt: HostRuntime) -> Result<(), Fail> {
+    let file = bytes_with_row(rt.alloc())?;
+    let (_, calls) = check_failing(rt.alloc(), file.as_slice(), &[])?;
+    // The first call attaches the file, and the last one says the line.
+    for (call, status) in [(1, 3), (2, 3), (calls, 5)] {
+        let (ended, _) = check_failing(rt.alloc(), file.as_slice(), &[call])?;
+        assert_eq!(rt; ended, status, "{call}");
+    }
+    Ok(())
 }

@@ -1,9 +1,13 @@
 // The statuses of the program.
 ghost use Rattle.std.specs.Prelude.{◌≡◌};
+ghost use Rattle.mdc_shell.specs.Check.{status_of_verdict};
 ghost use Rattle.mdc_shell.specs.Status.{status_of, status_of_created};
 
+use crate::checking::stop_of;
 use crate::create::Created;
+use file_check::Verdict;
 use file_session::FileStop;
+use file_verdict::Unjudged;
 use script_session::Served;
 
 /// The status that the program ends with.
@@ -29,7 +33,7 @@ impl Status {
     /// The host failed to take what was said.
     pub const UNSAID: Status = Status(5);
 
-    /// The file is refused: to be made, it has a byte already; to be run, it is no database of this version.
+    /// The file is refused: to be made, it has a byte already; to be run or checked, it is no database of this version.
     pub const FILE_REFUSED: Status = Status(6);
 
     /// The script has more bytes than its limit.
@@ -38,7 +42,7 @@ impl Status {
     /// Want of memory.
     pub const MEMORY: Status = Status(8);
 
-    /// The file is damaged.
+    /// A page of the file breaks a rule.
     pub const DAMAGED: Status = Status(9);
 
     /// The status of a script that was read to its end, with a refusal or without, or stopped.
@@ -56,6 +60,17 @@ impl Status {
             Err(FileStop::TooLong) => Status::TOO_LONG,
             Err(FileStop::Memory) => Status::MEMORY,
             Err(FileStop::Damaged(_)) => Status::DAMAGED,
+        }
+    }
+
+    /// The status of a check.
+    pub fn of_verdict(verdict: &Result<Verdict, Unjudged>) -> Status
+        ensures { result.0 ≡ status_of_verdict verdict.now }
+    {
+        match verdict {
+            Ok(Verdict::Sound) => Status::DONE,
+            Ok(Verdict::Broken(_)) => Status::DAMAGED,
+            Err(why) => Status::of(&Err(stop_of(*why))),
         }
     }
 

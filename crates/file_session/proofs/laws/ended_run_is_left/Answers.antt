@@ -1,6 +1,6 @@
 -- What could be left after a run is what a crash of it leaves.
 use Rattle.file_session.specs.Leaving.{LeftByRun}
-use Rattle.file_session.proofs.FileRunsLemmas.{left_at_end}
+use Rattle.file_verdict.proofs.RestingLemmas.{left_at_end}
 use Rattle.file_session.proofs.laws.ended_run_is_left.Goals as goal
 
 pub returns : goal.returns

@@ -14,10 +14,12 @@ use Rattle.file_session.specs.declared.stop.FileStop.TheVariants as file
 use Rattle.file_session.proofs.BreaksLemmas.{damage_of_opening}
 use Rattle.file_session.proofs.CausesLemmas.{cause_of_opening, cause_of_session, not_device}
 use Rattle.file_session.proofs.FirstEndsLemmas.{replies_unopened, takes_unopened}
-use Rattle.file_session.proofs.FileRunsLemmas.{kept_beside, refused_on_file, run_on_file, stays_file, stays_well}
+use Rattle.file_session.proofs.FileRunsLemmas.{refused_on_file, run_on_file, stays_well}
 use Rattle.file_session.proofs.FormedRunsLemmas.{formed_after, formed_on_file, formed_refused}
-use Rattle.file_session.proofs.ToldLemmas.{test_by_told}
-use Rattle.file_session.proofs.WellFilesLemmas.{sound_opened, states_standing, stop_of_well, well_is_served}
+use Rattle.file_verdict.proofs.RestingLemmas.{kept_beside, stays_file}
+use Rattle.file_verdict.proofs.SoundFilesLemmas.{states_standing}
+use Rattle.file_verdict.proofs.ToldLemmas.{test_by_told}
+use Rattle.file_session.proofs.WellFilesLemmas.{sound_opened, stop_of_well, well_is_served}
 use Rattle.file_session.proofs.serving.serve_file.Goals as goal
 
 pub returns-in-Ok-clause-runs : goal.returns-in-Ok-clause-runs

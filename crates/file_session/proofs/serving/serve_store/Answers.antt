@@ -13,7 +13,7 @@ use Rattle.file_session.proofs.EndOfSessionLemmas.{end_counted, end_counted_as, 
 use Rattle.file_session.proofs.FormedRunsLemmas.{left_formed}
 use Rattle.file_session.proofs.HostRunsLemmas.{left_in_shape, run_on_host}
 use Rattle.file_session.proofs.StoreRunsLemmas.{runs_along, sound_along}
-use Rattle.file_session.proofs.ToldLemmas.{stays_by_test, told_by_test}
+use Rattle.file_verdict.proofs.ToldLemmas.{stays_by_test, told_by_test}
 use Rattle.file_session.proofs.serving.serve_store.Given.{Over}
 use Rattle.file_session.proofs.serving.serve_store.Goals as goal
 

@@ -1,10 +1,12 @@
-use Rattle.std.proofs.Common.{◌∙◌, inl, inr, refl, sym}
+use Rattle.std.proofs.Common.{◌∙◌, Err, inl, inr, refl, sym}
 use Rattle.mdc_words.specs.Time.{OverTime}
 use Rattle.mdc_words.proofs.TimeLemmas.{over_time_none}
+use Rattle.file_verdict.specs.declared.unjudged.Unjudged.TheVariants as unjudged
 use Rattle.file_session.specs.declared.stop.FileStop.TheVariants.{Memory}
 use Rattle.mdc_shell.specs.Leaving.{LeftByCreate}
-use Rattle.mdc_shell.specs.Words.{CreateFile, RunFile, RunScratch}
+use Rattle.mdc_shell.specs.Words.{CheckFile, CreateFile, RunFile, RunScratch}
 use Rattle.mdc_shell.proofs.Asking.{one_line}
+use Rattle.mdc_shell.proofs.CheckLemmas.{checks_formed-before, checks_path-before, checks_unserved-before}
 use Rattle.mdc_shell.proofs.CreateLemmas.{create_line-one}
 use Rattle.mdc_shell.proofs.RunsLemmas.{refuses_file-before, reopens_file-before, runs_items-complete, runs_path-before, runs_scratch-ended, serves_path-before, takes_none}
 use Rattle.mdc_shell.proofs.program.run.Goals as goal
@@ -31,6 +33,15 @@ returns-in-Ok-Some-RunFile-clause-complete g c = λ no_disk no_read no_say withi
           runs_items-complete said _ _ _ run.end_ c.run_path.result.status.0 run.run.run run.status_is within
           (λ e. no_disk (c.run_path.ensures.disk.rose e)) (λ e. no_read (c.run_path.ensures.reads.rose e)) (λ e. no_say (c.run_path.ensures.says.rose e))
       | inr scratch ↦ absurd (let e = one_line _ (RunFile a.path.now) RunScratch asked scratch.0 in cc)
+    ]
+
+pub returns-in-Ok-Some-Check-clause-complete : goal.returns-in-Ok-Some-Check-clause-complete
+returns-in-Ok-Some-Check-clause-complete g c = λ no_disk no_read no_say within before said is told asks.
+    let a = c.in-Ok-Some-Check in
+    let asked = rw (a.field-0-is, a.field-0-0-is, c.as_slice.ensures.value) at a.ensures in
+    elim asks [
+      | inl file ↦ absurd (let e = one_line _ (CheckFile a.path.now) (RunFile file.0) asked file.1 in cc)
+      | inr scratch ↦ absurd (let e = one_line _ (CheckFile a.path.now) RunScratch asked scratch.0 in cc)
     ]
 
 pub returns-in-Ok-Some-Create-clause-created_time : goal.returns-in-Ok-Some-Create-clause-created_time
@@ -140,3 +151,87 @@ returns-in-Err-clause-takes g c = λ path line. takes_none (g.I.Source.left c.ar
 
 pub returns-in-Err-clause-scratch_takes : goal.returns-in-Err-clause-scratch_takes
 returns-in-Err-clause-scratch_takes g c = λ line. takes_none (g.I.Source.left c.args.input.now) 8 (λ e. absurd (cc)) (λ e. absurd (cc)) (λ e. absurd (cc))
+
+-- ---- a check
+
+pub returns-in-Ok-None-clause-checks : goal.returns-in-Ok-None-clause-checks
+returns-in-Ok-None-clause-checks g c = λ path line.
+    let asked = rw (c.in-Ok-None.field-0-is, c.as_slice.ensures.value) at c.in-Ok-None.ensures in
+    absurd (asked (CheckFile path) line)
+
+pub returns-in-Ok-None-clause-checks_sound : goal.returns-in-Ok-None-clause-checks_sound
+returns-in-Ok-None-clause-checks_sound g c = λ path line.
+    let asked = rw (c.in-Ok-None.field-0-is, c.as_slice.ensures.value) at c.in-Ok-None.ensures in
+    absurd (asked (CheckFile path) line)
+
+pub returns-in-Ok-None-clause-checks_formed : goal.returns-in-Ok-None-clause-checks_formed
+returns-in-Ok-None-clause-checks_formed g c = λ path line.
+    let asked = rw (c.in-Ok-None.field-0-is, c.as_slice.ensures.value) at c.in-Ok-None.ensures in
+    absurd (asked (CheckFile path) line)
+
+pub returns-in-Ok-None-clause-checks_stands : goal.returns-in-Ok-None-clause-checks_stands
+returns-in-Ok-None-clause-checks_stands g c = λ path line.
+    let asked = rw (c.in-Ok-None.field-0-is, c.as_slice.ensures.value) at c.in-Ok-None.ensures in
+    absurd (asked (CheckFile path) line)
+
+pub returns-in-Ok-None-clause-found_sound : goal.returns-in-Ok-None-clause-found_sound
+returns-in-Ok-None-clause-found_sound g c = λ path line.
+    let asked = rw (c.in-Ok-None.field-0-is, c.as_slice.ensures.value) at c.in-Ok-None.ensures in
+    absurd (asked (CheckFile path) line)
+
+pub returns-in-Ok-None-clause-found_well : goal.returns-in-Ok-None-clause-found_well
+returns-in-Ok-None-clause-found_well g c = λ path line.
+    let asked = rw (c.in-Ok-None.field-0-is, c.as_slice.ensures.value) at c.in-Ok-None.ensures in
+    absurd (asked (CheckFile path) line)
+
+pub returns-in-Ok-None-clause-check_stays_sound : goal.returns-in-Ok-None-clause-check_stays_sound
+returns-in-Ok-None-clause-check_stays_sound g c = λ path line.
+    let asked = rw (c.in-Ok-None.field-0-is, c.as_slice.ensures.value) at c.in-Ok-None.ensures in
+    absurd (asked (CheckFile path) line)
+
+pub returns-in-Ok-None-clause-check_stays_well : goal.returns-in-Ok-None-clause-check_stays_well
+returns-in-Ok-None-clause-check_stays_well g c = λ path line.
+    let asked = rw (c.in-Ok-None.field-0-is, c.as_slice.ensures.value) at c.in-Ok-None.ensures in
+    absurd (asked (CheckFile path) line)
+
+pub returns-in-Ok-None-clause-checks_unserved : goal.returns-in-Ok-None-clause-checks_unserved
+returns-in-Ok-None-clause-checks_unserved g c = λ path line.
+    let asked = rw (c.in-Ok-None.field-0-is, c.as_slice.ensures.value) at c.in-Ok-None.ensures in
+    absurd (asked (CheckFile path) line)
+
+pub returns-in-Ok-None-clause-keeps_unserved : goal.returns-in-Ok-None-clause-keeps_unserved
+returns-in-Ok-None-clause-keeps_unserved g c = λ path line.
+    let asked = rw (c.in-Ok-None.field-0-is, c.as_slice.ensures.value) at c.in-Ok-None.ensures in
+    absurd (asked (CheckFile path) line)
+
+pub returns-in-Ok-None-clause-check_completes : goal.returns-in-Ok-None-clause-check_completes
+returns-in-Ok-None-clause-check_completes g c = λ path line.
+    let asked = rw (c.in-Ok-None.field-0-is, c.as_slice.ensures.value) at c.in-Ok-None.ensures in
+    absurd (asked (CheckFile path) line)
+
+pub returns-in-Err-clause-checks : goal.returns-in-Err-clause-checks
+returns-in-Err-clause-checks g c = λ path line. (checks_path-before _ _ _ (Err unjudged.Memory) tt refl, inr refl, inr (inr (inr (inr (inl refl)))), refl)
+
+pub returns-in-Err-clause-checks_sound : goal.returns-in-Err-clause-checks_sound
+returns-in-Err-clause-checks_sound g c = λ path line before is sound. inr (inr (inr refl))
+
+pub returns-in-Err-clause-checks_formed : goal.returns-in-Err-clause-checks_formed
+returns-in-Err-clause-checks_formed g c = λ path line before said is told formed. checks_formed-before g.H.Disk before said _ c.args.host c.args.host (Err unjudged.Memory) tt told over_time_none
+
+pub returns-in-Err-clause-checks_stands : goal.returns-in-Err-clause-checks_stands
+returns-in-Err-clause-checks_stands g c = λ path line before said is told formed settled. absurd (settled (inr refl))
+
+pub returns-in-Err-clause-check_stays_sound : goal.returns-in-Err-clause-check_stays_sound
+returns-in-Err-clause-check_stays_sound g c = λ path line before said is told sound. (before, is, sound)
+
+pub returns-in-Err-clause-check_stays_well : goal.returns-in-Err-clause-check_stays_well
+returns-in-Err-clause-check_stays_well g c = λ path line before said is told well. (before, is, well)
+
+pub returns-in-Err-clause-checks_unserved : goal.returns-in-Err-clause-checks_unserved
+returns-in-Err-clause-checks_unserved g c = λ path line before said is told not_served. checks_unserved-before g.H.Disk before said _ c.args.host c.args.host (Err unjudged.Memory) tt told over_time_none
+
+pub returns-in-Err-clause-keeps_unserved : goal.returns-in-Err-clause-keeps_unserved
+returns-in-Err-clause-keeps_unserved g c = λ path line before is not_served not_failed. (before, is, refl)
+
+pub returns-in-Err-clause-check_completes : goal.returns-in-Err-clause-check_completes
+returns-in-Err-clause-check_completes g c = λ path line no_disk no_say. inr (inr (inl refl))

@@ -1,0 +1,4 @@
+pub mod JudgingLemmas
+pub mod RestingLemmas
+pub mod SoundFilesLemmas
+pub mod ToldLemmas
