@@ -35,7 +35,8 @@ pub struct Judged<H> {
 
 /// Judges the database in the attached file, as it is at entry: opens it, judges all pages that it stands for by the twelve rules, and
 /// gives the host back. No byte is said. The opening has all of the file on the disk and brings a journal that counts home, and a crash
-/// leaves a file that stands for the same pages. A file that can't be opened stays as it was, unless the disk failed.
+/// leaves a file that stands for the same pages. A file that can't be opened stays as it was; where the disk failed, it may be what a
+/// crash could leave of it.
 pub fn judge_file<H: Host>(alloc: Global, host: H) -> Judged<H>
     requires attached { IsTrue (H.is_attached host) }
     ensures verdict { ForSome (H.file host) (λ file. IsVerdictOn file.bytes result.verdict) }
@@ -48,8 +49,9 @@ pub fn judge_file<H: Host>(alloc: Global, host: H) -> Judged<H>
     // So does each image that a crash may leave of the file afterwards.
     ensures leaves { (before : File) (said : List ℕ) → H.file host ≡ Some before → (H.beside host).tape ≡ Some said → IsFormed before.bytes → (IsNoVerdict result.verdict → ⊥)
         → (after : File) × (H.file result.host ≡ Some after) × ((image : List ℕ) → IsImage after.since image → StandsAsBefore before.bytes image) }
-    ensures left_alone { ForSome (H.file host) (λ file. (IsServed file.bytes → ⊥) → (result.verdict ≡ Err Unjudged.Device → ⊥)
-        → (file_bytes (H.file result.host) ≡ file_bytes (H.file host)) × LeavesOf H.Disk CouldBeLeft host result.host) }
+    // A file that can't be opened is left alone, also where the disk fails.
+    ensures left_alone { ForSome (H.file host) (λ file. (IsServed file.bytes → ⊥) → LeavesOf H.Disk CouldBeLeft host result.host
+        × ((result.verdict ≡ Err Unjudged.Device → ⊥) → file_bytes (H.file result.host) ≡ file_bytes (H.file host))) }
     ensures device { CountsFault (result.verdict ≡ Err Unjudged.Device) (H.disk_faults host) (H.disk_faults result.host) }
     ensures beside { H.beside result.host ≡ H.beside host }
     ensures attaches { H.attaches result.host ≡ H.attaches host }

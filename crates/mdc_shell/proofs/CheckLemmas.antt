@@ -207,7 +207,7 @@ checks_unserved-before g before said new_tape old new verdict none same meanwhil
   verdict = verdict;
   is_its = no_verdict-any before.bytes verdict none;
   says = says_verdict-quiet (Some said) new_tape verdict none same;
-  time = λ not_failed. over_time_wider meanwhile (could_be_left-moment before said (line_of_verdict verdict));
+  time = over_time_wider meanwhile (could_be_left-moment before said (line_of_verdict verdict));
 }
 
 -- ---- behind an attach
@@ -225,7 +225,7 @@ checks_unserved-opened g before said new_tape old mid new status attached checks
   verdict = checks.verdict;
   is_its = checks.is_its;
   says = checks.says;
-  time = λ not_failed. over_time_then (over_time_wider attached (could_be_left-moment before said (line_of_verdict checks.verdict))) (checks.time not_failed);
+  time = over_time_then (over_time_wider attached (could_be_left-moment before said (line_of_verdict checks.verdict))) checks.time;
 }
 
 -- ---- well files

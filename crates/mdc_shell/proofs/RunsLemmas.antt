@@ -232,6 +232,10 @@ pub file_of_bytes : (told : Option File) (bytes : List ℕ) → file_bytes told 
 file_of_bytes None bytes is = absurd (cc)
 file_of_bytes (Some file) bytes is = (file, refl, cc)
 
+-- told files of the same bytes have them
+pub same_bytes : (old new : Option File) (before after : File) → old ≡ Some before → new ≡ Some after → file_bytes new ≡ file_bytes old → after.bytes ≡ before.bytes
+same_bytes old new before after is now same = let both : Some after.bytes ≡ Some before.bytes = sym (ap file_bytes now) ∙ (same ∙ ap file_bytes is) in cc
+
 -- ---- a file that can't be opened
 
 -- an image that could be left before, with nothing said, is one while a line is said

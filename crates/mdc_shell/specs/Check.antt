@@ -83,14 +83,18 @@ pub record ChecksFormed {D : Type 0} (g : Ghosts D) (before : File) (said : List
   pub says : SaysVerdict (Some said) new_tape status verdict
   pub leaves : LeavesChecked g before said (line_of_verdict verdict) old new status
 
--- `check FILE` on a file that can't be opened: the verdict on it and its line, and unless the disk failed a crash leaves an image that
--- could be left as it began
+-- `check FILE` on a file that can't be opened: the verdict on it and its line, and a crash leaves an image that could be left as it
+-- began
 pub record ChecksUnserved {D : Type 0} (g : Ghosts D) (before : File) (said : List ℕ) (new_tape : Option (List ℕ)) (old new : D) (status : ℕ) : Type 0 where
   pub verdict : Result Verdict Unjudged
   pub is_its : IsVerdictOn before.bytes verdict
   pub says : SaysVerdict (Some said) new_tape status verdict
-  pub time : (status ≡ 3 → ⊥) → OverTime g.clock g.moment (IsMoment before.since said (line_of_verdict verdict)) old new
+  pub time : OverTime g.clock g.moment (IsMoment before.since said (line_of_verdict verdict)) old new
 
 -- the file is told still, and each image that a crash may leave of it stands for what it stood for
 abbrev pub StaysStanding : File → Option File → Type 0
 StaysStanding before new = (after : File) × (new ≡ Some after) × ((image : List ℕ) → IsImage after.since image → StandsAsBefore before.bytes image)
+
+-- the file is told still, it is one that a crash could leave as the check began, and unless the disk failed it has the same bytes
+abbrev pub StaysUnserved : File → Option File → ℕ → Type 0
+StaysUnserved before new status = (after : File) × (new ≡ Some after) × IsImage before.since after.bytes × ((status ≡ 3 → ⊥) → after.bytes ≡ before.bytes)

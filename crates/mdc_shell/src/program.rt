@@ -11,7 +11,7 @@ ghost use Rattle.script_session.specs.Told.{StaysTold};
 ghost use Rattle.file_session.specs.Leaving.{AreFormed};
 ghost use Rattle.file_session.specs.Well.{AreWell, IsWell};
 ghost use Rattle.file_verdict.specs.SoundFile.{AreSoundFiles, IsSoundFile};
-ghost use Rattle.mdc_shell.specs.Check.{ChecksFormed, ChecksPath, ChecksUnserved, IsCheckComplete, IsCheckStatus, IsStatusOnSound, IsUnsettled, StaysStanding};
+ghost use Rattle.mdc_shell.specs.Check.{ChecksFormed, ChecksPath, ChecksUnserved, IsCheckComplete, IsCheckStatus, IsStatusOnSound, IsUnsettled, StaysStanding, StaysUnserved};
 ghost use Rattle.mdc_shell.specs.Create.{Completes, Creates, MayAttach};
 ghost use Rattle.mdc_shell.specs.Leaving.{LeftByCreate};
 ghost use Rattle.mdc_shell.specs.Run.{IsComplete, IsWithinLimit, RefusesFile, RefusesScratch, ReopensFile, RunsPath, RunsScratch, ServesPath, StandsForNothing, TakesByStatus};
@@ -150,13 +150,12 @@ pub fn run<I: Source, H: Host>(
         → (before : File) (said : List ℕ) → H.file host ≡ Some before → H.tape host ≡ Some said → AreWell before
         → (after : File) × (H.file result.host ≡ Some after) × AreWell after }
 
-    // A file that can't be opened stays, unless the disk failed.
+    // A file that can't be opened stays; where the disk failed, it may be what a crash could leave of it.
     ensures checks_unserved { (path : List ℕ) → SpellsLine (map string_bytes words.now.items) (CheckFile path)
         → (before : File) (said : List ℕ) → H.file host ≡ Some before → H.tape host ≡ Some said → (IsServed before.bytes → ⊥)
         → ChecksUnserved H.Disk before said (H.tape result.host) host result.host result.status.0 }
     ensures keeps_unserved { (path : List ℕ) → SpellsLine (map string_bytes words.now.items) (CheckFile path)
-        → (before : File) → H.file host ≡ Some before → (IsServed before.bytes → ⊥) → (result.status.0 ≡ 3 → ⊥)
-        → (after : File) × (H.file result.host ≡ Some after) × (after.bytes ≡ before.bytes) }
+        → (before : File) → H.file host ≡ Some before → (IsServed before.bytes → ⊥) → StaysUnserved before (H.file result.host) result.status.0 }
 
     // Where nothing failed, a told file is judged, unless memory is wanted.
     ensures check_completes { (path : List ℕ) → SpellsLine (map string_bytes words.now.items) (CheckFile path)

@@ -7,7 +7,6 @@ use Rattle.table_trees.specs.ToldPages.{PageList}
 use Rattle.page_store.proofs.Judged.{served_formed}
 use Rattle.page_store.specs.Faults.{MayComeFirst}
 use Rattle.page_store.specs.Standing.{pages_of}
-use Rattle.page_store.specs.declared.fault.OpenFault.TheVariants as opening
 use Rattle.file_verdict.specs.Resting.{ComesToRest, StandsAsBefore}
 use Rattle.file_verdict.specs.SoundFile.{StatesExtents}
 use Rattle.file_verdict.specs.Verdict.{IsNoVerdict, IsVerdictOnPages}
@@ -118,9 +117,7 @@ returns-in-Err-clause-leaves g c = λ before said is told formed judged. elim c.
 ]
 
 pub returns-in-Err-clause-left_alone : goal.returns-in-Err-clause-left_alone
-returns-in-Err-clause-left_alone g c = λ file is unserved other.
-    let not_failed : c.in-Err.field-0.fault ≡ opening.Device → ⊥ = λ fault. other (c.verdict_of_opening.ensures.device.1 fault) in
-    (c.in-Err.ensures.untouched not_failed, c.in-Err.ensures.left_alone not_failed)
+returns-in-Err-clause-left_alone g c = λ file is unserved. (c.in-Err.ensures.unserved file is unserved, λ other. c.in-Err.ensures.untouched (λ fault. other (c.verdict_of_opening.ensures.device.1 fault)))
 
 pub returns-in-Err-clause-device : goal.returns-in-Err-clause-device
 returns-in-Err-clause-device g c = counts_fault_as c.verdict_of_opening.ensures.device.0 c.verdict_of_opening.ensures.device.1 c.in-Err.ensures.cause

@@ -2,19 +2,17 @@
 use Rattle.std.proofs.Common.{◌≡◌, ◌∙◌, ℕ, List, Option, Some, Err, ap, subst, sym}
 use Rattle.mdc_outside.specs.Disk.{File, IsImage}
 use Rattle.page_file.proofs.LeavesLemmas.{sound_image}
-use Rattle.page_store.specs.Opened.{file_bytes}
 use Rattle.page_store.specs.Standing.{IsFormed}
 use Rattle.script_session.proofs.ToldLemmas.{same-told, told_then}
 use Rattle.file_verdict.specs.Resting.{StandsAsBefore}
 use Rattle.file_verdict.specs.SoundFile.{IsSoundFile}
-use Rattle.file_verdict.specs.declared.unjudged.Unjudged.TheVariants.{Device}
 use Rattle.file_verdict.proofs.RestingLemmas.{each_since, leaves_since}
 use Rattle.file_verdict.proofs.SoundFilesLemmas.{sound_standing}
 use Rattle.file_session.specs.Well.{IsWell}
 use Rattle.mdc_shell.specs.Check.{IsUnsettled, SaysVerdict, line_of_verdict, status_of_verdict}
 use Rattle.mdc_shell.proofs.CheckLemmas.{checks_formed-said, done-sound, done_settled, no_verdict-quiet, no_verdict-unsettled, status-device, status-on_sound, status-one_of, status-unsaid, well_standing}
 use Rattle.mdc_shell.proofs.CreateLemmas.{tape_stays}
-use Rattle.mdc_shell.proofs.RunsLemmas.{file_of_bytes, refused_time}
+use Rattle.mdc_shell.proofs.RunsLemmas.{refused_time, same_bytes}
 use Rattle.mdc_shell.proofs.checking.check_attached.Given.{Over}
 use Rattle.mdc_shell.proofs.checking.check_attached.Goals as goal
 
@@ -59,18 +57,19 @@ returns-clause-unserved g c = λ before said is told not_served.
       verdict = verdict;
       is_its = judged.verdict before is;
       says = subst (λ (t : Option (List ℕ)). SaysVerdict t (g.H.Host.tape c.say_verdict.result.host) c.say_verdict.result.status.0 verdict) tape c.say_verdict.ensures.says;
-      time = λ not_failed.
-          let failed : verdict ≡ Err Device → ⊥ = λ e. not_failed ((c.say_verdict.ensures.quiet (ap line_of_verdict e)).1 ∙ ap status_of_verdict e) in
-          let left = judged.left_alone before is not_served failed in
-          refused_time g.H.Disk before said (line_of_verdict verdict) c.args.host mid c.say_verdict.result.host is ((g.met.H.Host.lies_beside c.args.host).0 ∙ told) (g.H.Host.tape mid) tape left.1 c.say_verdict.ensures.time;
+      time = refused_time g.H.Disk before said (line_of_verdict verdict) c.args.host mid c.say_verdict.result.host is ((g.met.H.Host.lies_beside c.args.host).0 ∙ told) (g.H.Host.tape mid) tape
+          (judged.left_alone before is not_served).0 c.say_verdict.ensures.time;
     }
 
 pub returns-clause-keeps_unserved : goal.returns-clause-keeps_unserved
-returns-clause-keeps_unserved g c = λ before is not_served not_failed.
-    let failed : c.judge_file-judged.result.verdict ≡ Err Device → ⊥ = λ e. not_failed ((c.say_verdict.ensures.quiet (ap line_of_verdict e)).1 ∙ ap status_of_verdict e) in
-    let left = c.judge_file-judged.ensures.left_alone before is not_served failed in
-    let after = file_of_bytes (g.H.Disk.file c.judge_file-judged.result.host) before.bytes (left.0 ∙ ap file_bytes is) in
-    (after.0, c.say_verdict.ensures.disk.same_file ∙ after.1, after.2)
+returns-clause-keeps_unserved g c = λ before is not_served.
+    let alone = c.judge_file-judged.ensures.left_alone before is not_served in
+    let after = alone.0.told before is in (
+      after.0,
+      c.say_verdict.ensures.disk.same_file ∙ after.1,
+      after.2,
+      λ not_failed. same_bytes _ _ before after.0 is after.1 (alone.1 (λ e. not_failed ((c.say_verdict.ensures.quiet (ap line_of_verdict e)).1 ∙ ap status_of_verdict e))),
+    )
 
 pub returns-clause-stands : goal.returns-clause-stands
 returns-clause-stands g c = λ before said is told formed settled.

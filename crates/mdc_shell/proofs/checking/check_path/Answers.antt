@@ -3,6 +3,7 @@ use Rattle.std.proofs.Common.{◌∙◌, Err, ap, inl, refl}
 use Rattle.std.specs.Option.{option_map}
 use Rattle.mdc_words.proofs.TimeLemmas.{over_time_wider}
 use Rattle.mdc_outside.specs.Disk.{opened}
+use Rattle.page_file.proofs.LeavesLemmas.{sound_image}
 use Rattle.script_session.proofs.ToldLemmas.{same-told, told_then}
 use Rattle.file_verdict.specs.declared.unjudged.Unjudged.TheVariants.{Device}
 use Rattle.mdc_shell.proofs.CheckLemmas.{checks_formed-before, checks_formed-opened, checks_path-before, checks_path-opened, checks_unserved-before, checks_unserved-opened}
@@ -35,7 +36,7 @@ returns-in-Ok-clause-unserved g c = λ before said is told not_served.
     (c.check_attached.ensures.unserved (opened before) said (c.in-Ok.ensures.opened ∙ ap (option_map opened) is) tape not_served)
 
 pub returns-in-Ok-clause-keeps_unserved : goal.returns-in-Ok-clause-keeps_unserved
-returns-in-Ok-clause-keeps_unserved g c = λ before is not_served not_failed. c.check_attached.ensures.keeps_unserved (opened before) (c.in-Ok.ensures.opened ∙ ap (option_map opened) is) not_served not_failed
+returns-in-Ok-clause-keeps_unserved g c = λ before is not_served. c.check_attached.ensures.keeps_unserved (opened before) (c.in-Ok.ensures.opened ∙ ap (option_map opened) is) not_served
 
 pub returns-in-Ok-clause-stands : goal.returns-in-Ok-clause-stands
 returns-in-Ok-clause-stands g c = λ before said is told formed settled.
@@ -94,7 +95,8 @@ returns-in-Err-clause-unserved g c = λ before said is told not_served.
     checks_unserved-before g.H.Disk before said _ c.args.host c.attach.new.self (Err Device) tt tape meanwhile
 
 pub returns-in-Err-clause-keeps_unserved : goal.returns-in-Err-clause-keeps_unserved
-returns-in-Err-clause-keeps_unserved g c = λ before is not_served not_failed. absurd (not_failed refl)
+returns-in-Err-clause-keeps_unserved g c = λ before is not_served.
+    (before, attach_failed _ _ c.in-Err.ensures.file_failed ∙ is, sound_image (g.H.Disk.file c.args.host) before (g.met.H.Disk.sound c.args.host) is, λ not_failed. refl)
 
 pub returns-in-Err-clause-stands : goal.returns-in-Err-clause-stands
 returns-in-Err-clause-stands g c = λ before said is told formed settled. absurd (settled (inl refl))

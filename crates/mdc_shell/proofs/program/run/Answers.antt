@@ -1,6 +1,7 @@
 use Rattle.std.proofs.Common.{◌∙◌, Err, inl, inr, refl, sym}
 use Rattle.mdc_words.specs.Time.{OverTime}
 use Rattle.mdc_words.proofs.TimeLemmas.{over_time_none}
+use Rattle.page_file.proofs.LeavesLemmas.{sound_image}
 use Rattle.file_verdict.specs.declared.unjudged.Unjudged.TheVariants as unjudged
 use Rattle.file_session.specs.declared.stop.FileStop.TheVariants.{Memory}
 use Rattle.mdc_shell.specs.Leaving.{LeftByCreate}
@@ -231,7 +232,8 @@ pub returns-in-Err-clause-checks_unserved : goal.returns-in-Err-clause-checks_un
 returns-in-Err-clause-checks_unserved g c = λ path line before said is told not_served. checks_unserved-before g.H.Disk before said _ c.args.host c.args.host (Err unjudged.Memory) tt told over_time_none
 
 pub returns-in-Err-clause-keeps_unserved : goal.returns-in-Err-clause-keeps_unserved
-returns-in-Err-clause-keeps_unserved g c = λ path line before is not_served not_failed. (before, is, refl)
+returns-in-Err-clause-keeps_unserved g c = λ path line before is not_served.
+    (before, is, sound_image (g.H.Disk.file c.args.host) before (g.met.H.Disk.sound c.args.host) is, λ not_failed. refl)
 
 pub returns-in-Err-clause-check_completes : goal.returns-in-Err-clause-check_completes
 returns-in-Err-clause-check_completes g c = λ path line no_disk no_say. inr (inr (inl refl))
