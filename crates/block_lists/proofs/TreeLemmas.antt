@@ -1,9 +1,9 @@
 -- The lists of a tree, member by member.
-use Rattle.std.proofs.Common.{◌≡◌, ◌∙◌, ℕ, ◌+◌, ◌<◌, ◌≤◌, zero, suc, List, [], ◌∷◌, ◌++◌, Bool, true, false, map, refl, sym, ap, subst, take, get_or, length, arith}
-use Rattle.std.specs.Prelude.{◌&&◌, ◌||◌, IsTrue, ◌≢◌}
+use Rattle.std.proofs.Common.{◌≡◌, ◌∙◌, inl, inr, ℕ, ◌+◌, ◌<◌, ◌≤◌, zero, suc, List, [], ◌∷◌, ◌++◌, Bool, true, false, map, refl, sym, ap, subst, take, get_or, length, arith}
+use Rattle.std.specs.Prelude.{◌&&◌, ◌||◌, ◌⊎◌, IsTrue, ◌≢◌, nat_lt}
 use Rattle.std.specs.List.{list_all, list_any}
-use Rattle.std.proofs.Math.Bool.{or-false}
-use Rattle.std.proofs.lemmas.Bool.{and_parts, false≢true}
+use Rattle.std.proofs.Math.Bool.{and-false, or-false}
+use Rattle.std.proofs.lemmas.Bool.{and_parts, false≢true, lt-ltb}
 use Rattle.std.proofs.lemmas.List.{map-append, take_more, take_all}
 use Rattle.std.proofs.lemmas.List.Folds.{list_all-map}
 use Rattle.mdc_values.specs.declared.rid.Rid.{Rid}
@@ -15,7 +15,7 @@ use Rattle.block_lists.specs.declared.tree.ListTree.TheFolds.{fold-roll-ListTree
 use Rattle.block_lists.specs.declared.tree.ListTree.TheOpen as layer
 use Rattle.block_lists.specs.declared.tree.ListTree.TheVariants as tree
 use Rattle.block_lists.specs.declared.tree.ListTree.TheVariants.{rolls-All, rolls-Any, rolls-Leaf}
-use Rattle.block_lists.specs.Trees.{IsListsOf, has_members, has_some, layer_has_members, layer_says, tree_holds, tree_lists_block, tree_says}
+use Rattle.block_lists.specs.Trees.{IsListsOf, each_has_members, has_some, layer_has_members, layer_says, tree_holds, tree_lists_block, tree_says}
 
 tree_says-Leaf : (says : Lists → Bool) (lists : Lists) → tree_says says (tree.Leaf lists) ≡ says lists
 tree_says-Leaf says lists = ap (tree_says says) (sym (rolls-Leaf lists)) ∙ fold-roll-ListTree Bool (layer_says says) (layer.Leaf lists)
@@ -26,11 +26,11 @@ tree_says-All says members = ap (tree_says says) (sym (rolls-All members)) ∙ f
 tree_says-Any : (says : Lists → Bool) (members : List ListTree) → tree_says says (tree.Any members) ≡ list_any (λ b. b) (map (tree_says says) members)
 tree_says-Any says members = ap (tree_says says) (sym (rolls-Any members)) ∙ fold-roll-ListTree Bool (layer_says says) (layer.Any members)
 
-members-All : (members : List ListTree) → has_members (tree.All members) ≡ (has_some (map has_members members) && list_all (λ b. b) (map has_members members))
-members-All members = ap has_members (sym (rolls-All members)) ∙ fold-roll-ListTree Bool layer_has_members (layer.All members)
+members-All : (members : List ListTree) → each_has_members (tree.All members) ≡ (has_some (map each_has_members members) && list_all (λ b. b) (map each_has_members members))
+members-All members = ap each_has_members (sym (rolls-All members)) ∙ fold-roll-ListTree Bool layer_has_members (layer.All members)
 
-members-Any : (members : List ListTree) → has_members (tree.Any members) ≡ (has_some (map has_members members) && list_all (λ b. b) (map has_members members))
-members-Any members = ap has_members (sym (rolls-Any members)) ∙ fold-roll-ListTree Bool layer_has_members (layer.Any members)
+members-Any : (members : List ListTree) → each_has_members (tree.Any members) ≡ (has_some (map each_has_members members) && list_all (λ b. b) (map each_has_members members))
+members-Any members = ap each_has_members (sym (rolls-Any members)) ∙ fold-roll-ListTree Bool layer_has_members (layer.Any members)
 
 list_any-map : {X : Type 0} (p : X → Bool) (xs : List X) → list_any (λ b. b) (map p xs) ≡ list_any p xs
 list_any-map p [] = refl
@@ -96,14 +96,14 @@ module _ (whole : ListTree) (members items : List ListTree) (i : ℕ) (it : item
   }
 
   -- an All has a member, so there are lists to join
-  pub some_lists : whole ≡ tree.All members → IsTrue (has_members whole) → lists ≢ []
+  pub some_lists : whole ≡ tree.All members → IsTrue (each_has_members whole) → lists ≢ []
   some_lists e h none =
       let empty : map (λ t. tree_holds t rid_0) members ≡ [] = sym (all_so.rows rid_0) ∙ ap (map (λ l. holds l rid_0)) none in
-      false≢true (sym (ap has_members e ∙ members-All members ∙ no_member members empty) ∙ h) where
+      false≢true (sym (ap each_has_members e ∙ members-All members ∙ no_member members empty) ∙ h) where
         rid_0 : Rid
         rid_0 = record { block = 0; slot = 0 }
 
-        no_member : (ms : List ListTree) → map (λ t. tree_holds t rid_0) ms ≡ [] → (has_some (map has_members ms) && list_all (λ b. b) (map has_members ms)) ≡ false
+        no_member : (ms : List ListTree) → map (λ t. tree_holds t rid_0) ms ≡ [] → (has_some (map each_has_members ms) && list_all (λ b. b) (map each_has_members ms)) ≡ false
         no_member [] e = refl
         no_member (m ∷ ms) e = absurd (omega (arith, ap length e))
 
@@ -115,13 +115,37 @@ all-at f (y ∷ xs) zero x lt h = (and_parts (f y) (list_all (λ b. b) (map f xs
 all-at f (y ∷ xs) (suc i) x lt h = all-at f xs i x (omega (arith, lt)) (and_parts (f y) (list_all (λ b. b) (map f xs)) h).1
 
 module _ (whole : ListTree) (members items : List ListTree) (i : ℕ) (member : ListTree) (it : items ≡ members) (lt : i < length items) (at : member ≡ get_or items i member) where
-  member_at : (has_some (map has_members members) && list_all (λ b. b) (map has_members members)) ≡ true → IsTrue (has_members member)
+  member_at : (has_some (map each_has_members members) && list_all (λ b. b) (map each_has_members members)) ≡ true → IsTrue (each_has_members member)
   member_at h =
-      let both = and_parts (has_some (map has_members members)) (list_all (λ b. b) (map has_members members)) h in
-      ap has_members at ∙ all-at has_members items i member lt (ap (λ ms. list_all (λ b. b) (map has_members ms)) it ∙ both.1)
+      let both = and_parts (has_some (map each_has_members members)) (list_all (λ b. b) (map each_has_members members)) h in
+      ap each_has_members at ∙ all-at each_has_members items i member lt (ap (λ ms. list_all (λ b. b) (map each_has_members ms)) it ∙ both.1)
 
-  pub member_of_all : whole ≡ tree.All members → IsTrue (has_members whole) → IsTrue (has_members member)
-  member_of_all e h = member_at (sym (ap has_members e ∙ members-All members) ∙ h)
+  pub member_of_all : whole ≡ tree.All members → IsTrue (each_has_members whole) → IsTrue (each_has_members member)
+  member_of_all e h = member_at (sym (ap each_has_members e ∙ members-All members) ∙ h)
 
-  pub member_of_any : whole ≡ tree.Any members → IsTrue (has_members whole) → IsTrue (has_members member)
-  member_of_any e h = member_at (sym (ap has_members e ∙ members-Any members) ∙ h)
+  pub member_of_any : whole ≡ tree.Any members → IsTrue (each_has_members whole) → IsTrue (each_has_members member)
+  member_of_any e h = member_at (sym (ap each_has_members e ∙ members-Any members) ∙ h)
+
+-- ---- whether each member has members
+
+module _ (members items : List ListTree) (i : ℕ) (it : items ≡ members) where
+  pub lacks_member : (member : ListTree) → i < length items → member ≡ get_or items i member → each_has_members member ≡ false
+      → (has_some (map each_has_members members) && list_all (λ b. b) (map each_has_members members)) ≡ false
+  lacks_member member lt at lacks = by_all (list_all (λ b. b) (map each_has_members members)) refl where
+    by_all : (b : Bool) → list_all (λ b. b) (map each_has_members members) ≡ b → (has_some (map each_has_members members) && list_all (λ b. b) (map each_has_members members)) ≡ false
+    by_all false e = ap (λ b. has_some (map each_has_members members) && b) e ∙ and-false (has_some (map each_has_members members))
+    by_all true e =
+        absurd (false≢true (sym lacks ∙ ap each_has_members at ∙ all-at each_has_members items i member lt (ap (λ ms. list_all (λ b. b) (map each_has_members ms)) it ∙ e)))
+
+  pub none_lacks : length items ≤ i → list_all (λ b. b) (map each_has_members (take i items)) ≡ true
+      → (has_some (map each_has_members members) && list_all (λ b. b) (map each_has_members members)) ≡ nat_lt 0 (length members)
+  none_lacks le all =
+      let is : list_all (λ b. b) (map each_has_members members) ≡ true = ap (λ ms. list_all (λ b. b) (map each_has_members ms)) (sym (take_all i items le ∙ it)) ∙ all in
+      ap (λ b. has_some (map each_has_members members) && b) is ∙ counted members where
+        counted : (ms : List ListTree) → (has_some (map each_has_members ms) && true) ≡ nat_lt 0 (length ms)
+        counted [] = refl
+        counted (m ∷ ms) = sym (lt-ltb 0 (length (m ∷ ms)) (omega arith))
+
+pub whole_members : (whole : ListTree) (members : List ListTree) → ((whole ≡ tree.All members) ⊎ (whole ≡ tree.Any members)) → each_has_members whole ≡ (has_some (map each_has_members members) && list_all (λ b. b) (map each_has_members members))
+whole_members whole members (inl e) = ap each_has_members e ∙ members-All members
+whole_members whole members (inr e) = ap each_has_members e ∙ members-Any members

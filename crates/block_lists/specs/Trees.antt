@@ -42,5 +42,5 @@ layer_has_members (layer.All members) = has_some members && list_all (λ b. b) m
 layer_has_members (layer.Any members) = has_some members && list_all (λ b. b) members
 
 -- each All and each Any has a member
-abbrev pub has_members : ListTree → Bool
-has_members = fold-ListTree Bool layer_has_members
+abbrev pub each_has_members : ListTree → Bool
+each_has_members = fold-ListTree Bool layer_has_members

@@ -1,7 +1,7 @@
 // The parts of a tree of lists, one after another.
 ghost use Rattle.std.specs.Prelude.{◌≡◌, [], ◌∷◌, IfOk, IsTrue, MatchOption, OnErr};
 ghost use Rattle.block_lists.specs.Merging.{ArePartsOf};
-ghost use Rattle.block_lists.specs.Trees.{has_members};
+ghost use Rattle.block_lists.specs.Trees.{each_has_members};
 
 use crate::laws::lists_rise_apart;
 use crate::lists::Lists;
@@ -39,7 +39,7 @@ impl Merge {
     /// whole blocks where the lists have these and else the slots that they have. The tree stays as it is, also after
     /// `Memory`.
     pub fn over(alloc: Global, tree: &ListTree) -> Result<Merge, Memory>
-        requires { IsTrue (has_members tree.now) }
+        requires { IsTrue (each_has_members tree.now) }
         ensures { IfOk result (ArePartsOf tree.now) }
     {
         let lists = lists_of_tree(alloc, tree)?;

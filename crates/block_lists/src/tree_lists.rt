@@ -1,6 +1,6 @@
 // The lists that a tree stands for.
 ghost use Rattle.std.specs.Prelude.{IfOk, IsTrue};
-ghost use Rattle.block_lists.specs.Trees.{IsListsOf, has_members};
+ghost use Rattle.block_lists.specs.Trees.{IsListsOf, each_has_members};
 
 use crate::joining::or_lists;
 use crate::lists::Lists;
@@ -13,7 +13,7 @@ use std::alloc::Global;
 /// The lists of a tree: a copy of a leaf, the intersection of the members of `All`, the union of those of `Any`. The
 /// tree stays as it is, also after `Memory`.
 pub fn lists_of_tree(alloc: Global, tree: &ListTree) -> Result<Lists, Memory>
-    requires { IsTrue (has_members tree.now) }
+    requires { IsTrue (each_has_members tree.now) }
     ensures { IfOk result (IsListsOf tree.now) }
 {
     match tree {
