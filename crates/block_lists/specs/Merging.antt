@@ -1,5 +1,6 @@
 -- The parts that a merge of a tree gives.
 use Rattle.std.specs.Prelude.{◌≡◌, List}
+use Rattle.block_lists.specs.Lists.{AreLists}
 use Rattle.block_lists.specs.Parts.{StandForRows, parts_of}
 use Rattle.block_lists.specs.Trees.{IsListsOf, tree_holds}
 use Rattle.block_lists.specs.declared.lists.Lists.{Lists}
@@ -9,6 +10,7 @@ use Rattle.block_lists.specs.declared.tree.ListTree.{ListTree}
 -- The parts of a tree's lists. Of such lists there are only one, by the law `same_rows_same_lists`.
 pub record ArePartsOf (tree : ListTree) (parts : List Part) : Type 0 where
   pub lists : Lists
+  pub rise_apart : AreLists lists.blocks lists.rids
   pub of_tree : IsListsOf tree lists
   pub of_lists : parts ≡ parts_of lists.blocks lists.rids
   pub stand : StandForRows parts (tree_holds tree)
