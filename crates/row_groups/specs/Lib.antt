@@ -1,0 +1,10 @@
+pub mod Adding
+pub mod Answers
+pub mod Firsts
+pub mod Gathering
+pub mod Keys
+pub mod Lines
+pub mod Ordering
+pub mod Rows
+pub mod Shape
+pub mod Values

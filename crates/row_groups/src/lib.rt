@@ -1,0 +1,27 @@
+//! Groups, aggregates and the order of lines: what a query makes of the rows that it found.
+//!
+//! It promises that the lines are those of plain lists: a group for each row with new values, aggregates over its rows,
+//! a stable order and the cut; and that a sum outside BIGINT is named by the first group and the first place. Rows come
+//! one by one and aren't kept: what is in memory is a line for each group. It stands on `mdc_ast` and `mdc_values`, and
+//! finds groups by `indexmap`. No program uses it yet.
+#![tactic(auto)]
+
+mod closing;
+mod fault;
+mod grouping;
+mod groups;
+mod joining;
+mod keys;
+mod laws;
+mod line;
+mod line_so_far;
+mod ordering;
+mod tally;
+mod values;
+mod whole;
+
+pub use fault::GroupFault;
+pub use groups::Groups;
+pub use laws::order_is_one;
+pub use line::{Line, Shown};
+pub use whole::shown_lines;

@@ -1,0 +1,123 @@
+// What a place of a line has counted so far.
+ghost use Rattle.std.specs.Prelude.{◌≡◌, ◌+◌, [], IfOk, OnOk, MatchResult};
+ghost use Rattle.row_groups.specs.Adding.{added, seen};
+ghost use Rattle.row_groups.specs.Answers.{IsOutgrown, column_of, outgrown};
+ghost use Rattle.row_groups.specs.Lines.{plus, shown_of};
+
+use crate::fault::GroupFault;
+use crate::line::Shown;
+use crate::values::{copy_at, is_greater, is_lesser, known_at};
+use mdc_ast::BoundOut;
+use mdc_values::{Memory, Value};
+use std::alloc::Global;
+
+/// What a place of a line has counted so far. Sums are formed in 128 bits.
+#[derive(Debug, Drop)]
+pub enum Tally {
+    Kept(Value),
+    Count(u64),
+    Sum(Option<i128>),
+}
+
+impl Tally {
+    /// What a place shows of no rows, behind a row that begins them.
+    pub(crate) fn begin(alloc: Global, out: BoundOut, first: &[Value]) -> Result<Tally, Memory>
+        ensures { IfOk result (λ tally. seen tally ≡ shown_of out first.now []) }
+    {
+        match out {
+            BoundOut::Column(column) => Ok(Tally::Kept(copy_at(alloc, first, column)?)),
+            BoundOut::CountAll | BoundOut::Count(_) => Ok(Tally::Count(0)),
+            BoundOut::Sum(_) => Ok(Tally::Sum(None)),
+            BoundOut::Min(_) | BoundOut::Max(_) => Ok(Tally::Kept(Value::Null)),
+        }
+    }
+
+    /// One more row. What more than 2^64 - 1 rows would come to, which no table has, is answered as want of memory.
+    pub(crate) fn add(
+        &mut self,
+        alloc: Global,
+        out: BoundOut,
+        values: &[Value],
+    ) -> Result<(), Memory>
+        ensures { OnOk result (seen self.new ≡ added out (seen self.old) values.now) }
+    {
+        match (out, self) {
+            (BoundOut::CountAll, Tally::Count(count)) => *count = one_more(*count)?,
+            (BoundOut::Count(column), Tally::Count(count)) => {
+                if known_at(values, column).is_some() {
+                    *count = one_more(*count)?;
+                }
+            }
+            (BoundOut::Sum(column), Tally::Sum(total)) => {
+                if let Some(value) = known_at(values, column) {
+                    *total = Some(plus(*total, value)?);
+                }
+            }
+            (BoundOut::Min(column), Tally::Kept(best)) => {
+                if let Some(value) = known_at(values, column) {
+                    if is_lesser(best, value) {
+                        *best = value.copy(alloc)?;
+                    }
+                }
+            }
+            (BoundOut::Max(column), Tally::Kept(best)) => {
+                if let Some(value) = known_at(values, column) {
+                    if is_greater(best, value) {
+                        *best = value.copy(alloc)?;
+                    }
+                }
+            }
+            _ => {}
+        }
+        Ok(())
+    }
+
+    /// What the place shows, where its sum is within BIGINT.
+    pub(crate) fn close(self, out: BoundOut) -> Result<Shown, GroupFault>
+        ensures { MatchResult result (λ shown. (shown ≡ seen self) × (outgrown out shown ≡ [])) (λ fault. IsOutgrown (outgrown out (seen self)) fault) }
+    {
+        match self {
+            Tally::Kept(value) => Ok(Shown::Value(value)),
+            Tally::Count(count) => Ok(Shown::Count(count)),
+            Tally::Sum(None) => Ok(Shown::Sum(None)),
+            Tally::Sum(Some(total)) => match i64::try_from(total) {
+                Ok(total) => Ok(Shown::Sum(Some(total))),
+                Err(_) => Err(GroupFault::Overflow(column_of(out))),
+            },
+        }
+    }
+}
+
+fn one_more(count: u64) -> Result<u64, Memory>
+    ensures { IfOk result (λ more. more ≡ count + 1) }
+{
+    count.checked_add(1).ok_or(Memory)
+}
+
+/// The sum with one more value.
+fn plus(total: Option<i128>, value: &Value) -> Result<i128, Memory>
+    ensures { IfOk result (λ sum. plus total value.now ≡ Some sum) }
+{
+    let number = match value {
+        Value::Int(number) => i128::from(*number),
+        _ => 0,
+    };
+    match total {
+        None => Ok(number),
+        Some(total) => total.checked_add(number).ok_or(Memory),
+    }
+}
+
+/// The column that a place is of, and 0 for COUNT(*).
+fn column_of(out: BoundOut) -> u8
+    ensures { result ≡ column_of out }
+{
+    match out {
+        BoundOut::CountAll => 0,
+        BoundOut::Column(column)
+        | BoundOut::Count(column)
+        | BoundOut::Sum(column)
+        | BoundOut::Min(column)
+        | BoundOut::Max(column) => column,
+    }
+}
