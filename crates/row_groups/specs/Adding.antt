@@ -1,5 +1,5 @@
 -- One more row behind a line, as a body adds it: the line of the rows with that one.
-use Rattle.std.specs.Prelude.{◌+◌, List, [], ◌∷◌, if◌then◌else◌}
+use Rattle.std.specs.Prelude.{pos, neg_ℤ, ◌≤ℤ◌, ℤ, Option, Some, None, ◌+◌, List, [], ◌∷◌, if◌then◌else◌}
 use Rattle.mdc_values.specs.declared.value.Value.{Value}
 use Rattle.mdc_ast.specs.declared.bound.BoundOut.{BoundOut}
 use Rattle.mdc_ast.specs.declared.bound.BoundOut.TheVariants as out
@@ -37,3 +37,8 @@ all_added (out ∷ outs) (shown ∷ shows) row = added out shown row ∷ all_add
 -- one more row behind a line
 abbrev pub with_row : List BoundOut → Line → List Value → Line
 with_row outs line row = record line { shows = all_added outs line.shows row }
+
+-- a sum of fewer than 2^63 numbers of 64 bits, and more: one more can be added
+abbrev pub HasRoom : Option ℤ → Type 0
+HasRoom None = Unit {0}
+HasRoom (Some total) = (neg_ℤ (pos 85070591730234615865843651857942052864) ≤ℤ total) × (total ≤ℤ pos 85070591730234615865843651857942052864)

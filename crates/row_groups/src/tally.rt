@@ -1,6 +1,6 @@
 // What a place of a line has counted so far.
-ghost use Rattle.std.specs.Prelude.{◌≡◌, ◌+◌, [], IfOk, OnOk, MatchResult};
-ghost use Rattle.row_groups.specs.Adding.{added, seen};
+ghost use Rattle.std.specs.Prelude.{◌≡◌, ◌+◌, ◌<◌, [], IfOk, IsOk, OnOk, MatchResult};
+ghost use Rattle.row_groups.specs.Adding.{HasRoom, added, seen};
 ghost use Rattle.row_groups.specs.Answers.{IsOutgrown, column_of, outgrown};
 ghost use Rattle.row_groups.specs.Lines.{plus, shown_of};
 
@@ -89,14 +89,16 @@ impl Tally {
 }
 
 fn one_more(count: u64) -> Result<u64, Memory>
-    ensures { IfOk result (λ more. more ≡ count + 1) }
+    ensures more { IfOk result (λ more. more ≡ count + 1) }
+    ensures room { count < 18446744073709551615 → IsOk result }
 {
     count.checked_add(1).ok_or(Memory)
 }
 
 /// The sum with one more value.
 fn plus(total: Option<i128>, value: &Value) -> Result<i128, Memory>
-    ensures { IfOk result (λ sum. plus total value.now ≡ Some sum) }
+    ensures sum { IfOk result (λ sum. plus total value.now ≡ Some sum) }
+    ensures room { HasRoom total → IsOk result }
 {
     let number = match value {
         Value::Int(number) => i128::from(*number),

@@ -18,6 +18,7 @@ enum Cell {
 use Cell::{Day, Null, Number, Text};
 
 /// What a test asks for: the list, GROUP BY, ORDER BY by places and DESC, and FETCH FIRST.
+#[derive(Clone, Copy)]
 struct Asked<'q> {
     outs: &'q [BoundOut],
     group: &'q [u8],
