@@ -2,7 +2,7 @@
 use Rattle.std.proofs.Common.{◌≡◌, ℕ, List, [], ◌∷◌, ◌++◌, Bool, true, false, Option, Some, None, codes, Result, Ok, Err, OnOk, refl, sym, subst, ◌∙◌, ap}
 use Rattle.std.specs.Prelude.{flat_map, ◌==◌, if◌then◌else◌}
 use Rattle.mdc_ast.specs.declared.refusal.Refusal.{Refusal}
-use Rattle.mdc_ast.specs.meaning.Cause.{Cause, cause_among, cause_text, line_of_cause, numbered_causes, refusal_line}
+use Rattle.statement_meaning.specs.Cause.{Cause, cause_among, cause_text, line_of_cause, numbered_causes, refusal_line}
 use Rattle.answer_text.specs.declared.wordings.Part.{Part}
 use Rattle.answer_text.specs.declared.wordings.Wording.{Wording}
 use Rattle.answer_text.specs.Wordings.{AreWorded, part_text, parts_among}

@@ -8,7 +8,7 @@ use Rattle.mdc_ast.specs.declared.bound.BoundOut.TheVariants as out
 use Rattle.mdc_ast.specs.declared.bound.BoundSelect.{BoundSelect}
 use Rattle.mdc_ast.specs.declared.definition.ColumnDef.{ColumnDef}
 use Rattle.mdc_ast.specs.declared.row.Row.{Row}
-use Rattle.mdc_ast.specs.meaning.Doing.{entry, heading, line}
+use Rattle.statement_meaning.specs.Doing.{entry, heading, line}
 
 -- what they show, the text so far, and the number of rows so far
 pub record LinesSoFar : Type 0 where

@@ -2,7 +2,7 @@
 use Rattle.std.specs.Prelude.{◌≡◌, ℕ, List, [], ◌∷◌, flat_map, ◌==◌, if◌then◌else◌, Option, Some, None}
 use Rattle.std.specs.Fmt.{decimal}
 use Rattle.mdc_ast.specs.declared.refusal.Refusal.{Refusal}
-use Rattle.mdc_ast.specs.meaning.Cause.{Cause, cause_text}
+use Rattle.statement_meaning.specs.Cause.{Cause, cause_text}
 use Rattle.answer_text.specs.declared.wordings.Part.{Part}
 use Rattle.answer_text.specs.declared.wordings.Part.TheVariants as part
 use Rattle.answer_text.specs.declared.wordings.Wording.{Wording}

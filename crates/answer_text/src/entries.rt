@@ -1,6 +1,6 @@
 // What stands in a line of a query, as bytes.
 ghost use Rattle.std.specs.Prelude.{◌≡◌, ◌++◌, length, map, take, IsTrue, OnOk, OnErr};
-ghost use Rattle.mdc_ast.specs.meaning.Doing.{entry, heading, line};
+ghost use Rattle.statement_meaning.specs.Doing.{entry, heading, line};
 ghost use Rattle.answer_text.specs.Lines.{are_outs_within, is_out_within};
 
 use crate::appending::{append, kept_if_written};

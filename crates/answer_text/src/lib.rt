@@ -1,7 +1,7 @@
 //! The whole texts of answers: of replies, of refusals, and the lines of a query and of LIST BLOCKS.
 //!
-//! It promises that they are the texts that the definitions of `mdc_ast` give them, byte for byte, and that nothing is
-//! written where memory is wanting. Each text is written once, where it is to stand. It stands on `mdc_ast`,
+//! It promises that they are the texts that the definitions of `statement_meaning` give them, byte for byte, and that nothing is
+//! written where memory is wanting. Each text is written once, where it is to stand. It stands on `statement_meaning`, `mdc_ast`,
 //! `mdc_values` and the numbers of `itoa`.
 #![tactic(auto)]
 

@@ -1,6 +1,6 @@
 // How refusals are written, as bytes.
 ghost use Rattle.std.specs.Prelude.{◌≡◌, ◌++◌, codes, flat_map, length, take, OnOk, OnErr};
-ghost use Rattle.mdc_ast.specs.meaning.Cause.{numbered_causes, refusal_line};
+ghost use Rattle.statement_meaning.specs.Cause.{numbered_causes, refusal_line};
 ghost use Rattle.answer_text.specs.Wordings.{AreWorded, part_text};
 
 use crate::appending::{append, append_number, kept_if_written};

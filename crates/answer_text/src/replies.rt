@@ -1,6 +1,6 @@
 // How replies and outcomes are written, as bytes.
 ghost use Rattle.std.specs.Prelude.{◌≡◌, ◌++◌, OnOk, OnErr};
-ghost use Rattle.mdc_ast.specs.meaning.Texts.{outcome_text, reply_text};
+ghost use Rattle.statement_meaning.specs.Texts.{outcome_text, reply_text};
 
 use crate::appending::{append, append_count};
 use crate::refusals::refusal_bytes;

@@ -1,6 +1,6 @@
 // The answer to a query over rows that were found.
 ghost use Rattle.std.specs.Prelude.{◌≡◌, length, IsTrue, MatchResult};
-ghost use Rattle.mdc_ast.specs.meaning.Doing.{lines_of};
+ghost use Rattle.statement_meaning.specs.Doing.{lines_of};
 ghost use Rattle.answer_text.specs.Lines.{are_outs_within, are_rows_wide, is_plain_select};
 
 use crate::fault::AnswerFault;

@@ -9,9 +9,9 @@ use Rattle.std.proofs.lemmas.List.Folds.{list_any-append}
 use Rattle.std.proofs.lemmas.Option.{none-some, same_Some}
 use Rattle.mdc_ast.specs.declared.definition.ColumnDef.{ColumnDef}
 use Rattle.mdc_ast.specs.declared.name.Name.{Name}
-use Rattle.mdc_ast.specs.meaning.Cause.{cause_if, NoColumn, ColumnTwice}
-use Rattle.mdc_ast.specs.meaning.Definitions.{column_named, column_names, is_among, is_same}
-use Rattle.mdc_ast.specs.meaning.Judging.{listed_names}
+use Rattle.statement_meaning.specs.Cause.{cause_if, NoColumn, ColumnTwice}
+use Rattle.mdc_ast.specs.Definitions.{column_named, column_names, is_among, is_same}
+use Rattle.statement_meaning.specs.Judging.{listed_names}
 use Rattle.binder.specs.Saying.{first_of}
 
 pub length-column_names : (columns : List ColumnDef) → length (column_names columns) ≡ length columns

@@ -9,10 +9,10 @@ use Rattle.mdc_ast.specs.declared.name.Name.{Name}
 use Rattle.mdc_ast.specs.declared.statement.ColumnText.{ColumnText}
 use Rattle.mdc_ast.specs.declared.statement.TypeText.{TypeText}
 use Rattle.mdc_ast.specs.declared.statement.TypeText.TheVariants as type
-use Rattle.mdc_ast.specs.meaning.Cause.{Cause, ColumnTwice, Limit, cause_if}
-use Rattle.mdc_ast.specs.meaning.Definitions.{Definitions, empty_place, is_among, is_same}
-use Rattle.mdc_ast.specs.meaning.Judged.{bad_length, column_limits, create_judged, dim_limits, long_name, text_names, twice_named}
-use Rattle.mdc_ast.specs.meaning.Judging.{Judged, in_order}
+use Rattle.statement_meaning.specs.Cause.{Cause, ColumnTwice, Limit, cause_if}
+use Rattle.mdc_ast.specs.Definitions.{Definitions, empty_place, is_among, is_same}
+use Rattle.statement_meaning.specs.Judged.{bad_length, column_limits, create_judged, dim_limits, long_name, text_names, twice_named}
+use Rattle.statement_meaning.specs.Judging.{Judged, in_order}
 use Rattle.binder.specs.Bounded.{is_short_char}
 use Rattle.binder.specs.Knowing.{Knows}
 use Rattle.binder.specs.Saying.{first_of}

@@ -3,7 +3,8 @@ use Rattle.std.proofs.Common.{◌≡◌, ℕ, zero, suc, ◌+◌, ◌≤◌, [],
 use Rattle.std.proofs.lemmas.Option.{none-some, same_Some}
 use Rattle.mdc_ast.specs.declared.definition.TableDef.{TableDef}
 use Rattle.mdc_ast.specs.declared.name.Name.{Name}
-use Rattle.mdc_ast.specs.meaning.Definitions.{AllNamesDiffer, AreValidDefs, AreValidFrom, Definitions, IsValidDef, IsValidPlace, column_names, def_at, def_named, place_of}
+use Rattle.mdc_ast.specs.Definitions.{AllNamesDiffer, Definitions, column_names, def_at, def_named, place_of}
+use Rattle.mdc_ast.specs.ValidDatabase.{AreValidDefs, AreValidFrom, IsValidDef, IsValidPlace}
 
 -- ---- what holds of each valid definition holds of those that are found
 

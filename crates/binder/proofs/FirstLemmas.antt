@@ -3,7 +3,7 @@ use Rattle.std.proofs.Common.{◌≡◌, ℕ, ◌+◌, ◌<◌, ◌≤◌, List,
 use Rattle.std.specs.Prelude.{flat_map}
 use Rattle.std.proofs.lemmas.List.{drop_all}
 use Rattle.std.proofs.lemmas.Option.{none-some}
-use Rattle.mdc_ast.specs.meaning.Cause.{Cause}
+use Rattle.statement_meaning.specs.Cause.{Cause}
 use Rattle.binder.specs.Saying.{first_of}
 
 -- the first of the front part is the first of all

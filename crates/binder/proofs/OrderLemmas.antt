@@ -1,7 +1,7 @@
 -- The first cause in the order of refusals, by its class.
 use Rattle.std.proofs.Common.{◌≡◌, ◌++◌, Some, None, ◌∙◌}
-use Rattle.mdc_ast.specs.meaning.Cause.{Cause}
-use Rattle.mdc_ast.specs.meaning.Judging.{Judged, in_order}
+use Rattle.statement_meaning.specs.Cause.{Cause}
+use Rattle.statement_meaning.specs.Judging.{Judged, in_order}
 use Rattle.binder.specs.Saying.{first_of}
 use Rattle.binder.proofs.FirstLemmas.{first_of-behind, first_of-front}
 

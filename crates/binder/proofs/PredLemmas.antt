@@ -9,8 +9,8 @@ use Rattle.mdc_ast.specs.declared.predicate.PredText.TheFolds.{fold-roll-PredTex
 use Rattle.mdc_ast.specs.declared.predicate.PredText.TheOpen as layer
 use Rattle.mdc_ast.specs.declared.predicate.PredText.TheVariants.{All, Any, rolls-All, rolls-Any}
 use Rattle.mdc_ast.specs.declared.predicate.TestText.TheVariants.{Within}
-use Rattle.mdc_ast.specs.meaning.Cause.{Cause}
-use Rattle.mdc_ast.specs.meaning.Judging.{atoms_of, fit_compared, layer_atoms}
+use Rattle.statement_meaning.specs.Cause.{Cause}
+use Rattle.statement_meaning.specs.Judging.{atoms_of, fit_compared, layer_atoms}
 use Rattle.mdc_values.specs.declared.literal.Literal.{Literal}
 use Rattle.binder.specs.Classes.{column_causes, literal_causes}
 use Rattle.binder.specs.declared.literals.Class.{Class}

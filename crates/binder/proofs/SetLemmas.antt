@@ -5,10 +5,10 @@ use Rattle.std.proofs.lemmas.List.{map-append, take_more}
 use Rattle.mdc_ast.specs.declared.definition.ColumnDef.{ColumnDef}
 use Rattle.mdc_ast.specs.declared.name.Name.{Name}
 use Rattle.mdc_ast.specs.declared.statement.SetText.{SetText}
-use Rattle.mdc_ast.specs.meaning.Cause.{Cause, ColumnTwice, cause_if}
-use Rattle.mdc_ast.specs.meaning.Definitions.{is_among, is_same}
-use Rattle.mdc_ast.specs.meaning.Judged.{item_columns, set_columns}
-use Rattle.mdc_ast.specs.meaning.Judging.{used_name}
+use Rattle.statement_meaning.specs.Cause.{Cause, ColumnTwice, cause_if}
+use Rattle.mdc_ast.specs.Definitions.{is_among, is_same}
+use Rattle.statement_meaning.specs.Judged.{item_columns, set_columns}
+use Rattle.statement_meaning.specs.Judging.{used_name}
 use Rattle.binder.specs.Saying.{first_of}
 use Rattle.binder.proofs.ColumnLemmas.{is_among-last}
 use Rattle.binder.proofs.FirstLemmas.{first_of-behind, first_of-front}

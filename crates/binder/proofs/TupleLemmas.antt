@@ -8,12 +8,12 @@ use Rattle.mdc_ast.specs.declared.definition.ColumnDef.{ColumnDef}
 use Rattle.mdc_ast.specs.declared.name.Name.{Name}
 use Rattle.mdc_ast.specs.declared.statement.InsertItem.{InsertItem}
 use Rattle.mdc_ast.specs.declared.statement.InsertItem.TheVariants.{Default}
-use Rattle.mdc_ast.specs.meaning.Cause.{Cause}
-use Rattle.mdc_ast.specs.meaning.Definitions.{column_named, is_same}
-use Rattle.mdc_ast.specs.meaning.Binding.{given_for, item_value}
+use Rattle.statement_meaning.specs.Cause.{Cause}
+use Rattle.mdc_ast.specs.Definitions.{column_named, is_same}
+use Rattle.statement_meaning.specs.Binding.{given_for, item_value}
 use Rattle.mdc_values.specs.declared.value.Value.TheVariants.{Null}
-use Rattle.mdc_ast.specs.meaning.Judged.{each_item}
-use Rattle.mdc_ast.specs.meaning.Judging.{of_some}
+use Rattle.statement_meaning.specs.Judged.{each_item}
+use Rattle.statement_meaning.specs.Judging.{of_some}
 use Rattle.binder.specs.Saying.{first_of}
 use Rattle.binder.proofs.FirstLemmas.{first_of-behind, first_of-front}
 

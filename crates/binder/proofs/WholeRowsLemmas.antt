@@ -14,11 +14,11 @@ use Rattle.mdc_ast.specs.declared.name.Name.{Name}
 use Rattle.mdc_ast.specs.declared.statement.Stmt.{Stmt}
 use Rattle.mdc_ast.specs.declared.statement.Stmt.TheVariants as stmt
 use Rattle.mdc_ast.specs.declared.statement.InsertItem.{InsertItem}
-use Rattle.mdc_ast.specs.meaning.Binding.{bound_of, bound_tuple, columns_of, given_for, item_value, on_place}
-use Rattle.mdc_ast.specs.meaning.Cause.{Cause}
-use Rattle.mdc_ast.specs.meaning.Definitions.{AllNamesDiffer, Definitions, column_named, column_names, def_named, is_among, is_same, place_of}
-use Rattle.mdc_ast.specs.meaning.Judged.{each_item, given_to, given_value, insert_judged, judged_of, tuple_types}
-use Rattle.mdc_ast.specs.meaning.Judging.{in_order}
+use Rattle.statement_meaning.specs.Binding.{bound_of, bound_tuple, columns_of, given_for, item_value, on_place}
+use Rattle.statement_meaning.specs.Cause.{Cause}
+use Rattle.mdc_ast.specs.Definitions.{AllNamesDiffer, Definitions, column_named, column_names, def_named, is_among, is_same, place_of}
+use Rattle.statement_meaning.specs.Judged.{each_item, given_to, given_value, insert_judged, judged_of, tuple_types}
+use Rattle.statement_meaning.specs.Judging.{in_order}
 use Rattle.binder.specs.WholeRows.{AreFitted, AreWhole, IsFitted}
 use Rattle.binder.proofs.ColumnLemmas.{length-column_names}
 

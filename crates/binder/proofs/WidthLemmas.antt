@@ -4,8 +4,8 @@ use Rattle.std.specs.Prelude.{flat_map}
 use Rattle.mdc_values.specs.declared.value.ColType.{ColType}
 use Rattle.mdc_ast.specs.declared.name.Name.{Name}
 use Rattle.mdc_ast.specs.declared.statement.ColumnText.{ColumnText}
-use Rattle.mdc_ast.specs.meaning.Definitions.{key_width, row_width, width}
-use Rattle.mdc_ast.specs.meaning.Judged.{text_named, text_types, type_of, types_named}
+use Rattle.mdc_ast.specs.Definitions.{key_width, row_width, width}
+use Rattle.statement_meaning.specs.Judged.{text_named, text_types, type_of, types_named}
 
 least_row : (types : List ColType) → 10 ≤ row_width types
 least_row [] = omega arith

@@ -5,7 +5,7 @@ use Rattle.mdc_ast.specs.declared.definition.ColumnDef.{ColumnDef}
 use Rattle.mdc_ast.specs.declared.statement.Select.{Select}
 use Rattle.mdc_ast.specs.declared.statement.TypeText.{TypeText}
 use Rattle.mdc_ast.specs.declared.statement.TypeText.TheVariants as type
-use Rattle.mdc_ast.specs.meaning.Binding.{bound_where, shown}
+use Rattle.statement_meaning.specs.Binding.{bound_where, shown}
 
 -- CHAR(n) has n up to 254
 abbrev pub is_short_char : TypeText → Bool

@@ -4,15 +4,15 @@ use Rattle.mdc_values.specs.declared.fitting.ValueFault.{ValueFault}
 use Rattle.mdc_values.specs.declared.fitting.ValueFault.TheVariants as fault
 use Rattle.mdc_values.specs.declared.value.Value.{Value}
 use Rattle.mdc_ast.specs.declared.name.Name.{Name}
-use Rattle.mdc_ast.specs.meaning.Cause.{Cause, cause_if, GivenGenerated, WrongType, OutOfRange, TextTooLong, NoDate}
+use Rattle.statement_meaning.specs.Cause.{Cause, cause_if, GivenGenerated, WrongType, OutOfRange, TextTooLong, NoDate}
 use Rattle.mdc_ast.specs.declared.definition.ColumnDef.{ColumnDef}
 use Rattle.mdc_ast.specs.declared.predicate.AtomText.{AtomText}
 use Rattle.mdc_ast.specs.declared.statement.InsertItem.{InsertItem}
 use Rattle.mdc_ast.specs.declared.statement.SetItem.{SetItem}
 use Rattle.mdc_ast.specs.declared.statement.SetText.{SetText}
-use Rattle.mdc_ast.specs.meaning.Definitions.{column_named, column_names}
-use Rattle.mdc_ast.specs.meaning.Judged.{each_item, given_to, given_value, item_types, item_values, tuple_types}
-use Rattle.mdc_ast.specs.meaning.Judging.{atom_columns, atom_types, atom_values, fit_compared, kinds_meet, literals_of, of_some, other_column, type_cause, value_cause}
+use Rattle.mdc_ast.specs.Definitions.{column_named, column_names}
+use Rattle.statement_meaning.specs.Judged.{each_item, given_to, given_value, item_types, item_values, tuple_types}
+use Rattle.statement_meaning.specs.Judging.{atom_columns, atom_types, atom_values, fit_compared, kinds_meet, literals_of, of_some, other_column, type_cause, value_cause}
 use Rattle.binder.specs.declared.targets.Targets.{Targets}
 use Rattle.binder.specs.declared.targets.Targets.TheVariants.{All, Listed}
 use Rattle.binder.specs.declared.literals.Class.{Class}

@@ -3,7 +3,7 @@ use Rattle.std.specs.Prelude.{◌≡◌, List}
 use Rattle.std.specs.HashSet.{contains_by}
 use Rattle.std.specs.Str.{bytes_eq}
 use Rattle.mdc_ast.specs.declared.name.Name.{Name}
-use Rattle.mdc_ast.specs.meaning.Definitions.{is_among}
+use Rattle.mdc_ast.specs.Definitions.{is_among}
 use Rattle.binder.specs.declared.known_names.KnownNames.{KnownNames}
 
 -- the set has these names

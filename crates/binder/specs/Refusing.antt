@@ -1,7 +1,7 @@
 -- What a refusal says.
 use Rattle.std.specs.Prelude.{◌≡◌, List, Some, Result, Ok, Err, option_map}
 use Rattle.mdc_ast.specs.declared.bound.Bound.{Bound}
-use Rattle.mdc_ast.specs.meaning.Cause.{Cause, refusal_of}
+use Rattle.statement_meaning.specs.Cause.{Cause, refusal_of}
 use Rattle.binder.specs.declared.binding.BindFault.{BindFault}
 use Rattle.binder.specs.declared.binding.BindFault.TheVariants as fault
 use Rattle.binder.specs.Saying.{first_of}

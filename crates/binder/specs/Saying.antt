@@ -2,7 +2,7 @@
 use Rattle.std.specs.Prelude.{List, [], ◌∷◌, Option, Some, None, Result, Ok, Err}
 use Rattle.binder.specs.declared.objection.Objection.{Objection}
 use Rattle.binder.specs.declared.objection.Objection.TheVariants as said
-use Rattle.mdc_ast.specs.meaning.Cause.{Cause, TableExists, NoTable, NoColumn, ColumnTwice, Limit, WrongType, OutOfRange, TextTooLong, NoDate, WrongCount, GivenGenerated}
+use Rattle.statement_meaning.specs.Cause.{Cause, TableExists, NoTable, NoColumn, ColumnTwice, Limit, WrongType, OutOfRange, TextTooLong, NoDate, WrongCount, GivenGenerated}
 
 -- the first of these causes, if there is one
 abbrev pub first_of : List Cause → Option Cause

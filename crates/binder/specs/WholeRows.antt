@@ -3,8 +3,8 @@ use Rattle.std.specs.Prelude.{◌≡◌, List, [], ◌∷◌}
 use Rattle.mdc_values.specs.declared.value.Value.{Value}
 use Rattle.mdc_ast.specs.declared.definition.ColumnDef.{ColumnDef}
 use Rattle.mdc_ast.specs.declared.statement.InsertItem.{InsertItem}
-use Rattle.mdc_ast.specs.meaning.Binding.{item_value}
-use Rattle.mdc_ast.specs.meaning.Judged.{given_to, given_value}
+use Rattle.statement_meaning.specs.Binding.{item_value}
+use Rattle.statement_meaning.specs.Judged.{given_to, given_value}
 
 -- nothing is said against an item in its column, and this is its value there
 pub record IsFitted (column : ColumnDef) (item : InsertItem) (value : Value) : Type 0 where

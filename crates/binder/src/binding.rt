@@ -1,10 +1,10 @@
 // A statement is judged, and then bound.
 ghost use Rattle.std.specs.Prelude.{◌≡◌, [], IfOk, IsTrue};
-ghost use Rattle.mdc_ast.specs.meaning.Binding.{bound_of};
-ghost use Rattle.mdc_ast.specs.meaning.Definitions.{AreValidDefs};
-ghost use Rattle.mdc_ast.specs.meaning.Judged.{judged_of};
-ghost use Rattle.mdc_ast.specs.meaning.Judging.{in_order};
-ghost use Rattle.mdc_ast.specs.meaning.Step.{is_built};
+ghost use Rattle.statement_meaning.specs.Binding.{bound_of};
+ghost use Rattle.mdc_ast.specs.ValidDatabase.{AreValidDefs};
+ghost use Rattle.statement_meaning.specs.Judged.{judged_of};
+ghost use Rattle.statement_meaning.specs.Judging.{in_order};
+ghost use Rattle.statement_meaning.specs.Built.{is_built};
 ghost use Rattle.binder.specs.Refusing.{IsRefusedFor};
 
 use crate::judging::judge;

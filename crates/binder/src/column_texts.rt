@@ -2,9 +2,9 @@
 ghost use Rattle.std.specs.Prelude.{◌≡◌, ◌<◌, ◌≤◌, length, IfSome};
 ghost use Rattle.std.specs.List.{position_from};
 ghost use Rattle.std.specs.Option.{option_copied};
-ghost use Rattle.mdc_ast.specs.meaning.Binding as binding;
-ghost use Rattle.mdc_ast.specs.meaning.Definitions.{is_same, width};
-ghost use Rattle.mdc_ast.specs.meaning.Judged as judged;
+ghost use Rattle.statement_meaning.specs.Binding as binding;
+ghost use Rattle.mdc_ast.specs.Definitions.{is_same, width};
+ghost use Rattle.statement_meaning.specs.Judged as judged;
 
 use crate::names::is_same;
 use mdc_ast::{ColumnText, Name, TypeText};

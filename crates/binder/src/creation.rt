@@ -1,8 +1,8 @@
 // A CREATE TABLE: what is said against its names.
 ghost use Rattle.std.specs.Prelude.{◌≡◌, [], ◌++◌, IfOk, List, flat_map, map};
 ghost use Rattle.mdc_ast.specs.declared.name.Name.{Name};
-ghost use Rattle.mdc_ast.specs.meaning.Judged.{create_judged, text_names, twice_named};
-ghost use Rattle.mdc_ast.specs.meaning.Judging.{in_order, listed_names};
+ghost use Rattle.statement_meaning.specs.Judged.{create_judged, text_names, twice_named};
+ghost use Rattle.statement_meaning.specs.Judging.{in_order, listed_names};
 ghost use Rattle.binder.specs.Knowing.{Knows};
 ghost use Rattle.binder.specs.Saying.{first_of, said_by};
 

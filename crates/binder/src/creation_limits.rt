@@ -1,8 +1,8 @@
 // A CREATE TABLE: which limits it is over. Widths are taken from the room that is left, so that no sum overflows.
 ghost use Rattle.std.specs.Prelude.{◌≡◌, ◌+◌, ◌<◌, ◌++◌, ◌==◌, flat_map, nat_le, is_none, MatchOption};
-ghost use Rattle.mdc_ast.specs.meaning.Cause.{Limit, cause_if};
-ghost use Rattle.mdc_ast.specs.meaning.Definitions.{empty_place, key_width, row_width};
-ghost use Rattle.mdc_ast.specs.meaning.Judged as judged;
+ghost use Rattle.statement_meaning.specs.Cause.{Limit, cause_if};
+ghost use Rattle.mdc_ast.specs.Definitions.{empty_place, key_width, row_width};
+ghost use Rattle.statement_meaning.specs.Judged as judged;
 ghost use Rattle.binder.specs.Saying.{first_of, said_by};
 
 use crate::column_texts::{text_named, width};

@@ -1,8 +1,8 @@
 // Predicates: what is said against them.
 ghost use Rattle.std.specs.Prelude.{◌≡◌, ◌++◌, flat_map, Some};
 ghost use Rattle.std.specs.Option.{option_copied};
-ghost use Rattle.mdc_ast.specs.meaning.Definitions as definitions;
-ghost use Rattle.mdc_ast.specs.meaning.Judging.{atom_columns, atoms_of, fit_compared, kinds_meet, of_some, operand_columns};
+ghost use Rattle.mdc_ast.specs.Definitions as definitions;
+ghost use Rattle.statement_meaning.specs.Judging.{atom_columns, atoms_of, fit_compared, kinds_meet, of_some, operand_columns};
 ghost use Rattle.binder.specs.Classes.{atom_causes, column_causes, literal_causes};
 ghost use Rattle.binder.specs.Saying.{first_of, said_by};
 

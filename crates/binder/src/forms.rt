@@ -1,13 +1,13 @@
 // Which forms of statements are built.
 ghost use Rattle.std.specs.Prelude.{◌≡◌};
 ghost use Rattle.std.specs.List.{list_all};
-ghost use Rattle.mdc_ast.specs.meaning.Step as step;
+ghost use Rattle.statement_meaning.specs.Built as spec;
 
 use mdc_ast::{ColumnText, Out, OutList, Select, Stmt};
 
 /// Whether the form of a statement is built. It takes no memory.
 pub fn built(stmt: &Stmt) -> bool
-    ensures { result ≡ step.is_built stmt.now }
+    ensures { result ≡ spec.is_built stmt.now }
 {
     match stmt {
         Stmt::CreateTable { columns, .. } => has_no_generated(columns.as_slice()),
@@ -27,18 +27,24 @@ pub fn built(stmt: &Stmt) -> bool
         | Stmt::Reclaim(_)
         | Stmt::Begin
         | Stmt::Commit
-        | Stmt::Rollback => false,
+        | Stmt::Rollback
+        | Stmt::AddColumn { .. }
+        | Stmt::OpenReader(_)
+        | Stmt::CloseReader(_)
+        | Stmt::Reader(..)
+        | Stmt::Join(_)
+        | Stmt::Reorg(_) => false,
     }
 }
 
 fn has_no_generated(columns: &[ColumnText]) -> bool
-    ensures { result ≡ step.has_no_generated columns.now }
+    ensures { result ≡ spec.has_no_generated columns.now }
 {
     columns.iter().all(|column| column.made.is_none())
 }
 
 fn is_plain_query(select: &Select) -> bool
-    ensures { result ≡ step.is_plain_query select.now }
+    ensures { result ≡ spec.is_plain_query select.now }
 {
     shows_columns(&select.list)
         && is_empty(select.group.as_slice())
@@ -47,7 +53,7 @@ fn is_plain_query(select: &Select) -> bool
 }
 
 fn shows_columns(list: &OutList) -> bool
-    ensures { result ≡ step.shows_columns list.now }
+    ensures { result ≡ spec.shows_columns list.now }
 {
     match list {
         OutList::Star => true,
@@ -56,13 +62,13 @@ fn shows_columns(list: &OutList) -> bool
 }
 
 fn are_plain_outs(outs: &[Out]) -> bool
-    ensures { result ≡ list_all step.is_plain_out outs.now }
+    ensures { result ≡ list_all spec.is_plain_out outs.now }
 {
     outs.iter().all(|out| is_plain_out(out))
 }
 
 fn is_plain_out(out: &Out) -> bool
-    ensures { result ≡ step.is_plain_out out.now }
+    ensures { result ≡ spec.is_plain_out out.now }
 {
     match out {
         Out::Column(_) => true,
@@ -71,7 +77,7 @@ fn is_plain_out(out: &Out) -> bool
 }
 
 fn is_empty<T>(items: &[T]) -> bool
-    ensures { result ≡ step.is_empty items.now }
+    ensures { result ≡ spec.is_empty items.now }
 {
     match items {
         [] => true,

@@ -1,8 +1,8 @@
 // The tuples of an INSERT: what is said against them.
 ghost use Rattle.std.specs.Prelude.{◌≡◌, [], flat_map};
-ghost use Rattle.mdc_ast.specs.meaning.Definitions as definitions;
-ghost use Rattle.mdc_ast.specs.meaning.Judged.{each_item, given_to, given_value, insert_judged};
-ghost use Rattle.mdc_ast.specs.meaning.Judging.{in_order, listed_names, of_some};
+ghost use Rattle.mdc_ast.specs.Definitions as definitions;
+ghost use Rattle.statement_meaning.specs.Judged.{each_item, given_to, given_value, insert_judged};
+ghost use Rattle.statement_meaning.specs.Judging.{in_order, listed_names, of_some};
 ghost use Rattle.binder.specs.Classes.{item_causes, target_names, tuple_causes};
 ghost use Rattle.binder.specs.Saying.{first_of, said_by};
 

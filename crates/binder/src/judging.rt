@@ -1,9 +1,9 @@
 // What is said first against a statement, class by class in the order of refusals.
 ghost use Rattle.std.specs.Prelude.{◌≡◌, IfOk, MatchResult, Some, None};
-ghost use Rattle.mdc_ast.specs.meaning.Cause.{NoTable};
-ghost use Rattle.mdc_ast.specs.meaning.Definitions.{def_named};
-ghost use Rattle.mdc_ast.specs.meaning.Judged.{insert_judged, judged_of, query_judged, sets_judged};
-ghost use Rattle.mdc_ast.specs.meaning.Judging.{in_order, no_fault, on_table, then_judged, where_judged};
+ghost use Rattle.statement_meaning.specs.Cause.{NoTable};
+ghost use Rattle.mdc_ast.specs.Definitions.{def_named};
+ghost use Rattle.statement_meaning.specs.Judged.{insert_judged, judged_of, query_judged, sets_judged};
+ghost use Rattle.statement_meaning.specs.Judging.{in_order, no_fault, on_table, then_judged, where_judged};
 ghost use Rattle.binder.specs.Saying.{objected, first_of, said_by};
 
 use crate::creation::judge_creation;
@@ -55,7 +55,13 @@ pub fn judge<'a>(
         | Stmt::Reclaim(_)
         | Stmt::Begin
         | Stmt::Commit
-        | Stmt::Rollback => Ok(Ok(())),
+        | Stmt::Rollback
+        | Stmt::AddColumn { .. }
+        | Stmt::OpenReader(_)
+        | Stmt::CloseReader(_)
+        | Stmt::Reader(..)
+        | Stmt::Join(_)
+        | Stmt::Reorg(_) => Ok(Ok(())),
     }
 }
 

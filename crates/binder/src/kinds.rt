@@ -1,6 +1,6 @@
 // Kinds of types: numbers, texts and days.
 ghost use Rattle.std.specs.Prelude.{◌≡◌};
-ghost use Rattle.mdc_ast.specs.meaning.Judging.{is_number, kind_of, same_kind};
+ghost use Rattle.mdc_ast.specs.Kinds.{is_number, kind_of, same_kind};
 
 use mdc_values::ColType;
 

@@ -1,7 +1,7 @@
 // A set of lent names.
 ghost use Rattle.std.specs.Prelude.{◌≡◌, [], ◌∷◌, List, not, IfOk};
 ghost use Rattle.mdc_ast.specs.declared.name.Name.{Name};
-ghost use Rattle.mdc_ast.specs.meaning.Definitions.{is_among};
+ghost use Rattle.mdc_ast.specs.Definitions.{is_among};
 ghost use Rattle.binder.specs.Knowing.{Knows};
 
 use mdc_ast::Name;

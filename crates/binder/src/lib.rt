@@ -1,7 +1,8 @@
 //! Statements with their names as places and their literals as values, or why they aren't done.
 //!
-//! It promises that a statement is refused for the first cause that the definitions of `mdc_ast` say against it, in the
-//! order of refusals, and is else bound as they say. It stands on `catalog`, `mdc_ast` and `mdc_values`.
+//! It promises that a statement is refused for the first cause that the definitions of `statement_meaning` say against it, in the
+//! order of refusals, and is else bound as they say. It stands on `catalog`, on `statement_meaning`, and on `mdc_ast` and
+//! `mdc_values`.
 #![tactic(auto)]
 
 mod binding;

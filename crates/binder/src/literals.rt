@@ -3,7 +3,7 @@ ghost use Rattle.std.specs.Prelude.{◌≡◌, IfOk, Result};
 ghost use Rattle.mdc_values.specs.Fitting.{AnswersFit, fit_of};
 ghost use Rattle.mdc_values.specs.declared.fitting.ValueFault.{ValueFault};
 ghost use Rattle.mdc_values.specs.declared.value.Value.{Value};
-ghost use Rattle.mdc_ast.specs.meaning.Judging.{fit_compared, judged_value};
+ghost use Rattle.statement_meaning.specs.Judging.{fit_compared, judged_value};
 ghost use Rattle.binder.specs.Saying.{first_of, said_by};
 ghost use Rattle.binder.specs.Classes.{fault_causes, fault_in, literal_causes};
 

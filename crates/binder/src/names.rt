@@ -1,9 +1,9 @@
 // Names of columns and where they stand.
 ghost use Rattle.std.specs.Prelude.{◌≡◌, ◌<◌, ◌≤◌, is_some, length, IfOk, IfSome};
 ghost use Rattle.std.specs.Option.{option_copied};
-ghost use Rattle.mdc_ast.specs.meaning.Binding as binding;
-ghost use Rattle.mdc_ast.specs.meaning.Definitions as spec;
-ghost use Rattle.mdc_ast.specs.meaning.Judging.{used_name};
+ghost use Rattle.statement_meaning.specs.Binding as binding;
+ghost use Rattle.mdc_ast.specs.Definitions as spec;
+ghost use Rattle.statement_meaning.specs.Judging.{used_name};
 ghost use Rattle.binder.specs.Saying.{first_of, said_by};
 
 use crate::objection::Objection;

@@ -1,6 +1,6 @@
 // What is said against a statement. Names are lent, and copied only once it is refused.
 ghost use Rattle.std.specs.Prelude.{◌≡◌, IfOk};
-ghost use Rattle.mdc_ast.specs.meaning.Cause.{keeping, naming, refusal_of};
+ghost use Rattle.statement_meaning.specs.Cause.{keeping, naming, refusal_of};
 ghost use Rattle.binder.specs.Saying.{objected};
 
 use crate::names::copy_of;

@@ -1,8 +1,8 @@
 // What a query shows: what is said against it, and its binding.
 ghost use Rattle.std.specs.Prelude.{◌≡◌, ◌≤◌, flat_map, length, map, IfOk};
-ghost use Rattle.mdc_ast.specs.meaning.Definitions as definitions;
-ghost use Rattle.mdc_ast.specs.meaning.Binding as binding;
-ghost use Rattle.mdc_ast.specs.meaning.Judged as judged;
+ghost use Rattle.mdc_ast.specs.Definitions as definitions;
+ghost use Rattle.statement_meaning.specs.Binding as binding;
+ghost use Rattle.statement_meaning.specs.Judged as judged;
 ghost use Rattle.binder.specs.Saying.{first_of, said_by};
 
 use crate::names::{judge_used, the_place};

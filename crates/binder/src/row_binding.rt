@@ -1,6 +1,6 @@
 // The rows that the tuples of an INSERT give.
 ghost use Rattle.std.specs.Prelude.{◌≡◌, map, IfOk};
-ghost use Rattle.mdc_ast.specs.meaning.Binding as binding;
+ghost use Rattle.statement_meaning.specs.Binding as binding;
 ghost use Rattle.binder.specs.Classes.{target_names};
 
 use crate::literals::value_of;

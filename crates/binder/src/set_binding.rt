@@ -1,6 +1,6 @@
 // What an UPDATE sets, by the places of columns.
 ghost use Rattle.std.specs.Prelude.{◌≡◌, ◌≤◌, length, map, IfOk};
-ghost use Rattle.mdc_ast.specs.meaning.Binding as binding;
+ghost use Rattle.statement_meaning.specs.Binding as binding;
 
 use crate::literals::value_of;
 use crate::names::{the_place, the_type};

@@ -1,9 +1,10 @@
 // A statement against which nothing is said, with its names as places and its literals as values.
 ghost use Rattle.std.specs.Prelude.{◌≡◌, ◌≤◌, [], length, map, IfOk, IfSome, MatchOption, None, Some};
-ghost use Rattle.mdc_ast.specs.meaning.Binding as binding;
-ghost use Rattle.mdc_ast.specs.meaning.Definitions.{AllNamesDiffer, AreValidDefs, column_names, def_named, place_of};
-ghost use Rattle.mdc_ast.specs.meaning.Judged.{judged_of, targets};
-ghost use Rattle.mdc_ast.specs.meaning.Judging.{in_order};
+ghost use Rattle.statement_meaning.specs.Binding as binding;
+ghost use Rattle.mdc_ast.specs.Definitions.{AllNamesDiffer, column_names, def_named, place_of};
+ghost use Rattle.mdc_ast.specs.ValidDatabase.{AreValidDefs};
+ghost use Rattle.statement_meaning.specs.Judged.{judged_of, targets};
+ghost use Rattle.statement_meaning.specs.Judging.{in_order};
 ghost use Rattle.binder.specs.Bounded.{plain_query};
 
 use crate::querying::bound_shown;
@@ -54,7 +55,13 @@ pub fn bound(alloc: Global, stmt: &Stmt, catalog: &Catalog) -> Result<Bound, Mem
         | Stmt::Reclaim(_)
         | Stmt::Begin
         | Stmt::Commit
-        | Stmt::Rollback => Ok(Bound::Begin),
+        | Stmt::Rollback
+        | Stmt::AddColumn { .. }
+        | Stmt::OpenReader(_)
+        | Stmt::CloseReader(_)
+        | Stmt::Reader(..)
+        | Stmt::Join(_)
+        | Stmt::Reorg(_) => Ok(Bound::Begin),
     }
 }
 

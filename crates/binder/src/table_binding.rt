@@ -1,8 +1,8 @@
 // The definition that a CREATE TABLE makes.
 ghost use Rattle.std.specs.Prelude.{◌≡◌, ◌≤◌, length, map, IfOk, IsTrue};
 ghost use Rattle.std.specs.List.{list_all};
-ghost use Rattle.mdc_ast.specs.meaning.Binding as binding;
-ghost use Rattle.mdc_ast.specs.meaning.Judged.{type_of};
+ghost use Rattle.statement_meaning.specs.Binding as binding;
+ghost use Rattle.statement_meaning.specs.Judged.{type_of};
 ghost use Rattle.binder.specs.Bounded.{is_short_char};
 
 use crate::column_texts::text_place;

@@ -1,8 +1,8 @@
 // The columns that the tuples of an INSERT go to.
 ghost use Rattle.std.specs.Prelude.{◌≡◌, ◌<◌, length, Some};
 ghost use Rattle.std.specs.List.{slice_get};
-ghost use Rattle.mdc_ast.specs.meaning.Definitions.{column_names};
-ghost use Rattle.mdc_ast.specs.meaning.Judged.{targets};
+ghost use Rattle.mdc_ast.specs.Definitions.{column_names};
+ghost use Rattle.statement_meaning.specs.Judged.{targets};
 ghost use Rattle.binder.specs.Classes.{target_names};
 
 use mdc_ast::{ColumnDef, Name};

@@ -2,10 +2,10 @@
 ghost use Rattle.std.specs.Prelude.{◌≡◌, [], ◌++◌, flat_map};
 ghost use Rattle.std.specs.List.{list_any};
 ghost use Rattle.mdc_values.specs.Fitting.{in_bigint, signed};
-ghost use Rattle.mdc_ast.specs.meaning.Cause.{ColumnTwice, cause_if};
-ghost use Rattle.mdc_ast.specs.meaning.Definitions.{is_same};
-ghost use Rattle.mdc_ast.specs.meaning.Judged.{counts, item_columns, item_types, item_values, set_columns, wide_number};
-ghost use Rattle.mdc_ast.specs.meaning.Judging.{used_name};
+ghost use Rattle.statement_meaning.specs.Cause.{ColumnTwice, cause_if};
+ghost use Rattle.mdc_ast.specs.Definitions.{is_same};
+ghost use Rattle.statement_meaning.specs.Judged.{counts, item_columns, item_types, item_values, set_columns, wide_number};
+ghost use Rattle.statement_meaning.specs.Judging.{used_name};
 ghost use Rattle.binder.specs.Classes.{setting_causes, target_causes};
 ghost use Rattle.binder.specs.Saying.{first_of, said_by};
 

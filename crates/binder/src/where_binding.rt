@@ -2,8 +2,8 @@
 ghost use Rattle.std.specs.Prelude.{◌≡◌, ◌≤◌, length, map, IfOk};
 ghost use Rattle.mdc_ast.specs.declared.predicate.Pred.{Pred};
 ghost use Rattle.mdc_ast.specs.declared.predicate.PredText.TheFolds.{fold-PredText};
-ghost use Rattle.mdc_ast.specs.meaning.Binding as binding;
-ghost use Rattle.mdc_ast.specs.meaning.Judging.{fit_compared, judged_value};
+ghost use Rattle.statement_meaning.specs.Binding as binding;
+ghost use Rattle.statement_meaning.specs.Judging.{fit_compared, judged_value};
 
 use crate::literals::value_compared;
 use crate::names::{the_place, the_type};

@@ -2,10 +2,10 @@
 ghost use Rattle.std.specs.Prelude.{◌≡◌, [], None, IfOk, IfSome};
 ghost use Rattle.mdc_ast.specs.declared.bound.Bound.TheVariants as bound;
 ghost use Rattle.mdc_ast.specs.declared.statement.Stmt.TheVariants as stmt;
-ghost use Rattle.mdc_ast.specs.meaning.Binding.{bound_of};
-ghost use Rattle.mdc_ast.specs.meaning.Definitions.{AreValidDefs};
-ghost use Rattle.mdc_ast.specs.meaning.Judged.{judged_of};
-ghost use Rattle.mdc_ast.specs.meaning.Judging.{in_order};
+ghost use Rattle.statement_meaning.specs.Binding.{bound_of};
+ghost use Rattle.mdc_ast.specs.ValidDatabase.{AreValidDefs};
+ghost use Rattle.statement_meaning.specs.Judged.{judged_of};
+ghost use Rattle.statement_meaning.specs.Judging.{in_order};
 ghost use Rattle.binder.specs.WholeRows.{AreFitted, AreWhole, IsFitted};
 
 use crate::statement_binding::table_there;

@@ -15,7 +15,7 @@ use Rattle.mdc_ast.specs.Truth.{value_at}
 use Rattle.mdc_ast.specs.declared.definition.ColumnDef.{ColumnDef}
 use Rattle.mdc_ast.specs.declared.definition.TableDef.{TableDef}
 use Rattle.mdc_ast.specs.declared.row.Cell.{Cell}
-use Rattle.mdc_ast.specs.meaning.Database.{fits, fits_all}
+use Rattle.mdc_ast.specs.Database.{fits, fits_all}
 use Rattle.key_codec.specs.Keys.{ArePartsOf, has_key, key_bytes, part_bytes, part_width, type_of_column, type_or_none, width_of_parts}
 use Rattle.key_codec.proofs.KeyLemmas.{first_there, type_at_part, width_of_parts-cons}
 use Rattle.key_codec.proofs.PartLemmas.{has_key-is_of_type, length-part_bytes}

@@ -9,7 +9,7 @@ use Rattle.mdc_values.specs.declared.value.ColType.{ColType}
 use Rattle.mdc_values.specs.declared.value.Value.{Value}
 use Rattle.mdc_ast.specs.declared.definition.ColumnDef.{ColumnDef}
 use Rattle.mdc_ast.specs.declared.definition.TableDef.{TableDef}
-use Rattle.mdc_ast.specs.meaning.Database.{is_of_type}
+use Rattle.mdc_ast.specs.Database.{is_of_type}
 use Rattle.entry_tree.specs.Entries.{AreOfWidth}
 use Rattle.entry_tree.specs.EntryBounds.{Bound}
 use Rattle.entry_tree.specs.Reading.{entries_from}

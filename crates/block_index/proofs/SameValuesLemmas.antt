@@ -10,8 +10,8 @@ use Rattle.mdc_values.specs.declared.value.Value.TheVariants.{Null}
 use Rattle.mdc_ast.specs.Truth.{value_at}
 use Rattle.mdc_ast.specs.declared.definition.ColumnDef.{ColumnDef}
 use Rattle.mdc_ast.specs.declared.definition.TableDef.{TableDef}
-use Rattle.mdc_ast.specs.meaning.Definitions.{are_there, is_short_key}
-use Rattle.table_page.specs.TableLimits.{IsTableDef, is_good_dimension}
+use Rattle.mdc_ast.specs.Definitions.{are_there, is_short_key}
+use Rattle.mdc_ast.specs.TableLimits.{IsTableDef, is_good_dimension}
 use Rattle.table_trees.proofs.TableTreesLemmas.{places_in}
 
 second : (a b : Bool) → IsTrue (a && b) → IsTrue b

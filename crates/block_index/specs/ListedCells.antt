@@ -5,7 +5,7 @@ use Rattle.mdc_words.specs.ByteOrder.{Entry}
 use Rattle.mdc_values.specs.declared.value.Value.{Value}
 use Rattle.mdc_ast.specs.declared.definition.ColumnDef.{ColumnDef}
 use Rattle.mdc_ast.specs.declared.definition.TableDef.{TableDef}
-use Rattle.mdc_ast.specs.meaning.Database.{is_of_type}
+use Rattle.mdc_ast.specs.Database.{is_of_type}
 use Rattle.key_codec.specs.Keys.{type_of_column}
 use Rattle.table_trees.specs.RowCells.{cell_places}
 use Rattle.block_index.specs.Cells.{entry_under, key_of_values}

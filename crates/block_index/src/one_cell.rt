@@ -2,7 +2,7 @@
 ghost use Rattle.std.specs.Prelude.{◌≡◌, ◌↔◌, ◌<◌, ◌≤◌, IsTrue, length, map};
 ghost use Rattle.std.specs.List.{AllByRecursion};
 ghost use Rattle.mdc_ast.specs.Truth.{value_at};
-ghost use Rattle.table_page.specs.TableLimits.{IsTableDef};
+ghost use Rattle.mdc_ast.specs.TableLimits.{IsTableDef};
 ghost use Rattle.table_trees.specs.RowCells.{AreOfOneCell};
 
 use mdc_ast::TableDef;

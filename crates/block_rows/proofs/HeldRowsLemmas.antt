@@ -10,7 +10,7 @@ use Rattle.mdc_ast.specs.declared.definition.ColumnDef.{ColumnDef}
 use Rattle.mdc_ast.specs.declared.definition.TableDef.{TableDef}
 use Rattle.mdc_ast.specs.declared.predicate.Pred.{Pred}
 use Rattle.mdc_ast.specs.declared.row.Row.{Row}
-use Rattle.mdc_ast.specs.meaning.Doing.{qualifies}
+use Rattle.mdc_ast.specs.Truth.{qualifies}
 use Rattle.mdc_words.proofs.ListedLemmas.{length-listed}
 use Rattle.store_api.specs.Extents.{first_page_of}
 use Rattle.store_api.specs.Fetching.{BringsOnce, PagesBetween}

@@ -16,7 +16,7 @@ use Rattle.mdc_values.specs.Value.{trimmed}
 use Rattle.mdc_ast.specs.declared.definition.ColumnDef.{ColumnDef}
 use Rattle.mdc_ast.specs.declared.row.Row.{Row}
 use Rattle.mdc_ast.specs.Truth.{value_at}
-use Rattle.mdc_ast.specs.meaning.Definitions.{width}
+use Rattle.mdc_ast.specs.Definitions.{width}
 use Rattle.key_codec.specs.Keys.{has_key, type_of_column}
 use Rattle.row_page.specs.Row.{column_value, columns_values, nulls_in, row_in, row_width_of, value_or_null}
 use Rattle.row_page.specs.RowPage.{slot_bytes, slot_start}

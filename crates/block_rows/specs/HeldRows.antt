@@ -2,12 +2,11 @@
 use Rattle.std.specs.Prelude.{◌≡◌, ◌⊎◌, ◌≤◌, ◌<◌, ◌+◌, ℕ, Bool, IsTrue, List, length, Option, Some, None, Contains, is_some, slice_index_or, slice_set}
 use Rattle.std.specs.List.{All, filter}
 use Rattle.mdc_values.specs.declared.rid.Rid.{Rid}
-use Rattle.mdc_ast.specs.Truth.{value_at}
+use Rattle.mdc_ast.specs.Truth.{value_at, qualifies}
 use Rattle.mdc_ast.specs.declared.definition.ColumnDef.{ColumnDef}
 use Rattle.mdc_ast.specs.declared.definition.TableDef.{TableDef}
 use Rattle.mdc_ast.specs.declared.predicate.Pred.{Pred}
 use Rattle.mdc_ast.specs.declared.row.Row.{Row}
-use Rattle.mdc_ast.specs.meaning.Doing.{qualifies}
 use Rattle.store_api.specs.Extents.{first_page_of}
 use Rattle.store_api.specs.Frame.{HoldsPage}
 use Rattle.store_api.specs.declared.fault.Damage.{Damage}

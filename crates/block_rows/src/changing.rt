@@ -1,7 +1,7 @@
 // Changes of the slots of a block.
 ghost use Rattle.std.specs.Prelude.{◌≡◌, ◌<◌, ◌*◌, List, Option, Some, None, length, false, replicate, slice_set, IsTrue, IfOk, OnOk};
 ghost use Rattle.mdc_ast.specs.declared.row.Row.{Row};
-ghost use Rattle.mdc_ast.specs.meaning.Database.{fits_all};
+ghost use Rattle.mdc_ast.specs.Database.{fits_all};
 ghost use Rattle.store_api.specs.Causes.{fault_of};
 ghost use Rattle.store_api.specs.RunsOverPages.{RunsOverPages};
 ghost use Rattle.row_page.specs.Row.{AreRowColumns};

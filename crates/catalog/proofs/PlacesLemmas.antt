@@ -5,7 +5,7 @@ use Rattle.std.specs.List.{position_from}
 use Rattle.std.proofs.lemmas.Bool.{cases_Bool}
 use Rattle.std.proofs.lemmas.Option.{none-some, same_Some, slice_get-get_or}
 use Rattle.mdc_ast.specs.declared.definition.TableDef.{TableDef}
-use Rattle.mdc_ast.specs.meaning.Definitions.{Definitions, def_at, is_defined, place_of}
+use Rattle.mdc_ast.specs.Definitions.{Definitions, def_at, is_defined, place_of}
 use Rattle.mdc_ast.specs.declared.name.Name.{Name}
 use Rattle.catalog.specs.Places.{AreNumberedFrom}
 

@@ -1,6 +1,6 @@
 -- The places of a catalog.
 use Rattle.std.specs.Prelude.{◌≡◌, ℕ, ◌+◌, [], ◌∷◌, Some, None}
-use Rattle.mdc_ast.specs.meaning.Definitions.{Definitions}
+use Rattle.mdc_ast.specs.Definitions.{Definitions}
 
 -- each definition from a place on has the number of its place
 abbrev pub AreNumberedFrom : ℕ → Definitions → Type 0

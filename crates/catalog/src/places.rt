@@ -1,6 +1,6 @@
 // A catalog in memory.
 ghost use Rattle.std.specs.Prelude.{◌≡◌, ◌<◌, length, None, Some, IfOk, IfSome, IsSome, MatchOption, is_none};
-ghost use Rattle.mdc_ast.specs.meaning.Definitions.{def_at, def_named, empty_place, is_defined, no_tables, place_of, with_def, without_def};
+ghost use Rattle.mdc_ast.specs.Definitions.{def_at, def_named, empty_place, is_defined, no_tables, place_of, with_def, without_def};
 
 use mdc_ast::{Name, TableDef};
 use mdc_values::Memory;
@@ -17,7 +17,7 @@ pub struct Catalog {
 
 impl Model for Catalog {
     ghost use Rattle.std.specs.Prelude.{◌≡◌, length};
-    ghost use Rattle.mdc_ast.specs.meaning.Definitions.{Definitions};
+    ghost use Rattle.mdc_ast.specs.Definitions.{Definitions};
     ghost use Rattle.catalog.specs.Places.{AreNumberedFrom};
 
     ghost Value = { Definitions };

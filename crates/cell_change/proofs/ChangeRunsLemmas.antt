@@ -1,5 +1,5 @@
 -- Which pages the calls that change one row touch, and what damage they name.
-use Rattle.std.proofs.Common.{◌≡◌, ℕ, List, None, refl, ◌∙◌, inl, inr, subst}
+use Rattle.std.proofs.Common.{◌≡◌, ℕ, List, None, inl, inr, subst}
 use Rattle.std.specs.Prelude.{Option}
 use Rattle.mdc_values.specs.declared.rid.Rid.{Rid}
 use Rattle.mdc_ast.specs.declared.definition.TableDef.{TableDef}
@@ -11,40 +11,19 @@ use Rattle.store_api.specs.declared.fault.StoreFault.{StoreFault}
 use Rattle.store_api.specs.declared.pages.Pages.{Ghosts}
 use Rattle.store_api.proofs.FrameLemmas.{touches_wider}
 use Rattle.store_api.proofs.RunsOverPagesLemmas.{runs_as, runs_wider}
-use Rattle.store_api.specs.Extents.{first_page_of}
-use Rattle.extent_map.specs.Owners.{IsSameShape, extent_of}
+use Rattle.extent_map.specs.Owners.{IsSameShape}
 use Rattle.extent_map.specs.declared.extents.Extents.{Extents}
 use Rattle.extent_map.specs.declared.kind.Kind.{Kind}
 use Rattle.entry_tree.specs.Forest.{Forest}
-use Rattle.entry_tree.proofs.ReturnedPagesLemmas.{map_page-shape}
-use Rattle.entry_tree.proofs.UsedPagesLemmas.{extent_page_same}
 use Rattle.mdc_sound.specs.Placing.{IsRowAt, table_spots}
-use Rattle.mdc_sound.specs.StandingTable.{BreaksExpected, BreaksTable, ChangesTable, HasRowAt, IsTableOrMapPage, IsTableSpace, NamesTablePart, StandsTable, TableForests, forests_in_order, pages_of}
+use Rattle.mdc_sound.specs.StandingTable.{BreaksExpected, BreaksTable, ChangesTable, HasRowAt, IsTableOrMapPage, IsTableSpace, StandsTable, TableForests, forests_in_order, pages_of}
+use Rattle.mdc_sound.proofs.NamedPartsLemmas.{names_at}
 use Rattle.mdc_sound.proofs.StandingTableLemmas.{one_standing}
 use Rattle.mdc_table.specs.KnownBlocks.{IsExpectedPlace, IsExpectedSpace, IsUsedIfKnown}
 use Rattle.mdc_table.proofs.KnownBlocksLemmas.{used_with_row}
 use Rattle.table_blocks.specs.BlockSteps.{HasThisRow}
 use Rattle.cell_change.proofs.RowChangesLemmas.{has_row}
 use Rattle.cell_change.proofs.TableStepsLemmas.{space_before}
-
--- ---- damage in extents of the same shape
-
-first_page_at : (before mid : Extents) (block : ℕ) → IsSameShape before mid → first_page_of mid.cap mid.extent_pages block ≡ first_page_of before.cap before.extent_pages block
-first_page_at before mid block s = rw (s.cap, s.extent_pages) refl
-
-pub extent_at : (before mid : Extents) (p : ℕ) → IsSameShape before mid → extent_of before p ≡ extent_of mid p
-extent_at before mid p s = rw (s.cap, s.extent_pages) refl
-
--- a part that damage is of is the same part
-pub names_at : (before mid : Extents) (def : TableDef) (damage : Damage) → IsSameShape before mid → NamesTablePart mid def damage → NamesTablePart before def damage
-names_at before mid def damage s (NamesTablePart.count rule page) = NamesTablePart.count rule page
-names_at before mid def damage s (NamesTablePart.map_page rule page) = NamesTablePart.map_page rule (map_page-shape before mid damage.page s page)
-names_at before mid def damage s (NamesTablePart.tree rule page) = NamesTablePart.tree rule page
-names_at before mid def damage s (NamesTablePart.tree_page rule) = NamesTablePart.tree_page rule
-names_at before mid def damage s (NamesTablePart.block_map rule page) = NamesTablePart.block_map rule page
-names_at before mid def damage s (NamesTablePart.row_page block rule page) = NamesTablePart.row_page block rule (extent_page_same before mid damage.page s page.0, extent_at before mid damage.page s ∙ page.1)
-names_at before mid def damage s (NamesTablePart.row_count block rule page) = NamesTablePart.row_count block rule (page ∙ first_page_at before mid block s)
-names_at before mid def damage s (NamesTablePart.block_index rule page) = NamesTablePart.block_index rule page
 
 module _ {S : Type 0} (g : Ghosts S) where
   -- a page of the table or of the extent map is one that may be touched where pages are claimed

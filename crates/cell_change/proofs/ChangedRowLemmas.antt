@@ -1,5 +1,5 @@
 -- A row that became another: in its place, or taken out and then put.
-use Rattle.std.proofs.Common.{◌≡◌, ◌≤◌, ◌*◌, ℕ, List, [], ◌∷◌, length, ap, arith, subst}
+use Rattle.std.proofs.Common.{◌≡◌, ◌≤◌, ◌*◌, ℕ, List, [], ◌∷◌, length, refl, ap, arith, ◌∙◌, subst}
 use Rattle.mdc_words.specs.ByteOrder.{Entry}
 use Rattle.mdc_values.specs.declared.rid.Rid.{Rid}
 use Rattle.mdc_ast.specs.declared.definition.TableDef.{TableDef}
@@ -13,7 +13,7 @@ use Rattle.extent_map.specs.declared.fault.SpaceFault.{SpaceFault}
 use Rattle.extent_map.specs.declared.fault.SpaceFault.TheVariants.{Full, Store}
 use Rattle.extent_map.specs.declared.kind.Kind.{Kind}
 use Rattle.row_page.specs.RowPage.{slot_count}
-use Rattle.table_page.specs.TableLimits.{IsTableDef}
+use Rattle.mdc_ast.specs.TableLimits.{IsTableDef}
 use Rattle.table_trees.specs.RowCells.{AreOfOneCell}
 use Rattle.mdc_sound.specs.Placing.{ChangesRow, PutsRow, Spot, SpotsAfterClaims, SpotsAfterReturns, block_slot_count}
 use Rattle.mdc_sound.specs.SoundDatabase.{IsSoundBetweenChanges}
@@ -61,6 +61,7 @@ module _ {S : Type 0} (g : Ghosts S) where
         owners_now = owners;
         forests_now = forests;
         changes = over.changes;
+        records = refl;
         rooms = over.rooms;
         mid = spots_of g ext new def owners forests;
         turns = stays_turns ext room_of old new def row other rid owners forests cell over;
@@ -87,6 +88,7 @@ module _ {S : Type 0} (g : Ghosts S) where
         forests_now = places.forests_now;
         changes = changes_table_then g before mid old middle def owners forests takes.owners_now takes.forests_now takes.changes ext new places.owners_now places.forests_now places.changes
             (takes_no_block g before mid old middle def owners forests room_mid row rid ready.stands takes) (omega (arith, same)) longer;
+        records = places.records ∙ takes.records;
         rooms = places.rooms;
         mid = places.mid;
         turns = ChangesRow.moves takes.mid (spots_of g mid middle def takes.owners_now takes.forests_now) to apart takes.takes takes.returns

@@ -13,7 +13,7 @@ use Rattle.extent_map.specs.declared.kind.Kind.TheVariants.{Free, Block, Index}
 use Rattle.entry_tree.proofs.UsedPagesLemmas.{shape_back}
 use Rattle.table_trees.specs.TreesBeside.{table_of_block}
 use Rattle.mdc_sound.specs.StandingTable.{IsBlockPageOf, KeepsBlocksBut, RoomNote, StandsTable, TableForests, TakesRowOut}
-use Rattle.cell_change.proofs.ChangeRunsLemmas.{extent_at}
+use Rattle.mdc_sound.proofs.NamedPartsLemmas.{extent_at}
 use Rattle.cell_change.proofs.TableStepsLemmas.{block_page_at, takes_no_block}
 
 module _ {S : Type 0} (g : Ghosts S) (before mid : Extents) (room_mid : Entry → RoomNote) (old middle : S) (def : TableDef) (row : Row) (rid : Rid) (owners : List Kind) (forests : TableForests)

@@ -11,14 +11,14 @@ use Rattle.store_api.specs.declared.pages.Pages.{Ghosts}
 use Rattle.extent_map.specs.declared.extents.Extents.{Extents}
 use Rattle.extent_map.specs.declared.kind.Kind.{Kind}
 use Rattle.entry_tree.specs.Forest.{Forest}
-use Rattle.table_page.specs.TableLimits.{IsTableDef}
+use Rattle.mdc_ast.specs.TableLimits.{IsTableDef}
 use Rattle.mdc_sound.specs.BlockRules.{AreRowNumbersSound}
 use Rattle.mdc_sound.specs.SoundDatabase.{IsSoundBetweenChanges, with_table_page}
 use Rattle.mdc_sound.specs.StandingTable.{ChangesTable, HasRowAt, IsTableSpace, OverwritesRow, PlacesRow, RoomNote, StandsTable, TableForests, TakesRowOut, forests_in_order, pages_of}
 use Rattle.mdc_sound.specs.TableRows.{rows_in_table}
 use Rattle.mdc_sound.specs.TableViews.{TableView, trees_of_table}
 use Rattle.mdc_sound.proofs.ChangedRowsLemmas.{rows_after_overwriting, rows_after_placing, rows_after_taking}
-use Rattle.mdc_sound.proofs.ChangedTablesLemmas.{between_with_next, between_without_indexes}
+use Rattle.mdc_sound.proofs.ChangedTablesLemmas.{between_with_definition, between_with_next, no_indexes_now}
 use Rattle.mdc_sound.proofs.NextNumberLemmas.{with_next}
 use Rattle.mdc_sound.proofs.RowNumbersLemmas.{numbers_in_order, numbers_over, numbers_with, numbers_without}
 use Rattle.mdc_sound.proofs.SoundDatabaseLemmas.{rows_with_table_page}
@@ -59,7 +59,8 @@ module _ {S : Type 0} (g : Ghosts S) where
         → Touches g (IsTableSpace g before old def) old new → length (pages_of g old) ≤ length (pages_of g new) → IsSoundBetweenChanges before def (pages_of g old)
         → AreRowNumbersSound def (rows_now g ext new def forests_now) → IsSoundBetweenChanges ext def (pages_of g new)
     sound_after owners_now forests_now changes none touched longer between numbers =
-        between_without_indexes g before ext old new def owners owners_now forests forests_now between.sound st changes touched longer between.rule11 between.numbers between.other_keys none numbers
+        between_with_definition g before ext old new def owners owners_now forests forests_now between.sound st changes touched longer between.rule11 between.numbers between.other_keys
+        (no_indexes_now g before ext old new def owners owners_now forests forests_now between.sound st changes touched longer none) numbers
 
     -- ---- a row more
 
@@ -74,7 +75,8 @@ module _ {S : Type 0} (g : Ghosts S) where
         let now = rows_now g ext new def places.forests_now in
         let rows = rows_after_placing g before ext room_of old new def owners forests st def.number row rid defined places in
         let more = numbers_with def (def.next + 1) (row_in_place rid row) (rows_now g before old def forests) (numbers_here before old def owners forests between st) (omega (arith, number)) (omega (arith, number)) in
-        between_with_next g before ext old new def owners places.owners_now forests places.forests_now between.sound st places.changes touched longer between.rule11 between.numbers between.other_keys none (def.next + 1) small
+        between_with_next g before ext old new def owners places.owners_now forests places.forests_now between.sound st places.changes touched longer between.rule11 between.numbers between.other_keys
+        (no_indexes_now g before ext old new def owners places.owners_now forests places.forests_now between.sound st places.changes touched longer none) (def.next + 1) small
         (numbers_in_order (with_next def (def.next + 1)) (row_in_place rid row ∷ rows_now g before old def forests) now rows more)
 
     -- ---- a row less

@@ -161,7 +161,6 @@ module _ {S : Type 0} (g : Ghosts S) (before : Extents) (old : S) (def : TableDe
   same_table st = record {
     stands = st;
     shape = record { cap = refl; extent_pages = refl };
-    records = refl;
     others_blocks = λ e t other is. is;
     no_others_blocks = λ e t other is. is;
     others_pages = λ p used none. used;
@@ -269,7 +268,6 @@ module _ {S : Type 0} (g : Ghosts S) (before mid : Extents) (old middle : S) (de
     changes_table_then ext new owners_now forests_now second no_block longer still_longer = record {
       stands = second.stands;
       shape = record { cap = second.shape.cap ∙ first.shape.cap; extent_pages = second.shape.extent_pages ∙ first.shape.extent_pages };
-      records = second.records ∙ first.records;
       others_blocks = λ e t other is. second.others_blocks e t other (first.others_blocks e t other is);
       no_others_blocks = λ e t other is. first.no_others_blocks e t other (second.no_others_blocks e t other is);
       others_pages = λ p used none.

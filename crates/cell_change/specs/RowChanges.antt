@@ -1,5 +1,5 @@
 -- What a change of one row makes of a table: where the row lies, and which rows there are.
-use Rattle.std.specs.Prelude.{ℕ, List, ◌∷◌, ◌++◌, Option, IsPermutation, slice_index_or}
+use Rattle.std.specs.Prelude.{◌≡◌, ℕ, List, ◌∷◌, ◌++◌, Option, IsPermutation, slice_index_or}
 use Rattle.mdc_words.specs.ByteOrder.{Entry}
 use Rattle.mdc_values.specs.declared.rid.Rid.{Rid}
 use Rattle.mdc_ast.specs.declared.definition.TableDef.{TableDef}
@@ -50,12 +50,13 @@ pub record MakesOneChange {S : Type 0} (g : Ghosts S) (ext : Extents) (old new :
   pub makes : MakesChanges ext (pages_of g old) changes (pages_of g new)
   pub turns : TurnsRowBy def (block_slot_count ext def) (spots_of g ext old def owners forests) rid row other spots_now changes
 
--- The row became another, in its place where it keeps its cell; the other rows stay. After that trees may have taken free extents.
--- Trees took no more space than that asks for.
+-- The row became another, in its place where it keeps its cell; the other rows and the trees of the record indexes stay. After that
+-- trees may have taken free extents. Trees took no more space than that asks for.
 pub record ChangesOneRow {S : Type 0} (g : Ghosts S) (before ext : Extents) (room_of : Entry → RoomNote) (old new : S) (def : TableDef) (row other : Row) (rid to : Rid) (owners : List Kind) (forests : TableForests) : Type 0 where
   pub owners_now : List Kind
   pub forests_now : TableForests
   pub changes : ChangesTable g before ext old new def owners forests owners_now forests_now
+  pub records : forests_now.indexes ≡ forests.indexes
   pub rooms : AreRightRooms def room_of (spots_of g ext new def owners_now forests_now)
   pub mid : List Spot
   pub turns : ChangesRow def (block_slot_count before def) (spots_of g before old def owners forests) rid row other mid to

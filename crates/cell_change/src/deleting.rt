@@ -5,9 +5,9 @@ ghost use Rattle.store_api.specs.RunsOverPages.{RunsOverPages};
 ghost use Rattle.extent_map.specs.Owners.{IsSameShape};
 ghost use Rattle.extent_map.specs.declared.kind.Kind.{Kind};
 ghost use Rattle.mdc_ast.specs.declared.row.Row.{Row};
-ghost use Rattle.mdc_ast.specs.meaning.Database.{Database, changed_at};
+ghost use Rattle.mdc_ast.specs.Database.{Database, changed_at};
 ghost use Rattle.row_page.specs.RowPage.{count_rows};
-ghost use Rattle.table_page.specs.TableLimits.{IsTableDef};
+ghost use Rattle.mdc_ast.specs.TableLimits.{IsTableDef};
 ghost use Rattle.table_trees.specs.SpaceChanges.{MakesChanges};
 ghost use Rattle.mdc_sound.specs.Placing.{IsRowAt};
 ghost use Rattle.mdc_sound.specs.RunningFull.{taking_changes};
@@ -16,7 +16,7 @@ ghost use Rattle.mdc_sound.specs.StandingTable.{BreaksExpected, IsReadyTable, Is
 ghost use Rattle.mdc_sound.specs.StandsForDatabase.{PagesStandFor, without_row};
 ghost use Rattle.block_rows.specs.HeldRows.{HasReadValues};
 ghost use Rattle.table_blocks.specs.BlockSteps.{HasThisRow};
-ghost use Rattle.cell_rooms.specs.RoomNotes.{room_of};
+ghost use Rattle.free_space.specs.RoomNotes.{room_of};
 ghost use Rattle.cell_change.specs.RowChanges.{DeletesRow};
 
 use extent_map::Extents;

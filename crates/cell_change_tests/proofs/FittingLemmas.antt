@@ -7,9 +7,9 @@ use Rattle.mdc_ast.specs.declared.definition.ColumnDef.{ColumnDef}
 use Rattle.mdc_ast.specs.declared.definition.GenExpr.{GenExpr}
 use Rattle.mdc_ast.specs.declared.definition.TableDef.{TableDef}
 use Rattle.mdc_ast.specs.declared.row.Row.{Row}
-use Rattle.mdc_ast.specs.meaning.Database.{fits_all}
+use Rattle.mdc_ast.specs.Database.{fits_all}
 use Rattle.mdc_ast.proofs.TestsLemmas.{both}
-use Rattle.mdc_sound.specs.FittingRows.{AreMadeFrom, IsMadeFrom, RowFits}
+use Rattle.mdc_ast.specs.FittingRows.{AreMadeFrom, IsMadeFrom, RowFits}
 
 -- a value of a column that isn't generated is free
 not_made : (made : Option GenExpr) (all : List Value) (value : Value) → IsTrue (is_none made) → IsMadeFrom made all value

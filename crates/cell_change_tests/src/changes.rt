@@ -1,7 +1,7 @@
 // One change of a table each.
 ghost use Rattle.std.specs.Prelude.{◌≡◌, [], false, IfOk};
-ghost use Rattle.table_page.specs.TableLimits.{IsTableDef};
-ghost use Rattle.mdc_sound.specs.FittingRows.{RowFits};
+ghost use Rattle.mdc_ast.specs.TableLimits.{IsTableDef};
+ghost use Rattle.mdc_ast.specs.FittingRows.{RowFits};
 
 use crate::fitting::does_fit;
 use crate::rows::{is_same_row, row_of};

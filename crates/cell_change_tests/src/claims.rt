@@ -20,7 +20,7 @@
 // | 453 | 457: no block | 458: no page for D | 459: no page for S | 460: done |
 // | 582 | 588: no block | 589: no page for the block map | 590: done | |
 ghost use Rattle.std.specs.Prelude.{◌≡◌, [], false, None, OnOk};
-ghost use Rattle.table_page.specs.TableLimits.{IsTableDef};
+ghost use Rattle.mdc_ast.specs.TableLimits.{IsTableDef};
 
 use crate::changes::{insert, try_insert};
 use crate::stores::{fresh_store, store_with_map};

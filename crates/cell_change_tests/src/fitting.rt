@@ -1,10 +1,10 @@
 // Whether a row fits a definition, looked at before each call that requires it.
 ghost use Rattle.std.specs.Prelude.{◌≡◌, IsTrue, is_none};
 ghost use Rattle.std.specs.List.{list_all};
-ghost use Rattle.mdc_sound.specs.FittingRows.{RowFits};
+ghost use Rattle.mdc_ast.specs.FittingRows.{RowFits};
 
 use mdc_ast::{ColumnDef, Row, TableDef};
-use row_judging::do_fit;
+use row_fitting::do_fit;
 
 /// Whether a row fits a definition in which no column is made from another.
 pub fn does_fit(def: &TableDef, row: &Row) -> bool

@@ -1,6 +1,6 @@
 // A database with no free extent left.
 ghost use Rattle.std.specs.Prelude.{◌≡◌, [], false, None};
-ghost use Rattle.table_page.specs.TableLimits.{IsTableDef};
+ghost use Rattle.mdc_ast.specs.TableLimits.{IsTableDef};
 
 use crate::changes::{Held, check_blocks, delete, insert, insert_as, try_insert};
 use crate::stores::fresh_store;

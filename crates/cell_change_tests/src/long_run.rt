@@ -1,7 +1,7 @@
 // Hundreds of changes of a table beside a plain list of the rows that should be there. The database that the pages stand for has
 // exactly these, and so has the table as it is read by its blocks and by its places.
 ghost use Rattle.std.specs.Prelude.{◌≡◌, [], false};
-ghost use Rattle.table_page.specs.TableLimits.{IsTableDef};
+ghost use Rattle.mdc_ast.specs.TableLimits.{IsTableDef};
 
 use crate::changes::{blocks_of, change, delete, insert, looked_at};
 use crate::plain_list::{PlainList, any_row, no_rows, put_last, row_in, take_out};

@@ -1,6 +1,6 @@
 // Rows go to the same places whether the notes of rooms are kept or lost.
 ghost use Rattle.std.specs.Prelude.{◌≡◌, [], false};
-ghost use Rattle.table_page.specs.TableLimits.{IsTableDef};
+ghost use Rattle.mdc_ast.specs.TableLimits.{IsTableDef};
 
 use crate::changes::{Held, delete, held_at, insert};
 use crate::stores::fresh_store;

@@ -1,6 +1,6 @@
 // Where rows of the wide table go. Its trees take the extents 0 and 1, so its blocks are 2, 3 and so on, of 10 rows each.
 ghost use Rattle.std.specs.Prelude.{◌≡◌, [], false};
-ghost use Rattle.table_page.specs.TableLimits.{IsTableDef};
+ghost use Rattle.mdc_ast.specs.TableLimits.{IsTableDef};
 
 use crate::changes::{Held, change_to, check_blocks, check_place, delete, insert_as};
 use crate::stores::fresh_store;

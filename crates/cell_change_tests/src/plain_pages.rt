@@ -1,6 +1,6 @@
 // The database that the pages stand for, by the plain reading, beside a plain list.
 ghost use Rattle.std.specs.Prelude.{◌≡◌, false};
-ghost use Rattle.table_page.specs.TableLimits.{IsTableDef};
+ghost use Rattle.mdc_ast.specs.TableLimits.{IsTableDef};
 
 use crate::plain_list::{PlainList, row_numbered};
 use crate::rows::{is_same_row, row_of};

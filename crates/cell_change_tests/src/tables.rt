@@ -1,6 +1,6 @@
 // The tables of these tests: their trees, and their definitions by the bytes of table pages.
 ghost use Rattle.std.specs.Prelude.{◌≡◌, ◌≤◌, [], false, IfOk};
-ghost use Rattle.table_page.specs.TableLimits.{IsTableDef};
+ghost use Rattle.mdc_ast.specs.TableLimits.{IsTableDef};
 
 use entry_tree::Tree;
 use entry_tree_tests::extents_of;

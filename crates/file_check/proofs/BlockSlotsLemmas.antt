@@ -14,7 +14,7 @@ use Rattle.table_trees.specs.ToldPages.{PageList}
 use Rattle.block_map.proofs.MapLinesLemmas.{contains_cases, contains_more}
 use Rattle.block_rows.proofs.PartsLemmas.{get_or-part, part-parts}
 use Rattle.mdc_sound.specs.BlockRules.{AreBlockRowsSound}
-use Rattle.mdc_sound.specs.FittingRows.{RowFits}
+use Rattle.mdc_ast.specs.FittingRows.{RowFits}
 use Rattle.mdc_sound.specs.TableRows.{PlacedRow, block_page, block_slots, rows_from_slot, rows_in_block}
 use Rattle.mdc_sound.proofs.ElementsLemmas.{each_in}
 use Rattle.mdc_sound.proofs.SlotRowsLemmas.{length-block_slots}

@@ -1,7 +1,7 @@
 -- Rule 9 by the blocks of all tables.
 use Rattle.std.proofs.Common.{ℕ, Option, refl, sym, subst}
 use Rattle.std.specs.List.{AllByRecursion}
-use Rattle.mdc_ast.specs.meaning.Definitions.{Definitions}
+use Rattle.mdc_ast.specs.Definitions.{Definitions}
 use Rattle.extent_map.specs.declared.extents.Extents.{Extents}
 use Rattle.block_map.specs.MapLines.{used_blocks}
 use Rattle.table_trees.specs.ToldPages.{PageList}

@@ -4,7 +4,7 @@ use Rattle.mdc_ast.specs.declared.definition.TableDef.{TableDef}
 use Rattle.mdc_ast.specs.declared.row.Row.{Row}
 use Rattle.row_page.specs.RowPage.{is_slot_filled, slot_bytes, slot_row}
 use Rattle.row_page.specs.Row.{row_in}
-use Rattle.mdc_sound.specs.FittingRows.{RowFits}
+use Rattle.mdc_ast.specs.FittingRows.{RowFits}
 use Rattle.file_check.specs.BlocksJudged.{HasRowForm, JudgesPage, JudgesRows}
 
 -- the row of a slot is the one that is stored in it

@@ -4,13 +4,13 @@ use Rattle.std.specs.Prelude.{◌⊎◌, Contains, Option}
 use Rattle.std.specs.List.{AllByRecursion}
 use Rattle.mdc_ast.specs.declared.definition.IndexDef.{IndexDef}
 use Rattle.mdc_ast.specs.declared.definition.TableDef.{TableDef}
-use Rattle.mdc_ast.specs.meaning.Definitions.{Definitions}
+use Rattle.mdc_ast.specs.Definitions.{Definitions}
 use Rattle.extent_map.specs.declared.extents.Extents.{Extents}
 use Rattle.entry_tree.specs.Forest.{Forest}
 use Rattle.key_codec.specs.Keys.{ArePartsOf}
 use Rattle.row_page.specs.Row.{AreRowColumns}
 use Rattle.block_map.specs.MapLines.{used_blocks}
-use Rattle.table_page.specs.TableLimits.{IsTableDef}
+use Rattle.mdc_ast.specs.TableLimits.{IsTableDef}
 use Rattle.table_trees.specs.TableTrees.{AreIndexParts, map_place}
 use Rattle.table_trees.specs.ToldPages.{HasTree, PageList}
 use Rattle.mdc_sound.specs.BlockRules.{AreBlockRowsSound, AreRowNumbersSound, IsUniqueSound}

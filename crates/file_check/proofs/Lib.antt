@@ -25,7 +25,6 @@ pub mod KindsLemmas
 pub mod KnownRowsLemmas
 pub mod KnownTablesLemmas
 pub mod LaterTablesLemmas
-pub mod MadeValuesLemmas
 pub mod MapEntriesLemmas
 pub mod MapPagesLemmas
 pub mod NamedBlocksLemmas

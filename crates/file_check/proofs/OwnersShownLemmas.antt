@@ -1,6 +1,6 @@
 -- The extent map of pages that keep the first rules, and what each of its pages shows.
 use Rattle.std.proofs.Common.{◌≡◌, ◌/◌, ℕ, List, IsTrue, refl, ap, sym, ◌∙◌}
-use Rattle.mdc_ast.specs.meaning.Definitions.{Definitions}
+use Rattle.mdc_ast.specs.Definitions.{Definitions}
 use Rattle.store_api.specs.declared.fault.Damage.{Damage}
 use Rattle.store_api.specs.declared.pages.Pages.{Ghosts}
 use Rattle.store_api.proofs.FrameLemmas.{holds_one}

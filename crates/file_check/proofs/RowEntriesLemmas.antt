@@ -13,10 +13,10 @@ use Rattle.mdc_ast.specs.declared.definition.KeyPart.{KeyPart}
 use Rattle.mdc_ast.specs.declared.definition.TableDef.{TableDef}
 use Rattle.mdc_ast.specs.declared.row.Row.{Row}
 use Rattle.mdc_ast.specs.Truth.{value_at}
-use Rattle.key_codec.specs.Keys.{has_key, key_bytes, part_bytes, part_width, places_of, type_of_column, type_or_none, width_of_parts}
+use Rattle.key_codec.specs.Keys.{has_key, key_bytes, part_bytes, part_width, type_of_column, type_or_none, width_of_parts}
+use Rattle.mdc_ast.specs.Definitions.{places_of, are_there}
 use Rattle.key_codec.proofs.KeyLemmas.{first_there, width_of_parts-cons}
 use Rattle.key_codec.proofs.PartLemmas.{length-part_bytes}
-use Rattle.mdc_ast.specs.meaning.Definitions.{are_there}
 use Rattle.mdc_sound.specs.TableRows.{PlacedRow}
 use Rattle.block_rows.specs.HeldRows.{HasReadValues}
 use Rattle.store_api.specs.declared.fault.Damage.{Damage}

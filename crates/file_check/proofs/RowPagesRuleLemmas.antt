@@ -1,7 +1,7 @@
 -- Rule 7 by the blocks of all tables.
 use Rattle.std.proofs.Common.{◌+◌, ◌/◌, ◌%◌, ℕ, Option, refl, sym, subst, inl, inr}
 use Rattle.std.specs.List.{AllByRecursion}
-use Rattle.mdc_ast.specs.meaning.Definitions.{Definitions}
+use Rattle.mdc_ast.specs.Definitions.{Definitions}
 use Rattle.store_api.specs.Extents.{first_page_of}
 use Rattle.extent_map.specs.declared.extents.Extents.{Extents}
 use Rattle.row_page.specs.RowPage.{slot_count}
@@ -9,7 +9,7 @@ use Rattle.block_map.specs.MapLines.{used_blocks}
 use Rattle.table_trees.specs.ToldPages.{PageList}
 use Rattle.mdc_sound.specs.BlockRules.{AreRowPagesSound}
 use Rattle.mdc_sound.specs.Breaks.{BreaksRule}
-use Rattle.mdc_sound.specs.FittingRows.{RowFits}
+use Rattle.mdc_ast.specs.FittingRows.{RowFits}
 use Rattle.mdc_sound.specs.SpaceRules.{DatabaseView, tables_there}
 use Rattle.file_check.specs.Judging.{BreaksAny, JudgesEach, JudgesRule}
 use Rattle.file_check.specs.Known.{ViewHasTrees}

@@ -12,7 +12,7 @@ use Rattle.std.proofs.lemmas.Slice.Eq.{bytes_eq-Decides}
 use Rattle.mdc_ast.specs.declared.definition.IndexDef.{IndexDef}
 use Rattle.mdc_ast.specs.declared.definition.TableDef.{TableDef}
 use Rattle.mdc_ast.specs.declared.name.Name.{Name}
-use Rattle.mdc_ast.specs.meaning.Definitions.{AllNamesDiffer, Definitions, is_same}
+use Rattle.mdc_ast.specs.Definitions.{AllNamesDiffer, Definitions, is_same}
 use Rattle.table_page.proofs.NamesLemmas.{is_among-indexes}
 use Rattle.mdc_sound.proofs.ElementsLemmas.{flat_contains}
 use Rattle.block_map.proofs.MapLinesLemmas.{contains_cases, contains_more}

@@ -21,7 +21,7 @@ use Rattle.table_trees.specs.TableTrees.{TreePlace, cell_parts, composite_place,
 use Rattle.table_trees.specs.ToldPages.{HasTree, PageList, told_pages}
 use Rattle.mdc_sound.specs.BlockRules.{AreBlockRowsSound, AreTableBlockIndexesSound, AreTableIndexesSound, AreTableKeysSound, IsBlockIndexSound, IsBlockPageSound, IsIdleCountSound, IsOfOneCell, IsSoundIndex, IsUniqueSound, IsUsedCountSound, AreRowNumbersSound}
 use Rattle.mdc_sound.specs.Breaks.{BreaksRule}
-use Rattle.mdc_sound.specs.FittingRows.{RowFits}
+use Rattle.mdc_ast.specs.FittingRows.{RowFits}
 use Rattle.mdc_sound.specs.SoundDatabase.{IsSoundDatabase, KeepAllRules}
 use Rattle.mdc_sound.specs.SpaceRules.{AreRootsInIndexes, DatabaseView, IsBlockMapSound, IsIndexKind, IsIndexPage, IsMapLineSound, IsTablePlaceSound, tables_there}
 use Rattle.mdc_sound.specs.TablePages.{DefinesTable, table_page_at}

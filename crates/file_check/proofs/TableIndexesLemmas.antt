@@ -7,7 +7,7 @@ use Rattle.std.proofs.lemmas.Option.{same_Some}
 use Rattle.mdc_ast.specs.declared.definition.KeyPart.{KeyPart}
 use Rattle.mdc_ast.specs.declared.definition.TableDef.{TableDef}
 use Rattle.key_codec.specs.Keys.{ArePartsOf, width_of_parts}
-use Rattle.table_page.specs.TableLimits.{IsTableDef}
+use Rattle.mdc_ast.specs.TableLimits.{IsTableDef}
 use Rattle.table_trees.specs.TableTrees.{AreIndexParts, TreePlace, block_index_places, cell_parts, composite_place, dimension_place, rising_parts}
 use Rattle.mdc_sound.proofs.DefinitionTreesLemmas.{has_block_indexes}
 use Rattle.file_check.specs.declared.table_index.IndexKind.TheVariants.{Blocks}

@@ -8,16 +8,16 @@ use Rattle.mdc_ast.specs.declared.definition.ColumnDef.{ColumnDef}
 use Rattle.mdc_ast.specs.declared.definition.IndexDef.{IndexDef}
 use Rattle.mdc_ast.specs.declared.definition.KeyPart.{KeyPart}
 use Rattle.mdc_ast.specs.declared.definition.TableDef.{TableDef}
-use Rattle.mdc_ast.specs.meaning.Database.{fits_all}
+use Rattle.mdc_ast.specs.Database.{fits_all}
 use Rattle.extent_map.specs.declared.extents.Extents.{Extents}
 use Rattle.key_codec.specs.Keys.{ArePartsOf, HasByteTexts, key_bytes}
-use Rattle.key_codec.specs.KeyOrder.{AreSameAtParts}
+use Rattle.mdc_ast.specs.ValidDatabase.{AreSameAtParts}
 use Rattle.key_codec.proofs.KeyLemmas.{AreTurnable-HasByteTexts, same-key_bytes}
 use Rattle.entry_tree.specs.Forest.{Forest}
 use Rattle.block_map.specs.MapLines.{used_blocks}
 use Rattle.table_trees.specs.ToldPages.{PageList}
 use Rattle.mdc_sound.specs.BlockRules.{IsUniqueSound}
-use Rattle.mdc_sound.specs.FittingRows.{RowFits}
+use Rattle.mdc_ast.specs.FittingRows.{RowFits}
 use Rattle.mdc_sound.specs.TableRows.{PlacedRow, rows_in_block, rows_in_table}
 use Rattle.mdc_sound.proofs.BlockRulesLemmas.{each_as, each_of}
 use Rattle.mdc_sound.proofs.ElementsLemmas.{each_in, flat_contains}

@@ -6,7 +6,7 @@ use Rattle.store_api.specs.Extents.{first_page_of}
 use Rattle.extent_map.specs.declared.extents.Extents.{Extents}
 use Rattle.row_page.specs.RowPage.{IsRowPage, rows_of, slot_count, slot_row}
 use Rattle.table_trees.specs.ToldPages.{PageList}
-use Rattle.mdc_sound.specs.FittingRows.{RowFits}
+use Rattle.mdc_ast.specs.FittingRows.{RowFits}
 use Rattle.mdc_sound.specs.TableRows.{PlacedRow, block_page}
 use Rattle.entry_tree.specs.Forest.{Forest}
 use Rattle.block_map.specs.MapLines.{MapLine, map_lines}

@@ -1,6 +1,6 @@
 -- What is known between the parts of a check: the rules before hold, and no page breaks one of them.
 use Rattle.std.specs.Prelude.{◌<◌, ℕ, List}
-use Rattle.mdc_ast.specs.meaning.Definitions.{Definitions}
+use Rattle.mdc_ast.specs.Definitions.{Definitions}
 use Rattle.extent_map.specs.declared.extents.Extents.{Extents}
 use Rattle.extent_map.specs.declared.kind.Kind.{Kind}
 use Rattle.table_trees.specs.ToldPages.{PageList}

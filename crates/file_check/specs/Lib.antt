@@ -1,7 +1,6 @@
 pub mod BlockMapsJudged
 pub mod BlocksJudged
 pub mod Branches
-pub mod Divisors
 pub mod Judging
 pub mod Kept
 pub mod KeysJudged

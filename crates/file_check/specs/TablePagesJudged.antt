@@ -4,7 +4,7 @@ use Rattle.std.specs.List.{AllByRecursion, list_any}
 use Rattle.mdc_ast.specs.declared.definition.IndexDef.{IndexDef}
 use Rattle.mdc_ast.specs.declared.definition.TableDef.{TableDef}
 use Rattle.mdc_ast.specs.declared.name.Name.{Name}
-use Rattle.mdc_ast.specs.meaning.Definitions.{Definitions, is_same}
+use Rattle.mdc_ast.specs.Definitions.{Definitions, is_same}
 use Rattle.store_api.specs.StoreState.{zero_page}
 use Rattle.extent_map.specs.Owners.{IsExtentPage}
 use Rattle.extent_map.specs.declared.extents.Extents.{Extents}

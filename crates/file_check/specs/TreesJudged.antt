@@ -2,7 +2,7 @@
 use Rattle.std.specs.Prelude.{List, None, Option, Some, [], flat_map, if◌then◌else◌, slice_index_or, sum_by, ℕ, ◌+◌, ◌<◌, ◌≡◌, ◌≢◌}
 use Rattle.std.specs.List.{AllZip}
 use Rattle.mdc_ast.specs.declared.definition.TableDef.{TableDef}
-use Rattle.mdc_ast.specs.meaning.Definitions.{Definitions}
+use Rattle.mdc_ast.specs.Definitions.{Definitions}
 use Rattle.entry_tree.specs.Forest.{Forest, times}
 use Rattle.table_trees.specs.TableTrees.{TreePlace, tree_places}
 use Rattle.table_trees.specs.ToldPages.{HasTree, PageList}

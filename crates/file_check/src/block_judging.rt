@@ -6,7 +6,7 @@ ghost use Rattle.store_api.specs.RunsOverPages.{RunsOverPages};
 ghost use Rattle.entry_tree.specs.Forest.{Forest};
 ghost use Rattle.block_map.specs.MapLines.{blocks_of_state, map_lines};
 ghost use Rattle.block_map.specs.MapRows.{state_number};
-ghost use Rattle.table_page.specs.TableLimits.{IsTableDef};
+ghost use Rattle.mdc_ast.specs.TableLimits.{IsTableDef};
 ghost use Rattle.file_check.specs.BlocksJudged.{BreaksLineCount, IsLineCounted};
 ghost use Rattle.file_check.specs.Judging.{Judges, JudgesEach};
 ghost use Rattle.file_check.specs.Known.{HasUsedRows};

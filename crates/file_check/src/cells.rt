@@ -4,7 +4,7 @@ ghost use Rattle.store_api.specs.Causes.{fault_of};
 ghost use Rattle.store_api.specs.Frame.{NoPage};
 ghost use Rattle.store_api.specs.RunsOverPages.{RunsOverPages};
 ghost use Rattle.block_rows.specs.HeldRows.{HaveReadValues, placed_row};
-ghost use Rattle.table_page.specs.TableLimits.{IsTableDef};
+ghost use Rattle.mdc_ast.specs.TableLimits.{IsTableDef};
 ghost use Rattle.mdc_sound.specs.BlockRules.{IsOfOneCell};
 ghost use Rattle.file_check.specs.Known.{BlockHasRowPages};
 ghost use Rattle.file_check.specs.BlocksJudged.{BreaksBlockCell, JudgesCell};

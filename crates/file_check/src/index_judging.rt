@@ -7,7 +7,7 @@ ghost use Rattle.key_codec.specs.Keys.{width_of_parts};
 ghost use Rattle.node_page.specs.Node.{number_within};
 ghost use Rattle.entry_tree.specs.Entries.{AreOfWidth};
 ghost use Rattle.entry_tree.specs.Forest.{Forest, leaf_entries};
-ghost use Rattle.table_page.specs.TableLimits.{IsTableDef};
+ghost use Rattle.mdc_ast.specs.TableLimits.{IsTableDef};
 ghost use Rattle.table_trees.specs.TableTrees.{place_of_tree};
 ghost use Rattle.table_trees.specs.ToldPages.{HasTree};
 ghost use Rattle.file_check.specs.Looking.{AnyPage, Unless};

@@ -9,7 +9,7 @@
 //!
 //! It stands on the words of `mdc_sound` for the rules, on `stored_catalog` for which definitions are within the limits, on
 //! `table_page` for definitions, on `node_page` and `entry_tree` for trees, on `block_map` for the blocks of a table, on `block_rows`
-//! and `row_page` for rows, on `row_judging` for whether values fit, on `key_codec` for the keys of rows, and on `block_index` for
+//! and `row_page` for rows, on `row_fitting` for whether a row fits, on `key_codec` for the keys of rows, and on `block_index` for
 //! walks over entries and for whether rows are of one cell.
 #![tactic(auto)]
 
@@ -26,7 +26,6 @@ mod differing;
 mod entries;
 mod entry_set;
 mod extents;
-mod fitting;
 mod index_judging;
 mod kinds;
 mod laws;

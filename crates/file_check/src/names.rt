@@ -1,7 +1,7 @@
 // Rule 3: tables that share a name.
 ghost use Rattle.std.specs.List.{list_any};
 ghost use Rattle.std.specs.Prelude.{◌≡◌, length};
-ghost use Rattle.mdc_ast.specs.meaning.Definitions as definitions;
+ghost use Rattle.mdc_ast.specs.Definitions as definitions;
 ghost use Rattle.file_check.specs.TablePagesJudged.{first_shared, has_index_named, share_names, shares_later, shares_with};
 
 use crate::definitions::{FIRST_TABLE_PAGE, TABLES};

@@ -4,16 +4,16 @@ ghost use Rattle.store_api.specs.Causes.{NoDamage, fault_of};
 ghost use Rattle.store_api.specs.Frame.{NoPage};
 ghost use Rattle.store_api.specs.RunsOverPages.{RunsOverPages};
 ghost use Rattle.store_api.specs.StoreState.{page_at};
-ghost use Rattle.table_page.specs.TableLimits.{IsTableDef};
+ghost use Rattle.mdc_ast.specs.TableLimits.{IsTableDef};
 ghost use Rattle.mdc_sound.specs.BlockRules.{AreBlockRowsSound};
 ghost use Rattle.file_check.specs.Judging.{Judges};
 ghost use Rattle.file_check.specs.Looking.{AnyPage};
 ghost use Rattle.file_check.specs.BlocksJudged.{BreaksBlockRows, JudgesPage, JudgesRows};
 
-use crate::fitting::does_row_fit;
 use extent_map::Extents;
 use mdc_ast::TableDef;
 use mdc_values::Memory;
+use row_fitting::does_row_fit;
 use row_page::{RowPageView, capacity};
 use std::alloc::Global;
 use store_api::{Pages, StoreFault, bring};

@@ -1,6 +1,6 @@
 // An index of a table, by what its entries name.
 ghost use Rattle.std.specs.Prelude.{◌≡◌, ◌<◌, ◌++◌, length, slice_get, Some, IfErr, IfOk, OnOk};
-ghost use Rattle.table_page.specs.TableLimits.{IsTableDef};
+ghost use Rattle.mdc_ast.specs.TableLimits.{IsTableDef};
 ghost use Rattle.table_trees.specs.TableTrees.{cell_parts, rising_parts};
 ghost use Rattle.file_check.specs.TableIndexes.{FitsTable, bytes_behind_key, indexes_of_kind, place_of_index};
 

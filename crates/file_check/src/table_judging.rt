@@ -5,7 +5,7 @@ ghost use Rattle.store_api.specs.Frame.{NoPage};
 ghost use Rattle.store_api.specs.RunsOverPages.{RunsOverPages};
 ghost use Rattle.entry_tree.specs.Forest.{Forest};
 ghost use Rattle.stored_catalog.specs.StoredDefinitions.{AreWithinLimits};
-ghost use Rattle.table_page.specs.TableLimits.{IsTableDef};
+ghost use Rattle.mdc_ast.specs.TableLimits.{IsTableDef};
 ghost use Rattle.mdc_sound.specs.SpaceRules.{DatabaseView};
 ghost use Rattle.file_check.specs.Judging.{Judges, JudgesRule};
 ghost use Rattle.file_check.specs.Looking.{AnyPage, Unless};

@@ -1,6 +1,6 @@
 // Rule 5: the pages of trees.
 ghost use Rattle.std.specs.Prelude.{◌≡◌, ◌<◌, ◌+◌, ◌^◌, slice_index, false, IfOk, IsTrue, MatchOption};
-ghost use Rattle.mdc_ast.specs.meaning.Definitions.{Definitions};
+ghost use Rattle.mdc_ast.specs.Definitions.{Definitions};
 ghost use Rattle.store_api.specs.Causes.{fault_of};
 ghost use Rattle.store_api.specs.Frame.{NoPage};
 ghost use Rattle.store_api.specs.RunsOverPages.{RunsOverPages};

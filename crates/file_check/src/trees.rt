@@ -6,7 +6,7 @@ ghost use Rattle.store_api.specs.RunsOverPages.{RunsOverPages};
 ghost use Rattle.stored_catalog.specs.StoredDefinitions.{AreWithinLimits};
 ghost use Rattle.extent_map.specs.declared.extents.Extents.{Extents};
 ghost use Rattle.extent_map.specs.declared.kind.Kind.{Kind};
-ghost use Rattle.table_page.specs.TableLimits.{IsTableDef};
+ghost use Rattle.mdc_ast.specs.TableLimits.{IsTableDef};
 ghost use Rattle.table_trees.specs.TableTrees.{place_of_tree, tree_places};
 ghost use Rattle.file_check.specs.Known.{HasDefinitions};
 ghost use Rattle.file_check.specs.Looking.{AnyPage, UnlessTold};

@@ -1,7 +1,7 @@
 -- Files that were just made: what they state and which pages they stand for.
 use Rattle.std.proofs.Common.{◌≡◌, ◌<◌, ℕ, IsTrue, List, sym, ◌∙◌, ap, subst, arith}
 use Rattle.std.proofs.Math.Nat.{mul-le-mul_right}
-use Rattle.mdc_ast.specs.meaning.Database.{empty_database}
+use Rattle.mdc_ast.specs.Database.{empty_database}
 use Rattle.mdc_outside.specs.Disk.{File}
 use Rattle.store_api.specs.Extents.{is_shape}
 use Rattle.extent_map.specs.declared.extents.Extents.{Extents}

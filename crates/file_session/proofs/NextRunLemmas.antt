@@ -1,7 +1,7 @@
 -- What the next run goes on from: the database that the run before kept.
 use Rattle.std.proofs.Common.{◌≡◌, ℕ, List, Option, Result, sym, ◌∙◌, subst}
-use Rattle.mdc_ast.specs.meaning.Database.{Database}
-use Rattle.mdc_ast.specs.meaning.Session.{session_on}
+use Rattle.mdc_ast.specs.Database.{Database}
+use Rattle.statement_meaning.specs.Session.{session_on}
 use Rattle.mdc_outside.specs.Disk.{File, IsImage, all_synced}
 use Rattle.extent_map.specs.Owners.{IsSameShape}
 use Rattle.extent_map.specs.declared.extents.Extents.{Extents}

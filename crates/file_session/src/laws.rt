@@ -2,8 +2,8 @@
 ghost use Rattle.std.specs.Prelude.{◌≡◌, ◌⊎◌, ℕ, List, Option, Some, Result, IsTrue};
 ghost use Rattle.mdc_ast.specs.declared.reply.Outcome.{Outcome};
 ghost use Rattle.mdc_ast.specs.Reading.{Item};
-ghost use Rattle.mdc_ast.specs.meaning.Database.{empty_database};
-ghost use Rattle.mdc_ast.specs.meaning.Session.{session_on};
+ghost use Rattle.mdc_ast.specs.Database.{empty_database};
+ghost use Rattle.statement_meaning.specs.Session.{session_on};
 ghost use Rattle.mdc_outside.specs.Disk.{File, IsImage, all_synced};
 ghost use Rattle.store_api.specs.Extents.{is_shape};
 ghost use Rattle.extent_map.specs.declared.extents.Extents.{Extents};

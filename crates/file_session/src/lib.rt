@@ -2,8 +2,8 @@
 //! the host is given back.
 //!
 //! It promises, of a file that is well and of a host that tells it: the replies are those of plain lists of rows, statement by
-//! statement, up to a stop, and 70 only where a statement runs full. A crash at any moment leaves a well file, which stands for
-//! those lists after some of the items, with every one whose reply had begun and at most one more; so the next run keeps the
+//! statement, up to a stop, and 70 only where a statement runs full. From the origin of the run on a crash leaves a well file, which
+//! stands for those lists after some of the items, with every one whose reply had begun and at most one more; so the next run keeps the
 //! promise too, and by a law here begins with those lists. A file that was just made is well, by another, and stands for no table. A
 //! file that isn't well is refused for a cause in its bytes, or served as far as it can be.
 //!

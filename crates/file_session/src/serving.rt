@@ -59,9 +59,9 @@ pub fn serve_file<I: Source, H: Host>(alloc: Global, input: &mut I, host: H) -> 
     ensures breaks { (damage : Damage) → result.end ≡ Err (FileStop.Damaged damage) → (before : File) → H.file host ≡ Some before
         → IsDamageOf before.bytes (I.left input.old) (I.left input.new) (H.beside host).tape (H.beside result.host).tape damage result.end (H.file result.host) }
     ensures unopened { ForSome (H.file host) (λ file. (IsServed file.bytes → ⊥) → IsUnopened result.end × (input.new ≡ input.old) × ((H.beside result.host).tape ≡ (H.beside host).tape)) }
-    // Nothing is written to a file that isn't served, unless the disk failed: a crash leaves what it could leave before.
-    ensures left_alone { ForSome (H.file host) (λ file. (IsServed file.bytes → ⊥) → (result.end ≡ Err FileStop.Device → ⊥)
-        → (file_bytes (H.file result.host) ≡ file_bytes (H.file host)) × LeavesOf H.Disk CouldBeLeft host result.host) }
+    // A file that isn't served is left alone, also where the disk fails: a crash leaves what it could leave before.
+    ensures left_alone { ForSome (H.file host) (λ file. (IsServed file.bytes → ⊥) → LeavesOf H.Disk CouldBeLeft host result.host
+        × ((result.end ≡ Err FileStop.Device → ⊥) → file_bytes (H.file result.host) ≡ file_bytes (H.file host))) }
     // Whatever its pages are, of a script on a file that is served so much is taken as its end says.
     ensures takes { IsRefused result.end ⊎ TakesBySession (I.left input.old) (I.left input.new) result.end }
     // And the texts of outcomes are told, one for each item that was answered, by which the run ends.

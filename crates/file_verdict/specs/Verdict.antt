@@ -1,4 +1,4 @@
--- When a verdict is that of a file (docs/PROGRAM.md, "check").
+-- When a verdict is that of a file (docs/PROGRAM.md, "What `check` says").
 use Rattle.std.specs.Prelude.{◌⊎◌, ℕ, List, Result, Ok, Err}
 use Rattle.store_api.specs.declared.fault.Damage.{Damage}
 use Rattle.store_api.specs.declared.fault.PageFault.{PageFault}

@@ -13,13 +13,14 @@ use Rattle.mdc_values.specs.declared.value.Value.TheVariants.{Null}
 use Rattle.mdc_values.specs.Order.{order}
 use Rattle.mdc_ast.specs.declared.definition.ColumnDef.{ColumnDef}
 use Rattle.mdc_ast.specs.declared.definition.KeyPart.{KeyPart}
-use Rattle.mdc_ast.specs.meaning.Definitions.{are_there}
-use Rattle.mdc_ast.specs.meaning.Database.{fits_all, is_of_type}
+use Rattle.mdc_ast.specs.Definitions.{are_there, places_of}
+use Rattle.mdc_ast.specs.Database.{fits_all, is_of_type}
 use Rattle.mdc_ast.specs.Truth.{value_at}
 use Rattle.mdc_ast.proofs.FitsLemmas.{fits_all-at}
 use Rattle.mdc_ast.proofs.TestsLemmas.{both}
-use Rattle.key_codec.specs.Keys.{ArePartsOf, AreTurnable, HasByteText, HasByteTexts, bytes_at_part, has_key, key_bytes, part_bytes, part_width, places_of, type_of_column, type_or_none, width_of_parts}
-use Rattle.key_codec.specs.KeyOrder.{AreSameAtParts, order_at_part, order_by_parts, turned_order}
+use Rattle.key_codec.specs.Keys.{ArePartsOf, AreTurnable, HasByteText, HasByteTexts, bytes_at_part, has_key, key_bytes, part_bytes, part_width, type_of_column, type_or_none, width_of_parts}
+use Rattle.mdc_ast.specs.ValidDatabase.{AreSameAtParts}
+use Rattle.key_codec.specs.KeyOrder.{order_at_part, order_by_parts, turned_order}
 use Rattle.key_codec.proofs.OrderLemmas.{slice_cmp-append, slice_cmp-same}
 use Rattle.key_codec.proofs.PartLemmas.{has_key-is_of_type, length-part_bytes, same_value, slice_cmp-turned_part}
 

@@ -19,8 +19,8 @@ use Rattle.mdc_values.specs.declared.value.Value.TheVariants.{Null, Int, Text, D
 use Rattle.mdc_values.specs.Fitting.{in_bigint, in_integer}
 use Rattle.mdc_values.specs.Order.{order, padded}
 use Rattle.mdc_values.specs.Value.{trimmed}
-use Rattle.mdc_ast.specs.meaning.Definitions.{width}
-use Rattle.mdc_ast.specs.meaning.Database.{is_day_number, is_of_type, is_trimmed}
+use Rattle.mdc_ast.specs.Definitions.{width}
+use Rattle.mdc_ast.specs.Database.{is_day_number, is_of_type, is_trimmed}
 use Rattle.mdc_ast.proofs.TestsLemmas.{both}
 use Rattle.key_codec.specs.Keys.{AreBytes, HasByteText, has_key, moved_up, null_byte, part_bytes, part_width, sort_bytes, turned}
 use Rattle.key_codec.specs.KeyOrder.{turned_order}

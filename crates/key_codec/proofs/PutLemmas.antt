@@ -7,10 +7,10 @@ use Rattle.mdc_values.specs.declared.value.Value.{Value}
 use Rattle.mdc_values.specs.declared.value.Value.TheVariants.{Null}
 use Rattle.mdc_ast.specs.declared.definition.ColumnDef.{ColumnDef}
 use Rattle.mdc_ast.specs.declared.definition.KeyPart.{KeyPart}
-use Rattle.mdc_ast.specs.meaning.Database.{fits_all}
-use Rattle.mdc_ast.specs.meaning.Definitions.{are_there}
+use Rattle.mdc_ast.specs.Database.{fits_all}
+use Rattle.mdc_ast.specs.Definitions.{are_there, places_of}
 use Rattle.mdc_ast.specs.Truth.{value_at}
-use Rattle.key_codec.specs.Keys.{HasByteText, HasByteTexts, bytes_at_part, key_bytes, part_bytes, part_width, places_of, type_of_column, width_of_parts}
+use Rattle.key_codec.specs.Keys.{HasByteText, HasByteTexts, bytes_at_part, key_bytes, part_bytes, part_width, type_of_column, width_of_parts}
 use Rattle.key_codec.proofs.KeyLemmas.{first_there, type_at_part, width_of_parts-cons}
 use Rattle.key_codec.proofs.PartLemmas.{has_key-is_of_type, length-part_bytes}
 use borrow.Rule.Slice.PartMut.{put_mid}

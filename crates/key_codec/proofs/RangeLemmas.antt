@@ -8,7 +8,7 @@ use Rattle.mdc_values.specs.declared.value.Value.{Value}
 use Rattle.mdc_ast.specs.declared.definition.ColumnDef.{ColumnDef}
 use Rattle.mdc_ast.specs.declared.definition.KeyPart.{KeyPart}
 use Rattle.mdc_ast.specs.declared.span.Span.{Span}
-use Rattle.mdc_ast.specs.meaning.Database.{fits_all}
+use Rattle.mdc_ast.specs.Database.{fits_all}
 use Rattle.mdc_ast.specs.Truth.{value_at}
 use Rattle.mdc_ast.proofs.TestsLemmas.{some_is}
 use Rattle.key_codec.specs.Keys.{ArePartsOf, HasByteText, bytes_at_part, key_bytes, part_bytes, type_of_column}

@@ -10,7 +10,7 @@ use Rattle.mdc_values.specs.declared.value.Value.{Value}
 use Rattle.mdc_values.specs.declared.value.Value.TheVariants.{Null, Text}
 use Rattle.mdc_values.specs.Order.{padded}
 use Rattle.mdc_values.specs.Value.{trimmed}
-use Rattle.mdc_ast.specs.meaning.Database.{is_of_type, is_trimmed}
+use Rattle.mdc_ast.specs.Database.{is_of_type, is_trimmed}
 use Rattle.mdc_ast.proofs.TestsLemmas.{both}
 use Rattle.key_codec.specs.Keys.{part_bytes}
 use Rattle.key_codec.proofs.TextLemmas.{length-padded, trimmed-filled}

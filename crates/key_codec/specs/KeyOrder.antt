@@ -21,8 +21,3 @@ order_at_part part a b = turned_order part.descending (order (value_at a part.co
 abbrev pub order_by_parts : List KeyPart → List Value → List Value → Ordering
 order_by_parts [] a b = Equal
 order_by_parts (part ∷ parts) a b = ordering_then (order_at_part part a b) (order_by_parts parts a b)
-
--- two rows have the same value in the column of each part
-abbrev pub AreSameAtParts : List KeyPart → List Value → List Value → Type 0
-AreSameAtParts [] a b = Unit {0}
-AreSameAtParts (part ∷ parts) a b = (value_at a part.column ≡ value_at b part.column) × AreSameAtParts parts a b

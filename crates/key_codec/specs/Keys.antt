@@ -10,7 +10,7 @@ use Rattle.mdc_values.specs.Fitting.{in_bigint, in_integer}
 use Rattle.mdc_values.specs.Order.{padded}
 use Rattle.mdc_ast.specs.declared.definition.ColumnDef.{ColumnDef}
 use Rattle.mdc_ast.specs.declared.definition.KeyPart.{KeyPart}
-use Rattle.mdc_ast.specs.meaning.Definitions.{are_there, is_short_key, key_width, types_at, width}
+use Rattle.mdc_ast.specs.Definitions.{are_there, is_short_key, key_width, places_of, types_at, width}
 use Rattle.mdc_ast.specs.Truth.{value_at}
 
 -- ---- one part
@@ -73,10 +73,6 @@ bytes_at_part columns values part = part_bytes (type_of_column columns part.colu
 -- the key of a row: its parts in order
 abbrev pub key_bytes : List ColumnDef → List KeyPart → List Value → List ℕ
 key_bytes columns parts values = flat_map (bytes_at_part columns values) parts
-
--- the places of the parts' columns
-abbrev pub places_of : List KeyPart → List ℕ
-places_of parts = map (λ part. part.column) parts
 
 -- how many bytes each key of these parts has
 abbrev pub width_of_parts : List ColumnDef → List KeyPart → ℕ

@@ -1,6 +1,6 @@
 // The key of a row.
 ghost use Rattle.std.specs.Prelude.{◌≡◌, ◌≤◌, ◌++◌, IfOk, IsTrue, OnOk, drop, length};
-ghost use Rattle.mdc_ast.specs.meaning.Database.{fits_all};
+ghost use Rattle.mdc_ast.specs.Database.{fits_all};
 ghost use Rattle.key_codec.specs.Keys.{ArePartsOf, HasByteTexts, key_bytes, width_of_parts};
 
 use crate::Key;

@@ -9,9 +9,10 @@ ghost use Rattle.mdc_values.specs.declared.value.Value.{Value};
 ghost use Rattle.mdc_values.specs.Order.{order};
 ghost use Rattle.mdc_ast.specs.declared.definition.ColumnDef.{ColumnDef};
 ghost use Rattle.mdc_ast.specs.declared.definition.KeyPart.{KeyPart};
-ghost use Rattle.mdc_ast.specs.meaning.Database.{fits_all};
+ghost use Rattle.mdc_ast.specs.Database.{fits_all};
 ghost use Rattle.key_codec.specs.Keys.{ArePartsOf, AreTurnable, HasByteText, has_key, key_bytes, part_bytes};
-ghost use Rattle.key_codec.specs.KeyOrder.{AreSameAtParts, order_by_parts, turned_order};
+ghost use Rattle.mdc_ast.specs.ValidDatabase.{AreSameAtParts};
+ghost use Rattle.key_codec.specs.KeyOrder.{order_by_parts, turned_order};
 
 /// Byte order of parts is SQL order of values, nulls high, and reversed for a descending part.
 pub fn values_go_as_parts()

@@ -1,7 +1,7 @@
 // A value as a part of a key.
 ghost use Rattle.std.specs.Prelude.{true, false, ◌∷◌, ◌-◌, ◌≡◌, ◌+◌, ◌≤◌, ◌<◌, ◌++◌, IsTrue, length, drop};
 ghost use Rattle.mdc_values.specs.Order.{padded};
-ghost use Rattle.mdc_ast.specs.meaning.Definitions.{width};
+ghost use Rattle.mdc_ast.specs.Definitions.{width};
 ghost use Rattle.key_codec.specs.Keys.{AreBytes, HasByteText, has_key, part_bytes, sort_bytes, turned};
 ghost use Rattle.key_codec.specs.Keys as spec;
 

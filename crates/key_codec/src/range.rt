@@ -3,7 +3,7 @@ ghost use Rattle.std.specs.Prelude.{[], ◌&&◌, not, ◌≡◌, ◌≤◌, ◌
 ghost use Rattle.mdc_words.specs.ByteOrder.{Entry};
 ghost use Rattle.mdc_values.specs.declared.value.Value.{Value};
 ghost use Rattle.mdc_ast.specs.Truth.{value_at};
-ghost use Rattle.mdc_ast.specs.meaning.Database.{fits_all};
+ghost use Rattle.mdc_ast.specs.Database.{fits_all};
 ghost use Rattle.key_codec.specs.Keys.{ArePartsOf, HasByteText, key_bytes, part_width, type_of_column};
 ghost use Rattle.key_codec.specs.Spans.{IsRangeOf, IsShortBound, first_column, is_first_descending, is_in_range, lies_in_span, reaches, span_has_kind_of};
 

@@ -4,7 +4,7 @@ ghost use Rattle.mdc_values.specs.declared.value.Value.{Value};
 ghost use Rattle.mdc_values.specs.declared.value.ColType.TheVariants as column;
 ghost use Rattle.mdc_values.specs.declared.value.Value.TheVariants as value;
 ghost use Rattle.mdc_values.specs.Fitting.{in_bigint, in_integer};
-ghost use Rattle.mdc_ast.specs.meaning.Database.{is_of_type};
+ghost use Rattle.mdc_ast.specs.Database.{is_of_type};
 ghost use Rattle.key_codec.specs.Keys as spec;
 
 use crate::part::{BIGINT_RISE, INTEGER_RISE, PRESENT};

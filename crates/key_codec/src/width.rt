@@ -1,6 +1,6 @@
 // How many bytes keys have.
 ghost use Rattle.std.specs.Prelude.{◌≡◌, ◌<◌, length};
-ghost use Rattle.mdc_ast.specs.meaning.Definitions.{width};
+ghost use Rattle.mdc_ast.specs.Definitions.{width};
 ghost use Rattle.key_codec.specs.Keys as spec;
 
 use mdc_ast::{ColumnDef, KeyPart};

@@ -1,12 +1,13 @@
 -- What holds of every database's definitions, once one of them is another.
 use Rattle.std.proofs.Common.{◌≡◌, ℕ, zero, suc, ◌+◌, List, [], ◌∷◌, length, Bool, true, false, cond, refl, ap, subst, ◌∙◌, arith}
-use Rattle.std.specs.Prelude.{◌||◌, ◌&&◌, ◌==◌, Option, Some, None, slice_set}
+use Rattle.std.specs.Prelude.{flat_map, ◌||◌, ◌&&◌, ◌==◌, Option, Some, None, slice_set}
 use Rattle.std.specs.List.{list_any, position_from}
 use Rattle.std.specs.Str.{bytes_eq}
 use Rattle.std.proofs.lemmas.Bool.Decides.{nat_tests}
 use Rattle.mdc_ast.specs.declared.definition.TableDef.{TableDef}
 use Rattle.mdc_ast.specs.declared.name.Name.{Name}
-use Rattle.mdc_ast.specs.meaning.Definitions.{AllDefsDiffer, AreValidDefs, AreValidFrom, Definitions, IsValidPlace, def_at, is_defined, is_same}
+use Rattle.mdc_ast.specs.ValidDatabase.{AllDefsDiffer, AreValidDefs, AreValidFrom, IsValidPlace, index_names}
+use Rattle.mdc_ast.specs.Definitions.{AllNamesDiffer, Definitions, def_at, is_defined, is_same}
 use Rattle.mdc_ast.proofs.TestsLemmas.{some_is}
 
 pub neither : (a b : Bool) → (a || b) ≡ false → (a ≡ false) × (b ≡ false)
@@ -98,9 +99,11 @@ valid_put from (d ∷ defs) zero def valid is = (subst (λ n. IsValidPlace n def
 valid_put from (d ∷ defs) (suc place) def valid is = (valid.0, valid_put (from + 1) defs place def valid.1 (subst (λ n. IsValidPlace n def) (omega arith) is))
 
 -- another definition in a place, or none
-pub put_keeps_defs : (defs : Definitions) (place : ℕ) (def : Option TableDef) → AreValidDefs defs → IsValidPlace place def → IsFreeBut defs place def → AreValidDefs (slice_set defs place def)
-put_keeps_defs defs place def valid is free = record {
+pub put_keeps_defs : (defs : Definitions) (place : ℕ) (def : Option TableDef) → AreValidDefs defs → IsValidPlace place def → IsFreeBut defs place def
+    → AllNamesDiffer (flat_map index_names (slice_set defs place def)) → AreValidDefs (slice_set defs place def)
+put_keeps_defs defs place def valid is free names = record {
   places = length-slice_set defs place def ∙ valid.places;
   differ = differ_put defs place def valid.differ free;
+  index_names_differ = names;
   each = valid_put 0 defs place def valid.each (subst (λ n. IsValidPlace n def) (omega arith) is);
 }

@@ -1,12 +1,5 @@
-pub mod BindingLemmas
-pub mod CausesLemmas
-pub mod CreateLemmas
-pub mod DatabaseLemmas
 pub mod DefinitionsLemmas
 pub mod FitsLemmas
-pub mod KeepingLemmas
+pub mod KindsLemmas
 pub mod PredLemmas
-pub mod RowsLemmas
-pub mod SessionLemmas
 pub mod TestsLemmas
-pub mod UpdateLemmas

@@ -1,10 +1,16 @@
 pub mod Classes
 pub mod Cutting
+pub mod Database
+pub mod Definitions
+pub mod Divisors
+pub mod FittingRows
 pub mod Grammar
+pub mod Kinds
 pub mod Phrases
 pub mod Places
 pub mod Reading
 pub mod Rules
+pub mod TableLimits
 pub mod Tokens
 pub mod Truth
-pub mod meaning
+pub mod ValidDatabase

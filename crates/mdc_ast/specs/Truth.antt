@@ -1,5 +1,5 @@
 -- Whether a row qualifies: truth with three values (docs/SQL.md, "SELECT").
-use Rattle.std.specs.Prelude.{ℕ, List, [], ◌∷◌, map, length, Bool, true, false, ◌&&◌, nat_lt, slice_get, unwrap_or}
+use Rattle.std.specs.Prelude.{ℕ, List, [], ◌∷◌, map, length, Bool, true, false, ◌&&◌, nat_lt, slice_get, unwrap_or, Option, Some, None}
 use Rattle.std.specs.List.{list_all}
 use Rattle.mdc_values.specs.declared.truth.Op.TheVariants.{Equal, AtMost, AtLeast}
 use Rattle.mdc_values.specs.declared.truth.Truth.{Truth}
@@ -135,3 +135,10 @@ layer_may_test values (layer.Not test) = test
 -- a predicate names columns that are there, and compares values of one kind
 abbrev pub may_judge : List Value → Pred → Bool
 may_judge values = fold-Pred Bool (layer_may_test values)
+
+-- ---- which rows
+
+-- a row qualifies where the predicate is true, or where there is none
+abbrev pub qualifies : Option Pred → List Value → Bool
+qualifies None values = true
+qualifies (Some pred) values = is_true (truth values pred)

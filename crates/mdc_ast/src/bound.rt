@@ -1,5 +1,6 @@
 // Statements after binding: tables are numbers, columns are places, and literals are values.
-use crate::definition::{IndexDef, KeyPart, TableDef};
+use crate::definition::{ColumnDef, IndexDef, KeyPart, TableDef};
+use crate::join::BoundJoin;
 use crate::predicate::Pred;
 use crate::statement::{PlanMode, RolloutMode, Sign};
 use mdc_values::{List, Value};
@@ -87,4 +88,10 @@ pub enum Bound {
     Begin,
     Commit,
     Rollback,
+    AddColumn {
+        table: u8,
+        column: ColumnDef,
+    },
+    Join(BoundJoin),
+    Reorg(u8),
 }

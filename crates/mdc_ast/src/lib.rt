@@ -2,11 +2,13 @@
 //!
 //! Its `specs` say how a script is cut into pieces (`Cutting`), which tokens bytes have (`Tokens`), what the grammar is, as
 //! data (`Rules`, `Phrases`, `Grammar`), and what a piece says, a statement or a refusal with its place (`Places`,
-//! `Reading`); and what statements mean to plain lists of rows (`meaning`, `Truth`). It stands on `mdc_values`.
+//! `Reading`); when a row qualifies (`Truth`) and fits (`FittingRows`), and what a plain database is and what holds of each
+//! (`Definitions`, `Database`, `TableLimits`, `ValidDatabase`). It stands on `mdc_values`.
 #![tactic(auto)]
 
 mod bound;
 mod definition;
+mod join;
 mod name;
 mod predicate;
 mod refusal;
@@ -17,6 +19,7 @@ mod statement;
 
 pub use bound::{Bound, BoundItem, BoundOperand, BoundOut, BoundSelect, BoundSet};
 pub use definition::{ColumnDef, GenExpr, GenKind, IndexDef, KeyPart, Roots, TableDef};
+pub use join::{BoundJoin, JoinOut, JoinTest, JoinText, Qual};
 pub use name::Name;
 pub use predicate::{Atom, AtomText, Pred, PredText, Right, Test, TestText};
 pub use refusal::Refusal;

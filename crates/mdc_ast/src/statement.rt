@@ -1,6 +1,6 @@
 // Statements as their texts give them, before any table is looked at. All lists stand in the order of the text.
 use crate::definition::GenKind;
-use crate::{Name, PredText};
+use crate::{JoinText, Name, PredText};
 use mdc_values::{List, Literal};
 
 /// The type of a column, as a statement writes it.
@@ -165,4 +165,15 @@ pub enum Stmt {
     Begin,
     Commit,
     Rollback,
+    /// The grammar has no form for it yet, as for all that follow.
+    AddColumn {
+        table: Name,
+        column: Name,
+        ty: TypeText,
+    },
+    OpenReader(u64),
+    CloseReader(u64),
+    Reader(u64, Select),
+    Join(JoinText),
+    Reorg(Name),
 }

@@ -2,9 +2,10 @@
 use Rattle.std.proofs.Common.{◌≡◌, ℕ, List, IsTrue, Option, Some, Result, Err, refl, sym, subst, ◌∙◌}
 use Rattle.mdc_ast.specs.Reading.{Item}
 use Rattle.mdc_ast.specs.declared.reply.Outcome.{Outcome}
-use Rattle.mdc_ast.specs.meaning.Database.{empty_database}
-use Rattle.mdc_ast.specs.meaning.Definitions.{AreValidDefs, no_tables}
-use Rattle.mdc_ast.specs.meaning.Session.{Session, session_on}
+use Rattle.mdc_ast.specs.Database.{empty_database}
+use Rattle.statement_meaning.specs.Built.{AreBuiltDefs}
+use Rattle.mdc_ast.specs.Definitions.{no_tables}
+use Rattle.statement_meaning.specs.Session.{Session, session_on}
 use Rattle.mdc_outside.specs.Disk.{File}
 use Rattle.store_api.specs.Extents.{is_shape}
 use Rattle.extent_map.specs.declared.extents.Extents.{Extents}
@@ -35,7 +36,7 @@ pub record MadeLaws : Type 0 where
   pub sound : (ext : Extents) → IsSoundDatabase ext (made_pages ext.cap)
   pub stands : (ext : Extents) → PagesStandFor ext (made_pages ext.cap) empty_database
   pub stored : (ext : Extents) → AreStored (made_pages ext.cap) no_tables
-  pub valid : AreValidDefs no_tables
+  pub valid : AreBuiltDefs no_tables
   pub extents : (extents extent_pages : ℕ) → IsTrue (is_shape extents extent_pages) → (ext : Extents) × (ext.cap ≡ extents) × (ext.extent_pages ≡ extent_pages)
 
 -- the pages that are made are served

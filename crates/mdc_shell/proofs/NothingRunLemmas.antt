@@ -1,7 +1,7 @@
 -- A run that stops before anything is taken of the script is a run of none of its items.
 use Rattle.std.proofs.Common.{◌≡◌, ℕ, List, [], false, Option, Some, IfSome, Result, Err, refl, sym, ap}
 use Rattle.std.proofs.lemmas.List.{append-nil}
-use Rattle.mdc_ast.specs.meaning.Database.{Database}
+use Rattle.mdc_ast.specs.Database.{Database}
 use Rattle.store_api.specs.declared.fault.Damage.{Damage}
 use Rattle.extent_map.specs.declared.extents.Extents.{Extents}
 use Rattle.table_trees.specs.ToldPages.{PageList}

@@ -183,10 +183,19 @@ serves_path-opened file mid new_file script left tape mid_tape new status is sam
   ends = serves.ends;
 }
 
+-- an image that could be left before, with nothing said, is one while a line is said
+pub could_be_left-moment : (before : File) (said line image tape : List ℕ) → LeavesImage (CouldBeLeft before) said image tape → IsMoment before.since said line image tape
+could_be_left-moment before said line image tape left = record { left = left.0; said = ([], line, refl, left.1 ∙ sym (append-nil said)) }
+
 pub refuses_file-before : {D : Type 0} (g : Ghosts D) (before : File) (said : List ℕ) (new_tape : Option (List ℕ)) (old new : D) (stop : FileStop) → IsStopBefore stop → new_tape ≡ Some said
-    → ((status_of_stop stop ≡ 3 → ⊥) → OverTime g.clock g.moment (IsMoment before.since said (line_of_end (Err stop))) old new) → RefusesFile g before said new_tape old new (status_of_stop stop)
-refuses_file-before g before said new_tape old new stop is_before same time =
-    record { end_ = Err stop; unopened = unopened-before stop is_before; cause = cause-before before.bytes stop is_before; ends = says_end-quiet (Some said) new_tape stop is_before same; time = time }
+    → OverTime g.clock g.moment (LeavesImage (CouldBeLeft before) said) old new → RefusesFile g before said new_tape old new (status_of_stop stop)
+refuses_file-before g before said new_tape old new stop is_before same meanwhile = record {
+  end_ = Err stop;
+  unopened = unopened-before stop is_before;
+  cause = cause-before before.bytes stop is_before;
+  ends = says_end-quiet (Some said) new_tape stop is_before same;
+  time = over_time_wider meanwhile (could_be_left-moment before said (line_of_end (Err stop)));
+}
 
 pub runs_path-before : {D : Type 0} (g : Ghosts D) (before : File) (said : List ℕ) (script : Option (List ℕ)) (old new : D) (stop : FileStop) (well : IsWell before.bytes)
     → RunsItems well.ext (pages_of before.bytes) said script script (Some said) (Err stop) → (g.beside new).tape ≡ Some said
@@ -227,20 +236,11 @@ runs_items-complete said script left tape end_ status run is within no_disk no_r
     subst IsComplete (sym same) (completes_session run.end_ script left run.more run.items run.in_hand run.outcomes run.undamaged run.ends within
     (λ e. no_disk (same ∙ e)) (λ e. no_read (same ∙ e)) (λ e. no_say (same ∙ e)))
 
--- a told file, by its bytes
-pub file_of_bytes : (told : Option File) (bytes : List ℕ) → file_bytes told ≡ Some bytes → (file : File) × (told ≡ Some file) × (file.bytes ≡ bytes)
-file_of_bytes None bytes is = absurd (cc)
-file_of_bytes (Some file) bytes is = (file, refl, cc)
-
 -- told files of the same bytes have them
 pub same_bytes : (old new : Option File) (before after : File) → old ≡ Some before → new ≡ Some after → file_bytes new ≡ file_bytes old → after.bytes ≡ before.bytes
 same_bytes old new before after is now same = let both : Some after.bytes ≡ Some before.bytes = sym (ap file_bytes now) ∙ (same ∙ ap file_bytes is) in cc
 
 -- ---- a file that can't be opened
-
--- an image that could be left before, with nothing said, is one while a line is said
-pub could_be_left-moment : (before : File) (said line image tape : List ℕ) → LeavesImage (CouldBeLeft before) said image tape → IsMoment before.since said line image tape
-could_be_left-moment before said line image tape left = record { left = left.0; said = ([], line, refl, left.1 ∙ sym (append-nil said)) }
 
 -- a refusal, and then its line
 pub refused_time : {D : Type 0} (g : Ghosts D) (before : File) (said line : List ℕ) (old mid new : D) → g.file old ≡ Some before → (g.beside old).tape ≡ Some said → (tape : Option (List ℕ)) → tape ≡ Some said
@@ -260,7 +260,7 @@ refuses_file-opened g before said new_tape old mid new status attached refuses =
   unopened = refuses.unopened;
   cause = refuses.cause;
   ends = refuses.ends;
-  time = λ not_failed. over_time_then (over_time_wider attached (could_be_left-moment before said (line_of_end refuses.end_))) (refuses.time not_failed);
+  time = over_time_then (over_time_wider attached (could_be_left-moment before said (line_of_end refuses.end_))) refuses.time;
 }
 
 -- ---- a formed file

@@ -1,7 +1,7 @@
 -- What the runs of scripts do to their source, their file and their tape, for each end (docs/PROGRAM.md).
 use Rattle.std.specs.Prelude.{◌≡◌, ◌⊎◌, ◌≤◌, ◌+◌, ◌++◌, ℕ, List, [], Option, Some, None, Result, Err, length}
 use Rattle.std.specs.Option.{ForSome}
-use Rattle.mdc_ast.specs.meaning.Database.{empty_database}
+use Rattle.mdc_ast.specs.Database.{empty_database}
 use Rattle.mdc_outside.specs.Disk.{File}
 use Rattle.mdc_words.specs.Time.{OverTime}
 use Rattle.mdc_outside.specs.Moments.{IsMoment}
@@ -47,14 +47,14 @@ pub record RunsPath {D : Type 0} (g : Ghosts D) (before : File) (said : List ℕ
   pub run : RunsOnFile g before said script left old new end_
   pub status_is : status ≡ status_of end_
 
--- `run FILE` on a file that can't be opened: nothing but the line of its cause is said, and unless the disk failed a crash meanwhile
--- leaves an image that could be left before.
+-- `run FILE` on a file that can't be opened: nothing but the line of its cause is said, and a crash meanwhile leaves an image that
+-- could be left before.
 pub record RefusesFile {D : Type 0} (g : Ghosts D) (before : File) (said : List ℕ) (new_tape : Option (List ℕ)) (old new : D) (status : ℕ) : Type 0 where
   pub end_ : Result Served FileStop
   pub unopened : IsUnopened end_
   pub cause : IsCauseIn before.bytes end_
   pub ends : SaysEnd (Some said) new_tape status end_
-  pub time : (status ≡ 3 → ⊥) → OverTime g.clock g.moment (IsMoment before.since said (line_of_end end_)) old new
+  pub time : OverTime g.clock g.moment (IsMoment before.since said (line_of_end end_)) old new
 
 -- `run FILE` that stopped before any origin: the end has its cause in the file, nothing but its line is said, and a crash meanwhile
 -- leaves an image that could be left before.

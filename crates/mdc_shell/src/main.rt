@@ -3,8 +3,8 @@
 //! the database in a file is whole. For all other words it says a usage line.
 //!
 //! Its one call is `run` (`program`). Of a script on a file that is well it promises that the replies are those of plain lists of
-//! rows, up to a stop, and that a crash at each moment leaves a well file, which stands for those lists after some of the items,
-//! with each whose reply had begun; for a create, what the file holds, what was said, and what a crash leaves; for a check of any
+//! rows, up to a stop, and that from the origin of the run on a crash leaves a well file, which stands for those lists after some of
+//! the items, with each whose reply had begun; for a create, what the file holds, what was said, and what a crash leaves; for a check of any
 //! file, that the verdict is exact, and that a crash leaves a file that stands for the same pages; for all other words, that nothing
 //! is read. `main` only makes the real source and host, of which nothing is told, sees to it that no file is taken for a standard
 //! stream, and says on standard error why a call stopped (`explaining`).

@@ -83,10 +83,9 @@ pub fn run<I: Source, H: Host>(
         → (before : File) (said : List ℕ) → H.file host ≡ Some before → H.tape host ≡ Some said → (IsServed before.bytes → ⊥)
         → RefusesFile H.Disk before said (H.tape result.host) host result.host result.status.0 × (input.new ≡ input.old) }
 
-    // Such a file stays, unless the disk failed.
+    // Such a file stays; where the disk failed, it may be what a crash could leave of it.
     ensures keeps_refused { (path : List ℕ) → SpellsLine (map string_bytes words.now.items) (RunFile path)
-        → (before : File) → H.file host ≡ Some before → (IsServed before.bytes → ⊥) → (result.status.0 ≡ 3 → ⊥)
-        → (after : File) × (H.file result.host ≡ Some after) × (after.bytes ≡ before.bytes) }
+        → (before : File) → H.file host ≡ Some before → (IsServed before.bytes → ⊥) → StaysUnserved before (H.file result.host) result.status.0 }
 
     // `run -`: a scratch file without a byte is made a database, and the script runs on it.
     ensures scratch { SpellsLine (map string_bytes words.now.items) RunScratch

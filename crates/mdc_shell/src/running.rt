@@ -8,6 +8,7 @@ ghost use Rattle.script_session.specs.Told.{StaysTold};
 ghost use Rattle.file_session.specs.Leaving.{AreFormed};
 ghost use Rattle.file_session.specs.Well.{AreWell, IsWell};
 ghost use Rattle.mdc_shell.specs.Create.{MayAttach};
+ghost use Rattle.mdc_shell.specs.Check.{StaysUnserved};
 ghost use Rattle.mdc_shell.specs.Run.{RefusesFile, RefusesScratch, ReopensFile, RunsPath, RunsScratch, ServesPath, TakesByStatus};
 ghost use Rattle.mdc_shell.specs.Status.{IsScriptStatus};
 ghost use Rattle.mdc_shell.specs.Untouched.{IsUntouched};
@@ -45,8 +46,7 @@ pub fn run_path<I: Source, H: Host>(alloc: Global, path: &str, input: &mut I, ho
         → (after : File) × (H.file result.host ≡ Some after) × AreFormed after }
     ensures refuses { (before : File) (said : List ℕ) → H.file host ≡ Some before → H.tape host ≡ Some said → (IsServed before.bytes → ⊥)
         → RefusesFile H.Disk before said (H.tape result.host) host result.host result.status.0 × (input.new ≡ input.old) }
-    ensures keeps_refused { (before : File) → H.file host ≡ Some before → (IsServed before.bytes → ⊥) → (result.status.0 ≡ 3 → ⊥)
-        → (after : File) × (H.file result.host ≡ Some after) × (after.bytes ≡ before.bytes) }
+    ensures keeps_refused { (before : File) → H.file host ≡ Some before → (IsServed before.bytes → ⊥) → StaysUnserved before (H.file result.host) result.status.0 }
     ensures attaches { MayAttach (H.attaches host) path.now false (H.attaches result.host) }
     ensures disk { CountsFault (result.status.0 ≡ 3) (H.disk_faults host) (H.disk_faults result.host) }
     ensures takes { IfSome (I.left input.old) (λ script. TakesByStatus script (I.left input.new) result.status.0) }
@@ -129,8 +129,7 @@ fn run_attached<I: Source, H: Host>(alloc: Global, input: &mut I, host: H) -> En
         → (after : File) × (H.file result.host ≡ Some after) × AreFormed after }
     ensures refuses { (before : File) (said : List ℕ) → H.file host ≡ Some before → H.tape host ≡ Some said → (IsServed before.bytes → ⊥)
         → RefusesFile H.Disk before said (H.tape result.host) host result.host result.status.0 × (input.new ≡ input.old) }
-    ensures keeps_refused { (before : File) → H.file host ≡ Some before → (IsServed before.bytes → ⊥) → (result.status.0 ≡ 3 → ⊥)
-        → (after : File) × (H.file result.host ≡ Some after) × (after.bytes ≡ before.bytes) }
+    ensures keeps_refused { (before : File) → H.file host ≡ Some before → (IsServed before.bytes → ⊥) → StaysUnserved before (H.file result.host) result.status.0 }
     ensures attaches { H.attaches result.host ≡ H.attaches host }
     ensures disk { CountsFault (result.status.0 ≡ 3) (H.disk_faults host) (H.disk_faults result.host) }
     ensures takes { IfSome (I.left input.old) (λ script. TakesByStatus script (I.left input.new) result.status.0) }

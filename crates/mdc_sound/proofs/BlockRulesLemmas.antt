@@ -15,7 +15,7 @@ use Rattle.block_map.specs.MapLines.{MapLine, map_line, map_lines, blocks_of_sta
 use Rattle.block_map.proofs.MapLinesLemmas.{contains_more, named_in_state}
 use Rattle.mdc_sound.specs.BlockRules.{AreBlockRowsSound, AreTableBlockIndexesSound, IsBlockIndexSound, IsOfOneCell, IsUsedCountSound}
 use Rattle.table_trees.specs.RowCells.{AreOfOneCell}
-use Rattle.mdc_sound.specs.FittingRows.{RowFits}
+use Rattle.mdc_ast.specs.FittingRows.{RowFits}
 use Rattle.mdc_sound.specs.SpaceRules.{IsBlockMapSound, IsMapLineSound}
 use Rattle.mdc_sound.specs.TableRows.{PlacedRow, rows_in_table}
 use Rattle.mdc_sound.proofs.TableRowsLemmas.{KeepsBlockPages, rows_in_block-kept, rows_in_table-kept}

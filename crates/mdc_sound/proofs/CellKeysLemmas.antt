@@ -4,7 +4,7 @@ use Rattle.std.specs.Prelude.{Contains, map}
 use Rattle.mdc_values.specs.declared.value.Value.{Value}
 use Rattle.mdc_ast.specs.Truth.{value_at}
 use Rattle.mdc_ast.specs.declared.definition.TableDef.{TableDef}
-use Rattle.key_codec.specs.KeyOrder.{AreSameAtParts}
+use Rattle.mdc_ast.specs.ValidDatabase.{AreSameAtParts}
 use Rattle.key_codec.specs.Keys.{key_bytes}
 use Rattle.key_codec.proofs.KeyLemmas.{key_bytes-same}
 use Rattle.block_map.proofs.MapLinesLemmas.{contains_cases, contains_more}

@@ -13,7 +13,7 @@ use Rattle.extent_map.specs.declared.kind.Kind.{Kind}
 use Rattle.extent_map.proofs.ExtentsLemmas.{extent_limits}
 use Rattle.row_page.specs.RowPage.{slot_count}
 use Rattle.row_page.proofs.RowPageLemmas.{slot_count-ge}
-use Rattle.table_page.specs.TableLimits.{IsTableDef}
+use Rattle.mdc_ast.specs.TableLimits.{IsTableDef}
 use Rattle.mdc_sound.specs.Placing.{block_slot_count, rows_from_spot}
 use Rattle.mdc_sound.specs.StandingTable.{OverwritesRow, PlacesRow, RoomNote, StandsTable, TableForests, TakesRowOut, pages_of, spots_of}
 use Rattle.mdc_sound.specs.TableRows.{PlacedRow, rows_in_table}

@@ -16,7 +16,7 @@ use Rattle.extent_map.specs.Map.{IsWholeCount, root_stating}
 use Rattle.extent_map.specs.declared.extents.Extents.{Extents}
 use Rattle.extent_map.specs.declared.kind.Kind.{Kind}
 use Rattle.entry_tree.specs.Forest.{Forest, times}
-use Rattle.table_page.specs.TableLimits.{IsTableDef}
+use Rattle.mdc_ast.specs.TableLimits.{IsTableDef}
 use Rattle.table_page.specs.TablePage.{table_page}
 use Rattle.table_trees.specs.TableTrees.{dimension_place, dimension_places, record_place, record_places, rising_parts, tree_places}
 use Rattle.table_trees.specs.TreesBeside.{HoldsTreeAt}
@@ -29,7 +29,7 @@ use Rattle.mdc_sound.specs.StandingTable.{ChangesTable, IsTableSpace, StandsTabl
 use Rattle.mdc_sound.specs.TablePages.{DefinesTable}
 use Rattle.mdc_sound.specs.TableRows.{PlacedRow, rows_in_table}
 use Rattle.mdc_sound.specs.TableViews.{TableView, trees_of_table}
-use Rattle.mdc_sound.proofs.NextNumberLemmas.{limits_next, stands_next, with_next}
+use Rattle.mdc_sound.proofs.NextNumberLemmas.{indexes_next, limits_next, stands_next, with_next}
 use Rattle.mdc_sound.proofs.SoundChangeLemmas.{ChangesPlace, IsPlaceSpace, each_table_now, first_rules_now}
 use Rattle.mdc_sound.proofs.SoundDatabaseLemmas.{length-with_table_page, page_at-with_table_page, put_table_page, rows_with_table_page}
 use Rattle.mdc_sound.proofs.SpaceRulesLemmas.{range_at, range_length}
@@ -267,18 +267,19 @@ module _ {S : Type 0} (g : Ghosts S) (before ext : Extents) (old new : S) (def :
   pub sound_with_next : (next : ℕ) → next < 18446744073709551616 → IsSoundWith ext (with_next def next) (pages_of g new)
   sound_with_next next small = sound_of_change (with_next def next) refl refl refl (limits_next def.number def next small limits) (stands_next g ext new def next owners_now forests_now changes.stands)
 
-  -- the same between two changes of a table without record indexes
-  pub between_without_indexes : AreSoundIndexes before (with_table_page def (pages_of g old)) sound.view → AreNumbersSound before (with_table_page def (pages_of g old)) sound.view
-      → AreOtherKeysSound before (with_table_page def (pages_of g old)) sound.view def.number → def.indexes ≡ []
+  -- the same between two changes, where rule 11 holds of the table now
+  pub between_with_definition : AreSoundIndexes before (with_table_page def (pages_of g old)) sound.view → AreNumbersSound before (with_table_page def (pages_of g old)) sound.view
+      → AreOtherKeysSound before (with_table_page def (pages_of g old)) sound.view def.number → AreTableIndexesSound ext (pages_of g new) (view_of def forests_now)
       → AreRowNumbersSound def (rows_in_table ext (pages_of g new) def forests_now.map) → IsSoundBetweenChanges ext def (pages_of g new)
-  between_without_indexes indexed numbered others none numbers_now =
-      between_of_change def refl refl refl limits changes.stands indexed numbered others
-      (no_indexes_sound ext (pages_of g new) def forests_now none (no_index_trees g ext new def owners_now forests_now changes.stands limits.roots.one_each none)) numbers_now
+  between_with_definition = between_of_change def refl refl refl limits changes.stands
 
   pub between_with_next : AreSoundIndexes before (with_table_page def (pages_of g old)) sound.view → AreNumbersSound before (with_table_page def (pages_of g old)) sound.view
-      → AreOtherKeysSound before (with_table_page def (pages_of g old)) sound.view def.number → def.indexes ≡ []
+      → AreOtherKeysSound before (with_table_page def (pages_of g old)) sound.view def.number → AreTableIndexesSound ext (pages_of g new) (view_of def forests_now)
       → (next : ℕ) → next < 18446744073709551616 → AreRowNumbersSound (with_next def next) (rows_in_table ext (pages_of g new) def forests_now.map) → IsSoundBetweenChanges ext (with_next def next) (pages_of g new)
-  between_with_next indexed numbered others none next small numbers_now =
-      let stands = stands_next g ext new def next owners_now forests_now changes.stands in
-      between_of_change (with_next def next) refl refl refl (limits_next def.number def next small limits) stands indexed numbered others
-      (no_indexes_sound ext (pages_of g new) (with_next def next) forests_now none (no_index_trees g ext new (with_next def next) owners_now forests_now stands limits.roots.one_each none)) numbers_now
+  between_with_next indexed numbered others indexes_now next small numbers_now =
+      between_of_change (with_next def next) refl refl refl (limits_next def.number def next small limits) (stands_next g ext new def next owners_now forests_now changes.stands) indexed numbered others
+      (indexes_next ext (pages_of g new) def next forests_now indexes_now) numbers_now
+
+  -- as it does where the table has no record index
+  pub no_indexes_now : def.indexes ≡ [] → AreTableIndexesSound ext (pages_of g new) (view_of def forests_now)
+  no_indexes_now none = no_indexes_sound ext (pages_of g new) def forests_now none (no_index_trees g ext new def owners_now forests_now changes.stands limits.roots.one_each none)

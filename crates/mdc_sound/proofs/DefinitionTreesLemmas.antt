@@ -6,10 +6,9 @@ use Rattle.std.proofs.lemmas.Bool.Decides.{nat_tests}
 use Rattle.mdc_ast.specs.declared.definition.ColumnDef.{ColumnDef}
 use Rattle.mdc_ast.specs.declared.definition.IndexDef.{IndexDef}
 use Rattle.mdc_ast.specs.declared.definition.TableDef.{TableDef}
-use Rattle.mdc_ast.specs.meaning.Definitions.{are_there, is_short_key}
+use Rattle.mdc_ast.specs.Definitions.{are_there, is_short_key, places_of}
 use Rattle.mdc_ast.proofs.TestsLemmas.{and_true, both}
-use Rattle.key_codec.specs.Keys.{places_of}
-use Rattle.table_page.specs.TableLimits.{IsGoodIndex, IsTableDef, is_good_dimension}
+use Rattle.mdc_ast.specs.TableLimits.{IsGoodIndex, IsTableDef, is_good_dimension}
 use Rattle.table_trees.specs.TableTrees.{AreIndexParts, HasBlockIndexes, rising_parts}
 
 places_rising : (places : List ℕ) → places_of (rising_parts places) ≡ places

@@ -3,7 +3,7 @@ use Rattle.std.specs.Prelude.{◌≡◌, ◌<◌, ◌+◌, ℕ, zero, suc, IsTru
 use Rattle.std.proofs.Common.{refl, arith, subst, sym}
 use Rattle.store_api.specs.StoreState.{page_at, zero_page}
 use Rattle.store_api.specs.Frame.{HoldsPage}
-use Rattle.mdc_ast.specs.meaning.Database.{empty_database}
+use Rattle.mdc_ast.specs.Database.{empty_database}
 use Rattle.extent_map.specs.Kinds.{is_used_place}
 use Rattle.extent_map.specs.Map.{HoldsMap}
 use Rattle.extent_map.specs.Owners.{IsUsedPage, extent_of, place_in_extent}

@@ -7,6 +7,7 @@ pub mod DefinitionTreesLemmas
 pub mod ElementsLemmas
 pub mod EmptyDatabaseLemmas
 pub mod MappedBlocksLemmas
+pub mod NamedPartsLemmas
 pub mod NextNumberLemmas
 pub mod PlacingLemmas
 pub mod PlainTableLemmas

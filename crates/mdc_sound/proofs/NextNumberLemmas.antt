@@ -1,20 +1,21 @@
--- A table stands whatever its next row number is.
+-- A table stands whatever its next row number is, and its record indexes are sound.
 use Rattle.std.proofs.Common.{ℕ, ◌<◌, List, [], ◌∷◌}
 use Rattle.std.specs.List.{AllByRecursion, AllZip}
+use Rattle.mdc_ast.specs.declared.definition.IndexDef.{IndexDef}
 use Rattle.mdc_ast.specs.declared.definition.TableDef.{TableDef}
 use Rattle.store_api.specs.declared.pages.Pages.{Ghosts}
 use Rattle.extent_map.specs.declared.extents.Extents.{Extents}
 use Rattle.extent_map.specs.declared.kind.Kind.{Kind}
 use Rattle.entry_tree.specs.Forest.{Forest}
-use Rattle.block_map.specs.MapLines.{map_lines, used_blocks}
-use Rattle.table_page.specs.TableLimits.{IsTableDef}
+use Rattle.block_map.specs.MapLines.{map_lines, pending_blocks, used_blocks}
+use Rattle.mdc_ast.specs.TableLimits.{IsTableDef}
 use Rattle.table_trees.specs.TableTrees.{cell_parts, rising_parts}
 use Rattle.table_trees.specs.ToldPages.{PageList}
 use Rattle.mdc_ast.specs.declared.definition.KeyPart.{KeyPart}
-use Rattle.mdc_sound.specs.BlockRules.{AreBlockRowsSound, IsBlockIndexSound, IsUsedCountSound}
-use Rattle.mdc_sound.specs.FittingRows.{RowFits}
+use Rattle.mdc_sound.specs.BlockRules.{AreBlockRowsSound, AreTableIndexesSound, IsBlockIndexSound, IsSoundIndex, IsUsedCountSound}
+use Rattle.mdc_ast.specs.FittingRows.{RowFits}
 use Rattle.mdc_sound.specs.SpaceRules.{IsBlockMapSound, IsMapLineSound}
-use Rattle.mdc_sound.specs.StandingTable.{StandsTable, TableForests, pages_of}
+use Rattle.mdc_sound.specs.StandingTable.{StandsTable, TableForests, pages_of, view_of}
 use Rattle.mdc_sound.specs.TableRows.{PlacedRow, rows_in_block, rows_in_table}
 use Rattle.mdc_sound.proofs.BlockRulesLemmas.{each_as}
 
@@ -60,6 +61,16 @@ module _ (ext : Extents) (pages : PageList) (def : TableDef) (next : ℕ) where
   dims_next rows [] (index ∷ indexes) all = absurd all
   dims_next rows (dim ∷ dims) [] all = absurd all
   dims_next rows (dim ∷ dims) (index ∷ indexes) all = (index_next rows (rising_parts dim) index all.0, dims_next rows dims indexes all.1)
+
+  record_indexes_next : (rows : List PlacedRow) (pending : List ℕ) (indexes : List IndexDef) (trees : List Forest) → AllZip (IsSoundIndex def rows pending) indexes trees
+      → AllZip (IsSoundIndex (with_next def next) rows pending) indexes trees
+  record_indexes_next rows pending [] [] all = tt
+  record_indexes_next rows pending [] (tree ∷ trees) all = absurd all
+  record_indexes_next rows pending (index ∷ indexes) [] all = absurd all
+  record_indexes_next rows pending (index ∷ indexes) (tree ∷ trees) all = (record { has = all.0.has; only = all.0.only }, record_indexes_next rows pending indexes trees all.1)
+
+  pub indexes_next : (forests : TableForests) → AreTableIndexesSound ext pages (view_of def forests) → AreTableIndexesSound ext pages (view_of (with_next def next) forests)
+  indexes_next forests all = record_indexes_next (rows_in_table ext pages def forests.map) (pending_blocks forests.map) def.indexes forests.indexes all
 
 pub stands_next : {S : Type 0} (g : Ghosts S) (ext : Extents) (s : S) (def : TableDef) (next : ℕ) (owners : List Kind) (forests : TableForests) → StandsTable g ext s def owners forests
     → StandsTable g ext s (with_next def next) owners forests

@@ -6,8 +6,7 @@ use Rattle.std.proofs.lemmas.List.Kept.{AllPairs-filter}
 use Rattle.std.proofs.lemmas.List.Sorted.{Contains-permutation, IsPermutation-map, IsPermutation-sym, IsPermutation-trans}
 use Rattle.mdc_ast.specs.declared.definition.TableDef.{TableDef}
 use Rattle.mdc_ast.specs.declared.row.Row.{Row}
-use Rattle.mdc_ast.specs.meaning.Database.{PlainTable}
-use Rattle.mdc_ast.specs.meaning.Doing.{appended}
+use Rattle.mdc_ast.specs.Database.{PlainTable, appended}
 use Rattle.mdc_sound.specs.BlockRules.{AreRowNumbersSound}
 use Rattle.mdc_sound.specs.StandsForDatabase.{rootless, with_row, without_row}
 use Rattle.mdc_sound.specs.TableRows.{PlacedRow}

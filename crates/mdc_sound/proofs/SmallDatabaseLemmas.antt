@@ -14,7 +14,7 @@ use Rattle.mdc_ast.specs.declared.definition.IndexDef.{IndexDef}
 use Rattle.mdc_ast.specs.declared.definition.TableDef.{TableDef}
 use Rattle.mdc_ast.specs.declared.row.Row.{Row}
 use Rattle.mdc_values.specs.declared.value.Value.TheVariants.{Int}
-use Rattle.mdc_sound.specs.StandsForDatabase.{rootless}
+use Rattle.mdc_sound.specs.StandsForDatabase.{rootless, HoldsTable, PagesStandFor}
 use Rattle.store_api.specs.Extents.{first_page_of}
 use Rattle.store_api.specs.StoreState.{page_at, zero_page}
 use Rattle.extent_map.specs.Kinds.{IsKindOf, is_used_place}
@@ -29,20 +29,19 @@ use Rattle.entry_tree.specs.EntryBounds.{Rises}
 use Rattle.entry_tree.specs.Forest.Forest.{Leaf, Nil}
 use Rattle.entry_tree.proofs.ForestLemmas.{once_least, once_other}
 use Rattle.block_map.specs.MapLines.{AreMapEntries, IsMapEntry, mapped_blocks}
-use Rattle.table_page.specs.TableLimits.{IsTableDef}
+use Rattle.mdc_ast.specs.TableLimits.{IsTableDef}
 use Rattle.table_page.specs.TablePage.{IsTablePageOf}
 use Rattle.table_page.proofs.TablePageLemmas.{no_blank_table}
 use Rattle.table_trees.specs.TableTrees.{TreePlace}
 use Rattle.mdc_sound.specs.BlockRules.{AreBlockRowsSound, AreRowNumbersSound, AreTableBlockIndexesSound, AreTableIndexesSound, IsBlockIndexSound, IsBlockPageSound, IsOfOneCell, IsSoundIndex, IsUniqueSound, IsUsedCountSound}
-use Rattle.key_codec.specs.KeyOrder.{AreSameAtParts}
+use Rattle.mdc_ast.specs.ValidDatabase.{AreSameAtParts}
 use Rattle.table_trees.specs.RowCells.{AreOfOneCell}
 use Rattle.table_trees.specs.ToldPages.{HasTree}
 use Rattle.mdc_sound.specs.EmptyDatabase.{few_extents}
-use Rattle.mdc_sound.specs.FittingRows.{RowFits}
+use Rattle.mdc_ast.specs.FittingRows.{RowFits}
 use Rattle.mdc_sound.specs.SmallDatabase.{cells_t, cells_u, def_t, def_u, lines_t, lines_u, row_five, row_null, row_ten, row_without, rows_t, small_database, small_owners, small_pages, small_view, view_t, view_u}
 use Rattle.mdc_sound.specs.SoundDatabase.{IsSoundDatabase, KeepAllRules}
 use Rattle.mdc_sound.specs.SpaceRules.{AreRootsInIndexes, AreTablePagesSound, IsBlockMapSound, IsMapPageSound, IsMapSound, IsOwnerThere, IsRootSound, IsTreePageSound, indexes_in, times_in_trees}
-use Rattle.mdc_sound.specs.StandsForDatabase.{HoldsTable, PagesStandFor}
 use Rattle.mdc_sound.specs.TablePages.{DefinesTable}
 use Rattle.mdc_sound.specs.TableRows.{PlacedRow, rows_in_block, rows_in_table}
 

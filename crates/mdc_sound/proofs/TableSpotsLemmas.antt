@@ -114,7 +114,7 @@ module _ (ext : Extents) (pages : PageList) (def : TableDef) (owners : List Kind
   other_spot e t d low other is =
       spot_at e d low ∙ ap (spot_of_kind ext pages def map_tree e) is ∙ other_number t def.number (spot_of_state (mapped_state e (map_lines map_tree)) (block_slots ext pages def e)) OtherBlock other
 
-  own_spot : (e : ℕ) (d : Spot) → e < ext.cap → owner_of owners e ≡ Block def.number
+  pub own_spot : (e : ℕ) (d : Spot) → e < ext.cap → owner_of owners e ≡ Block def.number
       → slice_index_or (table_spots ext pages def owners map_tree) e d ≡ spot_of_state (mapped_state e (map_lines map_tree)) (block_slots ext pages def e)
   own_spot e d low is =
       spot_at e d low ∙ ap (spot_of_kind ext pages def map_tree e) is ∙ same_number def.number (spot_of_state (mapped_state e (map_lines map_tree)) (block_slots ext pages def e)) OtherBlock

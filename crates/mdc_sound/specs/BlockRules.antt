@@ -7,14 +7,14 @@ use Rattle.mdc_ast.specs.declared.definition.IndexDef.{IndexDef}
 use Rattle.mdc_ast.specs.declared.definition.KeyPart.{KeyPart}
 use Rattle.mdc_ast.specs.declared.definition.TableDef.{TableDef}
 use Rattle.extent_map.specs.declared.extents.Extents.{Extents}
-use Rattle.key_codec.specs.KeyOrder.{AreSameAtParts}
+use Rattle.mdc_ast.specs.ValidDatabase.{AreSameAtParts}
 use Rattle.key_codec.specs.Keys.{width_of_parts}
 use Rattle.node_page.specs.Node.{number_within}
 use Rattle.row_page.specs.RowPage.{IsRowPage, rows_of}
 use Rattle.entry_tree.specs.Forest.{Forest, leaf_entries}
 use Rattle.table_trees.specs.RowCells.{AreOfOneCell}
 use Rattle.block_map.specs.MapLines.{MapLine, map_lines, pending_blocks, used_blocks}
-use Rattle.mdc_sound.specs.FittingRows.{RowFits}
+use Rattle.mdc_ast.specs.FittingRows.{RowFits}
 use Rattle.mdc_sound.specs.SpaceRules.{DatabaseView, EachTable}
 use Rattle.mdc_sound.specs.TableRows.{PlacedRow, block_page, rows_in_block, rows_in_table}
 use Rattle.table_trees.specs.TableTrees.{block_entry, cell_parts, record_entry, rising_parts}

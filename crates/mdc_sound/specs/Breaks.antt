@@ -15,7 +15,7 @@ use Rattle.entry_tree.specs.Forest.{Forest, times}
 use Rattle.block_map.specs.BlockMaps.{IsMapForm}
 use Rattle.block_map.specs.MapLines.{MapLine, map_lines, pending_blocks, used_blocks, mapped_blocks}
 use Rattle.mdc_sound.specs.BlockRules.{IsBlockPageSound, IsUsedCountSound, IsIdleCountSound, IsOfOneCell, IsBlockIndexSound, IsSoundIndex, AreRowNumbersSound, IsUniqueSound}
-use Rattle.mdc_sound.specs.FittingRows.{RowFits}
+use Rattle.mdc_ast.specs.FittingRows.{RowFits}
 use Rattle.mdc_sound.specs.SpaceRules.{IsMapPageSound, IsIndexPage, stated_root}
 use Rattle.mdc_sound.specs.TablePages.{DefinesTable, table_page_at}
 use Rattle.mdc_sound.specs.TableRows.{PlacedRow, rows_in_block, rows_in_table}

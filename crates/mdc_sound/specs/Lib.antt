@@ -1,7 +1,6 @@
 pub mod BlockRules
 pub mod Breaks
 pub mod EmptyDatabase
-pub mod FittingRows
 pub mod Placing
 pub mod RunningFull
 pub mod SmallDatabase

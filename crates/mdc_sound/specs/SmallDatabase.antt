@@ -6,7 +6,7 @@ use Rattle.mdc_words.specs.ByteOrder.{Entry}
 use Rattle.mdc_ast.specs.declared.definition.ColumnDef.{ColumnDef}
 use Rattle.mdc_ast.specs.declared.definition.TableDef.{TableDef}
 use Rattle.mdc_ast.specs.declared.row.Row.{Row}
-use Rattle.mdc_ast.specs.meaning.Database.{Database}
+use Rattle.mdc_ast.specs.Database.{Database}
 use Rattle.store_api.specs.StoreState.{zero_page}
 use Rattle.extent_map.specs.Map.{map_page}
 use Rattle.extent_map.specs.declared.kind.Kind.{Kind}

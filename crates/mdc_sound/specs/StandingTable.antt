@@ -20,7 +20,7 @@ use Rattle.key_codec.specs.Keys.{key_bytes}
 use Rattle.entry_tree.specs.Forest.{Forest, times}
 use Rattle.entry_tree.specs.Standing.{IsIdlePage}
 use Rattle.block_map.specs.MapLines.{map_lines, used_blocks}
-use Rattle.table_trees.specs.TableTrees.{TreePlace, block_index_places, cell_parts, tree_places}
+use Rattle.table_trees.specs.TableTrees.{TreePlace, block_index_places, cell_parts, record_places, tree_places}
 use Rattle.table_trees.specs.TreesBeside.{GrowsPages, StandTrees}
 use Rattle.table_trees.specs.ToldPages.{PageList}
 use Rattle.mdc_sound.specs.BlockRules.{AreBlockRowsSound, AreTableBlockIndexesSound, IsIdleCountSound, IsOfOneCell, IsUsedCountSound}
@@ -66,16 +66,15 @@ pub record StandsTable {S : Type 0} (g : Ghosts S) (ext : Extents) (s : S) (def 
 abbrev pub spots_of : {S : Type 0} → Ghosts S → Extents → S → TableDef → List Kind → TableForests → List Spot
 spots_of g ext s def owners forests = table_spots ext (pages_of g s) def owners forests.map
 
--- ---- what calls on its rows make of it
+-- ---- what calls on it make of it
 
--- Calls on a table's rows made it another one that stands, in extents of the same shape. The blocks of other tables and the used
--- index pages outside its trees are as they were, its trees took only pages that were theirs or idle, and its record indexes
--- have the trees that they had.
+-- Calls on a table made it another one that stands, in extents of the same shape. The blocks of other tables and the used index
+-- pages outside its trees are as they were, and its trees, those of its record indexes too, took only pages that were theirs or
+-- idle.
 pub record ChangesTable {S : Type 0} (g : Ghosts S) (before ext : Extents) (old new : S) (def : TableDef)
     (owners : List Kind) (forests : TableForests) (owners_now : List Kind) (forests_now : TableForests) : Type 0 where
   pub stands : StandsTable g ext new def owners_now forests_now
   pub shape : IsSameShape before ext
-  pub records : forests_now.indexes ≡ forests.indexes
   pub others_blocks : (e t : ℕ) → t ≢ def.number → owner_of owners e ≡ Block t → owner_of owners_now e ≡ Block t
   pub no_others_blocks : (e t : ℕ) → t ≢ def.number → owner_of owners_now e ≡ Block t → owner_of owners e ≡ Block t
   pub others_pages : (p : ℕ) → IsUsedPage before owners p → sum_by (times p) (forests_in_order forests) ≡ 0 → IsUsedPage before owners_now p
@@ -148,9 +147,9 @@ IsTableTreePage g ext s def p =
 abbrev pub roots_in : List TreePlace → List ℕ
 roots_in places = map (λ place. place.root) places
 
--- What damage met by a call on a table's rows names: the count of pages, a page of the extent map, a root by the rules on trees,
--- block maps and block indexes, a page of a tree that isn't a used one, a row page, or the first page of a block whose count
--- isn't right.
+-- What damage met by a call on a table names: the count of pages, a page of the extent map, a root by the rules on trees, block
+-- maps, block indexes and record indexes, a page of a tree that isn't a used one, a row page, or the first page of a block whose
+-- count isn't right.
 pub data NamesTablePart (ext : Extents) (def : TableDef) (damage : Damage) : Type 0 where
   count : damage.rule ≡ 1 → damage.page ≡ 0 → NamesTablePart ext def damage
   map_page : damage.rule ≡ 2 → IsMapPage ext damage.page → NamesTablePart ext def damage
@@ -160,6 +159,7 @@ pub data NamesTablePart (ext : Extents) (def : TableDef) (damage : Damage) : Typ
   row_page : (block : ℕ) → damage.rule ≡ 7 → IsPageOfBlock ext block damage.page → NamesTablePart ext def damage
   row_count : (block : ℕ) → damage.rule ≡ 8 → damage.page ≡ first_page_of ext.cap ext.extent_pages block → NamesTablePart ext def damage
   block_index : damage.rule ≡ 10 → Contains (roots_in (block_index_places def)) damage.page → NamesTablePart ext def damage
+  record_index : damage.rule ≡ 11 → Contains (roots_in (record_places def)) damage.page → NamesTablePart ext def damage
 
 -- the damage is such a part's, and the table wasn't told to stand
 pub record BreaksTable {S : Type 0} (g : Ghosts S) (ext : Extents) (s : S) (def : TableDef) (damage : Damage) : Type 0 where
@@ -203,29 +203,33 @@ pub record IsReadyTable {S : Type 0} (g : Ghosts S) (ext : Extents) (room_of : E
   pub notes : AreRightNotes ext owners
   pub rooms : AreRightRooms def room_of (spots_of g ext s def owners forests)
 
--- A row was put where placing says, after which trees may have taken free extents. The table stands, and the notes are right.
+-- A row was put where placing says, after which trees may have taken free extents. The table stands, its record indexes have the
+-- trees that they had, and the notes are right.
 pub record PlacesRow {S : Type 0} (g : Ghosts S) (before ext : Extents) (room_of : Entry → RoomNote) (old new : S) (def : TableDef)
     (owners : List Kind) (forests : TableForests) (row : Row) (rid : Rid) : Type 0 where
   pub owners_now : List Kind
   pub forests_now : TableForests
   pub changes : ChangesTable g before ext old new def owners forests owners_now forests_now
+  pub records : forests_now.indexes ≡ forests.indexes
   pub rooms : AreRightRooms def room_of (spots_of g ext new def owners_now forests_now)
   pub mid : List Spot
   pub puts : PutsRow def (block_slot_count before def) (spots_of g before old def owners forests) row mid rid
   pub claims : SpotsAfterClaims mid (spots_of g ext new def owners_now forests_now)
 
--- The row in a place was taken out, after which trees may have given extents back. The table stands, and the notes are right.
+-- The row in a place was taken out, after which trees may have given extents back. The table stands, its record indexes have the
+-- trees that they had, and the notes are right.
 pub record TakesRowOut {S : Type 0} (g : Ghosts S) (before ext : Extents) (room_of : Entry → RoomNote) (old new : S) (def : TableDef)
     (owners : List Kind) (forests : TableForests) (row : Row) (rid : Rid) : Type 0 where
   pub owners_now : List Kind
   pub forests_now : TableForests
   pub changes : ChangesTable g before ext old new def owners forests owners_now forests_now
+  pub records : forests_now.indexes ≡ forests.indexes
   pub rooms : AreRightRooms def room_of (spots_of g ext new def owners_now forests_now)
   pub mid : List Spot
   pub takes : TakesRow (spots_of g before old def owners forests) rid row mid
   pub returns : SpotsAfterReturns mid (spots_of g ext new def owners_now forests_now)
 
--- The row in a place became another of the same cell, in its place.
+-- The row in a place became another of the same cell, in its place. All trees are those that there were, and so are the owners.
 pub record OverwritesRow {S : Type 0} (g : Ghosts S) (before ext : Extents) (room_of : Entry → RoomNote) (old new : S) (def : TableDef)
     (owners : List Kind) (forests : TableForests) (row other : Row) (rid : Rid) : Type 0 where
   pub changes : ChangesTable g before ext old new def owners forests owners forests

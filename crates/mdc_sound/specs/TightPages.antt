@@ -6,7 +6,7 @@ use Rattle.std.specs.Str.{bytes_eq}
 use Rattle.mdc_words.specs.ByteOrder.{Entry}
 use Rattle.mdc_ast.specs.declared.definition.TableDef.{TableDef}
 use Rattle.mdc_ast.specs.declared.row.Row.{Row}
-use Rattle.mdc_ast.specs.meaning.Database.{Database, PlainTable}
+use Rattle.mdc_ast.specs.Database.{Database, PlainTable}
 use Rattle.extent_map.specs.declared.extents.Extents.{Extents}
 use Rattle.key_codec.specs.Keys.{key_bytes, width_of_parts}
 use Rattle.node_page.specs.Node.{Node, leaf_room}

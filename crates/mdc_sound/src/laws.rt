@@ -1,23 +1,23 @@
 // What holds of every list of pages and of every store that tells its pages, and of databases that were worked out by hand.
-ghost use Rattle.std.specs.Prelude.{◌≡◌, ◌↔◌, ◌<◌, ◌≤◌, ◌^◌, ℕ, IsTrue, List, [], length};
+ghost use Rattle.std.specs.Prelude.{◌≡◌, ◌↔◌, ◌<◌, ◌≤◌, ◌^◌, ℕ, IsTrue, List, length};
 ghost use Rattle.std.specs.List.{AllByRecursion};
 ghost use Rattle.store_api.specs.Frame.{Touches};
 ghost use Rattle.extent_map.specs.Map.{HoldsMap};
 ghost use Rattle.extent_map.specs.declared.extents.Extents.{Extents};
 ghost use Rattle.extent_map.specs.declared.kind.Kind.{Kind};
 ghost use Rattle.entry_tree.specs.Forest.{Forest};
-ghost use Rattle.table_page.specs.TableLimits.{IsTableDef};
+ghost use Rattle.mdc_ast.specs.TableLimits.{IsTableDef};
 ghost use Rattle.table_trees.specs.TableTrees.{AreIndexParts, HasBlockIndexes, TreePlace};
 ghost use Rattle.table_trees.specs.TreesBeside.{HoldsTreeAt};
 ghost use Rattle.table_trees.specs.ToldPages.{HasTree, PageList, told_pages};
 ghost use Rattle.mdc_ast.specs.declared.definition.TableDef.{TableDef};
-ghost use Rattle.mdc_ast.specs.meaning.Database.{Database, empty_database};
-ghost use Rattle.mdc_sound.specs.BlockRules.{AreRowNumbersSound};
+ghost use Rattle.mdc_ast.specs.Database.{Database, empty_database};
+ghost use Rattle.mdc_sound.specs.BlockRules.{AreRowNumbersSound, AreTableIndexesSound};
 ghost use Rattle.mdc_sound.specs.EmptyDatabase.{few_extents, empty_pages};
 ghost use Rattle.mdc_sound.specs.SmallDatabase.{small_database, small_pages};
 ghost use Rattle.mdc_sound.specs.SoundDatabase.{KeepAllRules, IsSoundBetweenChanges, IsSoundInParts, IsSoundDatabase, IsSoundWith};
 ghost use Rattle.mdc_sound.specs.SpaceRules.{DatabaseView};
-ghost use Rattle.mdc_sound.specs.StandingTable.{ChangesTable, IsTableSpace, StandsTable, TableForests, pages_of};
+ghost use Rattle.mdc_sound.specs.StandingTable.{ChangesTable, IsTableSpace, StandsTable, TableForests, pages_of, view_of};
 ghost use Rattle.mdc_sound.specs.StandsForDatabase.{PagesStandFor};
 ghost use Rattle.mdc_sound.specs.TableRows.{rows_in_table};
 
@@ -69,8 +69,8 @@ pub fn sound_tables_stand<P: Pages>(pages: &P)
 {}
 
 /// Calls that change one table, and touch no page but its own, keep all pages sound with its definition in hand, and with the same
-/// definition but for its next row number. The same holds between two changes of a table without record indexes, where the numbers
-/// of its rows differ and lie below the next one.
+/// definition but for its next row number. The same holds between two changes, where rule 11 holds of this table now, and the
+/// numbers of its rows differ and lie below the next one.
 pub fn changed_tables_stay_sound<P: Pages>(old: &P, new: &P)
     ensures same_definition { (before ext : Extents) (def : TableDef) (owners owners_now : List Kind) (forests forests_now : TableForests)
         → IsSoundWith before def (pages_of P.Pages old.now) → StandsTable P.Pages before old.now def owners forests
@@ -86,7 +86,7 @@ pub fn changed_tables_stay_sound<P: Pages>(old: &P, new: &P)
         → IsSoundBetweenChanges before def (pages_of P.Pages old.now) → StandsTable P.Pages before old.now def owners forests
         → ChangesTable P.Pages before ext old.now new.now def owners forests owners_now forests_now
         → Touches P.Pages (IsTableSpace P.Pages before old.now def) old.now new.now → length (pages_of P.Pages old.now) ≤ length (pages_of P.Pages new.now)
-        → def.indexes ≡ [] → next < 2 ^ 64
+        → AreTableIndexesSound ext (pages_of P.Pages new.now) (view_of def forests_now) → next < 2 ^ 64
         → AreRowNumbersSound (record def { next = next }) (rows_in_table ext (pages_of P.Pages new.now) def forests_now.map)
         → IsSoundBetweenChanges ext (record def { next = next }) (pages_of P.Pages new.now) }
 {}

@@ -17,11 +17,11 @@ use Rattle.row_page.specs.RowPage.{count_rows}
 use Rattle.store_api.specs.declared.pages.Pages.{Ghosts}
 use Rattle.extent_map.specs.declared.extents.Extents.{Extents}
 use Rattle.extent_map.specs.declared.kind.Kind.{Kind}
-use Rattle.table_page.specs.TableLimits.{IsTableDef}
+use Rattle.mdc_ast.specs.TableLimits.{IsTableDef}
 use Rattle.block_map.specs.MapLines.{used_blocks}
 use Rattle.mdc_sound.specs.BlockRules.{AreBlockRowsSound, IsOfOneCell}
 use Rattle.table_trees.specs.RowCells.{AreOfOneCell}
-use Rattle.mdc_sound.specs.FittingRows.{RowFits}
+use Rattle.mdc_ast.specs.FittingRows.{RowFits}
 use Rattle.mdc_sound.specs.Placing.{AfterClaims, AfterReturns, HasRoomFor, IsRowAt, Spot, left_with}
 use Rattle.mdc_sound.specs.Placing.Spot.{FreeBlock, FreeExtent, IndexExtent, OtherBlock, PendingBlock, UsedBlock}
 use Rattle.mdc_sound.specs.StandingTable.{AreRightRooms, HoldsKey, RoomNote, StandsTable, TableForests, pages_of, spots_of}
@@ -32,10 +32,10 @@ use Rattle.mdc_sound.proofs.PlacingLemmas.{filled_below}
 use Rattle.mdc_sound.proofs.TableSpotsLemmas.{used_of_spot}
 use Rattle.table_blocks.specs.BlockChanges.{SameSpot}
 use Rattle.table_blocks.proofs.ClearedSlotsLemmas.{left_used}
-use Rattle.cell_rooms.specs.FoundRoom.{cell_key_of}
-use Rattle.cell_rooms.specs.RoomNotes.{SaysNoMore, found_at, lowered_to, no_note}
+use Rattle.free_space.specs.FoundRoom.{cell_key_of}
+use Rattle.free_space.specs.RoomNotes.{SaysNoMore, found_at, lowered_to, no_note}
 use Rattle.mdc_table.specs.LoweredNotes.{LowersNoteOf}
-use Rattle.cell_rooms.proofs.CellKeysLemmas.{cell_key_of-same, one_cell}
+use Rattle.free_space.proofs.CellKeysLemmas.{cell_key_of-same, one_cell}
 use Rattle.mdc_sound.proofs.SlotRowsLemmas.{IsPlaced, placed_in_slot, some_row}
 
 -- ---- lists

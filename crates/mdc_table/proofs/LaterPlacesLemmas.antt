@@ -36,6 +36,7 @@ module _ {S : Type 0} (g : Ghosts S) (before ext : Extents) (old mid new : S) (d
     owners_now = places.owners_now;
     forests_now = places.forests_now;
     changes = changes_along before ext old mid new def owners forests told same places.owners_now places.forests_now places.changes;
+    records = places.records;
     rooms = places.rooms;
     mid = places.mid;
     puts = subst (λ (pages : PageList). PutsRow def (block_slot_count before def) (table_spots before pages def owners forests.map) row places.mid rid) same places.puts;

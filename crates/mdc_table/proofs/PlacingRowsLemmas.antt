@@ -13,7 +13,7 @@ use Rattle.extent_map.specs.Owners.{HasNoFree}
 use Rattle.extent_map.specs.declared.extents.Extents.{Extents}
 use Rattle.extent_map.specs.declared.kind.Kind.{Kind}
 use Rattle.extent_map.proofs.GrowthLemmas.{growth_along}
-use Rattle.table_page.specs.TableLimits.{IsTableDef}
+use Rattle.mdc_ast.specs.TableLimits.{IsTableDef}
 use Rattle.block_map.specs.BlockMaps.{HasRow}
 use Rattle.block_map.specs.MapLines.{free_blocks}
 use Rattle.block_map.specs.declared.row.BlockRow.{BlockRow}
@@ -22,7 +22,7 @@ use Rattle.block_map.specs.declared.state.BlockState.TheVariants as state
 use Rattle.table_trees.specs.TreesBeside.{GrowsPages}
 use Rattle.table_trees.specs.ToldPages.{PageList}
 use Rattle.entry_tree.specs.Forest.{Forest}
-use Rattle.mdc_sound.specs.FittingRows.{RowFits}
+use Rattle.mdc_ast.specs.FittingRows.{RowFits}
 use Rattle.mdc_sound.specs.Placing.{AfterClaims, HasRoomFor, HoldsNowhere, IsFreeBlock, IsFreeExtent, IsLowestAt, PutsRow, Spot, begun_with, block_slot_count, table_spots}
 use Rattle.mdc_sound.specs.Placing.Spot.{FreeBlock, FreeExtent, IndexExtent, OtherBlock, PendingBlock, UsedBlock}
 use Rattle.mdc_sound.specs.RunningFull.{HasNoSpot}
@@ -33,9 +33,9 @@ use Rattle.mdc_sound.proofs.TableSpotsLemmas.{free_block_of_spot, free_block_spo
 use Rattle.table_blocks.specs.BlockChanges.{SameSpot, TurnsSpot}
 use Rattle.table_blocks.specs.BlockSteps.{FillsSlot, HasRoomAt, IsBlockOfCell}
 use Rattle.table_blocks.proofs.SpotChangesLemmas.{claims_change}
-use Rattle.cell_rooms.specs.FoundRoom.{FindsRoom, IsFirstRoom, cell_key_of}
-use Rattle.cell_rooms.specs.RoomNotes.{SaysNoMore, found_at}
-use Rattle.cell_rooms.proofs.CellKeysLemmas.{one_cell}
+use Rattle.free_space.specs.FoundRoom.{FindsRoom, IsFirstRoom, cell_key_of}
+use Rattle.free_space.specs.RoomNotes.{SaysNoMore, found_at}
+use Rattle.free_space.proofs.CellKeysLemmas.{one_cell}
 use Rattle.mdc_table.specs.NextBlock.{BeginsNext, IsNextBlock}
 use Rattle.mdc_table.proofs.KeptRoomsLemmas.{holds_used, in_set, none_below, rooms_noted, row_fits, stays_in_set, used_below}
 use Rattle.mdc_table.proofs.StandingBlocksLemmas.{free_within}
@@ -109,7 +109,6 @@ module _ {S : Type 0} {g : Ghosts S} (before ext : Extents) (old mid new : S) (d
   changes_along owners_now forests_now changes = record {
     stands = changes.stands;
     shape = changes.shape;
-    records = changes.records;
     others_blocks = changes.others_blocks;
     no_others_blocks = changes.no_others_blocks;
     others_pages = changes.others_pages;
@@ -123,6 +122,7 @@ module _ {S : Type 0} {g : Ghosts S} (before ext : Extents) (old mid new : S) (d
       → TurnsSpot g After before ext old new def block spot owners forests owners_now forests_now
   turns_along After block spot owners_now forests_now turns = record {
     changes = changes_along owners_now forests_now turns.changes;
+    records = turns.records;
     spots = subst (λ (pages : PageList). AllZip After (slice_set (table_spots before pages def owners forests.map) block spot) (spots_of g ext new def owners_now forests_now)) same turns.spots;
   }
 
@@ -166,6 +166,7 @@ module _ {S : Type 0} {g : Ghosts S} (ext : Extents) (old mid new : S) (def : Ta
         owners_now = owners;
         forests_now = fills.forests_now;
         changes = turns.changes;
+        records = turns.records;
         rooms =
             rooms_noted ext ext old new def owners owners forests fills.forests_now ready.stands turns.changes.stands from ready.rooms now row rid.block slots defined fits claims
             (in_set fills.slots rid.slot (Some row) fills.lowest.within) none (λ key holds. holds_filled def key fills.slots rid.slot row (fills.lowest.is_it None) (subst (HoldsKey def key) was holds)) within
@@ -296,6 +297,7 @@ module _ {S : Type 0} {g : Ghosts S} (before ext : Extents) (old mid new : S) (d
         owners_now = begins.owners_now;
         forests_now = begins.forests_now;
         changes = turns.changes;
+        records = turns.records;
         rooms =
             rooms_noted before ext old new def owners begins.owners_now forests begins.forests_now ready.stands turns.changes.stands from ready.rooms now row block
             (slice_set (replicate (block_slot_count before def) None) 0 (Some row)) defined fits turns.spots

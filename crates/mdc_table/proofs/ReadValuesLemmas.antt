@@ -4,8 +4,8 @@ use Rattle.std.specs.Prelude.{IsTrue}
 use Rattle.std.proofs.lemmas.Bool.Decides.{nat_tests}
 use Rattle.mdc_ast.specs.declared.definition.ColumnDef.{ColumnDef}
 use Rattle.mdc_ast.specs.declared.row.Row.{Row}
-use Rattle.mdc_ast.specs.meaning.Database.{fits_all}
-use Rattle.mdc_ast.specs.meaning.Definitions.{are_there}
+use Rattle.mdc_ast.specs.Database.{fits_all}
+use Rattle.mdc_ast.specs.Definitions.{are_there}
 use Rattle.block_rows.specs.HeldRows.{HasReadValues}
 use Rattle.block_index.proofs.CellsLemmas.{keys_of_fitting}
 

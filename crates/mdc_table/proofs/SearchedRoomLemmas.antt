@@ -14,21 +14,21 @@ use Rattle.extent_map.specs.Owners.{AreRightNotes}
 use Rattle.extent_map.specs.declared.extents.Extents.{Extents}
 use Rattle.extent_map.specs.declared.fault.SpaceFault.{SpaceFault}
 use Rattle.extent_map.specs.declared.kind.Kind.{Kind}
-use Rattle.table_page.specs.TableLimits.{IsTableDef}
+use Rattle.mdc_ast.specs.TableLimits.{IsTableDef}
 use Rattle.block_map.specs.declared.row.BlockRow.{BlockRow}
 use Rattle.block_map.specs.declared.state.BlockState.TheVariants as state
 use Rattle.table_trees.specs.SpaceChanges.{MakesChanges}
-use Rattle.mdc_sound.specs.FittingRows.{RowFits}
+use Rattle.mdc_ast.specs.FittingRows.{RowFits}
 use Rattle.mdc_sound.specs.Placing.{HasRoomFor, HoldsNowhere}
 use Rattle.mdc_sound.specs.Placing.Spot.{OtherBlock}
 use Rattle.mdc_sound.specs.RunningFull.{block_changes}
 use Rattle.mdc_sound.specs.StandingTable.{BreaksExpected, BreaksTable, IsBlockOrMapPage, IsReadyTable, IsTableSpace, IsTableTreePage, KeepsBlocksBut, MeetsNoFree, PlacesRow, StandsTable, TableForests, pages_of, spots_of}
 use Rattle.mdc_sound.proofs.StandingTableLemmas.{stands_same}
 use Rattle.table_blocks.specs.BlockSteps.{FillsSlot, HasRoomAt}
-use Rattle.cell_rooms.specs.FoundRoom.{FindsRoom, IsFirstRoom, cell_key_of}
-use Rattle.cell_rooms.specs.RoomNotes.{Notes, found_at, room_of}
-use Rattle.cell_rooms.specs.declared.rooms.Rooms.{Rooms}
-use Rattle.cell_rooms.proofs.RoomNotesLemmas.{noted_at_most, others_at_most}
+use Rattle.free_space.specs.FoundRoom.{FindsRoom, IsFirstRoom, cell_key_of}
+use Rattle.free_space.specs.RoomNotes.{Notes, found_at, room_of}
+use Rattle.free_space.specs.declared.rooms.Rooms.{Rooms}
+use Rattle.free_space.proofs.RoomNotesLemmas.{noted_at_most, others_at_most}
 use Rattle.mdc_table.specs.NextBlock.{BeginsNext, FindsNoPlace, NextBlockRunsFull}
 use Rattle.mdc_table.proofs.KeptBlocksLemmas.{keeps_along, keeps_in_block}
 use Rattle.mdc_table.proofs.NextBlocksLemmas.{full_along, full_no_place, full_ready, runs_of_place, runs_space_expecting, runs_space_then}

@@ -40,7 +40,7 @@ use Rattle.mdc_sound.proofs.BlockRulesLemmas.{each_of, named_owned}
 use Rattle.mdc_sound.proofs.PlacingLemmas.{filled_below}
 use Rattle.mdc_sound.proofs.StandingTableLemmas.{stands_same}
 use Rattle.mdc_sound.proofs.TableSpotsLemmas.{length-spots, used_of_spot, used_spot}
-use Rattle.cell_rooms.proofs.TableRunsLemmas.{breaks_map_of_table, breaks_table_same, map_page_of_table}
+use Rattle.free_space.proofs.TableRunsLemmas.{breaks_map_of_table, breaks_table_same, map_page_of_table}
 use Rattle.mdc_sound.proofs.SlotRowsLemmas.{length-block_slots}
 use Rattle.table_trees.specs.TableTrees.{map_place, place_of_tree}
 use Rattle.table_trees.specs.TreesBeside.{IsTreePageAt}

@@ -8,12 +8,11 @@ use Rattle.mdc_values.specs.declared.rid.Rid.{Rid}
 use Rattle.mdc_ast.specs.declared.definition.ColumnDef.{ColumnDef}
 use Rattle.mdc_ast.specs.declared.definition.TableDef.{TableDef}
 use Rattle.mdc_ast.specs.declared.row.Row.{Row}
-use Rattle.mdc_ast.specs.meaning.Definitions.{are_there}
+use Rattle.mdc_ast.specs.Definitions.{are_there, places_of}
 use Rattle.store_api.specs.declared.fault.StoreFault.{StoreFault}
 use Rattle.store_api.specs.declared.pages.Pages.{Ghosts}
 use Rattle.extent_map.specs.declared.extents.Extents.{Extents}
 use Rattle.extent_map.specs.declared.kind.Kind.{Kind}
-use Rattle.key_codec.specs.Keys.{places_of}
 use Rattle.key_codec.proofs.KeyLemmas.{first_there}
 use Rattle.table_trees.specs.TableTrees.{rising_parts}
 use Rattle.block_index.specs.Cells.{HaveKeys}
@@ -27,10 +26,10 @@ use Rattle.row_page.specs.RowPage.{count_rows}
 use Rattle.mdc_sound.specs.StandingTable.{AreRightRooms, BreaksExpected, HasRowAt, IsReadyTable, NamesTablePart, OverwritesRow, RoomNote, StandsTable, TableForests, TakesRowOut, spots_of}
 use Rattle.table_blocks.specs.BlockChanges.{SameSpot, TurnsSpot}
 use Rattle.table_blocks.specs.BlockSteps.{EmptiesSlot, HasThisRow}
-use Rattle.cell_rooms.specs.FoundRoom.{cell_key_of}
-use Rattle.cell_rooms.specs.RoomNotes.{IsForgotten, Lowers, lowered_to, room_of}
-use Rattle.cell_rooms.specs.declared.rooms.Rooms.{Rooms}
-use Rattle.cell_rooms.proofs.RoomNotesLemmas.{noted_at_most, others_at_most}
+use Rattle.free_space.specs.FoundRoom.{cell_key_of}
+use Rattle.free_space.specs.RoomNotes.{IsForgotten, Lowers, lowered_to, room_of}
+use Rattle.free_space.specs.declared.rooms.Rooms.{Rooms}
+use Rattle.free_space.proofs.RoomNotesLemmas.{noted_at_most, others_at_most}
 use Rattle.mdc_table.specs.LoweredNotes.{LowersNoteOf}
 use Rattle.mdc_table.specs.TableReading.{HasRowOfCell}
 use Rattle.mdc_table.proofs.KeptRoomsLemmas.{rooms_left, rooms_lowered, rooms_overwritten}
@@ -97,6 +96,7 @@ module _ {S : Type 0} {g : Ghosts S} where
       owners_now = empties.owners_now;
       forests_now = empties.forests_now;
       changes = empties.turns.changes;
+      records = empties.turns.records;
       rooms = rooms;
       mid = slice_set (spots_of g before old def owners forests) rid.block (left_with (slice_set empties.slots rid.slot None));
       takes = record { slots = empties.slots; lies = empties.lies; is_left = refl };

@@ -4,8 +4,8 @@ use Rattle.mdc_words.specs.ByteOrder.{Entry}
 use Rattle.mdc_ast.specs.declared.definition.TableDef.{TableDef}
 use Rattle.mdc_ast.specs.declared.row.Row.{Row}
 use Rattle.mdc_sound.specs.StandingTable.{RoomNote}
-use Rattle.cell_rooms.specs.FoundRoom.{cell_key_of}
-use Rattle.cell_rooms.specs.RoomNotes.{SaysNoMore, lowered_to}
+use Rattle.free_space.specs.FoundRoom.{cell_key_of}
+use Rattle.free_space.specs.RoomNotes.{SaysNoMore, lowered_to}
 
 -- The note of the row's cell is lowered to the block, and the others are as they were; any of them may be lost.
 pub record LowersNoteOf (def : TableDef) (row : Row) (block : ℕ) (from now : Entry → RoomNote) : Type 0 where

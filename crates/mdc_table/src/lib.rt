@@ -7,7 +7,7 @@
 //! name says, and all other tables are as they were.
 //!
 //! Notes in memory make a put cheap (`Rooms`): they are part of what a table is between calls. It stands on `table_blocks` for
-//! one block at a time, on `cell_rooms` for where a row finds room, and on the words of `mdc_sound`. Record indexes are not kept
+//! one block at a time, on `free_space` for where a row finds room, and on the words of `mdc_sound`. Record indexes are not kept
 //! here.
 #![tactic(auto)]
 
@@ -20,7 +20,7 @@ mod taking;
 
 pub use account::{Account, account_of};
 pub use block_rows::Hit;
-pub use cell_rooms::Rooms;
+pub use free_space::Rooms;
 pub use overwriting::overwrite_row;
 pub use placing::place_row;
 pub use reading::{push_rows_of_used_block, row_at, used_blocks};

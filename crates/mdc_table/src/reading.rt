@@ -6,7 +6,7 @@ ghost use Rattle.store_api.specs.Fetching.{BringsOnce};
 ghost use Rattle.store_api.specs.Frame.{NoPage};
 ghost use Rattle.store_api.specs.RunsOverPages.{RunsOverPages};
 ghost use Rattle.extent_map.specs.declared.kind.Kind.{Kind};
-ghost use Rattle.table_page.specs.TableLimits.{IsTableDef};
+ghost use Rattle.mdc_ast.specs.TableLimits.{IsTableDef};
 ghost use Rattle.block_map.specs.MapLines.{used_blocks};
 ghost use Rattle.block_rows.specs.HeldRows.{HasReadValues, HaveReadValues, placed_row, qualifying};
 ghost use Rattle.row_filter.specs.Filtering.{may_filter};

@@ -6,21 +6,21 @@ ghost use Rattle.extent_map.specs.Owners.{IsSameShape};
 ghost use Rattle.extent_map.specs.declared.kind.Kind.{Kind};
 ghost use Rattle.mdc_ast.specs.declared.row.Row.{Row};
 ghost use Rattle.row_page.specs.RowPage.{count_rows};
-ghost use Rattle.table_page.specs.TableLimits.{IsTableDef};
+ghost use Rattle.mdc_ast.specs.TableLimits.{IsTableDef};
 ghost use Rattle.table_trees.specs.SpaceChanges.{MakesChanges};
 ghost use Rattle.mdc_sound.specs.Placing.{IsRowAt};
 ghost use Rattle.mdc_sound.specs.RunningFull.{left_changes};
 ghost use Rattle.mdc_sound.specs.StandingTable.{BreaksExpected, ChangesTable, IsReadyTable, IsTableOrMapPage, KeepsBlocksBut, StandsTable, TableForests, TakesRowOut, pages_of, spots_of};
 ghost use Rattle.block_rows.specs.HeldRows.{HasReadValues};
 ghost use Rattle.table_blocks.specs.BlockSteps.{HasThisRow};
-ghost use Rattle.cell_rooms.specs.RoomNotes.{room_of};
+ghost use Rattle.free_space.specs.RoomNotes.{room_of};
 ghost use Rattle.mdc_table.specs.LoweredNotes.{LowersNoteOf};
 
 use crate::faults::unmapped;
 use crate::reading::block_slots;
 use block_index::cell_key;
-use cell_rooms::Rooms;
 use extent_map::Extents;
+use free_space::Rooms;
 use mdc_ast::{Row, TableDef};
 use mdc_values::Rid;
 use std::alloc::Global;
@@ -45,7 +45,7 @@ pub fn take_row<P: Pages>(
         → HasThisRow P.Pages ext.old pages.old def.now rid row.now owners forests
         → TakesRowOut P.Pages ext.old ext.new (room_of rooms.new) pages.old pages.new def.now owners forests row.now rid) }
     ensures leaves { OnOk result ((owners : List Kind) (forests : TableForests) → StandsTable P.Pages ext.old pages.old def.now owners forests
-        → HasThisRow P.Pages ext.old pages.old def.now rid row.now owners forests → (owners_now : List Kind) × (forests_now : TableForests) × ChangesTable P.Pages ext.old ext.new pages.old pages.new def.now owners forests owners_now forests_now) }
+        → HasThisRow P.Pages ext.old pages.old def.now rid row.now owners forests → (owners_now : List Kind) × (forests_now : TableForests) × ChangesTable P.Pages ext.old ext.new pages.old pages.new def.now owners forests owners_now forests_now × (forests_now.indexes ≡ forests.indexes)) }
     ensures makes { OnOk result ((owners : List Kind) (forests : TableForests) → IsReadyTable P.Pages ext.old (room_of rooms.old) pages.old def.now owners forests
         → (slots : List (Option Row)) → IsRowAt (spots_of P.Pages ext.old pages.old def.now owners forests) rid row.now slots
         → MakesChanges ext.old (pages_of P.Pages pages.old) (left_changes def.now row.now rid.block (count_rows slots)) (pages_of P.Pages pages.new)) }

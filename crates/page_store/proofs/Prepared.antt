@@ -10,7 +10,7 @@ use Rattle.store_api.specs.StoreState.{stated_count}
 use Rattle.mdc_outside.specs.Disk.{File}
 use Rattle.redo_journal.specs.Images.{Numbered}
 use Rattle.page_file.specs.Layout.{home_page}
-use Rattle.page_changes.specs.Table.{AreRising}
+use Rattle.dirty_pages.specs.Table.{AreRising}
 use Rattle.page_store.specs.declared.desk.Desk.{Desk}
 use Rattle.mdc_words.specs.Listed.{listed}
 use Rattle.page_store.specs.Standing.{image_of}

@@ -1,5 +1,5 @@
 -- What has changed of the pages of a store since its last commit.
-pub use Rattle.page_changes.specs.Changes.{Overlay, Changed, unchanged, changed_in, nothing}
+pub use Rattle.dirty_pages.specs.Changes.{Overlay, Changed, unchanged, changed_in, nothing}
 use Rattle.std.specs.Prelude.{◌≡◌, ◌<◌, ℕ, List, [], ◌∷◌, Option, Some, None, slice_index_or, nat_le, if◌then◌else◌}
 use Rattle.std.specs.Option.{option_or}
 use Rattle.std.specs.List.{All}

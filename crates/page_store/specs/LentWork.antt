@@ -2,7 +2,7 @@
 use Rattle.std.specs.Prelude.{◌≡◌, ℕ, List, Some, Result, IsOk, OnErr, slice_set}
 use Rattle.std.specs.Borrow.{follows_so, name_if_ok, MutBor, Fml, Array, u8}
 use Rattle.store_api.specs.declared.fault.PageFault.{PageFault}
-use Rattle.page_changes.specs.LentChange.{SameFrame}
+use Rattle.dirty_pages.specs.LentChange.{SameFrame}
 use Rattle.page_store.specs.declared.desk.Desk.{Desk}
 use Rattle.page_store.specs.contracts.desk.Desk.{the_row}
 

@@ -16,9 +16,9 @@ ghost use Rattle.page_store.specs.Desk.{IsKept, IsPlaced, Does, DoesOnOk, DoesOn
 use crate::page_cache::PageCache;
 use crate::shape::Shape;
 use crate::write_through::{Halt, write_any};
+use dirty_pages::Changes;
 use mdc_outside::Disk;
 use mdc_values::Memory;
-use page_changes::Changes;
 use page_file::FIRST_PAGE;
 use redo_journal::LentImages;
 use store_api::{DeviceFault, Page, PageFault};

@@ -2,10 +2,12 @@
 use Rattle.std.proofs.Common.{◌≡◌, ℕ, zero, suc, List, [], ◌∷◌, ◌∙◌, refl, sym, ap, subst, arith}
 use Rattle.std.specs.Prelude.{Option, Some, None, option_map, IsSome, IfSome, Result, Ok, Err, OnErr}
 use Rattle.mdc_ast.specs.declared.row.Row.{Row}
-use Rattle.mdc_ast.specs.meaning.Database.{Database, IsValid, PlainTable, changed_at, table_at, with_place}
-use Rattle.mdc_ast.proofs.DatabaseLemmas.{IsValidAt, changed_at_keeps, changed_at-with_place, is_valid_at}
+use Rattle.mdc_ast.specs.Database.{Database, PlainTable, changed_at, table_at, with_place}
+use Rattle.statement_meaning.specs.Built.{IsBuiltDatabase}
+use Rattle.statement_meaning.proofs.BuiltLemmas.{is_valid_table}
+use Rattle.statement_meaning.proofs.DatabaseLemmas.{IsValidAt, changed_at_keeps, changed_at-with_place, is_valid_at}
 use Rattle.mdc_ast.proofs.TestsLemmas.{some_is}
-use Rattle.row_judging.specs.Executing.{IsThere}
+use Rattle.row_checks.specs.Executing.{IsThere}
 use Rattle.plain_engine.specs.Tables.{with_next, with_rows}
 
 -- what holds anyhow holds after an error
@@ -54,7 +56,7 @@ still_numbered db new place change e same h =
     mapped (Some table) h = same table ∙ h
 
 -- a valid table has the number of its place
-pub valid_number : (db : Database) (place : ℕ) → IsValid db → IfSome (table_at db place) (λ table. table.def.number ≡ place)
+pub valid_number : (db : Database) (place : ℕ) → IsBuiltDatabase db → IfSome (table_at db place) (λ table. table.def.number ≡ place)
 valid_number db place valid = by_table (table_at db place) refl
   where
     by_table : (found : Option PlainTable) → table_at db place ≡ found → IfSome found (λ table. table.def.number ≡ place)
@@ -104,11 +106,11 @@ put_and_numbered db without rowed new place table rows next change at left put n
     ∙ sym number
 
 -- without its rows a table is valid
-pub emptied_keeps : (db without : Database) (place : ℕ) → IsValid db → without ≡ changed_at db place (with_rows []) → IsSome (table_at db place) → IsValid without
+pub emptied_keeps : (db without : Database) (place : ℕ) → IsBuiltDatabase db → without ≡ changed_at db place (with_rows []) → IsSome (table_at db place) → IsBuiltDatabase without
 emptied_keeps db without place valid left h = by_table (table_at db place) refl h
   where
-    by_table : (found : Option PlainTable) → table_at db place ≡ found → IsSome found → IsValid without
+    by_table : (found : Option PlainTable) → table_at db place ≡ found → IsSome found → IsBuiltDatabase without
     by_table None at h = cc
     by_table (Some table) at h =
         let here : IsValidAt db place table = is_valid_at db place table valid at in
-        subst IsValid (sym left) (changed_at_keeps db place table (with_rows []) valid at refl here.def (record { rising = omega arith; fitting = tt }))
+        subst IsBuiltDatabase (sym left) (changed_at_keeps db place table (with_rows []) valid at refl here.built here.def (is_valid_table (with_rows [] table) here.built (omega arith) tt))

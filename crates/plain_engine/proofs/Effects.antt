@@ -9,14 +9,15 @@ use Rattle.mdc_ast.specs.declared.predicate.Pred.{Pred}
 use Rattle.mdc_ast.specs.declared.reply.Reply.{Reply}
 use Rattle.mdc_ast.specs.declared.reply.Reply.TheVariants.{Inserted, Updated, Deleted}
 use Rattle.mdc_ast.specs.declared.row.Row.{Row}
-use Rattle.mdc_ast.specs.meaning.Cause.{NumbersUsedUp, cause_if}
-use Rattle.mdc_ast.specs.meaning.Database.{Database, PlainTable, changed_at, table_at}
-use Rattle.mdc_ast.specs.meaning.Doing.{appended, causes_of_rows, changed_causes, changed_row, changed_table, effect, hits, left_table, null_causes, numbered, qualifies, used_up}
-use Rattle.mdc_ast.specs.meaning.Judging.{of_some}
-use Rattle.mdc_ast.specs.meaning.Step.{Answer, Replied, step_by}
+use Rattle.statement_meaning.specs.Cause.{NumbersUsedUp, cause_if}
+use Rattle.mdc_ast.specs.Database.{Database, PlainTable, changed_at, table_at, appended, numbered}
+use Rattle.statement_meaning.specs.Doing.{causes_of_rows, changed_causes, changed_row, changed_table, effect, hits, left_table, null_causes, used_up}
+use Rattle.mdc_ast.specs.Truth.{qualifies}
+use Rattle.statement_meaning.specs.Judging.{of_some}
+use Rattle.statement_meaning.specs.Step.{Answer, Replied, step_by}
 use Rattle.mdc_ast.proofs.TestsLemmas.{some_is}
 use Rattle.plain_engine.proofs.ChangedTables.{AreRowsOf, are_rows_of, put_and_numbered, put_back}
-use Rattle.row_judging.specs.Executing.{done}
+use Rattle.row_checks.specs.Executing.{done}
 use Rattle.plain_engine.specs.Tables.{with_next, with_rows}
 
 same_end : (a b : Database) (reply said : Reply) → a ≡ b → reply ≡ said → ◌≡◌ {A = Database × Answer} (a, Replied reply) (b, Replied said)

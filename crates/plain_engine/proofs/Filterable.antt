@@ -4,8 +4,8 @@ use Rattle.std.specs.Prelude.{Option, IsTrue}
 use Rattle.mdc_ast.specs.declared.predicate.Pred.{Pred}
 use Rattle.mdc_ast.specs.declared.row.Row.{Row}
 use Rattle.row_filter.specs.Filtering.{may_filter}
-use Rattle.row_judging.specs.Filtering.{are_filterable}
-use Rattle.row_judging.proofs.Each.{list_all-at}
+use Rattle.row_checks.specs.Filtering.{are_filterable}
+use Rattle.row_checks.proofs.Each.{list_all-at}
 
 heads : {X : Type 0} (x y : X) (xs ys : List X) → x ∷ xs ≡ y ∷ ys → x ≡ y
 heads x y xs ys e = cc

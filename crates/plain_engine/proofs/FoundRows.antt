@@ -8,7 +8,7 @@ use Rattle.mdc_ast.specs.declared.bound.BoundOut.{BoundOut}
 use Rattle.mdc_ast.specs.declared.definition.ColumnDef.{ColumnDef}
 use Rattle.mdc_ast.specs.declared.predicate.Pred.{Pred}
 use Rattle.mdc_ast.specs.declared.row.Row.{Row}
-use Rattle.mdc_ast.specs.meaning.Doing.{qualifies}
+use Rattle.mdc_ast.specs.Truth.{qualifies}
 use Rattle.answer_text.specs.Lines.{lines_shown, with_line}
 use Rattle.answer_text.proofs.ShownLines.{with_line-lines_shown}
 

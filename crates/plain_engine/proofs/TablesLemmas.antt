@@ -6,10 +6,10 @@ use Rattle.std.proofs.lemmas.List.{set-set}
 use Rattle.std.proofs.lemmas.Option.{slice_get_read}
 use Rattle.mdc_ast.specs.declared.definition.TableDef.{TableDef}
 use Rattle.mdc_ast.specs.declared.row.Row.{Row}
-use Rattle.mdc_ast.specs.meaning.Database.{Database, PlainTable, changed_at, defs_of, table_at, with_place}
-use Rattle.mdc_ast.specs.meaning.Definitions.{Definitions, def_at, empty_place, with_def}
-use Rattle.mdc_ast.specs.meaning.Doing.{entered}
-use Rattle.mdc_ast.proofs.DatabaseLemmas.{changed_at-with_place}
+use Rattle.mdc_ast.specs.Database.{Database, PlainTable, changed_at, defs_of, table_at, with_place}
+use Rattle.mdc_ast.specs.Definitions.{Definitions, def_at, empty_place, with_def}
+use Rattle.statement_meaning.specs.Doing.{entered}
+use Rattle.statement_meaning.proofs.DatabaseLemmas.{changed_at-with_place}
 use Rattle.mdc_words.proofs.PlacesLemmas.{slice_get-set_same, slice_get-set_other}
 use Rattle.plain_engine.specs.Tables.{AreTables, rows_in, table_with, tables_of, with_next, with_rows}
 

@@ -2,8 +2,8 @@
 use Rattle.std.specs.Prelude.{◌≡◌, ℕ, List, [], ◌∷◌, length, None, option_map, slice_get, unwrap_or}
 use Rattle.mdc_ast.specs.declared.definition.TableDef.{TableDef}
 use Rattle.mdc_ast.specs.declared.row.Row.{Row}
-use Rattle.mdc_ast.specs.meaning.Database.{Database, PlainTable}
-use Rattle.mdc_ast.specs.meaning.Definitions.{Definitions, def_at}
+use Rattle.mdc_ast.specs.Database.{Database, PlainTable}
+use Rattle.mdc_ast.specs.Definitions.{Definitions, def_at}
 
 -- a table of this definition, with these rows
 abbrev pub table_with : List Row → TableDef → PlainTable

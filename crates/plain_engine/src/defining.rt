@@ -1,9 +1,9 @@
 // Tables that come and go.
 ghost use Rattle.std.specs.Prelude.{◌≡◌, IsSome};
 ghost use Rattle.mdc_ast.specs.declared.bound.Bound.TheVariants as bound;
-ghost use Rattle.mdc_ast.specs.meaning.Database.{defs_of, table_at};
-ghost use Rattle.mdc_ast.specs.meaning.Definitions.{empty_place};
-ghost use Rattle.row_judging.specs.Executing.{answer_of, done};
+ghost use Rattle.mdc_ast.specs.Database.{defs_of, table_at};
+ghost use Rattle.mdc_ast.specs.Definitions.{empty_place};
+ghost use Rattle.row_checks.specs.Executing.{answer_of, done};
 
 use crate::tables::Tables;
 use mdc_ast::{Outcome, Reply, TableDef};

@@ -1,14 +1,14 @@
 // The rows of a DELETE.
 ghost use Rattle.std.specs.Prelude.{◌≡◌, length, filter, not, IsTrue};
 ghost use Rattle.mdc_ast.specs.declared.bound.Bound.TheVariants as bound;
-ghost use Rattle.mdc_ast.specs.meaning.Database.{table_at};
-ghost use Rattle.mdc_ast.specs.meaning.Doing as spec;
-ghost use Rattle.row_judging.specs.Executing.{IsThere, MayFilter, answer_of, done};
-ghost use Rattle.row_judging.specs.Filtering.{are_filterable};
+ghost use Rattle.mdc_ast.specs.Database.{table_at};
+ghost use Rattle.mdc_ast.specs.Truth as spec;
+ghost use Rattle.row_checks.specs.Executing.{IsThere, MayFilter, answer_of, done};
+ghost use Rattle.row_checks.specs.Filtering.{are_filterable};
 
 use crate::tables::Tables;
 use mdc_ast::{Outcome, Pred, Reply, Row};
-use row_judging::qualifies;
+use row_checks::qualifies;
 
 /// A DELETE. It takes no memory.
 pub fn delete(table: u8, pred: &Option<Pred>, tables: &mut Tables) -> Outcome

@@ -1,8 +1,8 @@
 // What a statement does to the tables, and how it is answered.
 ghost use Rattle.std.specs.Prelude.{◌≡◌, IfOk, OnErr};
-ghost use Rattle.mdc_ast.specs.meaning.Database.{IsValid};
-ghost use Rattle.mdc_ast.specs.meaning.Step.{step};
-ghost use Rattle.row_judging.specs.Executing.{MayBeDone, answer_of, done};
+ghost use Rattle.statement_meaning.specs.Built.{IsBuiltDatabase};
+ghost use Rattle.statement_meaning.specs.Step.{step};
+ghost use Rattle.row_checks.specs.Executing.{MayBeDone, answer_of, done};
 
 use crate::defining::{create, drop_table};
 use crate::deleting::delete;
@@ -13,15 +13,15 @@ use crate::updating::update;
 use binder::{BindFault, bind, bind_whole, built};
 use mdc_ast::{Bound, Outcome, Reply, Stmt};
 use mdc_values::Memory;
-use row_judging::not_built;
+use row_checks::not_built;
 use std::alloc::Global;
 
 /// Executes a statement on the tables of a valid database. Where it is refused they stay as they are. After `Memory` the
 /// table of the statement may have lost its rows.
 pub fn execute(alloc: Global, stmt: &Stmt, tables: &mut Tables) -> Result<Outcome, Memory>
-    requires { IsValid tables.old }
+    requires { IsBuiltDatabase tables.old }
     ensures done { IfOk result (λ outcome. step tables.old stmt.now ≡ (tables.new, answer_of outcome)) }
-    ensures valid { IsValid tables.new }
+    ensures valid { IsBuiltDatabase tables.new }
 {
     // Most statements are INSERTs against which nothing is said.
     if let Stmt::Insert {
@@ -39,9 +39,9 @@ pub fn execute(alloc: Global, stmt: &Stmt, tables: &mut Tables) -> Result<Outcom
 
 // Executes a statement of any form.
 fn execute_any(alloc: Global, stmt: &Stmt, tables: &mut Tables) -> Result<Outcome, Memory>
-    requires { IsValid tables.old }
+    requires { IsBuiltDatabase tables.old }
     ensures done { IfOk result (λ outcome. step tables.old stmt.now ≡ (tables.new, answer_of outcome)) }
-    ensures valid { IsValid tables.new }
+    ensures valid { IsBuiltDatabase tables.new }
 {
     if !built(stmt) {
         return Ok(Outcome::Refused(not_built(alloc)));
@@ -55,10 +55,10 @@ fn execute_any(alloc: Global, stmt: &Stmt, tables: &mut Tables) -> Result<Outcom
 
 // Does a bound statement, unless its rows are against it.
 fn carry_out(alloc: Global, bound: Bound, tables: &mut Tables) -> Result<Outcome, Memory>
-    requires valid { IsValid tables.old }
+    requires valid { IsBuiltDatabase tables.old }
     requires ready { MayBeDone tables.old bound }
     ensures done { IfOk result (λ outcome. done tables.old bound ≡ (tables.new, answer_of outcome)) }
-    ensures valid { OnErr result (IsValid tables.new) }
+    ensures valid { OnErr result (IsBuiltDatabase tables.new) }
 {
     match bound {
         Bound::CreateTable(def) => Ok(create(def, tables)),
@@ -79,6 +79,9 @@ fn carry_out(alloc: Global, bound: Bound, tables: &mut Tables) -> Result<Outcome
         | Bound::Reclaim(_)
         | Bound::Begin
         | Bound::Commit
-        | Bound::Rollback => Ok(Outcome::Done(Reply::Done)),
+        | Bound::Rollback
+        | Bound::AddColumn { .. }
+        | Bound::Join(_)
+        | Bound::Reorg(_) => Ok(Outcome::Done(Reply::Done)),
     }
 }

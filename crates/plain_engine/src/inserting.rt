@@ -1,14 +1,14 @@
 // The rows of an INSERT.
 ghost use Rattle.std.specs.Prelude.{◌≡◌, ◌<◌, ◌+◌, ◌++◌, ◌^◌, length, IfOk, OnOk, OnErr};
 ghost use Rattle.mdc_ast.specs.declared.bound.Bound.TheVariants as bound;
-ghost use Rattle.mdc_ast.specs.meaning.Database.{IsValid, table_at};
-ghost use Rattle.mdc_ast.specs.meaning.Doing.{numbered};
-ghost use Rattle.row_judging.specs.Executing.{IsThere, MayInsert, answer_of, done};
+ghost use Rattle.statement_meaning.specs.Built.{IsBuiltDatabase};
+ghost use Rattle.mdc_ast.specs.Database.{table_at, numbered};
+ghost use Rattle.row_checks.specs.Executing.{IsThere, MayInsert, answer_of, done};
 
 use crate::tables::Tables;
 use mdc_ast::{Outcome, Reply, Row};
 use mdc_values::{List, Memory, Value};
-use row_judging::{first_null_in, numbers_used_up, unfit};
+use row_checks::{first_null_in, numbers_used_up, unfit};
 use std::alloc::Global;
 
 /// An INSERT: all tuples are judged before a row goes in. After `Memory` the table may have lost its rows.
@@ -18,10 +18,10 @@ pub fn insert(
     tuples: List<List<Value>>,
     tables: &mut Tables,
 ) -> Result<Outcome, Memory>
-    requires valid { IsValid tables.old }
+    requires valid { IsBuiltDatabase tables.old }
     requires ready { IsThere (table_at tables.old table) (MayInsert tuples) }
     ensures done { IfOk result (λ outcome. done tables.old (bound.Insert table tuples) ≡ (tables.new, answer_of outcome)) }
-    ensures valid { OnErr result (IsValid tables.new) }
+    ensures valid { OnErr result (IsBuiltDatabase tables.new) }
 {
     let def = tables.table(table).def;
     let next = def.next;

@@ -1,23 +1,24 @@
 // The lines of a query.
 ghost use Rattle.std.specs.Prelude.{◌≡◌, length, filter, IfOk, IsTrue};
 ghost use Rattle.mdc_ast.specs.declared.bound.Bound.TheVariants as bound;
-ghost use Rattle.mdc_ast.specs.meaning.Database.{IsValid, table_at};
-ghost use Rattle.mdc_ast.specs.meaning.Doing as spec;
-ghost use Rattle.mdc_ast.specs.meaning.Doing.{lines_of};
-ghost use Rattle.row_judging.specs.Executing.{IsThere, MayShow, answer_of, done};
-ghost use Rattle.row_judging.specs.Filtering.{are_filterable};
+ghost use Rattle.statement_meaning.specs.Built.{IsBuiltDatabase};
+ghost use Rattle.mdc_ast.specs.Database.{table_at};
+ghost use Rattle.mdc_ast.specs.Truth as spec;
+ghost use Rattle.statement_meaning.specs.Doing.{lines_of};
+ghost use Rattle.row_checks.specs.Executing.{IsThere, MayShow, answer_of, done};
+ghost use Rattle.row_checks.specs.Filtering.{are_filterable};
 ghost use Rattle.answer_text.specs.Lines.{are_outs_within, are_rows_wide};
 
 use crate::tables::Tables;
 use answer_text::Lines;
 use mdc_ast::{BoundSelect, ColumnDef, Outcome, Reply, Row};
 use mdc_values::{Chars, List, Memory};
-use row_judging::qualifies;
+use row_checks::qualifies;
 use std::alloc::Global;
 
 /// A query.
 pub fn query(alloc: Global, select: &BoundSelect, tables: &Tables) -> Result<Outcome, Memory>
-    requires valid { IsValid tables.now }
+    requires valid { IsBuiltDatabase tables.now }
     requires ready { IsThere (table_at tables.now select.now.table) (MayShow select.now.outs select.now.pred) }
     ensures { IfOk result (λ outcome. done tables.now (bound.Query select.now) ≡ (tables.now, answer_of outcome)) }
 {

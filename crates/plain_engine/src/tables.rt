@@ -1,8 +1,8 @@
 // Tables in memory: what each is, and its rows.
 ghost use Rattle.std.specs.Prelude.{◌≡◌, ◌<◌, [], None, Some, IfOk, IfSome, IsSome, option_map};
-ghost use Rattle.mdc_ast.specs.meaning.Database.{changed_at, defs_of, empty_database, table_at, with_place};
-ghost use Rattle.mdc_ast.specs.meaning.Definitions.{empty_place};
-ghost use Rattle.mdc_ast.specs.meaning.Doing.{entered};
+ghost use Rattle.mdc_ast.specs.Database.{changed_at, defs_of, empty_database, table_at, with_place};
+ghost use Rattle.mdc_ast.specs.Definitions.{empty_place};
+ghost use Rattle.statement_meaning.specs.Doing.{entered};
 ghost use Rattle.plain_engine.specs.Tables.{with_next, with_rows};
 
 use catalog::Catalog;
@@ -31,7 +31,7 @@ pub struct TableRef<'t> {
 }
 
 impl Model for Tables {
-    ghost use Rattle.mdc_ast.specs.meaning.Database.{Database};
+    ghost use Rattle.mdc_ast.specs.Database.{Database};
     ghost use Rattle.plain_engine.specs.Tables.{AreTables, tables_of};
 
     ghost Value = { Database };

@@ -1,20 +1,21 @@
 // The rows of an UPDATE: all are judged before one is changed.
 ghost use Rattle.std.specs.Prelude.{◌≡◌, length, map, filter, flat_map, option_map, IfOk, OnOk, OnErr, IsTrue};
 ghost use Rattle.mdc_ast.specs.declared.bound.Bound.TheVariants as bound;
-ghost use Rattle.mdc_ast.specs.meaning.Database.{IsValid, table_at};
-ghost use Rattle.mdc_ast.specs.meaning.Doing as spec;
-ghost use Rattle.mdc_ast.specs.meaning.Doing.{changed_causes, changed_row};
+ghost use Rattle.statement_meaning.specs.Built.{IsBuiltDatabase};
+ghost use Rattle.mdc_ast.specs.Database.{table_at};
+ghost use Rattle.mdc_ast.specs.Truth as spec;
+ghost use Rattle.statement_meaning.specs.Doing.{changed_causes, changed_row};
 ghost use Rattle.answer_text.specs.Lines.{are_rows_wide};
 ghost use Rattle.binder.specs.Saying.{first_of};
-ghost use Rattle.row_judging.specs.Executing.{IsThere, MayUpdate, answer_of, done};
+ghost use Rattle.row_checks.specs.Executing.{IsThere, MayUpdate, answer_of, done};
 ghost use Rattle.row_filter.specs.Filtering.{may_filter};
-ghost use Rattle.row_judging.specs.Filtering.{are_changeable, are_filterable, may_change};
-ghost use Rattle.row_judging.specs.RowChange.{are_within, misfit_cause};
+ghost use Rattle.row_checks.specs.Filtering.{are_changeable, are_filterable, may_change};
+ghost use Rattle.row_checks.specs.RowChange.{are_within, misfit_cause};
 
 use crate::tables::Tables;
 use mdc_ast::{BoundSet, ColumnDef, Outcome, Pred, Reply, Row};
 use mdc_values::Memory;
-use row_judging::{Misfit, changed_values, first_misfit_of_row, qualifies, unfit};
+use row_checks::{Misfit, changed_values, first_misfit_of_row, qualifies, unfit};
 use std::alloc::Global;
 
 /// An UPDATE: all rows are judged before one is changed. After `Memory` the table may have lost its rows.
@@ -25,10 +26,10 @@ pub fn update(
     pred: &Option<Pred>,
     tables: &mut Tables,
 ) -> Result<Outcome, Memory>
-    requires valid { IsValid tables.old }
+    requires valid { IsBuiltDatabase tables.old }
     requires ready { IsThere (table_at tables.old table) (MayUpdate sets.now pred.now) }
     ensures done { IfOk result (λ outcome. done tables.old (bound.Update table sets.now pred.now) ≡ (tables.new, answer_of outcome)) }
-    ensures valid { OnErr result (IsValid tables.new) }
+    ensures valid { OnErr result (IsBuiltDatabase tables.new) }
 {
     let lent = tables.table(table);
     let columns = lent.def.columns.as_slice();

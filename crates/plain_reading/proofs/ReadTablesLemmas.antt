@@ -5,7 +5,7 @@ use Rattle.std.specs.List.{AllZip, range_with_len}
 use Rattle.std.proofs.lemmas.Bool.{cases_eq}
 use Rattle.mdc_ast.specs.declared.definition.TableDef.{TableDef}
 use Rattle.mdc_ast.specs.declared.row.Row.{Row}
-use Rattle.mdc_ast.specs.meaning.Database.{Database, PlainTable}
+use Rattle.mdc_ast.specs.Database.{Database, PlainTable}
 use Rattle.store_api.specs.StoreState.{StoreState, zero_page}
 use Rattle.store_api.specs.Frame.{NoPage, OnlyPage}
 use Rattle.store_api.specs.RunsOverPages.{RunsOverPages}

@@ -1,6 +1,6 @@
 // All tables of a database.
 ghost use Rattle.std.specs.Prelude.{◌≡◌, ◌++◌, ◌∷◌, [], false, IsTrue, IfOk, IfErr, OnOk};
-ghost use Rattle.mdc_ast.specs.meaning.Database.{Database};
+ghost use Rattle.mdc_ast.specs.Database.{Database};
 ghost use Rattle.store_api.specs.Causes.{fault_of};
 ghost use Rattle.store_api.specs.Frame.{NoPage};
 ghost use Rattle.store_api.specs.RunsOverPages.{RunsOverPages};

@@ -1,5 +1,3 @@
-pub mod CellsLemmas
-pub mod MayHoldLemmas
 pub mod OppositeLemmas
 pub mod PredLemmas
 pub mod PushedLemmas

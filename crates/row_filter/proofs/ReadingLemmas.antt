@@ -8,7 +8,7 @@ use Rattle.mdc_values.specs.declared.value.Value.{Value}
 use Rattle.mdc_ast.specs.declared.definition.ColumnDef.{ColumnDef}
 use Rattle.mdc_ast.specs.declared.predicate.Atom.{Atom}
 use Rattle.mdc_ast.specs.declared.predicate.Pred.{Pred}
-use Rattle.mdc_ast.specs.meaning.Definitions.{width}
+use Rattle.mdc_ast.specs.Definitions.{width}
 use Rattle.mdc_ast.specs.Truth.{may_test_atom}
 use Rattle.row_page.specs.Row.{columns_values, nulls_in, row_in}
 use Rattle.row_filter.specs.Naming.{IsRead, IsSameAt, named_in, named_in_atom, named_in_parts}

@@ -1,6 +1,6 @@
 // A predicate that is judged on rows which are lent.
 ghost use Rattle.std.specs.Prelude.{◌≡◌, length, IfOk, IsTrue};
-ghost use Rattle.mdc_ast.specs.meaning.Doing.{qualifies};
+ghost use Rattle.mdc_ast.specs.Truth.{qualifies};
 ghost use Rattle.row_page.specs.Row.{row_in};
 ghost use Rattle.row_filter.specs.Filtering.{may_filter};
 

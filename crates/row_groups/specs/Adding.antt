@@ -4,7 +4,7 @@ use Rattle.mdc_values.specs.declared.value.Value.{Value}
 use Rattle.mdc_ast.specs.declared.bound.BoundOut.{BoundOut}
 use Rattle.mdc_ast.specs.declared.bound.BoundOut.TheVariants as out
 use Rattle.mdc_ast.specs.Truth.{value_at}
-use Rattle.mdc_ast.specs.meaning.Database.{is_null}
+use Rattle.mdc_ast.specs.Database.{is_null}
 use Rattle.row_groups.specs.declared.line.Line.{Line}
 use Rattle.row_groups.specs.declared.line.Shown.{Shown}
 use Rattle.row_groups.specs.declared.line.Shown.TheVariants as shown

@@ -9,7 +9,7 @@ use Rattle.mdc_values.specs.declared.value.Value.TheVariants.{Null, Int, Text, D
 use Rattle.mdc_values.specs.Order.{text_order}
 use Rattle.mdc_values.specs.Value.{trimmed}
 use Rattle.mdc_values.specs.Fitting.{in_bigint}
-use Rattle.mdc_ast.specs.meaning.Database.{is_null}
+use Rattle.mdc_ast.specs.Database.{is_null}
 
 -- two values belong to one group: a null with a null, and texts whatever blanks stand at their ends (Db2, "group-by-clause")
 abbrev pub belong_together : Value → Value → Bool

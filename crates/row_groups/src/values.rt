@@ -1,7 +1,7 @@
 // Values of a row, and their order.
 ghost use Rattle.std.specs.Prelude.{◌≡◌, IfOk, MatchOption, false, if◌then◌else◌};
 ghost use Rattle.mdc_ast.specs.Truth.{value_at};
-ghost use Rattle.mdc_ast.specs.meaning.Database.{is_null};
+ghost use Rattle.mdc_ast.specs.Database.{is_null};
 ghost use Rattle.row_groups.specs.Values.{greater, lesser, sql_order};
 
 use mdc_values::{Memory, Value, place};

@@ -9,7 +9,7 @@ use Rattle.std.proofs.lemmas.Slice.{drop-append-drop, drop-put_mid, take-put_mid
 use borrow.Rule.Slice.PartMut.{put_mid}
 use Rattle.mdc_ast.specs.declared.definition.ColumnDef.{ColumnDef}
 use Rattle.mdc_ast.specs.declared.row.Row.{Row}
-use Rattle.mdc_ast.specs.meaning.Database.{fits_all}
+use Rattle.mdc_ast.specs.Database.{fits_all}
 use Rattle.mdc_words.proofs.ListedLemmas.{length-listed, get_or-listed}
 use Rattle.store_api.specs.StoreState.{patched, zero_page}
 use Rattle.row_page.specs.Row.{row_bytes, row_in, row_width_of}

@@ -16,8 +16,8 @@ use Rattle.mdc_values.specs.declared.value.Value.{Value}
 use Rattle.mdc_values.specs.declared.value.Value.TheVariants.{Null, Int, Text, Day}
 use Rattle.mdc_values.specs.Fitting.{in_bigint, in_integer}
 use Rattle.mdc_values.specs.Value.{before_text, trimmed}
-use Rattle.mdc_ast.specs.meaning.Database.{is_day_number, is_null, is_of_type}
-use Rattle.mdc_ast.specs.meaning.Definitions.{width}
+use Rattle.mdc_ast.specs.Database.{is_day_number, is_null, is_of_type}
+use Rattle.mdc_ast.specs.Definitions.{width}
 use Rattle.row_page.specs.Row.{column_bytes, column_value}
 
 -- each byte is below 256

@@ -12,8 +12,8 @@ use Rattle.mdc_values.specs.declared.value.Value.{Value}
 use Rattle.mdc_values.specs.declared.value.Value.TheVariants.{Null, Int, Text, Day}
 use Rattle.mdc_ast.specs.declared.definition.ColumnDef.{ColumnDef}
 use Rattle.mdc_ast.specs.declared.row.Row.{Row}
-use Rattle.mdc_ast.specs.meaning.Database.{fits, fits_all, is_null, is_of_type}
-use Rattle.mdc_ast.specs.meaning.Definitions.{width}
+use Rattle.mdc_ast.specs.Database.{fits, fits_all, is_null, is_of_type}
+use Rattle.mdc_ast.specs.Definitions.{width}
 use Rattle.row_page.specs.Row.{AreNullsBlank, bytes_of_column, column_bytes, columns_bytes, columns_values, null_bits, nulls_in, row_bytes, row_in, row_width_of, stored_bytes, value_or_null}
 use Rattle.row_page.specs.RowPage.{IsWrittenRow}
 use Rattle.row_page.proofs.ColumnLemmas.{AreBytes, column_bytes-Null, column_bytes-column_value, column_value-column_bytes, is_null-column_value, length-column_bytes}

@@ -10,7 +10,7 @@ use Rattle.byteorder.specs.Endian.{big_bytes, big_number}
 use Rattle.byteorder.specs.Numbers.{big_from-take, big_number-reads_back}
 use Rattle.mdc_ast.specs.declared.definition.ColumnDef.{ColumnDef}
 use Rattle.mdc_ast.specs.declared.definition.TableDef.{TableDef}
-use Rattle.mdc_ast.specs.meaning.Definitions.{IsValidDef}
+use Rattle.mdc_ast.specs.ValidDatabase.{IsValidDef}
 use Rattle.mdc_ast.specs.declared.row.Row.{Row}
 use Rattle.mdc_words.specs.Listed.{listed}
 use Rattle.mdc_words.proofs.ListedLemmas.{length-listed, get_or-listed}

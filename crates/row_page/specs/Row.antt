@@ -9,8 +9,8 @@ use Rattle.mdc_values.specs.declared.value.Value.TheVariants.{Null, Int, Text, D
 use Rattle.mdc_values.specs.Value.{trimmed}
 use Rattle.mdc_ast.specs.declared.definition.ColumnDef.{ColumnDef}
 use Rattle.mdc_ast.specs.declared.row.Row.{Row}
-use Rattle.mdc_ast.specs.meaning.Database.{is_null}
-use Rattle.mdc_ast.specs.meaning.Definitions.{column_types, row_width, width}
+use Rattle.mdc_ast.specs.Database.{is_null}
+use Rattle.mdc_ast.specs.Definitions.{column_types, row_width, width}
 
 -- The columns of a definition within the limits, or the first of them: at most 16, in rows of at most 1,000 bytes.
 pub record AreRowColumns (columns : List ColumnDef) : Type 0 where

@@ -1,7 +1,7 @@
 // Changes of one slot, and of all.
 ghost use Rattle.std.specs.Prelude.{◌≡◌, ◌<◌, List, Option, Some, None, slice_set, replicate, IsTrue};
 ghost use Rattle.mdc_ast.specs.declared.row.Row.{Row};
-ghost use Rattle.mdc_ast.specs.meaning.Database.{fits_all};
+ghost use Rattle.mdc_ast.specs.Database.{fits_all};
 ghost use Rattle.row_page.specs.RowPage.{empty_row_page, slot_count, IsRowPage};
 
 use crate::RowShape;

@@ -1,6 +1,6 @@
 // Where rows lie in a page, and columns in a row.
 ghost use Rattle.std.specs.Prelude.{◌≡◌, ◌≤◌, ◌+◌, ℕ, length, take, drop};
-ghost use Rattle.mdc_ast.specs.meaning.Definitions.{width};
+ghost use Rattle.mdc_ast.specs.Definitions.{width};
 ghost use Rattle.row_page.specs.Row.{AreRowColumns, row_width_of};
 ghost use Rattle.row_page.specs.RowPage.{bytes_for_slots, slot_count};
 

@@ -2,8 +2,8 @@
 ghost use Rattle.std.specs.Prelude.{◌≡◌, ◌≤◌, ◌<◌, ◌^◌, ◌+◌, ◌-◌, ◌++◌, length, take, drop, replicate, IsTrue, IfOk, IsErr};
 ghost use Rattle.byteorder.specs.Endian.{big_bytes};
 ghost use Rattle.mdc_values.specs.Value.{IsText};
-ghost use Rattle.mdc_ast.specs.meaning.Definitions.{width};
-ghost use Rattle.mdc_ast.specs.meaning.Database.{fits_all, is_null, is_of_type};
+ghost use Rattle.mdc_ast.specs.Definitions.{width};
+ghost use Rattle.mdc_ast.specs.Database.{fits_all, is_null, is_of_type};
 ghost use Rattle.row_page.specs.Row.{column_bytes, column_value, columns_bytes, null_bits, row_bytes, row_width_of, value_or_null};
 
 use crate::layout::{NULLS, ROW_HEAD, column_width};

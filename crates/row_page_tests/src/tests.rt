@@ -1,6 +1,6 @@
 // Row pages by bytes worked by hand: what is written, what a view lends, and what is no row page.
 ghost use Rattle.std.specs.Prelude.{◌<◌, IfOk, IsTrue};
-ghost use Rattle.mdc_ast.specs.meaning.Database.{fits, fits_all};
+ghost use Rattle.mdc_ast.specs.Database.{fits, fits_all};
 ghost use Rattle.row_page.specs.Row.{AreRowColumns};
 
 use mdc_ast::{ColumnDef, Name, Row};

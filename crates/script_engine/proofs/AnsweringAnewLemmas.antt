@@ -8,8 +8,9 @@ use Rattle.mdc_ast.specs.declared.reply.Outcome.{Outcome}
 use Rattle.mdc_ast.specs.declared.reply.Outcome.TheVariants as said
 use Rattle.mdc_ast.specs.declared.reply.Reply.{Reply}
 use Rattle.mdc_ast.specs.declared.statement.Stmt.{Stmt}
-use Rattle.mdc_ast.specs.meaning.Cause.{NoTable, NotBuilt, refusal_of}
-use Rattle.mdc_ast.specs.meaning.Definitions.{AllDefsDiffer, Definitions, def_named}
+use Rattle.statement_meaning.specs.Cause.{NoTable, NotBuilt, refusal_of}
+use Rattle.mdc_ast.specs.ValidDatabase.{AllDefsDiffer}
+use Rattle.mdc_ast.specs.Definitions.{Definitions, def_named}
 use Rattle.store_api.specs.Frame.{NoPage}
 use Rattle.store_api.specs.RunsOverPages.{RunsOverPages}
 use Rattle.store_api.specs.declared.pages.Pages.{Ghosts}
@@ -22,7 +23,7 @@ use Rattle.stored_catalog.specs.StoredDefinitions.{AreStored, AreWithinLimits, B
 use Rattle.script_engine.specs.Doing.{DoesStep, StepRunsFull}
 use Rattle.script_engine.specs.Listing.{TellsBlocks}
 use Rattle.script_engine.specs.NotedRooms.{AreForgotten}
-use Rattle.script_engine.specs.Opening.{are_built}
+use Rattle.statement_meaning.specs.Built.{are_built}
 use Rattle.script_engine.specs.Ready.{IsReady}
 use Rattle.script_engine.specs.Trying.{AnswersAnew, AnswersBySoundPages, AreReadAnew, IsRefusedFull, ListsByPages, TriesStep}
 use Rattle.script_engine.specs.declared.stop.EngineStop.{EngineStop}

@@ -26,7 +26,7 @@ use Rattle.mdc_sound.proofs.BlockRulesLemmas.{each_as}
 use Rattle.mdc_sound.proofs.SoundDatabaseLemmas.{length-with_table_page, page_at-with_table_page, put_table_page}
 use Rattle.mdc_sound.proofs.SpaceRulesLemmas.{each_there, range_at, same_table, there_at}
 use Rattle.mdc_sound.proofs.StandingTableLemmas.{forests_of, number_of_place, stands_listed, stands_of_rules, stands_still, stands_told}
-use Rattle.cell_rooms.specs.RoomNotes.{no_note}
+use Rattle.free_space.specs.RoomNotes.{no_note}
 use Rattle.mdc_table.proofs.KeptRoomsLemmas.{rooms_forgotten}
 use Rattle.stored_catalog.proofs.OpenedTableLemmas.{defined_there}
 

@@ -6,14 +6,16 @@ use Rattle.std.proofs.lemmas.Bool.{cases_lt}
 use Rattle.std.proofs.lemmas.List.{get_or_past, length-replicate}
 use Rattle.mdc_ast.specs.declared.definition.ColumnDef.{ColumnDef}
 use Rattle.mdc_ast.specs.declared.definition.TableDef.{TableDef}
-use Rattle.mdc_ast.specs.meaning.Definitions.{AllDefsDiffer, AreValidDefs, AreValidFrom, Definitions, IsValidDef, IsValidPlace, are_there, def_at, is_good_type, is_short_key}
-use Rattle.mdc_ast.specs.meaning.Step.{is_empty}
+use Rattle.mdc_ast.specs.ValidDatabase.{AllDefsDiffer, AreValidDefs, AreValidFrom, IsValidDef, IsValidPlace}
+use Rattle.mdc_ast.specs.Definitions.{Definitions, are_there, def_at, is_good_type, is_short_key}
+use Rattle.statement_meaning.proofs.BuiltLemmas.{index_names_differ}
+use Rattle.statement_meaning.specs.Built.{AreBuiltDefs, are_built, is_built_place}
 use Rattle.store_api.specs.StoreState.{page_at, zero_page}
 use Rattle.store_api.specs.declared.fault.Damage.{Damage}
 use Rattle.store_api.specs.declared.pages.Pages.{Ghosts}
 use Rattle.extent_map.specs.declared.extents.Extents.{Extents}
 use Rattle.block_map.proofs.MapLinesLemmas.{contains_more}
-use Rattle.table_page.specs.TableLimits.{IsTableDef, is_given_name, is_good_column, is_good_dimension, is_good_source}
+use Rattle.mdc_ast.specs.TableLimits.{IsTableDef, is_given_name, is_good_column, is_good_dimension, is_good_source}
 use Rattle.table_page.specs.TablePage.{IsTablePageOf}
 use Rattle.table_page.proofs.LimitsLemmas.{short_columns, short_name}
 use Rattle.table_page.proofs.PartsLemmas.{and_left, and_right}
@@ -29,7 +31,6 @@ use Rattle.stored_catalog.specs.StoredDefinitions.{AreStored, AreWithinLimits, B
 use Rattle.stored_catalog.proofs.AddingLemmas.{place_there}
 use Rattle.stored_catalog.proofs.DroppingLemmas.{defined_within}
 use Rattle.stored_catalog.proofs.OpenedTableLemmas.{defined_there}
-use Rattle.script_engine.specs.Opening.{are_built, is_built_place}
 use Rattle.script_engine.specs.Ready.{AreServed}
 
 -- ---- one list of definitions
@@ -148,12 +149,12 @@ dim_there columns dim good = and_right _ (are_there columns dim) (and_left (_ &&
 dim_short : (columns : List ColumnDef) (dim : List ℕ) → IsTrue (is_good_dimension columns dim) → IsTrue (is_short_key columns dim)
 dim_short columns dim good = and_right _ (is_short_key columns dim) good
 
-none_indexed : {X : Type 0} (xs : List X) → IsTrue (is_empty xs) → xs ≡ []
-none_indexed [] empty = refl
-none_indexed (x ∷ xs) empty = absurd (cc)
+good_source : (columns : List ColumnDef) (column : ColumnDef) → IsTrue (is_good_column columns column) → IsTrue (is_good_source columns column.ty column.made)
+good_source columns column good = and_right (is_given_name column.name && is_good_type column.ty) (is_good_source columns column.ty column.made) good
 
-valid_def : (t : ℕ) (def : TableDef) → IsTableDef t def → IsTrue (is_built_place (Some def)) → IsValidDef t def
-valid_def t def is built = record {
+-- what statements can make is valid
+pub valid_def : (t : ℕ) (def : TableDef) → IsTableDef t def → IsValidDef t def
+valid_def t def is = record {
   stands = is.stands;
   short = short_name def.name is.name;
   few = is.columns.few;
@@ -166,51 +167,31 @@ valid_def t def is built = record {
   dims_apart = is.dims.apart;
   short_keys = all_as (is_good_dimension def.columns) (is_short_key def.columns) (dim_short def.columns) def.dims is.dims.good;
   short_composite = is.dims.short;
-  none_made = and_left (list_all (λ column. is_none column.made) def.columns) (is_empty def.indexes) built;
-  no_indexes = none_indexed def.indexes (and_right (list_all (λ column. is_none column.made) def.columns) (is_empty def.indexes) built);
+  sources = all_as (is_good_column def.columns) (λ column. is_good_source def.columns column.ty column.made) (good_source def.columns) def.columns is.columns.good;
+  indexes = is.indexes;
   few_rows = is.next;
 }
 
-valid_place : (t : ℕ) (place : Option TableDef) → IsWithinLimits t place → IsTrue (is_built_place place) → IsValidPlace t place
-valid_place t None within built = tt
-valid_place t (Some def) within built = valid_def t def within built
+valid_place : (t : ℕ) (place : Option TableDef) → IsWithinLimits t place → IsValidPlace t place
+valid_place t None within = tt
+valid_place t (Some def) within = valid_def t def within
 
-valid_from : (from n : ℕ) (defs : Definitions) → AllZip IsWithinLimits (range_with_len from n) defs → IsTrue (are_built defs) → AreValidFrom from defs
-valid_from from n [] within built = tt
-valid_from from zero (place ∷ defs) within built = absurd within
-valid_from from (suc n) (place ∷ defs) within built = (
-  valid_place from place within.0 (and_left (is_built_place place) (are_built defs) built),
-  valid_from (from + 1) n defs within.1 (and_right (is_built_place place) (are_built defs) built),
-)
+valid_from : (from n : ℕ) (defs : Definitions) → AllZip IsWithinLimits (range_with_len from n) defs → AreValidFrom from defs
+valid_from from n [] within = tt
+valid_from from zero (place ∷ defs) within = absurd within
+valid_from from (suc n) (place ∷ defs) within = (valid_place from place within.0, valid_from (from + 1) n defs within.1)
 
 -- definitions of built forms within the limits are served
 pub served_of : (defs : Definitions) → AreWithinLimits defs → AllDefsDiffer defs → are_built defs ≡ true → AreServed defs
 served_of defs limits differ built = record {
   limits = limits;
-  valid = record { places = range_length IsWithinLimits 0 16 defs limits; differ = differ; each = valid_from 0 16 defs limits built };
+  valid = record { places = range_length IsWithinLimits 0 16 defs limits; differ = differ; index_names_differ = index_names_differ defs built; each = valid_from 0 16 defs limits };
+  built = built;
 }
 
-built_place : (t : ℕ) (place : Option TableDef) → IsValidPlace t place → is_built_place place ≡ true
-built_place t None valid = refl
-built_place t (Some def) valid = go (list_all (λ column. is_none column.made) def.columns) def.indexes valid.none_made valid.no_indexes
-  where
-    go : {X : Type 0} (made : Bool) (indexes : List X) → IsTrue made → indexes ≡ [] → (made && is_empty indexes) ≡ true
-    go true [] none empty = refl
-    go true (x ∷ indexes) none empty = absurd (cc)
-    go false indexes none empty = none
-
-built_from : (from : ℕ) (defs : Definitions) → AreValidFrom from defs → are_built defs ≡ true
-built_from from [] valid = refl
-built_from from (place ∷ defs) valid = go (is_built_place place) (are_built defs) (built_place from place valid.0) (built_from (from + 1) defs valid.1)
-  where
-    go : (a b : Bool) → a ≡ true → b ≡ true → (a && b) ≡ true
-    go true true first second = refl
-    go true false first second = second
-    go false b first second = absurd (cc)
-
--- and valid ones are of built forms
-pub built_of : (defs : Definitions) → AreValidDefs defs → are_built defs ≡ true
-built_of defs valid = built_from 0 defs valid.each
+-- so they are valid ones of built forms
+pub built_defs : (defs : Definitions) → AreServed defs → AreBuiltDefs defs
+built_defs defs served = record { valid = served.valid; built = served.built }
 
 -- ---- place by place
 

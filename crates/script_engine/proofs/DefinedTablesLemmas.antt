@@ -1,6 +1,6 @@
 -- A table more, or one less: which definitions are served then, and what it makes of ready pages.
 use Rattle.std.proofs.Common.{◌≡◌, ◌<◌, ◌+◌, ℕ, List, [], ◌∷◌, ◌∙◌, Bool, refl, sym, ap, subst, length, map, arith}
-use Rattle.std.specs.Prelude.{IsTrue, IsSome, IfSome, Option, Some, None, ◌&&◌, is_none, nat_le, nat_lt}
+use Rattle.std.specs.Prelude.{slice_set, true, IsTrue, IsSome, IfSome, Option, Some, None, ◌&&◌, is_none, nat_le, nat_lt}
 use Rattle.std.specs.List.{list_all, position_from}
 use Rattle.std.proofs.lemmas.Option.{same_Some}
 use Rattle.mdc_words.specs.ByteOrder.{Entry}
@@ -10,9 +10,10 @@ use Rattle.mdc_ast.specs.declared.definition.Roots.{Roots}
 use Rattle.mdc_ast.specs.declared.definition.TableDef.{TableDef}
 use Rattle.mdc_ast.specs.declared.reply.Outcome.TheVariants as said
 use Rattle.mdc_ast.specs.declared.reply.Reply.TheVariants as reply
-use Rattle.mdc_ast.specs.meaning.Database.{Database, defs_of, with_place}
-use Rattle.mdc_ast.specs.meaning.Definitions.{AreValidDefs, Definitions, IsValidDef, are_there, def_at, empty_place, is_good_type, is_short_key, place_of, with_def, without_def}
-use Rattle.mdc_ast.specs.meaning.Doing.{entered}
+use Rattle.mdc_ast.specs.Database.{Database, defs_of, with_place}
+use Rattle.mdc_ast.specs.ValidDatabase.{AreValidDefs, IsValidDef}
+use Rattle.mdc_ast.specs.Definitions.{Definitions, are_there, def_at, empty_place, is_good_type, is_short_key, place_of, with_def, without_def}
+use Rattle.statement_meaning.specs.Doing.{entered}
 use Rattle.mdc_ast.proofs.DefinitionsLemmas.{emptied_too, none_named, put_keeps_defs}
 use Rattle.mdc_ast.proofs.TestsLemmas.{and_true, both}
 use Rattle.store_api.specs.declared.fault.Damage.{Damage}
@@ -24,7 +25,9 @@ use Rattle.extent_map.specs.Owners.{AreRightNotes, IsSameShape}
 use Rattle.extent_map.specs.declared.fault.SpaceFault.{SpaceFault}
 use Rattle.extent_map.specs.declared.fault.SpaceFault.TheVariants.{Full, Store}
 use Rattle.extent_map.specs.declared.kind.Kind.{Kind}
-use Rattle.table_page.specs.TableLimits.{is_good_column, is_good_dimension, is_good_source, is_given_name}
+use Rattle.statement_meaning.specs.Built.{are_built}
+use Rattle.statement_meaning.proofs.BuiltLemmas.{built_put, index_names_differ, is_built_def}
+use Rattle.mdc_ast.specs.TableLimits.{AreTableIndexes, is_good_column, is_good_dimension, is_good_source, is_given_name}
 use Rattle.table_page.proofs.LimitsLemmas.{short_columns, short_name}
 use Rattle.table_trees.proofs.ToldPagesLemmas.{told_of_map}
 use Rattle.mdc_sound.specs.RunningFull.{CreateRunsFull}
@@ -33,7 +36,7 @@ use Rattle.mdc_sound.specs.SpaceRules.{DatabaseView}
 use Rattle.mdc_sound.specs.StandingTable.{StandsTable, TableForests, pages_of}
 use Rattle.mdc_sound.specs.StandsForDatabase.{PagesStandFor, rootless, rootless_index}
 use Rattle.mdc_sound.proofs.StandingTableLemmas.{forests_of, map_of_rules, stands_of_rules, stands_told}
-use Rattle.cell_rooms.specs.RoomNotes.{no_note}
+use Rattle.free_space.specs.RoomNotes.{no_note}
 use Rattle.stored_catalog.specs.AroundTable.{view_with}
 use Rattle.stored_catalog.specs.NewTables.{empty_table, rooted}
 use Rattle.stored_catalog.specs.StoredDefinitions.{AreStored, AreWithinLimits}
@@ -87,8 +90,10 @@ new_is_valid place def roots new = record {
       (λ dim good. (both (nat_lt 0 (length dim) && nat_le (length dim) 16 && are_there def.columns dim) (is_short_key def.columns dim) good).1)
       def.dims new.limits.dims.good;
   short_composite = new.limits.dims.short;
-  none_made = new.none_made;
-  no_indexes = new.limits.no_indexes;
+  sources = all_pass (is_good_column def.columns) (λ (column : ColumnDef). is_good_source def.columns column.ty column.made)
+      (λ column good. (both (is_given_name column.name && is_good_type column.ty) (is_good_source def.columns column.ty column.made) good).1)
+      def.columns new.limits.columns.good;
+  indexes = subst (AreTableIndexes def.columns) (sym new.limits.no_indexes) (record { few = omega arith; good = tt; differ = tt });
   few_rows = omega arith;
 }
 
@@ -145,9 +150,16 @@ pub served_more : (before now : Definitions) (place : ℕ) (def : TableDef) (roo
     → now ≡ with_def before place (rooted def roots) → AreWithinLimits now → AreServed now
 served_more before now place def roots served free new is limits = record {
   limits = limits;
-  valid = subst AreValidDefs (sym is) (put_keeps_defs before place (Some (record (rooted def roots) { number = place })) served.valid (new_is_valid place def roots new)
-      (emptied_too def.name before place (none_named def.name before 0 free)));
+  valid = subst AreValidDefs (sym is) (put_keeps_defs before place (Some put) served.valid (new_is_valid place def roots new)
+      (emptied_too def.name before place (none_named def.name before 0 free)) (index_names_differ (slice_set before place (Some put)) built));
+  built = ap are_built is ∙ built;
 }
+  where
+    put : TableDef
+    put = record (rooted def roots) { number = place }
+
+    built : are_built (slice_set before place (Some put)) ≡ true
+    built = built_put before place (Some put) served.built (is_built_def put new.none_made new.limits.no_indexes)
 
 module _ {S : Type 0} (g : Ghosts S) (old new : S) (before now : Tables) (place : ℕ) (def : TableDef) (roots : Roots) where
   -- all that is known once a table was made
@@ -239,7 +251,14 @@ no_indexes_at defs place served = go (def_at defs place) refl
 
 -- the definitions without one are served
 pub served_less : (before now : Definitions) (place : ℕ) → AreServed before → now ≡ without_def before place → AreWithinLimits now → AreServed now
-served_less before now place served is limits = record { limits = limits; valid = subst AreValidDefs (sym is) (put_keeps_defs before place None served.valid tt tt) }
+served_less before now place served is limits = record {
+  limits = limits;
+  valid = subst AreValidDefs (sym is) (put_keeps_defs before place None served.valid tt tt (index_names_differ (slice_set before place None) built));
+  built = ap are_built is ∙ built;
+}
+  where
+    built : are_built (slice_set before place None) ≡ true
+    built = built_put before place None served.built refl
 
 module _ {S : Type 0} (g : Ghosts S) (old new : S) (before now : Tables) (place : ℕ) where
   -- all that is known once a table was dropped

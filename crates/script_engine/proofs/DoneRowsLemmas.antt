@@ -16,13 +16,14 @@ use Rattle.mdc_ast.specs.declared.reply.Outcome.{Outcome}
 use Rattle.mdc_ast.specs.declared.reply.Outcome.TheVariants as said
 use Rattle.mdc_ast.specs.declared.reply.Reply.TheVariants as reply
 use Rattle.mdc_ast.specs.declared.row.Row.{Row}
-use Rattle.mdc_ast.specs.meaning.Cause.{Cause, refusal_of}
-use Rattle.mdc_ast.specs.meaning.Database.{Database, PlainTable, changed_at, fits_all, table_at, with_place}
-use Rattle.mdc_ast.specs.meaning.Definitions.{def_at}
-use Rattle.mdc_ast.specs.meaning.Doing.{causes_of_rows, changed_causes, changed_row, changed_table, columns_at, effect, hits, left_table, lines_of, qualifies}
-use Rattle.mdc_ast.specs.meaning.Judging.{of_some}
-use Rattle.mdc_ast.specs.meaning.Step.{Answer, Refused, Replied, step_by}
-use Rattle.mdc_ast.proofs.DatabaseLemmas.{changed_at-with_place}
+use Rattle.statement_meaning.specs.Cause.{Cause, refusal_of}
+use Rattle.mdc_ast.specs.Database.{Database, PlainTable, changed_at, fits_all, table_at, with_place}
+use Rattle.mdc_ast.specs.Definitions.{def_at}
+use Rattle.statement_meaning.specs.Doing.{causes_of_rows, changed_causes, changed_row, changed_table, columns_at, effect, hits, left_table, lines_of}
+use Rattle.mdc_ast.specs.Truth.{qualifies}
+use Rattle.statement_meaning.specs.Judging.{of_some}
+use Rattle.statement_meaning.specs.Step.{Answer, Refused, Replied, step_by}
+use Rattle.statement_meaning.proofs.DatabaseLemmas.{changed_at-with_place}
 use Rattle.store_api.specs.Frame.{NoPage}
 use Rattle.store_api.specs.RunsOverPages.{RunsOverPages}
 use Rattle.store_api.specs.declared.fault.Damage.{Damage}
@@ -45,7 +46,7 @@ use Rattle.mdc_sound.specs.StandsForDatabase.{PagesStandFor}
 use Rattle.mdc_sound.specs.TableRows.{PlacedRow}
 use Rattle.binder.specs.Saying.{first_of}
 use Rattle.cell_change.proofs.ChangedSpaceLemmas.{shows_spots}
-use Rattle.row_judging.specs.Executing.{answer_of, done}
+use Rattle.row_checks.specs.Executing.{answer_of, done}
 use Rattle.statement_rows.specs.RowsAndSpace.{TakesRowsBy, TurnsRowsBy}
 use Rattle.statement_rows.specs.RowsOfStatement.{AnyPage, BreaksReady, ChangesRowsOf, HasTheseRows, IsReadyBetween, with_rows, without_rows}
 use Rattle.statement_rows.specs.Turning.{turned_row}
@@ -193,6 +194,7 @@ delete_does {room_now = room_now} g old mid new before now place def pred found 
       owners_now = changed.owners_now;
       forests_now = changed.forests_now;
       changes = changed.changes;
+      records = changed.records;
       now = changed.now;
       space = changed.space;
       makes = changed.makes;
@@ -276,6 +278,7 @@ module _ {S : Type 0} (g : Ghosts S) (old mid new : S) (before now : Tables) (pl
         owners_now = changed.owners_now;
         forests_now = changed.forests_now;
         changes = changed.changes;
+        records = changed.records;
         now = changed.now;
         space = changed.space;
         makes = changed.makes;

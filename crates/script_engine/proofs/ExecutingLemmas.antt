@@ -11,13 +11,14 @@ use Rattle.mdc_ast.specs.declared.reply.Outcome.TheVariants as said
 use Rattle.mdc_ast.specs.declared.reply.Reply.TheVariants as reply
 use Rattle.mdc_ast.specs.declared.statement.Stmt.{Stmt}
 use Rattle.mdc_ast.specs.declared.statement.Stmt.TheVariants.{Query}
-use Rattle.mdc_ast.specs.meaning.Binding.{bound_of, columns_of, on_place}
-use Rattle.mdc_ast.specs.meaning.Cause.{Cause, NotBuilt, refusal_of}
-use Rattle.mdc_ast.specs.meaning.Database.{Database}
-use Rattle.mdc_ast.specs.meaning.Definitions.{Definitions, def_at, place_of}
-use Rattle.mdc_ast.specs.meaning.Judged.{judged_of, query_judged}
-use Rattle.mdc_ast.specs.meaning.Judging.{in_order, on_table}
-use Rattle.mdc_ast.specs.meaning.Step.{Refused, Replied, is_built, step}
+use Rattle.statement_meaning.specs.Binding.{bound_of, columns_of, on_place}
+use Rattle.statement_meaning.specs.Cause.{Cause, NotBuilt, refusal_of}
+use Rattle.mdc_ast.specs.Database.{Database}
+use Rattle.mdc_ast.specs.Definitions.{Definitions, def_at, place_of}
+use Rattle.statement_meaning.specs.Judged.{judged_of, query_judged}
+use Rattle.statement_meaning.specs.Judging.{in_order, on_table}
+use Rattle.statement_meaning.specs.Step.{Refused, Replied, step}
+use Rattle.statement_meaning.specs.Built.{are_built, is_built}
 use Rattle.mdc_ast.proofs.TestsLemmas.{some_is}
 use Rattle.store_api.specs.RunsOverPages.{RunsOverPages}
 use Rattle.store_api.specs.declared.fault.StoreFault.TheVariants as store_fault
@@ -33,7 +34,7 @@ use Rattle.binder.specs.Refusing.{IsRefusedFor}
 use Rattle.binder.specs.Saying.{first_of}
 use Rattle.binder.specs.declared.binding.BindFault.{BindFault}
 use Rattle.binder.specs.declared.binding.BindFault.TheVariants as bind_fault
-use Rattle.row_judging.specs.Executing.{done}
+use Rattle.row_checks.specs.Executing.{done}
 use Rattle.statement_rows.specs.RowsOfStatement.{AnyPage}
 use Rattle.script_engine.specs.Defining.{IsBoundOn, MayBeExecuted}
 use Rattle.script_engine.specs.Doing.{DoesStatement, DoesStep, LeavesAll, RunsFullAlone, StandsAfter, StepRunsFull, changed_place, is_query, is_reading}
@@ -41,7 +42,7 @@ use Rattle.script_engine.specs.Held.{IsWritten}
 use Rattle.script_engine.specs.Others.{touched_place}
 use Rattle.script_engine.specs.Ready.{AreServed, BreaksDatabase, IsReady}
 use Rattle.script_engine.specs.declared.tables.Tables.{Tables}
-use Rattle.row_judging.proofs.ServedLemmas.{served}
+use Rattle.row_checks.proofs.ServedLemmas.{served}
 use Rattle.script_engine.proofs.OthersLemmas.{keeps_others_itself}
 use Rattle.script_engine.proofs.StoredDefsLemmas.{none_said_on, step_is_done_on, step_not_built, step_refused_on, stored_defs}
 use Rattle.script_engine.proofs.WrittenTablesLemmas.{written_is_new}
@@ -59,46 +60,46 @@ may_execute defs stmt statement serves written bound = subst (MayBeExecuted defs
 
 -- ---- the end of a statement that is bound
 
-does_step : {S : Type 0} (g : Ghosts S) (old new : S) (before now : Tables) (stmt : Stmt) (outcome : Outcome) → is_built stmt ≡ true → in_order (judged_of before.catalog stmt) ≡ []
+does_step : {S : Type 0} (g : Ghosts S) (old new : S) (before now : Tables) (stmt : Stmt) (outcome : Outcome) → are_built before.catalog ≡ true → is_built stmt ≡ true → in_order (judged_of before.catalog stmt) ≡ []
     → IsReady g old before → DoesStatement g old new before now (bound_of before.catalog stmt) outcome → DoesStep g old new before now stmt outcome
-does_step g old new before now stmt outcome built said ready does = record {
+does_step g old new before now stmt outcome tables built said ready does = record {
   ready = does.ready;
   stands = λ db stands.
-      let same : step db stmt ≡ done db (bound_of before.catalog stmt) = step_is_done_on db before.catalog stmt (stored_defs before.ext (pages_of g old) before.catalog db ready.stored stands) built said in
+      let same : step db stmt ≡ done db (bound_of before.catalog stmt) = step_is_done_on db before.catalog stmt (stored_defs before.ext (pages_of g old) before.catalog db ready.stored stands) tables built said in
       subst (λ end_. StandsAfter now.ext (pages_of g new) end_ outcome) (sym same) (does.stands db stands);
   places = does.places;
   others = does.others;
 }
 
 -- what a bound statement did is what its text does
-pub steps_as_bound : {S E : Type 0} (g : Ghosts S) (old new : S) (before now : Tables) (stmt : Stmt) (statement : Bound) (result : Result Outcome E) → IsBoundOn before.catalog stmt statement
+pub steps_as_bound : {S E : Type 0} (g : Ghosts S) (old new : S) (before now : Tables) (stmt : Stmt) (statement : Bound) (result : Result Outcome E) → AreServed before.catalog → IsBoundOn before.catalog stmt statement
     → IfOk result (λ outcome. IsReady g old before → DoesStatement g old new before now statement outcome) → IfOk result (λ outcome. IsReady g old before → DoesStep g old new before now stmt outcome)
-steps_as_bound g old new before now stmt statement (Err fault) bound does = tt
-steps_as_bound g old new before now stmt statement (Ok outcome) bound does = λ ready.
-    does_step g old new before now stmt outcome bound.built bound.said ready (subst (λ b. DoesStatement g old new before now b outcome) bound.is (does ready))
+steps_as_bound g old new before now stmt statement (Err fault) served bound does = tt
+steps_as_bound g old new before now stmt statement (Ok outcome) served bound does = λ ready.
+    does_step g old new before now stmt outcome served.built bound.built bound.said ready (subst (λ b. DoesStatement g old new before now b outcome) bound.is (does ready))
 
 -- where a bound statement runs full, its text does
-step_full : {S : Type 0} (g : Ghosts S) (s : S) (tables : Tables) (stmt : Stmt) → is_built stmt ≡ true → in_order (judged_of tables.catalog stmt) ≡ [] → IsReady g s tables
+step_full : {S : Type 0} (g : Ghosts S) (s : S) (tables : Tables) (stmt : Stmt) → are_built tables.catalog ≡ true → is_built stmt ≡ true → in_order (judged_of tables.catalog stmt) ≡ [] → IsReady g s tables
     → RunsFullAlone tables.ext (pages_of g s) tables.catalog (bound_of tables.catalog stmt) → StepRunsFull tables.ext (pages_of g s) tables.catalog stmt
-step_full g s tables stmt built said ready alone = record {
+step_full g s tables stmt forms built said ready alone = record {
   full = alone.full;
-  faultless = λ db stands. none_said_on db tables.catalog stmt (stored_defs tables.ext (pages_of g s) tables.catalog db ready.stored stands) built said (alone.faultless db stands);
+  faultless = λ db stands. none_said_on db tables.catalog stmt (stored_defs tables.ext (pages_of g s) tables.catalog db ready.stored stands) forms built said (alone.faultless db stands);
 }
 
-full_if : {S : Type 0} (g : Ghosts S) (s : S) (tables : Tables) (stmt : Stmt) (statement : Bound) (fault : SpaceFault) → IsBoundOn tables.catalog stmt statement
+full_if : {S : Type 0} (g : Ghosts S) (s : S) (tables : Tables) (stmt : Stmt) (statement : Bound) (fault : SpaceFault) → AreServed tables.catalog → IsBoundOn tables.catalog stmt statement
     → IfFull fault (λ cap. (cap ≡ tables.ext.cap) × (IsReady g s tables → RunsFullAlone tables.ext (pages_of g s) tables.catalog statement))
     → IfFull fault (λ cap. (cap ≡ tables.ext.cap) × (IsReady g s tables → StepRunsFull tables.ext (pages_of g s) tables.catalog stmt))
-full_if g s tables stmt statement (Full cap) bound full = (
+full_if g s tables stmt statement (Full cap) served bound full = (
   full.0,
-  λ ready. step_full g s tables stmt bound.built bound.said ready (subst (RunsFullAlone tables.ext (pages_of g s) tables.catalog) bound.is (full.1 ready)),
+  λ ready. step_full g s tables stmt served.built bound.built bound.said ready (subst (RunsFullAlone tables.ext (pages_of g s) tables.catalog) bound.is (full.1 ready)),
 )
-full_if g s tables stmt statement (Store fault) bound full = tt
+full_if g s tables stmt statement (Store fault) served bound full = tt
 
-pub full_as_bound : {S X : Type 0} (g : Ghosts S) (old : S) (before : Tables) (stmt : Stmt) (statement : Bound) (result : Result X SpaceFault) → IsBoundOn before.catalog stmt statement
+pub full_as_bound : {S X : Type 0} (g : Ghosts S) (old : S) (before : Tables) (stmt : Stmt) (statement : Bound) (result : Result X SpaceFault) → AreServed before.catalog → IsBoundOn before.catalog stmt statement
     → IfErr result (λ fault. IfFull fault (λ cap. (cap ≡ before.ext.cap) × (IsReady g old before → RunsFullAlone before.ext (pages_of g old) before.catalog statement)))
     → IfErr result (λ fault. IfFull fault (λ cap. (cap ≡ before.ext.cap) × (IsReady g old before → StepRunsFull before.ext (pages_of g old) before.catalog stmt)))
-full_as_bound g old before stmt statement (Ok done) bound full = tt
-full_as_bound g old before stmt statement (Err fault) bound full = full_if g old before stmt statement fault bound full
+full_as_bound g old before stmt statement (Ok done) served bound full = tt
+full_as_bound g old before stmt statement (Err fault) served bound full = full_if g old before stmt statement fault served bound full
 
 -- ---- queries
 
@@ -143,13 +144,13 @@ first_cause (cause ∷ causes) refusal e = (cause, refl, some_is _ _ e)
 refused_first : (causes : List Cause) (fault : BindFault) (refusal : Refusal) → fault ≡ bind_fault.Refused refusal → IsRefusedFor causes (Err fault) → option_map refusal_of (first_of causes) ≡ Some refusal
 refused_first causes fault refusal is refused = subst (λ f. IsRefusedFor causes (Err f)) is refused
 
-pub steps_refused : {S : Type 0} (g : Ghosts S) (s : S) (tables : Tables) (stmt : Stmt) (fault : BindFault) (refusal : Refusal) → is_built stmt ≡ true
+pub steps_refused : {S : Type 0} (g : Ghosts S) (s : S) (tables : Tables) (stmt : Stmt) (fault : BindFault) (refusal : Refusal) → are_built tables.catalog ≡ true → is_built stmt ≡ true
     → fault ≡ bind_fault.Refused refusal → IsRefusedFor (in_order (judged_of tables.catalog stmt)) (Err fault) → IsReady g s tables → DoesStep g s s tables tables stmt (said.Refused refusal)
-steps_refused g s tables stmt fault refusal built is refused ready =
+steps_refused g s tables stmt fault refusal forms built is refused ready =
     let first : (cause : Cause) × (first_of (in_order (judged_of tables.catalog stmt)) ≡ Some cause) × (refusal_of cause ≡ refusal) = first_cause (in_order (judged_of tables.catalog stmt)) refusal
     (refused_first (in_order (judged_of tables.catalog stmt)) fault refusal is refused) in
     stays g s tables stmt refusal ready (λ db stands.
-    step_refused_on db tables.catalog stmt first.0 (stored_defs tables.ext (pages_of g s) tables.catalog db ready.stored stands) built first.1 ∙ ap (λ r. (db, Refused r)) first.2)
+    step_refused_on db tables.catalog stmt first.0 (stored_defs tables.ext (pages_of g s) tables.catalog db ready.stored stands) forms built first.1 ∙ ap (λ r. (db, Refused r)) first.2)
 
 -- ---- a bound statement that does nothing
 

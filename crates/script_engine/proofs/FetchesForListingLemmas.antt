@@ -6,7 +6,7 @@ use Rattle.mdc_ast.specs.declared.definition.TableDef.{TableDef}
 use Rattle.mdc_ast.specs.declared.name.Name.{Name}
 use Rattle.mdc_ast.specs.declared.statement.Stmt.{Stmt}
 use Rattle.mdc_ast.specs.declared.statement.Stmt.TheVariants as statement
-use Rattle.mdc_ast.specs.meaning.Definitions.{Definitions, def_named}
+use Rattle.mdc_ast.specs.Definitions.{Definitions, def_named}
 use Rattle.store_api.specs.Fetching.{BringsOnly}
 use Rattle.store_api.specs.declared.pages.Pages.{Ghosts}
 use Rattle.table_trees.specs.TableTrees.{map_place}

@@ -5,7 +5,7 @@ use Rattle.mdc_ast.specs.declared.bound.Bound.TheVariants as bound
 use Rattle.mdc_ast.specs.declared.bound.BoundSelect.{BoundSelect}
 use Rattle.mdc_ast.specs.declared.definition.TableDef.{TableDef}
 use Rattle.mdc_ast.specs.declared.predicate.Pred.{Pred}
-use Rattle.mdc_ast.specs.meaning.Definitions.{Definitions, def_at}
+use Rattle.mdc_ast.specs.Definitions.{Definitions, def_at}
 use Rattle.store_api.specs.Fetching.{BringsOnly}
 use Rattle.store_api.specs.Frame.{OnlyPage}
 use Rattle.store_api.specs.declared.pages.Pages.{Ghosts}

@@ -9,10 +9,10 @@ use Rattle.mdc_ast.specs.declared.definition.TableDef.{TableDef}
 use Rattle.mdc_ast.specs.declared.refusal.Refusal.{Refusal}
 use Rattle.mdc_ast.specs.declared.reply.Outcome.TheVariants as said
 use Rattle.mdc_ast.specs.declared.reply.Reply.TheVariants as reply
-use Rattle.mdc_ast.specs.meaning.Database.{Database, changed_at}
-use Rattle.mdc_ast.specs.meaning.Definitions.{Definitions, def_at, with_def}
-use Rattle.mdc_ast.specs.meaning.Doing.{appended, effect, numbered}
-use Rattle.mdc_ast.specs.meaning.Step.{Answer, Refused, Replied, step_by}
+use Rattle.mdc_ast.specs.Database.{Database, changed_at, appended, numbered}
+use Rattle.mdc_ast.specs.Definitions.{Definitions, def_at, with_def}
+use Rattle.statement_meaning.specs.Doing.{effect}
+use Rattle.statement_meaning.specs.Step.{Answer, Refused, Replied, step_by}
 use Rattle.store_api.specs.declared.fault.Damage.{Damage}
 use Rattle.store_api.specs.declared.pages.Pages.{Ghosts}
 use Rattle.extent_map.specs.Damages.{IfFull}
@@ -28,8 +28,8 @@ use Rattle.mdc_sound.specs.SoundDatabase.{with_table_page}
 use Rattle.mdc_sound.specs.StandingTable.{TableForests, pages_of}
 use Rattle.mdc_sound.specs.StandsForDatabase.{PagesStandFor}
 use Rattle.mdc_sound.specs.TablePages.{DefinesTable}
-use Rattle.row_judging.specs.Executing.{done}
-use Rattle.row_judging.specs.Served.{IsDefined}
+use Rattle.row_checks.specs.Executing.{done}
+use Rattle.row_checks.specs.Served.{IsDefined}
 use Rattle.stored_catalog.specs.StoredDefinitions.{LacksTablePage, with_stored}
 use Rattle.stored_catalog.proofs.DroppingLemmas.{defined_within}
 use Rattle.stored_catalog.proofs.LeftDefinitionsLemmas.{stored_at}

@@ -8,7 +8,7 @@ use Rattle.mdc_ast.specs.Cutting.{Passes}
 use Rattle.mdc_ast.specs.Tokens.{Front, Kind, Number, Stray, Symbol, Text, Token, Tokens, Word, is_letter, is_lower, is_word_byte, upper}
 use Rattle.mdc_ast.specs.Tokens as tokens
 use Rattle.mdc_ast.proofs.TestsLemmas.{and_true}
-use Rattle.table_page.specs.TableLimits.{is_kept_word}
+use Rattle.mdc_ast.specs.TableLimits.{is_kept_word}
 
 -- a token's word is kept so
 abbrev pub IsKept : Kind → Type 0

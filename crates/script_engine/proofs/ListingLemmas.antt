@@ -1,14 +1,15 @@
 -- LIST BLOCKS on an engine: what it says of a table of ready pages, and that nothing changes.
 use Rattle.std.proofs.Common.{◌≡◌, ℕ, List, Option, Some, None, Result, Ok, Err, IsErrAnd, refl, sym, ap, subst, ◌∙◌}
-use Rattle.std.specs.Prelude.{false, true, is_some, length, option_and_then}
+use Rattle.std.specs.Prelude.{if◌then◌else◌, false, true, is_some, length, option_and_then}
 use Rattle.mdc_words.proofs.FaultsLemmas.{counts_fault_as, counts_fault_then}
 use Rattle.mdc_ast.specs.declared.definition.TableDef.{TableDef}
 use Rattle.mdc_ast.specs.declared.name.Name.{Name}
 use Rattle.mdc_ast.specs.declared.reply.Outcome.{Outcome}
 use Rattle.mdc_ast.specs.declared.reply.Outcome.TheVariants as said
 use Rattle.mdc_ast.specs.declared.statement.Stmt.TheVariants.{ListBlocks}
-use Rattle.mdc_ast.specs.meaning.Cause.{NoTable, refusal_of}
-use Rattle.mdc_ast.specs.meaning.Definitions.{Definitions, def_at, def_named, place_of}
+use Rattle.statement_meaning.specs.Cause.{NoTable, NotBuilt, refusal_of}
+use Rattle.statement_meaning.specs.Step.{Refused}
+use Rattle.mdc_ast.specs.Definitions.{Definitions, def_at, def_named, place_of}
 use Rattle.store_api.specs.Frame.{NoPage}
 use Rattle.store_api.specs.RunsOverPages.{RunsOverPages}
 use Rattle.store_api.specs.Works.{Steady}
@@ -27,7 +28,7 @@ use Rattle.table_trees.proofs.ToldPagesLemmas.{tree_of_told}
 use Rattle.mdc_sound.specs.StandingTable.{BreaksTable, StandsTable, TableForests, pages_of}
 use Rattle.mdc_table.specs.TableReading.{CountsBlocks}
 use Rattle.mdc_table.specs.declared.account.Account.{Account}
-use Rattle.row_judging.specs.Executing.{answer_of}
+use Rattle.row_checks.specs.Executing.{answer_of}
 use Rattle.statement_rows.specs.RowsOfStatement.{AnyPage}
 use Rattle.script_engine.specs.Breaking.{HoldsAtDamage, NamesExactly}
 use Rattle.script_engine.specs.Fetching.{FetchesForListing}
@@ -35,7 +36,7 @@ use Rattle.script_engine.specs.Held.{HeldPages, KeepsBase, StandsForSession, Ste
 use Rattle.script_engine.specs.Held.StepsOnPages.{lists, turns}
 use Rattle.script_engine.specs.Leaving.{IsAllCommitted}
 use Rattle.script_engine.specs.Listing.{TellsBlocks, blocks_told}
-use Rattle.script_engine.specs.Opening.{are_built}
+use Rattle.statement_meaning.specs.Built.{are_built}
 use Rattle.script_engine.specs.Ready.{AreServed, BreaksDatabase, IsReady}
 use Rattle.script_engine.specs.Serving.{IsReadyEngine, MayCall, held_by}
 use Rattle.script_engine.specs.Stops.{stop_of}
@@ -44,6 +45,7 @@ use Rattle.script_engine.specs.Turns.{Executes, LeavesOutside}
 use Rattle.script_engine.specs.declared.engine.Engine.{Engine}
 use Rattle.script_engine.specs.declared.stop.EngineStop.{EngineStop}
 use Rattle.script_engine.specs.declared.tables.Tables.{Tables}
+use Rattle.script_engine.proofs.StoredDefsLemmas.{same_built, stored_defs}
 use Rattle.script_engine.proofs.LeavingLemmas.{leaves_steady}
 use Rattle.script_engine.proofs.LeavingOthersLemmas.{leaves_others_still}
 use Rattle.script_engine.proofs.ScannedTablesLemmas.{StandsReady, stands_ready}
@@ -98,24 +100,26 @@ module _ {S : Type 0} (g : Ghosts S) (old : Engine S) (store : S) (name : Name) 
     base_still all = record { closed = λ shut. runs.works.steady.base ∙ (all shut ∙ sym same); is_open = λ opened. runs.works.steady.base }
 
     -- a name that no table has turns no session
-    absent_steps : (outcome : Outcome) → def_named old.tables.catalog name ≡ None → outcome ≡ said.Refused (refusal_of (NoTable name)) → IsReadyEngine g old
+    absent_steps : (outcome : Outcome) → are_built old.tables.catalog ≡ true → def_named old.tables.catalog name ≡ None → outcome ≡ said.Refused (refusal_of (NoTable name)) → IsReadyEngine g old
         → StepsOnPages old.tables.ext (held_by g old) (ListBlocks name) outcome (held_by g new)
-    absent_steps outcome absent is ready = turns (ap is_some absent)
-        (λ session stands. record {
+    absent_steps outcome built absent is ready = turns (ap is_some absent)
+        (λ session stands.
+        let defs = stored_defs old.tables.ext (pages_of g old.store) old.tables.catalog session.working ready.work.stored stands.working in
+        record {
           session = subst (λ (held : HeldPages). StandsForSession old.tables.ext held session) (sym still) stands;
-          answers = ap answer_of (sym is);
+          answers = ap (λ b. Refused (refusal_of (if b then NoTable name else NotBuilt))) (same_built session.working old.tables.catalog defs built) ∙ ap answer_of (sym is);
         })
         (base_still ready.closed) same
         (leaves_others_still old.tables.ext (ListBlocks name) (held_by g old) (held_by g new) same refl) (λ refusal says. still)
         (λ done says place def changed at. absurd (cc))
 
-    list_steps : (outcome : Outcome) → (def_named old.tables.catalog name ≡ None → outcome ≡ said.Refused (refusal_of (NoTable name)))
+    list_steps : (outcome : Outcome) → are_built old.tables.catalog ≡ true → (def_named old.tables.catalog name ≡ None → outcome ≡ said.Refused (refusal_of (NoTable name)))
         → ((def : TableDef) → def_named old.tables.catalog name ≡ Some def → IsReady g old.store old.tables → TellsBlocks (pages_of g old.store) def outcome) → IsReadyEngine g old
         → StepsOnPages old.tables.ext (held_by g old) (ListBlocks name) outcome (held_by g new)
-    list_steps outcome absent tells ready = go (def_named old.tables.catalog name) refl
+    list_steps outcome built absent tells ready = go (def_named old.tables.catalog name) refl
       where
         go : (found : Option TableDef) → def_named old.tables.catalog name ≡ found → StepsOnPages old.tables.ext (held_by g old) (ListBlocks name) outcome (held_by g new)
-        go None named = absent_steps outcome named (absent named) ready
+        go None named = absent_steps outcome built named (absent named) ready
         go (Some def) named = lists name def refl named still (tells def named ready.work)
 
   -- it was answered
@@ -126,7 +130,7 @@ module _ {S : Type 0} (g : Ghosts S) (old : Engine S) (store : S) (name : Name) 
   list_done outcome may served runs absent tells fetches =
       let steady = runs.works.steady in
       record {
-        steps = λ ready. (list_steps runs outcome absent tells ready, ready_along g old store steady.is_told steady.base same ready);
+        steps = λ ready. (list_steps runs outcome (may.served served).built absent tells ready, ready_along g old store steady.is_told steady.base same ready);
         may = record { going = steady.ended ∙ may.going; unmarked = runs.works.marked ∙ may.unmarked; served = may.served };
         keeps = λ all. base_still runs all;
         keeps_work = same;

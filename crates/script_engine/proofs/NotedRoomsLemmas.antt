@@ -4,10 +4,10 @@ use Rattle.std.specs.Prelude.{slice_get}
 use Rattle.mdc_words.specs.ByteOrder.{Entry}
 use Rattle.mdc_words.proofs.PlacesLemmas.{slice_get-set_other, slice_get-set_same}
 use Rattle.mdc_ast.specs.declared.definition.TableDef.{TableDef}
-use Rattle.mdc_ast.specs.meaning.Definitions.{Definitions, def_at}
+use Rattle.mdc_ast.specs.Definitions.{Definitions, def_at}
 use Rattle.mdc_sound.specs.StandingTable.{RoomNote}
-use Rattle.cell_rooms.specs.RoomNotes.{room_of}
-use Rattle.cell_rooms.specs.declared.rooms.Rooms.{Rooms}
+use Rattle.free_space.specs.RoomNotes.{room_of}
+use Rattle.free_space.specs.declared.rooms.Rooms.{Rooms}
 use Rattle.script_engine.specs.NotedRooms.{note_in}
 use Rattle.script_engine.specs.Ready.{AreServed}
 use Rattle.script_engine.proofs.ServedDefsLemmas.{served_below}

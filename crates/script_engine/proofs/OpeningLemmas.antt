@@ -2,7 +2,8 @@
 use Rattle.std.proofs.Common.{◌≡◌, true, false, List, Some, None, Result, Err, sym, ap, subst, ◌∙◌}
 use Rattle.std.specs.Prelude.{IsTrue}
 use Rattle.mdc_words.specs.Time.{ReachesBack}
-use Rattle.mdc_ast.specs.meaning.Definitions.{AllDefsDiffer, Definitions}
+use Rattle.mdc_ast.specs.ValidDatabase.{AllDefsDiffer}
+use Rattle.mdc_ast.specs.Definitions.{Definitions}
 use Rattle.store_api.specs.Frame.{NoPage}
 use Rattle.store_api.specs.RunsOverPages.{RunsOverPages}
 use Rattle.store_api.specs.Works.{Rests}
@@ -19,13 +20,14 @@ use Rattle.mdc_sound.specs.SoundDatabase.{IsSoundDatabase, KeepAllRules}
 use Rattle.stored_catalog.specs.StoredDefinitions.{AreStored, AreWithinLimits, BreaksTablePages, IsAnyTablePage}
 use Rattle.script_engine.specs.Breaking.{NamesExactly, OnlyReads}
 use Rattle.script_engine.specs.NotedRooms.{AreForgotten}
-use Rattle.script_engine.specs.Opening.{IsSoundStore, KeepsPages, are_built}
+use Rattle.script_engine.specs.Opening.{IsSoundStore, KeepsPages}
+use Rattle.statement_meaning.specs.Built.{are_built}
 use Rattle.script_engine.specs.Serving.{IsReadyEngine, MayCall}
 use Rattle.script_engine.specs.Stops.{stop_of}
 use Rattle.script_engine.specs.declared.engine.Engine.{Engine}
 use Rattle.script_engine.specs.declared.stop.EngineStop.{EngineStop}
 use Rattle.script_engine.specs.declared.stop.EngineStop.TheVariants.{Damaged}
-use Rattle.script_engine.proofs.CatalogLemmas.{built_of, one_catalog, served_of}
+use Rattle.script_engine.proofs.CatalogLemmas.{one_catalog, served_of}
 use Rattle.script_engine.proofs.ReadyTablesLemmas.{ready_of_sound}
 use Rattle.script_engine.proofs.ReloadingLemmas.{no_damage}
 use Rattle.script_engine.proofs.ShapeLemmas.{keeps_along}
@@ -77,7 +79,7 @@ module _ {S : Type 0} (g : Ghosts S) where
         let kept = opened_pages in
         let stored = loads sound.told in
         let defs_are : catalog ≡ sound.defs = one_catalog (g.state old).work catalog sound.defs stored sound.stored in
-        let built : are_built catalog ≡ true = ap are_built defs_are ∙ built_of sound.defs sound.valid in
+        let built : are_built catalog ≡ true = ap are_built defs_are ∙ sound.valid.built in
         let along = keeps_along ext engine.tables.ext (g.state old).work sound.sound.0 shape sound.sound.1 in
         let base_now : (g.state engine.store).base ≡ (g.state old).work = kept.base ∙ sound.committed in
         let stored_now : AreStored (g.state old).work engine.tables.catalog = subst (λ (defs : Definitions). AreStored (g.state old).work defs) (sym has) stored in

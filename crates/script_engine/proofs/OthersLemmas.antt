@@ -7,7 +7,7 @@ use Rattle.mdc_words.proofs.PlacesLemmas.{slice_get-set_other, slice_get-set_sam
 use Rattle.mdc_ast.specs.declared.bound.Bound.{Bound}
 use Rattle.mdc_ast.specs.declared.bound.Bound.TheVariants as bound
 use Rattle.mdc_ast.specs.declared.definition.TableDef.{TableDef}
-use Rattle.mdc_ast.specs.meaning.Definitions.{Definitions, def_at, empty_place, with_def, without_def}
+use Rattle.mdc_ast.specs.Definitions.{Definitions, def_at, empty_place, with_def, without_def}
 use Rattle.store_api.specs.Extents.{first_page_of}
 use Rattle.store_api.specs.Frame.{OnlyPage, Touches}
 use Rattle.store_api.specs.declared.pages.Pages.{Ghosts}

@@ -7,9 +7,10 @@ use Rattle.mdc_ast.specs.declared.bound.BoundSet.{BoundSet}
 use Rattle.mdc_ast.specs.declared.definition.ColumnDef.{ColumnDef}
 use Rattle.mdc_ast.specs.declared.predicate.Pred.{Pred}
 use Rattle.mdc_ast.specs.declared.row.Row.{Row}
-use Rattle.mdc_ast.specs.meaning.Database.{PlainTable}
-use Rattle.mdc_ast.specs.meaning.Doing.{changed_causes, changed_row, changed_table, left_table, qualifies}
-use Rattle.mdc_ast.proofs.UpdateLemmas.{number-changed_row}
+use Rattle.mdc_ast.specs.Database.{PlainTable}
+use Rattle.statement_meaning.specs.Doing.{changed_causes, changed_row, changed_table, left_table}
+use Rattle.mdc_ast.specs.Truth.{qualifies}
+use Rattle.statement_meaning.proofs.UpdateLemmas.{number-changed_row}
 use Rattle.mdc_sound.specs.StandsForDatabase.{with_row, without_row}
 use Rattle.mdc_sound.proofs.StandsForLemmas.{above_first, first_or_later, is_first, is_later, rest_rises}
 use Rattle.statement_rows.specs.RowsOfStatement.{with_rows, without_rows}

@@ -12,17 +12,18 @@ use Rattle.mdc_ast.specs.declared.definition.GenExpr.{GenExpr}
 use Rattle.mdc_ast.specs.declared.definition.TableDef.{TableDef}
 use Rattle.mdc_ast.specs.declared.refusal.Refusal.{Refusal}
 use Rattle.mdc_ast.specs.declared.reply.Reply.{Reply}
-use Rattle.mdc_ast.specs.meaning.Cause.{Cause, NumbersUsedUp}
-use Rattle.mdc_ast.specs.meaning.Database.{Database, PlainTable, fits_all, table_at}
-use Rattle.mdc_ast.specs.meaning.Definitions.{Definitions, IsValidDef, def_at, with_def, without_def}
-use Rattle.mdc_ast.specs.meaning.Doing.{causes_of_rows, null_causes, numbered, used_up}
-use Rattle.mdc_ast.specs.meaning.Judging.{of_some}
-use Rattle.mdc_ast.specs.meaning.Step.{Refused, step_by}
-use Rattle.mdc_ast.proofs.CausesLemmas.{none_if, none_of_both}
+use Rattle.statement_meaning.specs.Cause.{Cause, NumbersUsedUp}
+use Rattle.mdc_ast.specs.Database.{Database, PlainTable, fits_all, table_at, numbered}
+use Rattle.mdc_ast.specs.Definitions.{Definitions, def_at, with_def, without_def}
+use Rattle.statement_meaning.specs.Doing.{causes_of_rows, null_causes, used_up}
+use Rattle.statement_meaning.specs.Judging.{of_some}
+use Rattle.statement_meaning.specs.Step.{Refused, step_by}
+use Rattle.statement_meaning.proofs.CausesLemmas.{none_if, none_of_both}
 use Rattle.mdc_ast.proofs.TestsLemmas.{both}
-use Rattle.mdc_sound.specs.FittingRows.{AreMadeFrom, IsMadeFrom, RowFits}
+use Rattle.statement_meaning.proofs.BuiltLemmas.{none_generated}
+use Rattle.mdc_ast.specs.FittingRows.{AreMadeFrom, IsMadeFrom, RowFits}
 use Rattle.mdc_sound.specs.StandsForDatabase.{rootless}
-use Rattle.row_judging.specs.Served.{IsDefined, MayPut}
+use Rattle.row_checks.specs.Served.{IsDefined, MayPut}
 use Rattle.script_engine.specs.Inserting.{first_refusal, numbered_on, tuple_causes}
 
 -- ---- what is said
@@ -59,26 +60,13 @@ none_said (cause ∷ causes) none = absurd cc
 
 -- ---- what fits
 
--- a value of a column that isn't generated is free
-not_made : (made : Option GenExpr) (all : List Value) (value : Value) → IsTrue (is_none made) → IsMadeFrom made all value
-not_made None all value none = tt
-not_made (Some e) all value none = absurd cc
-
--- no value is generated where no column is
-none_made_from : (all : List Value) (columns : List ColumnDef) (values : List Value) → IsTrue (list_all (λ (column : ColumnDef). is_none column.made) columns) → AreMadeFrom all columns values
-none_made_from all [] values none = tt
-none_made_from all (column ∷ columns) [] none = tt
-none_made_from all (column ∷ columns) (value ∷ values) none =
-    let parts = both (is_none column.made) (list_all (λ (column : ColumnDef). is_none column.made) columns) none in
-    (not_made column.made all value parts.0, none_made_from all columns values parts.1)
-
 -- rows of values that fit the columns fit the definition
 pub rows_fit : (def : TableDef) (from : ℕ) (tuples : List (List Value)) → IsTrue (list_all (λ (column : ColumnDef). is_none column.made) def.columns) → IsTrue (list_all (fits_all def.columns) tuples)
     → AllByRecursion (RowFits def) (numbered from tuples)
 rows_fit def from [] none fit = tt
 rows_fit def from (values ∷ tuples) none fit =
     let parts = both (fits_all def.columns values) (list_all (fits_all def.columns) tuples) fit in
-    (record { values = parts.0; generated = none_made_from values def.columns values none }, rows_fit def (from + 1) tuples none parts.1)
+    (record { values = parts.0; generated = none_generated values def.columns values none }, rows_fit def (from + 1) tuples none parts.1)
 
 -- what may be put into a table that is there
 pub may_put : (found : Option TableDef) (def : TableDef) (tuples : List (List Value)) → found ≡ Some def → IsDefined found (MayPut tuples) → MayPut tuples def
@@ -94,9 +82,9 @@ pub of_that : (found : Option TableDef) (def : TableDef) (P : TableDef → Type 
 of_that found def P at is = subst (λ f. IfSome f P) at is
 
 -- tuples against which nothing is said make rows that fit
-pub tuples_fit : (place : ℕ) (def : TableDef) (tuples : List (List Value)) → IsValidDef place def → MayPut tuples def → tuple_causes def tuples ≡ []
+pub tuples_fit : (def : TableDef) (tuples : List (List Value)) → IsTrue (list_all (λ (column : ColumnDef). is_none column.made) def.columns) → MayPut tuples def → tuple_causes def tuples ≡ []
     → AllByRecursion (RowFits def) (numbered def.next tuples)
-tuples_fit place def tuples valid may none = rows_fit def def.next tuples valid.none_made (may.fit (no_nulls def tuples none))
+tuples_fit def tuples made may none = rows_fit def def.next tuples made (may.fit (no_nulls def tuples none))
 
 -- ---- the definition, which was taken out and is put back whatever came
 

@@ -24,7 +24,7 @@ use Rattle.mdc_table.proofs.ReadValuesLemmas.{read_length}
 use Rattle.answer_text.specs.Lines.{are_outs_within, is_out_within, lines_shown, with_line}
 use Rattle.answer_text.proofs.ShownLines.{with_line-lines_shown}
 use Rattle.row_filter.specs.Filtering.{may_filter}
-use Rattle.row_judging.specs.Served.{HaveKinds, MayJudge, is_of_kind}
+use Rattle.row_checks.specs.Served.{HaveKinds, MayJudge, is_of_kind}
 
 -- ---- kinds
 

@@ -5,13 +5,14 @@ use Rattle.std.proofs.lemmas.Option.{same_Some}
 use Rattle.mdc_words.specs.ByteOrder.{Entry}
 use Rattle.mdc_ast.specs.declared.bound.Bound.{Bound}
 use Rattle.mdc_ast.specs.declared.definition.TableDef.{TableDef}
-use Rattle.mdc_ast.specs.meaning.Database.{Database, PlainTable, changed_at}
-use Rattle.mdc_ast.specs.meaning.Definitions.{AreValidFrom, Definitions, IsValidDef, def_at, with_def}
+use Rattle.mdc_ast.specs.Database.{Database, PlainTable, changed_at}
+use Rattle.statement_meaning.proofs.BuiltLemmas.{built_at, no_indexes}
+use Rattle.mdc_ast.specs.Definitions.{Definitions, def_at, with_def}
 use Rattle.store_api.specs.declared.pages.Pages.{Ghosts}
 use Rattle.extent_map.specs.Owners.{AreRightNotes}
 use Rattle.extent_map.specs.declared.extents.Extents.{Extents}
 use Rattle.extent_map.specs.declared.kind.Kind.{Kind}
-use Rattle.table_page.specs.TableLimits.{IsTableDef}
+use Rattle.mdc_ast.specs.TableLimits.{IsTableDef}
 use Rattle.table_page.proofs.TablePageLemmas.{one_definition}
 use Rattle.table_trees.specs.SpaceChanges.{MakesChanges, SpaceChange}
 use Rattle.table_trees.specs.TableTrees.{map_place}
@@ -52,21 +53,13 @@ pub record IsServedDef (place : ℕ) (def : TableDef) : Type 0 where
   pub limits : IsTableDef def.number def
   pub no_indexes : def.indexes ≡ []
 
--- what stands in a place is valid under its number
-valid_def : (from : ℕ) (defs : Definitions) (place : ℕ) (def : TableDef) → AreValidFrom from defs → def_at defs place ≡ Some def → IsValidDef (from + place) def
-valid_def from [] place def valid at = cc
-valid_def from (None ∷ defs) zero def valid at = cc
-valid_def from (Some first ∷ defs) zero def valid at = let here : from ≡ from + 0 = omega arith in subst (λ n. IsValidDef n def) here (subst (IsValidDef from) (same_Some first def at) valid.0)
-valid_def from (first ∷ defs) (suc place) def valid at =
-    let same : (from + 1) + place ≡ from + suc place = omega arith in subst (λ n. IsValidDef n def) same (valid_def (from + 1) defs place def valid.1 at)
-
 pub served_def : (defs : Definitions) (place : ℕ) (def : TableDef) → AreServed defs → def_at defs place ≡ Some def → IsServedDef place def
 served_def defs place def served at =
     let limits = limits_at defs place def served.limits at in record {
       number = limits.stands;
       below = (range_at IsWithinLimits 0 16 defs place (Some def) served.limits (def_there defs place def at)).0;
       limits = subst (λ t. IsTableDef t def) (sym limits.stands) limits;
-      no_indexes = (valid_def 0 defs place def served.valid.each at).no_indexes;
+      no_indexes = no_indexes def (built_at defs place def served.built at);
     }
 
 -- a table of ready pages stands with right notes, in pages that are sound as they are between two changes of rows

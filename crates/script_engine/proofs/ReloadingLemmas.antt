@@ -18,7 +18,7 @@ use Rattle.mdc_sound.specs.StandingTable.{pages_of}
 use Rattle.stored_catalog.specs.StoredDefinitions.{AreStored, BreaksTablePages}
 use Rattle.script_engine.specs.Breaking.{LoadsExactly}
 use Rattle.script_engine.specs.NotedRooms.{AreForgotten}
-use Rattle.script_engine.specs.Opening.{are_built}
+use Rattle.statement_meaning.specs.Built.{are_built}
 use Rattle.script_engine.specs.Reloading.{Reloads}
 use Rattle.script_engine.specs.declared.stop.EngineStop.{EngineStop}
 use Rattle.script_engine.specs.declared.tables.Tables.{Tables}

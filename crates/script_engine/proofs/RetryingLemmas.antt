@@ -4,8 +4,9 @@ use Rattle.std.specs.Prelude.{true, IsTrue}
 use Rattle.mdc_words.proofs.FaultsLemmas.{counts_fault_then}
 use Rattle.mdc_ast.specs.declared.reply.Outcome.{Outcome}
 use Rattle.mdc_ast.specs.declared.statement.Stmt.{Stmt}
-use Rattle.mdc_ast.specs.meaning.Binding.{bound_of}
-use Rattle.mdc_ast.specs.meaning.Definitions.{AllDefsDiffer, Definitions}
+use Rattle.statement_meaning.specs.Binding.{bound_of}
+use Rattle.mdc_ast.specs.ValidDatabase.{AllDefsDiffer}
+use Rattle.mdc_ast.specs.Definitions.{Definitions}
 use Rattle.store_api.specs.Frame.{NoPage}
 use Rattle.store_api.specs.RunsOverPages.{RunsOverPages}
 use Rattle.store_api.specs.declared.fault.Damage.{Damage}
@@ -22,7 +23,7 @@ use Rattle.statement_rows.specs.RowsOfStatement.{AnyPage}
 use Rattle.script_engine.specs.Doing.{DoesStep, LeavesAll, is_reading}
 use Rattle.script_engine.specs.Fetching.{FetchesForQuery}
 use Rattle.script_engine.specs.NotedRooms.{AreForgotten}
-use Rattle.script_engine.specs.Opening.{are_built}
+use Rattle.statement_meaning.specs.Built.{are_built}
 use Rattle.script_engine.specs.Ready.{AreServed, BreaksDatabase, IsReady}
 use Rattle.script_engine.specs.Stops.{stop_of}
 use Rattle.script_engine.specs.Trying.{IsRefusedFull, TriesAnew, TriesStep}

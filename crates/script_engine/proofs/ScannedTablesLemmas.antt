@@ -8,9 +8,10 @@ use Rattle.std.proofs.lemmas.List.Sorted.{Contains-permutation, IsPermutation-sy
 use Rattle.std.proofs.lemmas.Option.{same_Some}
 use Rattle.mdc_ast.specs.declared.definition.TableDef.{TableDef}
 use Rattle.mdc_ast.specs.declared.predicate.Pred.{Pred}
-use Rattle.mdc_ast.specs.meaning.Database.{Database, PlainTable, fits_all, table_at}
-use Rattle.mdc_ast.specs.meaning.Definitions.{AreValidFrom, Definitions, def_at}
-use Rattle.mdc_ast.specs.meaning.Doing.{qualifies}
+use Rattle.mdc_ast.specs.Database.{Database, PlainTable, fits_all, table_at}
+use Rattle.mdc_ast.specs.ValidDatabase.{AreValidFrom}
+use Rattle.mdc_ast.specs.Definitions.{Definitions, def_at}
+use Rattle.mdc_ast.specs.Truth.{qualifies}
 use Rattle.store_api.specs.Frame.{NoPage}
 use Rattle.store_api.specs.RunsOverPages.{RunsOverPages}
 use Rattle.store_api.specs.declared.fault.StoreFault.{StoreFault}
@@ -28,7 +29,7 @@ use Rattle.table_trees.specs.TableTrees.{map_place}
 use Rattle.table_trees.specs.ToldPages.{HasTree}
 use Rattle.table_trees.proofs.ToldPagesLemmas.{tree_of_told}
 use Rattle.mdc_sound.specs.BlockRules.{AreBlockRowsSound}
-use Rattle.mdc_sound.specs.FittingRows.{RowFits}
+use Rattle.mdc_ast.specs.FittingRows.{RowFits}
 use Rattle.mdc_sound.specs.Placing.{rows_from_spot, table_spots}
 use Rattle.mdc_sound.specs.SoundDatabase.{IsSoundBetweenChanges, KeepAllRules}
 use Rattle.mdc_sound.specs.StandingTable.{AreRightRooms, BreaksTable, StandsTable, TableForests, pages_of, spots_of}
@@ -47,7 +48,7 @@ use Rattle.cell_change.proofs.RowChangesLemmas.{numbers_here}
 use Rattle.stored_catalog.specs.StoredDefinitions.{AreStored}
 use Rattle.stored_catalog.proofs.LeftDefinitionsLemmas.{stored_at}
 use Rattle.statement_rows.specs.RowsOfStatement.{AnyPage, HasTheseRows}
-use Rattle.row_judging.specs.Served.{IsDefined}
+use Rattle.row_checks.specs.Served.{IsDefined}
 use Rattle.table_scan.specs.FoundRows.{FindsRows, IsScannedPage}
 use Rattle.script_engine.specs.Doing.{AreQualifying}
 use Rattle.script_engine.specs.NotedRooms.{rooms_at}
@@ -205,16 +206,6 @@ module _ {S : Type 0} (g : Ghosts S) (ext : Extents) (s : S) (def : TableDef) (o
 pub is_defined : (found : Option TableDef) (def : TableDef) (P : TableDef → Type 0) → found ≡ Some def → IsDefined found P → P def
 is_defined None def P at is = absurd is
 is_defined (Some other) def P at is = subst P (same_Some other def at) is
-
--- no column of a table of built form is generated
-none_made_from : (from : ℕ) (defs : Definitions) (place : ℕ) (def : TableDef) → AreValidFrom from defs → def_at defs place ≡ Some def → IsTrue (list_all (λ column. is_none column.made) def.columns)
-none_made_from from [] place def valid at = absurd (cc at)
-none_made_from from (None ∷ defs) zero def valid at = absurd (cc at)
-none_made_from from (Some first ∷ defs) zero def valid at = subst (λ (d : TableDef). IsTrue (list_all (λ column. is_none column.made) d.columns)) (same_Some first def at) valid.0.none_made
-none_made_from from (first ∷ defs) (suc place) def valid at = none_made_from (from + 1) defs place def valid.1 at
-
-pub none_made : (defs : Definitions) (place : ℕ) (def : TableDef) → AreServed defs → def_at defs place ≡ Some def → IsTrue (list_all (λ column. is_none column.made) def.columns)
-none_made defs place def served at = none_made_from 0 defs place def served.valid.each at
 
 -- a table of ready pages stands
 pub record StandsReady {S : Type 0} (g : Ghosts S) (ext : Extents) (s : S) (def : TableDef) : Type 0 where

@@ -1,14 +1,19 @@
 -- Definitions that are served stay so with another one in a place, or with none.
 use Rattle.std.proofs.Common.{◌≡◌, ◌<◌, ◌+◌, ℕ, zero, suc, [], ◌∷◌, ◌∙◌, inl, inr, refl, sym, ap, subst, length, length-set, set, arith}
-use Rattle.std.specs.Prelude.{Option, Some, option_and_then, slice_get, slice_set}
+use Rattle.std.specs.Prelude.{IsTrue, is_none, true, Option, Some, option_and_then, slice_get, slice_set}
+use Rattle.std.specs.List.{list_all}
 use Rattle.std.proofs.lemmas.Bool.{cases_eq}
 use Rattle.std.proofs.lemmas.Option.{same_Some}
 use Rattle.mdc_words.proofs.PlacesLemmas.{slice_get-set_other, slice_get-set_same}
 use Rattle.mdc_ast.specs.declared.definition.TableDef.{TableDef}
-use Rattle.mdc_ast.specs.meaning.Definitions.{AreValidFrom, Definitions, IsValidDef, IsValidPlace, def_at, with_def}
+use Rattle.mdc_ast.specs.ValidDatabase.{AreValidFrom, IsValidDef, IsValidPlace}
+use Rattle.mdc_ast.specs.Definitions.{Definitions, def_at, with_def}
 use Rattle.mdc_ast.proofs.DefinitionsLemmas.{own_name, put_keeps_defs}
+use Rattle.statement_meaning.specs.Built.{are_built, is_built_place}
+use Rattle.statement_meaning.proofs.BuiltLemmas as built
+use Rattle.statement_meaning.proofs.BuiltLemmas.{built_at, built_put, index_names_differ}
 use Rattle.mdc_sound.proofs.SpaceRulesLemmas.{range_at, range_each, range_length}
-use Rattle.table_page.specs.TableLimits.{IsTableDef}
+use Rattle.mdc_ast.specs.TableLimits.{IsTableDef}
 use Rattle.stored_catalog.specs.StoredDefinitions.{AreWithinLimits, IsWithinLimits}
 use Rattle.stored_catalog.proofs.LeftDefinitionsLemmas.{def_there, limits_at}
 use Rattle.script_engine.specs.Inserting.{numbered_on}
@@ -34,6 +39,14 @@ pub served_valid : (defs : Definitions) (place : ℕ) (def : TableDef) → AreSe
 served_valid defs place def served at =
     let same : 0 + place ≡ place = omega arith in
     subst (λ n. IsValidDef n def) same (valid_from 0 defs place def served.valid.each (def_there defs place def at))
+
+-- it is of a built form
+pub served_built : (defs : Definitions) (place : ℕ) (def : TableDef) → AreServed defs → def_at defs place ≡ Some def → is_built_place (Some def) ≡ true
+served_built defs place def served at = built_at defs place def served.built at
+
+-- so no column of it is generated
+pub none_made : (defs : Definitions) (place : ℕ) (def : TableDef) → AreServed defs → def_at defs place ≡ Some def → IsTrue (list_all (λ column. is_none column.made) def.columns)
+none_made defs place def served at = built.none_made def (served_built defs place def served at)
 
 -- ---- another one in its place
 
@@ -79,14 +92,18 @@ served_on defs place def count served at few = record {
     dims_apart = valid.dims_apart;
     short_keys = valid.short_keys;
     short_composite = valid.short_composite;
-    none_made = valid.none_made;
-    no_indexes = valid.no_indexes;
+    sources = valid.sources;
+    indexes = valid.indexes;
     few_rows = few;
-  }) (own_name defs place def served.valid.differ at);
+  }) (own_name defs place def served.valid.differ at) (index_names_differ (slice_set defs place (Some now)) built);
+  built = built;
 }
   where
     now : TableDef
     now = record (numbered_on def count) { number = place }
+
+    built : are_built (slice_set defs place (Some now)) ≡ true
+    built = built_put defs place (Some now) served.built (served_built defs place def served at)
 
     limits : IsTableDef place def
     limits = limits_at defs place def served.limits at

@@ -11,7 +11,7 @@ use Rattle.mdc_ast.specs.Grammar.{SpellsIn, blocks_rule, change_rows, clean_rule
 use Rattle.mdc_ast.specs.Phrases.{Both, Closed, Either, Listed, Many, Map, Nothing, One, Perhaps, Phrase, Separated, Then}
 use Rattle.mdc_ast.specs.Rules.{Rule, Spelled, behind, choice, closed, forked, listed, nothing, pair, perhaps, seen, separated, stated, token}
 use Rattle.mdc_ast.specs.Tokens.{Kind, Number, Stray, Symbol, Text, Token, Word}
-use Rattle.table_page.specs.TableLimits.{is_kept_word}
+use Rattle.mdc_ast.specs.TableLimits.{is_kept_word}
 use Rattle.script_engine.proofs.KeptWordsLemmas.{AreKept, IsKept}
 
 -- ---- what a phrase says

@@ -1,33 +1,35 @@
 -- Statements on the definitions of a catalog, and on those of the plain database that its pages stand for, which have no roots.
 use Rattle.std.proofs.Common.{◌≡◌, ◌+◌, ℕ, zero, suc, List, [], ◌∷◌, ◌++◌, ◌∙◌, refl, sym, ap, subst, map}
-use Rattle.std.specs.Prelude.{Option, Some, None, cond, flat_map, is_none, is_some, option_and_then, option_map, true, false, if◌then◌else◌}
-use Rattle.std.specs.List.{AllZip, position_from, range_with_len}
+use Rattle.std.specs.Prelude.{◌&&◌, Bool, Option, Some, None, cond, flat_map, is_none, is_some, option_and_then, option_map, true, false, if◌then◌else◌}
+use Rattle.std.specs.List.{list_all, AllZip, position_from, range_with_len}
 use Rattle.mdc_ast.specs.declared.bound.Bound.{Bound}
 use Rattle.mdc_ast.specs.declared.definition.ColumnDef.{ColumnDef}
+use Rattle.mdc_ast.specs.declared.definition.IndexDef.{IndexDef}
 use Rattle.mdc_ast.specs.declared.definition.TableDef.{TableDef}
 use Rattle.mdc_ast.specs.declared.name.Name.{Name}
 use Rattle.mdc_ast.specs.declared.reply.Reply.{Reply}
 use Rattle.mdc_ast.specs.declared.statement.ColumnText.{ColumnText}
 use Rattle.mdc_ast.specs.declared.statement.Stmt.{Stmt}
 use Rattle.mdc_ast.specs.declared.statement.Stmt.TheVariants as stmt
-use Rattle.mdc_ast.specs.meaning.Binding.{bound_of, columns_of, on_place}
-use Rattle.mdc_ast.specs.meaning.Cause.{Cause, Limit, NotBuilt, TableExists, cause_if, refusal_of}
-use Rattle.mdc_ast.specs.meaning.Database.{Database, PlainTable, defs_of, table_at}
-use Rattle.mdc_ast.specs.meaning.Definitions.{Definitions, def_at, def_named, empty_place, is_defined, no_tables, place_of}
-use Rattle.mdc_ast.specs.meaning.Doing.{causes_of_rows, effect}
-use Rattle.mdc_ast.specs.meaning.Judged.{column_limits, create_judged, dim_limits, judged_of, long_name}
-use Rattle.mdc_ast.specs.meaning.Judging.{Judged, in_order, on_table}
-use Rattle.mdc_ast.specs.meaning.Step.{Refused, faults, is_built, step, step_by}
-use Rattle.mdc_ast.proofs.DatabaseLemmas.{def_at-defs_of, def_of}
+use Rattle.statement_meaning.specs.Binding.{bound_of, columns_of, on_place}
+use Rattle.statement_meaning.specs.Cause.{Cause, Limit, NotBuilt, TableExists, cause_if, refusal_of}
+use Rattle.mdc_ast.specs.Database.{Database, PlainTable, defs_of, table_at}
+use Rattle.mdc_ast.specs.Definitions.{Definitions, def_at, def_named, empty_place, is_defined, no_tables, place_of}
+use Rattle.statement_meaning.specs.Doing.{causes_of_rows, effect}
+use Rattle.statement_meaning.specs.Judged.{column_limits, create_judged, dim_limits, judged_of, long_name}
+use Rattle.statement_meaning.specs.Judging.{Judged, in_order, on_table}
+use Rattle.statement_meaning.specs.Step.{Refused, faults, step, step_by}
+use Rattle.statement_meaning.specs.Built.{are_built, is_built, is_built_place, is_empty}
+use Rattle.statement_meaning.proofs.DatabaseLemmas.{def_at-defs_of, def_of}
 use Rattle.mdc_ast.proofs.TestsLemmas.{some_is}
 use Rattle.extent_map.specs.declared.extents.Extents.{Extents}
 use Rattle.table_page.proofs.TablePageLemmas.{no_blank_table, one_definition}
 use Rattle.table_page.specs.TablePage.{IsTablePageOf}
 use Rattle.table_trees.specs.ToldPages.{PageList}
-use Rattle.mdc_sound.specs.StandsForDatabase.{HoldsPlace, PagesStandFor, rootless}
+use Rattle.mdc_sound.specs.StandsForDatabase.{HoldsPlace, PagesStandFor, rootless, rootless_index}
 use Rattle.mdc_sound.specs.TablePages.{table_page_at}
 use Rattle.binder.specs.Saying.{first_of}
-use Rattle.row_judging.specs.Executing.{done}
+use Rattle.row_checks.specs.Executing.{done}
 use Rattle.stored_catalog.specs.StoredDefinitions.{AreStored, IsStoredPlace}
 
 -- the definitions of the plain database are those of the catalog, without roots
@@ -148,21 +150,43 @@ same_said db defs statement same = ap (λ d. in_order (judged_of d statement)) s
 same_bound : (db : Database) (defs : Definitions) (statement : Stmt) → defs_of db ≡ without_roots defs → bound_of (defs_of db) statement ≡ bound_of defs statement
 same_bound db defs statement same = ap (λ d. bound_of d statement) same ∙ (same-without_roots defs statement).1
 
+-- a definition without roots is of a built form where it is with them
+built-rootless : (place : Option TableDef) → is_built_place (option_map rootless place) ≡ is_built_place place
+built-rootless None = refl
+built-rootless (Some def) = ap (λ b. list_all (λ column. is_none column.made) def.columns && b) (empty_too def.indexes)
+  where
+    empty_too : (indexes : List IndexDef) → is_empty (map rootless_index indexes) ≡ is_empty indexes
+    empty_too [] = refl
+    empty_too (index ∷ indexes) = refl
+
+built-without_roots : (defs : Definitions) → are_built (without_roots defs) ≡ are_built defs
+built-without_roots [] = refl
+built-without_roots (place ∷ defs) = ap (λ b. b && are_built (without_roots defs)) (built-rootless place) ∙ ap (λ b. is_built_place place && b) (built-without_roots defs)
+
+-- so are those of the database
+pub same_built : (db : Database) (defs : Definitions) → defs_of db ≡ without_roots defs → are_built defs ≡ true → are_built (defs_of db) ≡ true
+same_built db defs same built = ap are_built same ∙ (built-without_roots defs ∙ built)
+
+-- where all tables are of built forms, so the form of the statement decides
+by_form : (db : Database) (stmt : Stmt) (causes : List Cause) → are_built (defs_of db) ≡ true → is_built stmt ≡ true → (if is_built stmt && are_built (defs_of db) then causes else NotBuilt ∷ []) ≡ causes
+by_form db stmt causes tables form =
+    ap (λ b. if b && are_built (defs_of db) then causes else NotBuilt ∷ []) form ∙ ap (λ b. if b then causes else NotBuilt ∷ []) tables
+
 -- a statement that nothing is said against is done as it is bound on the catalog
-pub step_is_done_on : (db : Database) (defs : Definitions) (stmt : Stmt) → defs_of db ≡ without_roots defs → is_built stmt ≡ true → in_order (judged_of defs stmt) ≡ [] → step db stmt ≡ done db (bound_of defs stmt)
-step_is_done_on db defs stmt same built said =
+pub step_is_done_on : (db : Database) (defs : Definitions) (stmt : Stmt) → defs_of db ≡ without_roots defs → are_built defs ≡ true → is_built stmt ≡ true → in_order (judged_of defs stmt) ≡ [] → step db stmt ≡ done db (bound_of defs stmt)
+step_is_done_on db defs stmt same tables built said =
     let rest : List Cause = causes_of_rows db (bound_of (defs_of db) stmt) in
     let does : Database × Reply = effect db (bound_of (defs_of db) stmt) in
-    ap (λ b. step_by db (if b then in_order (judged_of (defs_of db) stmt) ++ rest else NotBuilt ∷ []) does) built
+    ap (λ causes. step_by db causes does) (by_form db stmt (in_order (judged_of (defs_of db) stmt) ++ rest) (same_built db defs same tables) built)
     ∙ ap (λ causes. step_by db (causes ++ rest) does) (same_said db defs stmt same ∙ said)
     ∙ ap (done db) (same_bound db defs stmt same)
 
 -- and nothing is said against it where nothing is said by the rows
-pub none_said_on : (db : Database) (defs : Definitions) (stmt : Stmt) → defs_of db ≡ without_roots defs → is_built stmt ≡ true → in_order (judged_of defs stmt) ≡ [] → causes_of_rows db (bound_of defs stmt) ≡ []
+pub none_said_on : (db : Database) (defs : Definitions) (stmt : Stmt) → defs_of db ≡ without_roots defs → are_built defs ≡ true → is_built stmt ≡ true → in_order (judged_of defs stmt) ≡ [] → causes_of_rows db (bound_of defs stmt) ≡ []
     → faults db stmt ≡ []
-none_said_on db defs stmt same built said unsaid =
+none_said_on db defs stmt same tables built said unsaid =
     let rest : List Cause = causes_of_rows db (bound_of (defs_of db) stmt) in
-    ap (λ b. if b then in_order (judged_of (defs_of db) stmt) ++ rest else NotBuilt ∷ []) built
+    by_form db stmt (in_order (judged_of (defs_of db) stmt) ++ rest) (same_built db defs same tables) built
     ∙ ap (λ causes. causes ++ rest) (same_said db defs stmt same ∙ said)
     ∙ (ap (causes_of_rows db) (same_bound db defs stmt same) ∙ unsaid)
 
@@ -172,12 +196,12 @@ first_decides db [] rest does cause e = cc
 first_decides db (first ∷ causes) rest does cause e = ap (λ c. (db, Refused (refusal_of c))) (some_is first cause e)
 
 -- one that something is said against is refused for what is said first
-pub step_refused_on : (db : Database) (defs : Definitions) (stmt : Stmt) (cause : Cause) → defs_of db ≡ without_roots defs → is_built stmt ≡ true → first_of (in_order (judged_of defs stmt)) ≡ Some cause
+pub step_refused_on : (db : Database) (defs : Definitions) (stmt : Stmt) (cause : Cause) → defs_of db ≡ without_roots defs → are_built defs ≡ true → is_built stmt ≡ true → first_of (in_order (judged_of defs stmt)) ≡ Some cause
     → step db stmt ≡ (db, Refused (refusal_of cause))
-step_refused_on db defs stmt cause same built said =
+step_refused_on db defs stmt cause same tables built said =
     let rest : List Cause = causes_of_rows db (bound_of (defs_of db) stmt) in
     let does : Database × Reply = effect db (bound_of (defs_of db) stmt) in
-    ap (λ b. step_by db (if b then in_order (judged_of (defs_of db) stmt) ++ rest else NotBuilt ∷ []) does) built
+    ap (λ causes. step_by db causes does) (by_form db stmt (in_order (judged_of (defs_of db) stmt) ++ rest) (same_built db defs same tables) built)
     ∙ first_decides db (in_order (judged_of (defs_of db) stmt)) rest does cause (ap first_of (same_said db defs stmt same) ∙ said)
 
 -- and a form that isn't built is answered so
@@ -185,4 +209,4 @@ pub step_not_built : (db : Database) (stmt : Stmt) → is_built stmt ≡ false �
 step_not_built db stmt built =
     let rest : List Cause = causes_of_rows db (bound_of (defs_of db) stmt) in
     let does : Database × Reply = effect db (bound_of (defs_of db) stmt) in
-    ap (λ b. step_by db (if b then in_order (judged_of (defs_of db) stmt) ++ rest else NotBuilt ∷ []) does) built
+    ap (λ b. step_by db (if b && are_built (defs_of db) then in_order (judged_of (defs_of db) stmt) ++ rest else NotBuilt ∷ []) does) built

@@ -9,10 +9,10 @@ use Rattle.mdc_ast.specs.declared.refusal.Refusal.{Refusal}
 use Rattle.mdc_ast.specs.declared.reply.Outcome.{Outcome}
 use Rattle.mdc_ast.specs.declared.reply.Outcome.TheVariants as said
 use Rattle.mdc_ast.specs.declared.statement.Stmt.{Stmt}
-use Rattle.mdc_ast.specs.meaning.Binding.{bound_of}
-use Rattle.mdc_ast.specs.meaning.Cause.{FileFull, refusal_of}
-use Rattle.mdc_ast.specs.meaning.Definitions.{Definitions, def_at}
-use Rattle.mdc_ast.specs.meaning.Step.{step}
+use Rattle.statement_meaning.specs.Binding.{bound_of}
+use Rattle.statement_meaning.specs.Cause.{FileFull, refusal_of}
+use Rattle.mdc_ast.specs.Definitions.{Definitions, def_at}
+use Rattle.statement_meaning.specs.Step.{step}
 use Rattle.store_api.specs.Calls.{Keeps, Marks, Undoes}
 use Rattle.store_api.specs.Causes.{store_fault_in}
 use Rattle.store_api.specs.Moments.{OnlyBase}

@@ -11,27 +11,28 @@ use Rattle.mdc_ast.specs.declared.definition.GenExpr.{GenExpr}
 use Rattle.mdc_ast.specs.declared.definition.TableDef.{TableDef}
 use Rattle.mdc_ast.specs.declared.predicate.Pred.{Pred}
 use Rattle.mdc_ast.specs.declared.row.Row.{Row}
-use Rattle.mdc_ast.specs.meaning.Cause.{Cause}
-use Rattle.mdc_ast.specs.meaning.Database.{fits_all}
-use Rattle.mdc_ast.specs.meaning.Doing.{changed_causes, changed_row, null_causes, qualifies, set_causes, set_on}
-use Rattle.mdc_ast.proofs.CausesLemmas.{none_of_each}
+use Rattle.statement_meaning.specs.Cause.{Cause}
+use Rattle.mdc_ast.specs.Database.{fits_all}
+use Rattle.statement_meaning.specs.Doing.{changed_causes, changed_row, null_causes, set_causes, set_on}
+use Rattle.mdc_ast.specs.Truth.{qualifies}
+use Rattle.statement_meaning.proofs.CausesLemmas.{none_of_each}
 use Rattle.mdc_ast.proofs.FitsLemmas.{length-fits_all}
 use Rattle.mdc_ast.proofs.TestsLemmas.{and_true, both}
 use Rattle.answer_text.specs.Lines.{are_rows_wide}
 use Rattle.block_rows.specs.HeldRows.{HasReadValues, placed_row}
 use Rattle.block_rows.specs.declared.hit.Hit.{Hit}
-use Rattle.mdc_sound.specs.FittingRows.{AreMadeFrom, IsMadeFrom, RowFits}
+use Rattle.mdc_ast.specs.FittingRows.{AreMadeFrom, IsMadeFrom, RowFits}
 use Rattle.mdc_sound.specs.TableRows.{PlacedRow}
-use Rattle.row_judging.specs.Filtering.{may_change}
+use Rattle.row_checks.specs.Filtering.{may_change}
 use Rattle.binder.specs.Saying.{first_of}
 use Rattle.binder.proofs.FirstLemmas.{first_of-here}
-use Rattle.row_judging.specs.RowChange.{are_within, misfit_cause}
-use Rattle.row_judging.specs.declared.row_change.misfits.Misfit.{Misfit}
-use Rattle.row_judging.specs.Served.{MaySet}
+use Rattle.row_checks.specs.RowChange.{are_within, misfit_cause}
+use Rattle.row_checks.specs.declared.row_change.misfits.Misfit.{Misfit}
+use Rattle.row_checks.specs.Served.{MaySet}
 use Rattle.statement_rows.specs.Turning.{MayTurn, turned_row}
 use Rattle.statement_rows.specs.declared.changing.Turned.{Turned}
 use Rattle.script_engine.specs.Doing.{with_changed}
-use Rattle.row_judging.proofs.Changeable.{rows_are_changeable}
+use Rattle.row_checks.proofs.Changeable.{rows_are_changeable}
 use Rattle.script_engine.proofs.PlainChangesLemmas.{changed}
 
 -- ---- tests, element by element

@@ -10,11 +10,11 @@ use Rattle.mdc_ast.specs.declared.reply.Outcome.TheVariants as said
 use Rattle.mdc_ast.specs.declared.reply.Reply.TheVariants as reply
 use Rattle.mdc_ast.specs.declared.statement.Stmt.{Stmt}
 use Rattle.mdc_ast.specs.declared.statement.Stmt.TheVariants as statement
-use Rattle.mdc_ast.specs.meaning.Binding.{bound_of}
-use Rattle.mdc_ast.specs.meaning.Database.{Database}
-use Rattle.mdc_ast.specs.meaning.Definitions.{Definitions}
-use Rattle.mdc_ast.specs.meaning.Session.{Session, is_refusal, stepped, turn}
-use Rattle.mdc_ast.specs.meaning.Step.{Answer, step}
+use Rattle.statement_meaning.specs.Binding.{bound_of}
+use Rattle.mdc_ast.specs.Database.{Database}
+use Rattle.mdc_ast.specs.Definitions.{Definitions}
+use Rattle.statement_meaning.specs.Session.{Session, committed, is_refusal, rolled_back, stepped, turn}
+use Rattle.statement_meaning.specs.Step.{Answer, step}
 use Rattle.store_api.specs.Works.{Rests, Steady}
 use Rattle.store_api.specs.declared.fault.Damage.{Damage}
 use Rattle.store_api.specs.declared.pages.Pages.{Ghosts}
@@ -30,11 +30,11 @@ use Rattle.stored_catalog.specs.StoredDefinitions.{AreStored}
 use Rattle.script_engine.specs.Breaking.{HoldsAtDamage, NamesExactly, StaysAtDamage}
 use Rattle.script_engine.specs.Committing.{CommitsWork, HasSoundRoot, IsUncounted, LeavesUncounted}
 use Rattle.script_engine.specs.Doing.{DoesStep, LeavesAll, PlacesOnPages, StandsAfter, is_reading}
-use Rattle.script_engine.specs.Held.{HeldPages, KeepsBase, KeepsWork, StandsForSession, StandsForTurn, StepsOnPages, committed, rolled_back, turn_over}
+use Rattle.script_engine.specs.Held.{HeldPages, KeepsBase, KeepsWork, StandsForSession, StandsForTurn, StepsOnPages}
 use Rattle.script_engine.specs.Held.StepsOnPages.{full, turns}
 use Rattle.script_engine.specs.Leaving.{IsAllCommitted, MayBeLeft}
 use Rattle.script_engine.specs.Listing.{asks_blocks, is_listing}
-use Rattle.script_engine.specs.Opening.{are_built}
+use Rattle.statement_meaning.specs.Built.{are_built}
 use Rattle.script_engine.specs.Ready.{AreServed, IsReady}
 use Rattle.script_engine.specs.Reloading.{Reloads}
 use Rattle.script_engine.specs.Serving.{IsReadyEngine, MayCall, held_by}
@@ -47,7 +47,7 @@ use Rattle.script_engine.specs.declared.tables.Tables.{Tables}
 use Rattle.script_engine.specs.declared.transactions.Control.{Control}
 use Rattle.script_engine.specs.declared.transactions.Control.TheVariants as control
 use Rattle.script_engine.proofs.BreakingLemmas.{exact_along}
-use Rattle.script_engine.proofs.CatalogLemmas.{built_of, one_catalog, served_of}
+use Rattle.script_engine.proofs.CatalogLemmas.{built_defs, one_catalog, served_of}
 use Rattle.script_engine.proofs.FetchesForListingLemmas.{lists_other}
 use Rattle.script_engine.proofs.FetchesForQueryLemmas.{fetches_counted}
 use Rattle.script_engine.proofs.LeavingLemmas.{leaves_steady, leaves_then}
@@ -86,8 +86,8 @@ answers_done allowed is = sym (ap answer_in_state is)
 answers_other : (was : Bool) (stmt : Stmt) (outcome : Outcome) → control_of stmt ≡ control.Other → AnswersControl (control_of stmt) was outcome
 answers_other was stmt outcome other = subst (λ (c : Control). AnswersControl c was outcome) (sym other) tt
 
--- any statement but BEGIN, COMMIT, ROLLBACK and LIST BLOCKS turns a session as it does without transactions
-turn_other : (session : Session) (stmt : Stmt) → control_of stmt ≡ control.Other → is_listing stmt ≡ false → turn_over session stmt ≡ turn session stmt
+-- any statement but BEGIN, COMMIT, ROLLBACK and LIST BLOCKS turns a session by its step
+turn_other : (session : Session) (stmt : Stmt) → control_of stmt ≡ control.Other → is_listing stmt ≡ false → turn session stmt ≡ stepped session (step session.working stmt)
 turn_other session statement.Begin other changing = absurd (cc)
 turn_other session statement.Commit other changing = absurd (cc)
 turn_other session statement.Rollback other changing = absurd (cc)
@@ -296,7 +296,7 @@ module _ {S : Type 0} (g : Ghosts S) where
         base_sound = subst (λ (pages : PageList). KeepAllRules new.tables.ext pages here.view) (sym same) here.sound;
         base_defs = new.tables.catalog;
         base_stored = subst (λ (pages : PageList). AreStored pages new.tables.catalog) (sym same) here.stored;
-        base_valid = (subst (λ (t : Tables). AreServed t.catalog) (sym tables) valid).valid;
+        base_valid = built_defs new.tables.catalog (subst (λ (t : Tables). AreServed t.catalog) (sym tables) valid);
         closed = λ shut. same;
       }
 
@@ -305,7 +305,7 @@ module _ {S : Type 0} (g : Ghosts S) where
   work_left old may is_open ready =
       let work = (g.state old.store).work in
       MayBeLeft.after (said.Done reply.Done) (held_with work work old.tables.catalog false) (commit_steps old.tables.ext (held_by g old) (held_with work work old.tables.catalog false) is_open refl refl refl refl) refl refl
-      (ready.work.view, ready.work.sound) ready.work.stored (may.served ready.served).valid
+      (ready.work.view, ready.work.sound) ready.work.stored (built_defs old.tables.catalog (may.served ready.served))
 
   -- a commit that found another count of pages committed nothing
   stays_uncounted : (old new : Engine S) (mid : S) → Steady g old.store mid → (g.state mid).marked ≡ None → (g.state old.store).ended ≡ false → new.is_open ≡ old.is_open → LeavesUncounted g mid new.store
@@ -394,7 +394,7 @@ module _ {S : Type 0} (g : Ghosts S) where
       let base_kept = reloads.steady.base in
       let is_told = subst IsTrue (sym reloads.steady.is_told) ready.work.told in
       let same : tables.catalog ≡ ready.base_defs = one_catalog (g.state old.store).base tables.catalog ready.base_defs (reloads.stored ready.work.told) ready.base_stored in
-      let built : are_built tables.catalog ≡ true = ap are_built same ∙ built_of ready.base_defs ready.base_valid in
+      let built : are_built tables.catalog ≡ true = ap are_built same ∙ ready.base_valid.built in
       let sound = keeps_along old.tables.ext tables.ext (g.state old.store).base ready.base_view reloads.shape ready.base_sound in
       record {
         served = reloads.built ∙ built;
@@ -491,7 +491,7 @@ module _ {S : Type 0} (g : Ghosts S) where
         keeps = λ all. base_tried old store tables stmt outcome all tries kept;
         keeps_work = keeps_work (held_by g old) (held_by g new) stmt other changing tries.reads;
         controls = answers_other old.is_open stmt outcome other;
-        built = λ was. served ∙ sym (built_of tables.catalog tries.served.valid);
+        built = λ was. served ∙ sym tries.served.built;
         leaves = λ ready. leaves_steady g stmt old new tries.steady;
         fetches = λ ready. tries.fetches ready.work;
         lists = λ ready. lists_other g old.store store old.tables.catalog stmt changing;
@@ -527,7 +527,7 @@ module _ {S : Type 0} (g : Ghosts S) where
       let now = ready_tried old.store mid old.tables tables stmt outcome (tries.does ready.work) in
       MayBeLeft.after outcome (held_with work work tables.catalog false)
       (committed_steps old (held_with work work tables.catalog false) mid tables stmt outcome other changing done shut refl refl refl refl tries (tries.does ready.work)) refl refl
-      (now.view, keeps_along tables.ext old.tables.ext work now.view (record { cap = sym tries.shape.cap; extent_pages = sym tries.shape.extent_pages }) now.sound) now.stored tries.served.valid
+      (now.view, keeps_along tables.ext old.tables.ext work now.view (record { cap = sym tries.shape.cap; extent_pages = sym tries.shape.extent_pages }) now.sound) now.stored (built_defs tables.catalog tries.served)
 
   pub change_committed : (old : Engine S) (mid store : S) (tables : Tables) (stmt : Stmt) (outcome : Outcome) → MayCall g old → old.served ≡ true → control_of stmt ≡ control.Other → is_listing stmt ≡ false
       → TriesStep g stmt (Ok outcome) old.store mid old.tables tables → (old.is_open || is_refusal outcome) ≡ false → CommitsWork {X = Unit {0}} g (Ok tt) mid store
@@ -546,7 +546,7 @@ module _ {S : Type 0} (g : Ghosts S) where
         keeps = λ all. record { closed = λ still. commits.base ∙ sym commits.work; is_open = λ opened. let wrong : true ≡ false = sym opened ∙ shut in absurd (cc) };
         keeps_work = keeps_work (held_by g old) (held_by g new) stmt other changing (λ is. commits.work ∙ tries.reads is);
         controls = answers_other old.is_open stmt outcome other;
-        built = λ was. served ∙ sym (built_of tables.catalog tries.served.valid);
+        built = λ was. served ∙ sym tries.served.built;
         leaves = λ ready. leaves_then g (Ok tt) stmt old new mid tries.steady commits (made_left old mid tables stmt outcome other changing done shut tries ready);
         fetches = λ ready. fetches_counted g old.tables.ext old.tables.catalog old.store mid store (bound_of old.tables.catalog stmt) (tries.fetches ready.work) commits.brings;
         lists = λ ready. lists_other g old.store store old.tables.catalog stmt changing;

@@ -15,17 +15,18 @@ use Rattle.mdc_ast.specs.declared.statement.ColumnText.{ColumnText}
 use Rattle.mdc_ast.specs.declared.statement.Stmt.{Stmt}
 use Rattle.mdc_ast.specs.declared.statement.Stmt.TheVariants as stmt
 use Rattle.mdc_ast.specs.Reading.{IsItemOf, Item, Statement, nesting_limit}
-use Rattle.mdc_ast.specs.meaning.Binding.{bound_column, bound_of, bound_on, bound_set, bound_table, bound_tuple, bound_where, columns_of, on_place, text_place}
-use Rattle.mdc_ast.specs.meaning.Definitions.{AllPlacesDiffer, Definitions, IsShort, IsValidDef, are_there, def_named, is_good_type, is_short_key, place_of}
-use Rattle.mdc_ast.specs.meaning.Judged.{create_judged, judged_of, targets}
-use Rattle.mdc_ast.specs.meaning.Judging.{in_order}
-use Rattle.mdc_ast.specs.meaning.Step.{is_built}
-use Rattle.mdc_ast.proofs.CreateLemmas.{created_is_valid}
+use Rattle.statement_meaning.specs.Binding.{bound_column, bound_of, bound_on, bound_set, bound_table, bound_tuple, bound_where, columns_of, on_place, text_place}
+use Rattle.mdc_ast.specs.Definitions.{AllPlacesDiffer, Definitions, IsShort, are_there, def_named, is_good_type, is_short_key, place_of}
+use Rattle.mdc_ast.specs.ValidDatabase.{IsValidDef}
+use Rattle.statement_meaning.specs.Judged.{create_judged, judged_of, targets}
+use Rattle.statement_meaning.specs.Judging.{in_order}
+use Rattle.statement_meaning.specs.Built.{is_built}
+use Rattle.statement_meaning.proofs.CreateLemmas.{created_is_valid, none_made}
 use Rattle.mdc_ast.proofs.DefinitionsLemmas.{neither}
-use Rattle.mdc_ast.proofs.KeepingLemmas.{IsFaultless, is_faultless}
+use Rattle.statement_meaning.proofs.KeepingLemmas.{IsFaultless, is_faultless}
 use Rattle.mdc_ast.proofs.TestsLemmas.{and_true, both, lt_is_true}
 use Rattle.binder.specs.Bounded.{plain_query}
-use Rattle.table_page.specs.TableLimits.{is_given_name, is_good_column, is_good_dimension}
+use Rattle.mdc_ast.specs.TableLimits.{is_given_name, is_good_column, is_good_dimension}
 use Rattle.script_engine.specs.Defining.{IsNewIfMade, IsPlainNewDef}
 use Rattle.script_engine.specs.Held.{IsWritten}
 use Rattle.script_engine.proofs.KeptWordsLemmas.{tokens_kept}
@@ -130,7 +131,7 @@ new_table defs name columns dims text said =
         };
         no_indexes = refl;
       };
-      none_made = valid.none_made;
+      none_made = none_made columns;
       next = refl;
       roots = refl;
     }

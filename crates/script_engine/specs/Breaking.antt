@@ -1,7 +1,8 @@
 -- Damage that is exact: the first rule that the pages of a store break, and the lowest page that breaks it.
 use Rattle.std.specs.Prelude.{◌≡◌, IsTrue, IfOk, IsErrOf, Result, Err, None, false}
 use Rattle.mdc_words.specs.Faults.{CountsFault}
-use Rattle.mdc_ast.specs.meaning.Definitions.{AllDefsDiffer, Definitions}
+use Rattle.mdc_ast.specs.ValidDatabase.{AllDefsDiffer}
+use Rattle.mdc_ast.specs.Definitions.{Definitions}
 use Rattle.store_api.specs.Works.{Steady}
 use Rattle.store_api.specs.declared.fault.Damage.{Damage}
 use Rattle.store_api.specs.declared.pages.Pages.{Ghosts}

@@ -5,12 +5,12 @@ use Rattle.mdc_ast.specs.declared.bound.Bound.{Bound}
 use Rattle.mdc_ast.specs.declared.bound.Bound.TheVariants as bound
 use Rattle.mdc_ast.specs.declared.definition.TableDef.{TableDef}
 use Rattle.mdc_ast.specs.declared.statement.Stmt.{Stmt}
-use Rattle.mdc_ast.specs.meaning.Binding.{bound_of}
-use Rattle.mdc_ast.specs.meaning.Definitions.{Definitions}
-use Rattle.mdc_ast.specs.meaning.Judged.{judged_of}
-use Rattle.mdc_ast.specs.meaning.Judging.{in_order}
-use Rattle.mdc_ast.specs.meaning.Step.{is_built}
-use Rattle.row_judging.specs.Served.{IsServed}
+use Rattle.statement_meaning.specs.Binding.{bound_of}
+use Rattle.mdc_ast.specs.Definitions.{Definitions}
+use Rattle.statement_meaning.specs.Judged.{judged_of}
+use Rattle.statement_meaning.specs.Judging.{in_order}
+use Rattle.statement_meaning.specs.Built.{is_built}
+use Rattle.row_checks.specs.Served.{IsServed}
 use Rattle.stored_catalog.specs.NewTables.{IsNewTableDef}
 
 -- the definition of a new table: within the limits, with no generated column, no next row number and no roots yet

@@ -10,11 +10,12 @@ use Rattle.mdc_ast.specs.declared.reply.Outcome.TheVariants as said
 use Rattle.mdc_ast.specs.declared.row.Row.{Row}
 use Rattle.mdc_ast.specs.declared.statement.Stmt.{Stmt}
 use Rattle.mdc_ast.specs.declared.statement.Stmt.TheVariants.{Query}
-use Rattle.mdc_ast.specs.meaning.Binding.{bound_of}
-use Rattle.mdc_ast.specs.meaning.Database.{Database}
-use Rattle.mdc_ast.specs.meaning.Definitions.{Definitions, def_at}
-use Rattle.mdc_ast.specs.meaning.Doing.{causes_of_rows, changed_row, numbered, qualifies}
-use Rattle.mdc_ast.specs.meaning.Step.{Answer, faults, step}
+use Rattle.statement_meaning.specs.Binding.{bound_of}
+use Rattle.mdc_ast.specs.Database.{Database, numbered}
+use Rattle.mdc_ast.specs.Definitions.{Definitions, def_at}
+use Rattle.statement_meaning.specs.Doing.{causes_of_rows, changed_row}
+use Rattle.mdc_ast.specs.Truth.{qualifies}
+use Rattle.statement_meaning.specs.Step.{Answer, faults, step}
 use Rattle.store_api.specs.declared.pages.Pages.{Ghosts}
 use Rattle.extent_map.specs.declared.extents.Extents.{Extents}
 use Rattle.table_trees.specs.SpaceChanges.{MakesChanges, SpaceChange}
@@ -25,7 +26,7 @@ use Rattle.mdc_sound.specs.StandingTable.{pages_of}
 use Rattle.mdc_sound.specs.StandsForDatabase.{PagesStandFor}
 use Rattle.mdc_sound.specs.TablePages.{DefinesTable}
 use Rattle.mdc_sound.specs.TableRows.{PlacedRow}
-use Rattle.row_judging.specs.Executing.{answer_of, done}
+use Rattle.row_checks.specs.Executing.{answer_of, done}
 use Rattle.statement_rows.specs.RowsAndSpace.{PutsRowsBy, TakesRowsBy, TurnsRowsBy}
 use Rattle.script_engine.specs.Others.{KeepsOthers, touched_place}
 use Rattle.script_engine.specs.Ready.{IsReady}

@@ -6,7 +6,7 @@ use Rattle.mdc_ast.specs.declared.definition.TableDef.{TableDef}
 use Rattle.mdc_ast.specs.declared.predicate.Pred.{Pred}
 use Rattle.mdc_ast.specs.declared.statement.Stmt.{Stmt}
 use Rattle.mdc_ast.specs.declared.statement.Stmt.TheVariants.{ListBlocks}
-use Rattle.mdc_ast.specs.meaning.Definitions.{Definitions, def_at, def_named}
+use Rattle.mdc_ast.specs.Definitions.{Definitions, def_at, def_named}
 use Rattle.store_api.specs.Fetching.{BringsOnly}
 use Rattle.store_api.specs.declared.pages.Pages.{Ghosts}
 use Rattle.extent_map.specs.declared.extents.Extents.{Extents}

@@ -4,52 +4,21 @@ use Rattle.mdc_ast.specs.declared.definition.TableDef.{TableDef}
 use Rattle.mdc_ast.specs.declared.name.Name.{Name}
 use Rattle.mdc_ast.specs.declared.reply.Outcome.{Outcome}
 use Rattle.mdc_ast.specs.declared.reply.Outcome.TheVariants as said
-use Rattle.mdc_ast.specs.declared.reply.Reply.TheVariants as reply
 use Rattle.mdc_ast.specs.declared.statement.Stmt.{Stmt}
 use Rattle.mdc_ast.specs.declared.statement.Stmt.TheVariants.{Begin, Commit, ListBlocks, Query, Rollback}
 use Rattle.mdc_ast.specs.Reading.{IsItemOf, Statement}
-use Rattle.mdc_ast.specs.meaning.Binding.{bound_of}
-use Rattle.mdc_ast.specs.meaning.Cause.{FileFull, NoTable, State, refusal_of}
-use Rattle.mdc_ast.specs.meaning.Definitions.{Definitions, def_at, def_named}
-use Rattle.mdc_ast.specs.meaning.Session.{Session, turn}
-use Rattle.mdc_ast.specs.meaning.Step.{Answer, Refused, Replied, faults}
+use Rattle.statement_meaning.specs.Binding.{bound_of}
+use Rattle.statement_meaning.specs.Cause.{FileFull, refusal_of}
+use Rattle.mdc_ast.specs.Definitions.{Definitions, def_at, def_named}
+use Rattle.statement_meaning.specs.Session.{Session, turn}
+use Rattle.statement_meaning.specs.Step.{Answer, faults}
 use Rattle.extent_map.specs.declared.extents.Extents.{Extents}
 use Rattle.table_trees.specs.ToldPages.{PageList}
 use Rattle.mdc_sound.specs.StandsForDatabase.{PagesStandFor}
-use Rattle.row_judging.specs.Executing.{answer_of}
+use Rattle.row_checks.specs.Executing.{answer_of}
 use Rattle.script_engine.specs.Doing.{PlacesOnPages, StatementRunsFull, changed_place}
 use Rattle.script_engine.specs.Listing.{TellsBlocks, asks_blocks}
 use Rattle.script_engine.specs.Others.{KeepsOthers, touched_place}
-
--- ---- transactions, in the words of plain databases
-
--- 12: a statement that the state of the transaction doesn't allow
-abbrev pub not_now : Session → Session × Answer
-not_now session = (session, Refused (refusal_of State))
-
--- BEGIN opens a transaction, where none is open
-abbrev pub begun : Session → Bool → Session × Answer
-begun session true = not_now session
-begun session false = (record session { open_ = true }, Replied reply.Done)
-
--- COMMIT makes the working database the kept one, where a transaction is open
-abbrev pub committed : Session → Bool → Session × Answer
-committed session true = (record session { kept = session.working; open_ = false }, Replied reply.Done)
-committed session false = not_now session
-
--- ROLLBACK goes back to the kept one
-abbrev pub rolled_back : Session → Bool → Session × Answer
-rolled_back session true = (record session { working = session.kept; open_ = false }, Replied reply.Done)
-rolled_back session false = not_now session
-
--- A statement in a session with transactions. LIST BLOCKS of a table that is there turns nothing, and its answer isn't the
--- session's to give; here it is that of a table which isn't there.
-abbrev pub turn_over : Session → Stmt → Session × Answer
-turn_over session Begin = begun session session.open_
-turn_over session Commit = committed session session.open_
-turn_over session Rollback = rolled_back session session.open_
-turn_over session (ListBlocks name) = (session, Refused (refusal_of (NoTable name)))
-turn_over session stmt = turn session stmt
 
 -- ---- two lists of pages
 
@@ -94,7 +63,7 @@ LeavesOthers ext stmt old new = KeepsOthers ext ext old.work new.work old.defs n
 -- more space than these ask for, and other tables stay, where a refusal changes nothing; or it tells the blocks of a table, and
 -- nothing changes; or it is refused with 70, where it runs full and nothing else is said against it, and nothing changes.
 pub data StepsOnPages (ext : Extents) (old : HeldPages) (stmt : Stmt) (outcome : Outcome) (new : HeldPages) : Type 0 where
-  turns : asks_blocks old.defs stmt ≡ false → ((session : Session) → StandsForSession ext old session → StandsForTurn ext new (turn_over session stmt) outcome) → KeepsBase old new → KeepsWork stmt old new
+  turns : asks_blocks old.defs stmt ≡ false → ((session : Session) → StandsForSession ext old session → StandsForTurn ext new (turn session stmt) outcome) → KeepsBase old new → KeepsWork stmt old new
       → LeavesOthers ext stmt old new → ((refusal : _) → outcome ≡ said.Refused refusal → new ≡ old)
       → ((done : _) → outcome ≡ said.Done done → (place : ℕ) (def : TableDef) → changed_place (bound_of old.defs stmt) ≡ Some place → def_at old.defs place ≡ Some def
       → PlacesOnPages ext ext old.work new.work def (bound_of old.defs stmt)) → StepsOnPages ext old stmt outcome new

@@ -3,8 +3,8 @@ use Rattle.std.specs.Prelude.{ℕ, ◌+◌, List, ◌++◌, length, flat_map, Op
 use Rattle.mdc_values.specs.declared.value.Value.{Value}
 use Rattle.mdc_ast.specs.declared.definition.TableDef.{TableDef}
 use Rattle.mdc_ast.specs.declared.refusal.Refusal.{Refusal}
-use Rattle.mdc_ast.specs.meaning.Cause.{Cause, refusal_of}
-use Rattle.mdc_ast.specs.meaning.Doing.{null_causes, used_up}
+use Rattle.statement_meaning.specs.Cause.{Cause, refusal_of}
+use Rattle.statement_meaning.specs.Doing.{null_causes, used_up}
 use Rattle.binder.specs.Saying.{first_of}
 
 -- what is said against tuples that would go into a table of this definition: nulls, and then row numbers

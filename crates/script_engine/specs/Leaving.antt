@@ -2,7 +2,7 @@
 use Rattle.std.specs.Prelude.{◌≡◌, false, Some, IfSome}
 use Rattle.mdc_ast.specs.declared.reply.Outcome.{Outcome}
 use Rattle.mdc_ast.specs.declared.statement.Stmt.{Stmt}
-use Rattle.mdc_ast.specs.meaning.Definitions.{AreValidDefs}
+use Rattle.statement_meaning.specs.Built.{AreBuiltDefs}
 use Rattle.store_api.specs.Moments.{Outcomes}
 use Rattle.store_api.specs.StoreState.{StoreState}
 use Rattle.extent_map.specs.declared.extents.Extents.{Extents}
@@ -20,7 +20,7 @@ IsAllCommitted held = held.open_ ≡ false → held.base ≡ held.work
 pub data MayBeLeft (ext : Extents) (old : HeldPages) (stmt : Stmt) (pages : PageList) : Type 0 where
   before : pages ≡ old.base → MayBeLeft ext old stmt pages
   after : (outcome : Outcome) (new : HeldPages) → StepsOnPages ext old stmt outcome new → new.open_ ≡ false → pages ≡ new.base
-      → IsSoundDatabase ext pages → AreStored pages new.defs → AreValidDefs new.defs → MayBeLeft ext old stmt pages
+      → IsSoundDatabase ext pages → AreStored pages new.defs → AreBuiltDefs new.defs → MayBeLeft ext old stmt pages
 
 -- the pages to which the file reopens after a crash within a statement, with the bytes told before it, where they are told
 abbrev pub LeftWithin : Extents → HeldPages → Stmt → StoreState → Outcomes

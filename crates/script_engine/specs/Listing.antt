@@ -6,7 +6,7 @@ use Rattle.mdc_ast.specs.declared.reply.Outcome.TheVariants as said
 use Rattle.mdc_ast.specs.declared.reply.Reply.TheVariants as reply
 use Rattle.mdc_ast.specs.declared.statement.Stmt.{Stmt}
 use Rattle.mdc_ast.specs.declared.statement.Stmt.TheVariants.{ListBlocks}
-use Rattle.mdc_ast.specs.meaning.Definitions.{Definitions, def_named}
+use Rattle.mdc_ast.specs.Definitions.{Definitions, def_named}
 use Rattle.entry_tree.specs.Forest.{Forest}
 use Rattle.block_map.specs.MapLines.{free_blocks, pending_blocks, used_blocks}
 use Rattle.table_trees.specs.TableTrees.{map_place}

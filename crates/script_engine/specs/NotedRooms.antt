@@ -2,8 +2,8 @@
 use Rattle.std.specs.Prelude.{◌≡◌, ◌≢◌, ◌<◌, ℕ, Option, Some, None, slice_get}
 use Rattle.mdc_words.specs.ByteOrder.{Entry}
 use Rattle.mdc_sound.specs.StandingTable.{RoomNote}
-use Rattle.cell_rooms.specs.RoomNotes.{no_note, room_of}
-use Rattle.cell_rooms.specs.declared.rooms.Rooms.{Rooms}
+use Rattle.free_space.specs.RoomNotes.{no_note, room_of}
+use Rattle.free_space.specs.declared.rooms.Rooms.{Rooms}
 use Rattle.script_engine.specs.declared.table_rooms.TableRooms.{TableRooms}
 
 -- what notes say, and where there are none, that any block may have room

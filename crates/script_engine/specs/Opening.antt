@@ -3,8 +3,8 @@ use Rattle.std.specs.Prelude.{◌≡◌, Bool, true, ◌&&◌, IsTrue, Option, S
 use Rattle.std.specs.List.{list_all}
 use Rattle.mdc_words.specs.Time.{OverTime}
 use Rattle.mdc_ast.specs.declared.definition.TableDef.{TableDef}
-use Rattle.mdc_ast.specs.meaning.Definitions.{AreValidDefs, Definitions}
-use Rattle.mdc_ast.specs.meaning.Step.{is_empty}
+use Rattle.mdc_ast.specs.Definitions.{Definitions}
+use Rattle.statement_meaning.specs.Built.{AreBuiltDefs}
 use Rattle.store_api.specs.Moments.{OnlyBase}
 use Rattle.store_api.specs.declared.pages.Pages.{Ghosts}
 use Rattle.extent_map.specs.declared.extents.Extents.{Extents}
@@ -12,22 +12,13 @@ use Rattle.mdc_sound.specs.SoundDatabase.{IsSoundDatabase}
 use Rattle.mdc_sound.specs.StandingTable.{pages_of}
 use Rattle.stored_catalog.specs.StoredDefinitions.{AreStored}
 
--- a place has no table, or one with no generated column and no record index
-abbrev pub is_built_place : Option TableDef → Bool
-is_built_place None = true
-is_built_place (Some def) = list_all (λ column. is_none column.made) def.columns && is_empty def.indexes
-
--- so has each place
-abbrev pub are_built : Definitions → Bool
-are_built defs = list_all is_built_place defs
-
 -- A store tells a sound database of tables of built forms, all of which is committed.
 pub record IsSoundStore {S : Type 0} (g : Ghosts S) (ext : Extents) (s : S) : Type 0 where
   pub told : IsTrue (g.state s).is_told
   pub sound : IsSoundDatabase ext (pages_of g s)
   pub defs : Definitions
   pub stored : AreStored (pages_of g s) defs
-  pub valid : AreValidDefs defs
+  pub valid : AreBuiltDefs defs
   pub committed : (g.state s).base ≡ (g.state s).work
 
 -- The pages of a store and all else that its calls speak of are as they were, but for the page at hand.

@@ -1,7 +1,9 @@
 -- When the pages of a store and what is kept of them in memory are ready for a statement.
-use Rattle.std.specs.Prelude.{◌≡◌, ℕ, IsTrue, List, Some, OnErr, Result}
+use Rattle.std.specs.Prelude.{◌≡◌, true, ℕ, IsTrue, List, Some, OnErr, Result}
 use Rattle.mdc_ast.specs.declared.definition.TableDef.{TableDef}
-use Rattle.mdc_ast.specs.meaning.Definitions.{AreValidDefs, Definitions, def_at}
+use Rattle.mdc_ast.specs.ValidDatabase.{AreValidDefs}
+use Rattle.mdc_ast.specs.Definitions.{Definitions, def_at}
+use Rattle.statement_meaning.specs.Built.{are_built}
 use Rattle.store_api.specs.declared.fault.Damage.{Damage}
 use Rattle.store_api.specs.declared.pages.Pages.{Ghosts}
 use Rattle.extent_map.specs.Owners.{AreRightNotes, IsSameShape}
@@ -18,6 +20,7 @@ use Rattle.script_engine.specs.declared.tables.Tables.{Tables}
 pub record AreServed (defs : Definitions) : Type 0 where
   pub limits : AreWithinLimits defs
   pub valid : AreValidDefs defs
+  pub built : are_built defs ≡ true
 
 -- The pages are told and sound, the catalog is that of their table pages, and the notes in memory are right: of the extents, and
 -- of where the rows of each table find room.

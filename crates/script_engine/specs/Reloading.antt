@@ -1,7 +1,7 @@
 -- What going back to the pages of the last commit leaves of a store and of what is kept of it in memory.
 use Rattle.std.specs.Prelude.{◌≡◌, Bool, IsTrue, IfOk, OnOk, IsErrOf, List, Result, Err, None}
 use Rattle.mdc_words.specs.Faults.{CountsFault}
-use Rattle.mdc_ast.specs.meaning.Definitions.{AllDefsDiffer}
+use Rattle.mdc_ast.specs.ValidDatabase.{AllDefsDiffer}
 use Rattle.store_api.specs.Works.{Steady}
 use Rattle.store_api.specs.declared.fault.Damage.{Damage}
 use Rattle.store_api.specs.declared.pages.Pages.{Ghosts}
@@ -11,7 +11,7 @@ use Rattle.extent_map.specs.declared.kind.Kind.{Kind}
 use Rattle.mdc_sound.specs.SoundDatabase.{IsSoundDatabase}
 use Rattle.stored_catalog.specs.StoredDefinitions.{AreStored, AreWithinLimits}
 use Rattle.script_engine.specs.NotedRooms.{AreForgotten}
-use Rattle.script_engine.specs.Opening.{are_built}
+use Rattle.statement_meaning.specs.Built.{are_built}
 use Rattle.script_engine.specs.declared.stop.EngineStop.{EngineStop}
 use Rattle.script_engine.specs.declared.stop.EngineStop.TheVariants.{Damaged, Device, Output}
 use Rattle.script_engine.specs.declared.tables.Tables.{Tables}

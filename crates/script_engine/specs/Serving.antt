@@ -1,6 +1,7 @@
 -- An engine between two calls.
 use Rattle.std.specs.Prelude.{◌≡◌, true, false, None}
-use Rattle.mdc_ast.specs.meaning.Definitions.{AreValidDefs, Definitions}
+use Rattle.mdc_ast.specs.Definitions.{Definitions}
+use Rattle.statement_meaning.specs.Built.{AreBuiltDefs}
 use Rattle.store_api.specs.declared.pages.Pages.{Ghosts}
 use Rattle.stored_catalog.specs.StoredDefinitions.{AreStored}
 use Rattle.mdc_sound.specs.SoundDatabase.{KeepAllRules}
@@ -33,5 +34,5 @@ pub record IsReadyEngine {S : Type 0} (g : Ghosts S) (engine : Engine S) : Type 
   pub base_sound : KeepAllRules engine.tables.ext (g.state engine.store).base base_view
   pub base_defs : Definitions
   pub base_stored : AreStored (g.state engine.store).base base_defs
-  pub base_valid : AreValidDefs base_defs
+  pub base_valid : AreBuiltDefs base_defs
   pub closed : engine.is_open ≡ false → (g.state engine.store).base ≡ (g.state engine.store).work

@@ -8,9 +8,9 @@ use Rattle.mdc_ast.specs.declared.reply.Outcome.{Outcome}
 use Rattle.mdc_ast.specs.declared.reply.Outcome.TheVariants as said
 use Rattle.mdc_ast.specs.declared.reply.Reply.{Reply}
 use Rattle.mdc_ast.specs.declared.statement.Stmt.{Stmt}
-use Rattle.mdc_ast.specs.meaning.Binding.{bound_of}
-use Rattle.mdc_ast.specs.meaning.Cause.{FileFull, NoTable, NotBuilt, refusal_of}
-use Rattle.mdc_ast.specs.meaning.Definitions.{Definitions, def_named}
+use Rattle.statement_meaning.specs.Binding.{bound_of}
+use Rattle.statement_meaning.specs.Cause.{FileFull, NoTable, NotBuilt, refusal_of}
+use Rattle.mdc_ast.specs.Definitions.{Definitions, def_named}
 use Rattle.store_api.specs.Works.{Steady}
 use Rattle.store_api.specs.declared.fault.Damage.{Damage}
 use Rattle.store_api.specs.declared.pages.Pages.{Ghosts}
@@ -26,7 +26,7 @@ use Rattle.script_engine.specs.Doing.{DoesStep, LeavesAll, StepRunsFull, is_read
 use Rattle.script_engine.specs.Fetching.{FetchesForQuery}
 use Rattle.script_engine.specs.Listing.{TellsBlocks}
 use Rattle.script_engine.specs.NotedRooms.{AreForgotten}
-use Rattle.script_engine.specs.Opening.{are_built}
+use Rattle.statement_meaning.specs.Built.{are_built}
 use Rattle.script_engine.specs.Ready.{AreServed, IsReady}
 use Rattle.script_engine.specs.declared.stop.EngineStop.{EngineStop}
 use Rattle.script_engine.specs.declared.stop.EngineStop.TheVariants.{Damaged, Device, Output}

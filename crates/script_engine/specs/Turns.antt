@@ -8,8 +8,8 @@ use Rattle.mdc_ast.specs.declared.reply.Outcome.TheVariants as said
 use Rattle.mdc_ast.specs.declared.reply.Reply.TheVariants as reply
 use Rattle.mdc_ast.specs.declared.statement.Stmt.{Stmt}
 use Rattle.mdc_ast.specs.declared.statement.Stmt.TheVariants as statement
-use Rattle.mdc_ast.specs.meaning.Binding.{bound_of}
-use Rattle.mdc_ast.specs.meaning.Cause.{NotBuilt, State, refusal_of}
+use Rattle.statement_meaning.specs.Binding.{bound_of}
+use Rattle.statement_meaning.specs.Cause.{NotBuilt, State, refusal_of}
 use Rattle.store_api.specs.Moments.{BaseOrNow}
 use Rattle.store_api.specs.Works.{Rests}
 use Rattle.store_api.specs.declared.fault.Damage.{Damage}
@@ -19,7 +19,7 @@ use Rattle.script_engine.specs.Breaking.{NamesExactly, StaysAtDamage}
 use Rattle.script_engine.specs.Fetching.{FetchesForListing, FetchesForQuery}
 use Rattle.script_engine.specs.Held.{KeepsBase, KeepsWork, StepsOnPages}
 use Rattle.script_engine.specs.Leaving.{IsAllCommitted, LeftWithin, MayBeLeft}
-use Rattle.script_engine.specs.Opening.{are_built}
+use Rattle.statement_meaning.specs.Built.{are_built}
 use Rattle.script_engine.specs.Serving.{IsReadyEngine, MayCall, held_by}
 use Rattle.script_engine.specs.declared.engine.Engine.{Engine}
 use Rattle.script_engine.specs.declared.stop.EngineStop.{EngineStop}

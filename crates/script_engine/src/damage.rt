@@ -16,7 +16,7 @@ use catalog::Catalog;
 use extent_map::Extents;
 use file_check::{Verdict, check};
 use mdc_ast::{Outcome, Stmt};
-use row_judging::not_built;
+use row_checks::not_built;
 use std::alloc::Global;
 use std::mem;
 use store_api::{Damage, Pages, StoreFault};

@@ -3,8 +3,8 @@ ghost use Rattle.std.specs.Prelude.{◌≡◌, false, IfErr, IfOk, IsErrOf, IsTr
 ghost use Rattle.mdc_words.specs.Faults.{CountsFault};
 ghost use Rattle.mdc_words.specs.Time.{OverTime};
 ghost use Rattle.mdc_ast.specs.declared.refusal.Refusal.{Refusal};
-ghost use Rattle.mdc_ast.specs.meaning.Binding.{bound_of};
-ghost use Rattle.mdc_ast.specs.meaning.Cause.{NotBuilt, refusal_of};
+ghost use Rattle.statement_meaning.specs.Binding.{bound_of};
+ghost use Rattle.statement_meaning.specs.Cause.{NotBuilt, refusal_of};
 ghost use Rattle.store_api.specs.Calls.{Tells, TellsPart};
 ghost use Rattle.store_api.specs.Moments.{BaseOrNow, BaseWithFront};
 ghost use Rattle.store_api.specs.Works.{Rests};

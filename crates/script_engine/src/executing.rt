@@ -2,7 +2,7 @@
 ghost use Rattle.std.specs.Prelude.{◌≡◌, false, true, IfOk, IfErr, IfSome, Ok};
 ghost use Rattle.mdc_ast.specs.declared.bound.Bound.TheVariants as bound;
 ghost use Rattle.mdc_ast.specs.declared.refusal.Refusal.{Refusal};
-ghost use Rattle.mdc_ast.specs.meaning.Binding.{bound_of};
+ghost use Rattle.statement_meaning.specs.Binding.{bound_of};
 ghost use Rattle.store_api.specs.Causes.{store_fault_in};
 ghost use Rattle.store_api.specs.RunsOverPages.{RunsOverPages};
 ghost use Rattle.store_api.specs.declared.fault.StoreFault.TheVariants as store_fault;
@@ -26,7 +26,7 @@ use binder::{BindFault, WholeRows, bind, bind_whole, built};
 use extent_map::SpaceFault;
 use mdc_ast::{Bound, Outcome, Reply, Stmt};
 use mdc_values::Memory;
-use row_judging::not_built;
+use row_checks::not_built;
 use store_api::{Pages, StoreFault};
 
 /// Executes a statement that is written so in a script. Where it is refused, pages and definitions stay. After a fault the
@@ -145,6 +145,9 @@ fn carry_out<P: Pages>(
         | Bound::Reclaim(_)
         | Bound::Begin
         | Bound::Commit
-        | Bound::Rollback => Ok(Outcome::Done(Reply::Done)),
+        | Bound::Rollback
+        | Bound::AddColumn { .. }
+        | Bound::Join(_)
+        | Bound::Reorg(_) => Ok(Outcome::Done(Reply::Done)),
     }
 }

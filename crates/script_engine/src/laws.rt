@@ -1,7 +1,7 @@
 // What holds of every list of pages.
 ghost use Rattle.extent_map.specs.declared.extents.Extents.{Extents};
 ghost use Rattle.table_trees.specs.ToldPages.{PageList};
-ghost use Rattle.mdc_ast.specs.meaning.Database.{Database};
+ghost use Rattle.mdc_ast.specs.Database.{Database};
 ghost use Rattle.mdc_sound.specs.SoundDatabase.{IsSoundDatabase};
 ghost use Rattle.mdc_sound.specs.StandsForDatabase.{PagesStandFor};
 

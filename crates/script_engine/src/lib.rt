@@ -10,7 +10,7 @@
 //! stand for is promised for just one.
 //!
 //! It stands on `binder` for what a statement means, on `table_scan`, `statement_rows` and `stored_catalog` for what it does to
-//! pages, on `mdc_table` for the count of a table's blocks, on `row_judging` for what is said against its rows, and on `file_check` for
+//! pages, on `mdc_table` for the count of a table's blocks, on `row_checks` for what is said against its rows, and on `file_check` for
 //! which rule pages break.
 #![tactic(auto)]
 

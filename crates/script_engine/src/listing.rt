@@ -1,8 +1,8 @@
 // The blocks of a table, which LIST BLOCKS tells.
 ghost use Rattle.std.specs.Prelude.{◌≡◌, false, IfOk, IsTrue, MatchOption, None, Some, Err};
 ghost use Rattle.mdc_ast.specs.declared.definition.TableDef.{TableDef};
-ghost use Rattle.mdc_ast.specs.meaning.Cause.{NoTable, refusal_of};
-ghost use Rattle.mdc_ast.specs.meaning.Definitions.{def_named};
+ghost use Rattle.statement_meaning.specs.Cause.{NoTable, refusal_of};
+ghost use Rattle.mdc_ast.specs.Definitions.{def_named};
 ghost use Rattle.store_api.specs.Causes.{fault_of};
 ghost use Rattle.store_api.specs.Frame.{NoPage};
 ghost use Rattle.store_api.specs.RunsOverPages.{RunsOverPages};
@@ -28,7 +28,7 @@ use file_check::{Verdict, check};
 use mdc_ast::{Name, Outcome, Reply, Stmt};
 use mdc_table::{Account, account_of};
 use mdc_values::Memory;
-use row_judging::{no_table, not_built};
+use row_checks::{no_table, not_built};
 use std::alloc::Global;
 use std::mem;
 use store_api::{Pages, Store, StoreFault};
@@ -57,7 +57,13 @@ pub(crate) fn listed(stmt: &Stmt) -> Option<&Name>
         | Stmt::Reclaim(_)
         | Stmt::Begin
         | Stmt::Commit
-        | Stmt::Rollback => None,
+        | Stmt::Rollback
+        | Stmt::AddColumn { .. }
+        | Stmt::OpenReader(_)
+        | Stmt::CloseReader(_)
+        | Stmt::Reader(..)
+        | Stmt::Join(_)
+        | Stmt::Reorg(_) => None,
     }
 }
 

@@ -10,7 +10,8 @@ ghost use Rattle.mdc_sound.specs.SoundDatabase.{IsSoundDatabase};
 ghost use Rattle.stored_catalog.specs.StoredDefinitions.{AreStored, AreWithinLimits};
 ghost use Rattle.script_engine.specs.Breaking.{IsExactDamage};
 ghost use Rattle.script_engine.specs.NotedRooms.{AreForgotten};
-ghost use Rattle.script_engine.specs.Opening.{IsSoundStore, KeepsPages, are_built, is_built_place};
+ghost use Rattle.script_engine.specs.Opening.{IsSoundStore, KeepsPages};
+ghost use Rattle.statement_meaning.specs.Built.{are_built, is_built_place};
 ghost use Rattle.script_engine.specs.Serving.{IsReadyEngine, MayCall};
 ghost use Rattle.script_engine.specs.Turns.{IsServedByForms};
 

@@ -2,14 +2,14 @@
 ghost use Rattle.std.specs.Prelude.{◌≡◌, length, map, false, IfOk, IsTrue, Ok};
 ghost use Rattle.mdc_ast.specs.declared.bound.Bound.TheVariants as bound;
 ghost use Rattle.mdc_ast.specs.declared.refusal.Refusal.{Refusal};
-ghost use Rattle.mdc_ast.specs.meaning.Definitions.{def_at};
-ghost use Rattle.mdc_ast.specs.meaning.Doing.{lines_of};
+ghost use Rattle.mdc_ast.specs.Definitions.{def_at};
+ghost use Rattle.statement_meaning.specs.Doing.{lines_of};
 ghost use Rattle.store_api.specs.Causes.{fault_of};
 ghost use Rattle.store_api.specs.Frame.{NoPage};
 ghost use Rattle.store_api.specs.RunsOverPages.{RunsOverPages};
 ghost use Rattle.block_rows.specs.HeldRows.{HaveReadValues};
 ghost use Rattle.answer_text.specs.Lines.{are_outs_within};
-ghost use Rattle.row_judging.specs.Served.{IsDefined, MayShowRows};
+ghost use Rattle.row_checks.specs.Served.{IsDefined, MayShowRows};
 ghost use Rattle.statement_rows.specs.RowsOfStatement.{AnyPage};
 ghost use Rattle.script_engine.specs.Doing.{DoesStatement};
 ghost use Rattle.script_engine.specs.Fetching.{FetchesForQuery};

@@ -1,6 +1,6 @@
 // The notes of where rows of each table find room.
 ghost use Rattle.std.specs.Prelude.{◌≡◌, ◌<◌};
-ghost use Rattle.cell_rooms.specs.RoomNotes.{IsForgotten, no_note};
+ghost use Rattle.free_space.specs.RoomNotes.{IsForgotten, no_note};
 
 use mdc_table::Rooms;
 use std::alloc::Global;
@@ -17,7 +17,7 @@ pub(crate) struct TableRooms {
 
 impl TableRooms {
     ghost use Rattle.std.specs.Prelude.{◌≡◌, ◌<◌};
-    ghost use Rattle.cell_rooms.specs.RoomNotes.{no_note};
+    ghost use Rattle.free_space.specs.RoomNotes.{no_note};
     ghost use Rattle.script_engine.specs.NotedRooms.{AreForgotten, KeepsOtherRooms, rooms_at};
 
     /// No notes. It takes no memory.

@@ -1,6 +1,6 @@
 // Statements in transactions.
 ghost use Rattle.std.specs.Prelude.{◌≡◌, false, None, Ok};
-ghost use Rattle.mdc_ast.specs.meaning.Session.{is_refusal};
+ghost use Rattle.statement_meaning.specs.Session.{is_refusal};
 ghost use Rattle.script_engine.specs.Breaking.{NamesExactly};
 ghost use Rattle.script_engine.specs.Held.{IsWritten};
 ghost use Rattle.script_engine.specs.Listing.{is_listing};
@@ -21,7 +21,7 @@ use crate::stop::EngineStop;
 use crate::tables::Tables;
 use extent_map::SpaceFault;
 use mdc_ast::{Outcome, Reply, Stmt};
-use row_judging::{file_full, not_built, not_in_state};
+use row_checks::{file_full, not_built, not_in_state};
 use store_api::{Pages, Store};
 
 /// What a statement is to a transaction.
@@ -56,7 +56,13 @@ fn control_of(stmt: &Stmt) -> Control
         | Stmt::Clean(_)
         | Stmt::CleanTable(_)
         | Stmt::ListBlocks(_)
-        | Stmt::Reclaim(_) => Control::Other,
+        | Stmt::Reclaim(_)
+        | Stmt::AddColumn { .. }
+        | Stmt::OpenReader(_)
+        | Stmt::CloseReader(_)
+        | Stmt::Reader(..)
+        | Stmt::Join(_)
+        | Stmt::Reorg(_) => Control::Other,
     }
 }
 

@@ -10,10 +10,10 @@ use Rattle.mdc_ast.specs.declared.reply.Outcome.{Outcome}
 use Rattle.mdc_ast.specs.declared.reply.Outcome.TheVariants as said
 use Rattle.mdc_ast.specs.declared.statement.Stmt.{Stmt}
 use Rattle.mdc_ast.specs.declared.statement.Stmt.TheVariants as statement
-use Rattle.mdc_ast.specs.meaning.Binding.{bound_of}
-use Rattle.mdc_ast.specs.meaning.Database.{Database}
-use Rattle.mdc_ast.specs.meaning.Definitions.{Definitions}
-use Rattle.mdc_ast.specs.meaning.Session.{Session, first_settings}
+use Rattle.statement_meaning.specs.Binding.{bound_of}
+use Rattle.mdc_ast.specs.Database.{Database}
+use Rattle.mdc_ast.specs.Definitions.{Definitions}
+use Rattle.statement_meaning.specs.Session.{Session, first_settings, turn}
 use Rattle.store_api.specs.Calls.{TellsPart, continued}
 use Rattle.store_api.specs.Moments.{BaseOrNow}
 use Rattle.store_api.specs.StoreState.{StoreState}
@@ -23,7 +23,7 @@ use Rattle.table_trees.specs.ToldPages.{PageList}
 use Rattle.mdc_sound.specs.SoundDatabase.{IsSoundDatabase}
 use Rattle.mdc_sound.specs.StandsForDatabase.{PagesStandFor}
 use Rattle.script_engine.specs.Doing.{StatementRunsFull}
-use Rattle.script_engine.specs.Held.{HeldPages, KeepsBase, StandsForSession, StepsOnPages, turn_over}
+use Rattle.script_engine.specs.Held.{HeldPages, KeepsBase, StandsForSession, StepsOnPages}
 use Rattle.script_engine.specs.Leaving.{LeftWithin, MayBeLeft}
 use Rattle.script_engine.specs.Serving.{IsReadyEngine, MayCall, held_by}
 use Rattle.script_engine.specs.Turns.{Executes, LeavesOutside}
@@ -45,7 +45,7 @@ begin_not_full ext work defs full = elim full [ ]
 
 -- a statement that runs full leaves open what was open
 full_keeps_open : (ext : Extents) (work : PageList) (defs : Definitions) (session : Session) (stmt : Stmt) → StatementRunsFull ext work defs (bound_of defs stmt)
-    → (turn_over session stmt).0.open_ ≡ session.open_
+    → (turn session stmt).0.open_ ≡ session.open_
 full_keeps_open ext work defs session statement.Begin full = absurd (begin_not_full ext work defs full)
 full_keeps_open ext work defs session statement.Commit full = absurd (begin_not_full ext work defs full)
 full_keeps_open ext work defs session statement.Rollback full = absurd (begin_not_full ext work defs full)
@@ -53,10 +53,10 @@ full_keeps_open ext work defs session stmt full = refl
 
 -- a step leaves a transaction open where the turn of a session does that the pages stand for
 open_after : (ext : Extents) (old new : HeldPages) (stmt : Stmt) (outcome : Outcome) (session : Session) → StandsForSession ext old session → StepsOnPages ext old stmt outcome new
-    → new.open_ ≡ (turn_over session stmt).0.open_
+    → new.open_ ≡ (turn session stmt).0.open_
 open_after ext old new stmt outcome session stands (StepsOnPages.turns apart turns base work others refused places) = sym (turns session stands).session.is_open
 open_after ext old new stmt outcome session stands (StepsOnPages.lists name def is found same tells) =
-    ap (λ held. held.open_) same ∙ (sym stands.is_open ∙ sym (ap (λ s. (turn_over session s).0.open_) is))
+    ap (λ held. held.open_) same ∙ (sym stands.is_open ∙ sym (ap (λ s. (turn session s).0.open_) is))
 open_after ext old new stmt outcome session stands (StepsOnPages.full says same full faultless) =
     ap (λ held. held.open_) same ∙ (sym stands.is_open ∙ sym (full_keeps_open ext old.work old.defs session stmt full))
 

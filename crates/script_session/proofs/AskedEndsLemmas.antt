@@ -3,8 +3,8 @@ use Rattle.std.proofs.Common.{◌≡◌, ◌≤◌, ℕ, List, [], ◌∷◌, �
 use Rattle.std.proofs.lemmas.List.{append-nil}
 use Rattle.mdc_ast.specs.declared.reply.Outcome.{Outcome}
 use Rattle.mdc_ast.specs.Reading.{Item, Reads}
-use Rattle.mdc_ast.specs.meaning.Session.{has_refusal}
-use Rattle.mdc_ast.specs.meaning.Texts.{outcome_text, texts}
+use Rattle.statement_meaning.specs.Session.{has_refusal}
+use Rattle.statement_meaning.specs.Texts.{outcome_text, texts}
 use Rattle.sql_reader.specs.Holding.{Holding}
 use Rattle.sql_reader.specs.Item.{item_of}
 use Rattle.sql_reader.specs.Progress.{Given, IsGivenAt, at_start}

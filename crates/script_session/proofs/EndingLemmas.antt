@@ -3,8 +3,8 @@ use Rattle.std.proofs.Common.{◌≡◌, ◌⊎◌, ◌≤◌, ◌+◌, ℕ, Lis
 use Rattle.std.proofs.lemmas.List.{append-nil}
 use Rattle.mdc_ast.specs.declared.reply.Outcome.{Outcome}
 use Rattle.mdc_ast.specs.Reading.{Item, Reads, Closes}
-use Rattle.mdc_ast.specs.meaning.Session.{has_refusal}
-use Rattle.mdc_ast.specs.meaning.Texts.{outcome_text, texts}
+use Rattle.statement_meaning.specs.Session.{has_refusal}
+use Rattle.statement_meaning.specs.Texts.{outcome_text, texts}
 use Rattle.sql_reader.specs.Progress.{Given, Progress, Took}
 use Rattle.sql_reader.specs.declared.statements.ReadStop.{ReadStop}
 use Rattle.sql_reader.specs.declared.statements.ReadStop.TheVariants as read

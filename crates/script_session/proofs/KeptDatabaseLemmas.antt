@@ -2,8 +2,8 @@
 use Rattle.std.proofs.Common.{◌≡◌, ℕ, zero, suc, List, refl, sym, ◌∙◌, subst, arith, length}
 use Rattle.mdc_ast.specs.declared.reply.Outcome.{Outcome}
 use Rattle.mdc_ast.specs.Reading.{Item}
-use Rattle.mdc_ast.specs.meaning.Database.{Database}
-use Rattle.mdc_ast.specs.meaning.Session.{Session}
+use Rattle.mdc_ast.specs.Database.{Database}
+use Rattle.statement_meaning.specs.Session.{Session}
 use Rattle.extent_map.specs.declared.extents.Extents.{Extents}
 use Rattle.table_trees.specs.ToldPages.{PageList}
 use Rattle.mdc_sound.specs.StandsForDatabase.{PagesStandFor}

@@ -7,13 +7,13 @@ use Rattle.mdc_ast.specs.declared.statement.Stmt.{Stmt}
 use Rattle.mdc_ast.specs.declared.statement.Stmt.TheVariants as statement
 use Rattle.mdc_ast.specs.Reading.{Item, Statement}
 use Rattle.mdc_ast.specs.Reading as reading
-use Rattle.mdc_ast.specs.meaning.Cause.{FileFull, refusal_of}
-use Rattle.mdc_ast.specs.meaning.Database.{defs_of}
-use Rattle.mdc_ast.specs.meaning.Definitions.{Definitions, def_named}
-use Rattle.mdc_ast.specs.meaning.Session.{Session}
+use Rattle.statement_meaning.specs.Cause.{FileFull, refusal_of}
+use Rattle.mdc_ast.specs.Database.{defs_of}
+use Rattle.mdc_ast.specs.Definitions.{Definitions, def_named}
+use Rattle.statement_meaning.specs.Session.{Session, turn}
 use Rattle.extent_map.specs.Owners.{IsSameShape}
 use Rattle.extent_map.specs.declared.extents.Extents.{Extents}
-use Rattle.script_engine.specs.Held.{HeldPages, StandsForSession, StepsOnPages, turn_over}
+use Rattle.script_engine.specs.Held.{HeldPages, StandsForSession, StepsOnPages}
 use Rattle.mdc_sound.specs.StandsForDatabase.{rootless}
 use Rattle.stored_catalog.specs.StoredDefinitions.{AreStored}
 use Rattle.script_engine.specs.Listing.{asks_blocks}
@@ -62,9 +62,9 @@ pub statement_meets : (ext noted : Extents) (held next : HeldPages) (stmt : Stmt
 statement_meets ext noted held next stmt outcome session shape (StepsOnPages.turns apart turns base work others refused places) stored stands =
     let turned = turns session (session_along ext noted held session shape stands) in
     record {
-      after = (turn_over session stmt).0;
-      meets = TurnsLists.turns (asks_on_lists ext held stmt session stored stands ∙ apart) (ap (λ answer. ((turn_over session stmt).0, answer)) turned.answers);
-      stands = session_along noted ext next (turn_over session stmt).0 (shape-sym shape) turned.session;
+      after = (turn session stmt).0;
+      meets = TurnsLists.turns (asks_on_lists ext held stmt session stored stands ∙ apart) (ap (λ answer. ((turn session stmt).0, answer)) turned.answers);
+      stands = session_along noted ext next (turn session stmt).0 (shape-sym shape) turned.session;
     }
 statement_meets ext noted held next stmt outcome session shape (StepsOnPages.lists name def is found same tells) stored stands = record {
   after = session;

@@ -3,8 +3,8 @@ use Rattle.std.proofs.Common.{◌≡◌, ◌||◌, ℕ, List, [], ◌∷◌, ◌
 use Rattle.std.specs.List.{AllZip}
 use Rattle.mdc_ast.specs.declared.reply.Outcome.{Outcome}
 use Rattle.mdc_ast.specs.Reading.{Item}
-use Rattle.mdc_ast.specs.meaning.Session.{has_refusal}
-use Rattle.mdc_ast.specs.meaning.Texts.{outcome_text, texts}
+use Rattle.statement_meaning.specs.Session.{has_refusal}
+use Rattle.statement_meaning.specs.Texts.{outcome_text, texts}
 use Rattle.mdc_outside.specs.Outside.{Takes}
 use Rattle.sql_reader.specs.Holding.{Holding}
 use Rattle.sql_reader.specs.Item.{item_of}

@@ -3,7 +3,7 @@ use Rattle.std.proofs.Common.{◌≡◌, ◌+◌, ℕ, List, [], ◌++◌, lengt
 use Rattle.mdc_words.proofs.TimeLemmas.{over_time_none, over_time_then, over_time_wider}
 use Rattle.mdc_ast.specs.declared.reply.Outcome.{Outcome}
 use Rattle.mdc_ast.specs.Reading.{Item}
-use Rattle.mdc_ast.specs.meaning.Texts.{texts}
+use Rattle.statement_meaning.specs.Texts.{texts}
 use Rattle.store_api.specs.declared.pages.Pages.{Ghosts}
 use Rattle.extent_map.specs.Owners.{IsSameShape}
 use Rattle.script_engine.specs.Held.{HeldPages}

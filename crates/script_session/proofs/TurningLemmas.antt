@@ -8,7 +8,7 @@ use Rattle.mdc_ast.specs.declared.reply.Outcome.TheVariants as said
 use Rattle.mdc_ast.specs.declared.refusal.Refusal.{Refusal}
 use Rattle.mdc_ast.specs.declared.statement.Stmt.{Stmt}
 use Rattle.mdc_ast.specs.Reading.{Item, Statement}
-use Rattle.mdc_ast.specs.meaning.Texts.{outcome_text}
+use Rattle.statement_meaning.specs.Texts.{outcome_text}
 use Rattle.mdc_outside.specs.Outside.{Takes}
 use Rattle.sql_reader.specs.Item.{item_of}
 use Rattle.sql_reader.specs.declared.statements.Read.{Read}

@@ -2,8 +2,8 @@
 use Rattle.std.specs.Prelude.{◌≡◌, ◌⊎◌, ◌≤◌, ◌+◌, ℕ, List, [], ◌∷◌, ◌++◌, length, take, true, false, Result, Ok, Err}
 use Rattle.mdc_ast.specs.declared.reply.Outcome.{Outcome}
 use Rattle.mdc_ast.specs.Reading.{Item, Reads, Closes}
-use Rattle.mdc_ast.specs.meaning.Session.{has_refusal}
-use Rattle.mdc_ast.specs.meaning.Texts.{outcome_text, texts}
+use Rattle.statement_meaning.specs.Session.{has_refusal}
+use Rattle.statement_meaning.specs.Texts.{outcome_text, texts}
 use Rattle.script_session.specs.declared.stop.Served.{Served}
 use Rattle.script_session.specs.declared.stop.Served.TheVariants.{AllDone, SomeRefused}
 use Rattle.script_session.specs.declared.stop.SessionStop.{SessionStop}

@@ -3,7 +3,8 @@ use Rattle.std.specs.Prelude.{◌≡◌, ◌≤◌, ◌+◌, ℕ, List, [], ◌�
 use Rattle.mdc_ast.specs.declared.reply.Outcome.{Outcome}
 use Rattle.mdc_ast.specs.declared.statement.Stmt.{Stmt}
 use Rattle.mdc_ast.specs.Reading.{Item, Statement}
-use Rattle.mdc_ast.specs.meaning.Definitions.{AreValidDefs, Definitions}
+use Rattle.statement_meaning.specs.Built.{AreBuiltDefs}
+use Rattle.mdc_ast.specs.Definitions.{Definitions}
 use Rattle.store_api.specs.Moments.{Outcomes}
 use Rattle.extent_map.specs.declared.extents.Extents.{Extents}
 use Rattle.table_trees.specs.ToldPages.{PageList}
@@ -18,7 +19,7 @@ pub record AreServedPages (ext : Extents) (pages : PageList) : Type 0 where
   pub sound : IsSoundDatabase ext pages
   pub defs : Definitions
   pub stored : AreStored pages defs
-  pub valid : AreValidDefs defs
+  pub valid : AreBuiltDefs defs
 
 -- The pages of the last commit after so many items of a run. An item in hand, at which the run stopped, counts as one that was
 -- executed where the pages are those that it committed.

@@ -5,19 +5,19 @@ use Rattle.mdc_ast.specs.declared.reply.Outcome.TheVariants as said
 use Rattle.mdc_ast.specs.declared.statement.Stmt.{Stmt}
 use Rattle.mdc_ast.specs.Reading.{Item, Statement}
 use Rattle.mdc_ast.specs.Reading as reading
-use Rattle.mdc_ast.specs.meaning.Cause.{FileFull, refusal_of}
-use Rattle.mdc_ast.specs.meaning.Database.{Database, defs_of}
-use Rattle.mdc_ast.specs.meaning.Session.{Session}
-use Rattle.mdc_ast.specs.meaning.Step.{faults}
+use Rattle.statement_meaning.specs.Cause.{FileFull, refusal_of}
+use Rattle.mdc_ast.specs.Database.{Database, defs_of}
+use Rattle.statement_meaning.specs.Session.{Session, turn}
+use Rattle.statement_meaning.specs.Step.{faults}
 use Rattle.extent_map.specs.declared.extents.Extents.{Extents}
-use Rattle.script_engine.specs.Held.{HeldPages, StandsForSession, turn_over}
+use Rattle.script_engine.specs.Held.{HeldPages, StandsForSession}
 use Rattle.script_engine.specs.Listing.{asks_blocks, blocks_told}
-use Rattle.row_judging.specs.Executing.{answer_of}
+use Rattle.row_checks.specs.Executing.{answer_of}
 
 -- What a statement may do to a session over lists: it turns it; or it is LIST BLOCKS of a table that is there, and tells some
 -- numbers, which are the pages' to say; or it is refused with 70 where nothing else is said against it.
 pub data TurnsLists (cap : ℕ) (old : Session) (stmt : Stmt) (outcome : Outcome) (new : Session) : Type 0 where
-  turns : asks_blocks (defs_of old.working) stmt ≡ false → turn_over old stmt ≡ (new, answer_of outcome) → TurnsLists cap old stmt outcome new
+  turns : asks_blocks (defs_of old.working) stmt ≡ false → turn old stmt ≡ (new, answer_of outcome) → TurnsLists cap old stmt outcome new
   lists : (used free pending : ℕ) → asks_blocks (defs_of old.working) stmt ≡ true → outcome ≡ blocks_told used free pending → new ≡ old → TurnsLists cap old stmt outcome new
   full : outcome ≡ said.Refused (refusal_of (FileFull cap)) → faults old.working stmt ≡ [] → new ≡ old → TurnsLists cap old stmt outcome new
 

@@ -5,8 +5,8 @@ use Rattle.mdc_ast.specs.declared.reply.Outcome.{Outcome}
 use Rattle.mdc_ast.specs.declared.reply.Outcome.TheVariants as said
 use Rattle.mdc_ast.specs.Reading.{Item, Statement}
 use Rattle.mdc_ast.specs.Reading as reading
-use Rattle.mdc_ast.specs.meaning.Session.{is_refusal}
-use Rattle.mdc_ast.specs.meaning.Texts.{outcome_text}
+use Rattle.statement_meaning.specs.Session.{is_refusal}
+use Rattle.statement_meaning.specs.Texts.{outcome_text}
 use Rattle.mdc_outside.specs.Outside.{Takes}
 use Rattle.script_session.specs.Serving.{EndsScript}
 use Rattle.script_session.specs.declared.stop.Served.{Served}

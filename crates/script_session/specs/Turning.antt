@@ -3,8 +3,8 @@ use Rattle.std.specs.Prelude.{◌≡◌, ◌⊎◌, ◌++◌, ℕ, Bool, List, [
 use Rattle.mdc_words.specs.Time.{OverTime}
 use Rattle.mdc_ast.specs.declared.reply.Outcome.{Outcome}
 use Rattle.mdc_ast.specs.Reading.{Item}
-use Rattle.mdc_ast.specs.meaning.Session.{is_refusal}
-use Rattle.mdc_ast.specs.meaning.Texts.{outcome_text}
+use Rattle.statement_meaning.specs.Session.{is_refusal}
+use Rattle.statement_meaning.specs.Texts.{outcome_text}
 use Rattle.mdc_outside.specs.Outside.{Takes}
 use Rattle.store_api.specs.declared.pages.Pages.{Ghosts}
 use Rattle.script_engine.specs.Held.{HeldPages}

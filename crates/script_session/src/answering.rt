@@ -2,7 +2,7 @@
 ghost use Rattle.std.specs.Prelude.{◌≡◌, ◌⊎◌, OnOk, OnErr, IsErrOf, None};
 ghost use Rattle.mdc_words.specs.Faults.{CountsFault};
 ghost use Rattle.mdc_words.specs.Time.{OverTime};
-ghost use Rattle.mdc_ast.specs.meaning.Texts.{outcome_text};
+ghost use Rattle.statement_meaning.specs.Texts.{outcome_text};
 ghost use Rattle.store_api.specs.Calls.{Tells, TellsPart};
 ghost use Rattle.store_api.specs.Moments.{BaseWithFront};
 ghost use Rattle.script_engine.specs.Serving.{IsReadyEngine, MayCall, held_by};

@@ -2,7 +2,7 @@
 ghost use Rattle.std.specs.Prelude.{List};
 ghost use Rattle.mdc_ast.specs.declared.reply.Outcome.{Outcome};
 ghost use Rattle.mdc_ast.specs.Reading.{Item};
-ghost use Rattle.mdc_ast.specs.meaning.Session.{Session};
+ghost use Rattle.statement_meaning.specs.Session.{Session};
 ghost use Rattle.extent_map.specs.declared.extents.Extents.{Extents};
 ghost use Rattle.script_engine.specs.Held.{HeldPages, StandsForSession};
 ghost use Rattle.script_session.specs.Going.{GoesOnPages};

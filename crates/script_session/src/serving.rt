@@ -2,7 +2,7 @@
 ghost use Rattle.std.specs.Prelude.{◌≡◌, ◌≤◌, [], IfErr, IfSome, IfOk, IsErrOf, Err, OnErr, OnOk};
 ghost use Rattle.mdc_words.specs.Faults.{CountsFault};
 ghost use Rattle.mdc_words.specs.Time.{OverTime};
-ghost use Rattle.mdc_ast.specs.meaning.Session.{is_refusal};
+ghost use Rattle.statement_meaning.specs.Session.{is_refusal};
 ghost use Rattle.extent_map.specs.Owners.{IsSameShape};
 ghost use Rattle.script_session.specs.Told.{TellsMore};
 ghost use Rattle.store_api.specs.declared.fault.Damage.{Damage};

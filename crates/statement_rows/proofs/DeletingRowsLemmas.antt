@@ -4,7 +4,7 @@ use Rattle.mdc_words.specs.ByteOrder.{Entry}
 use Rattle.mdc_values.specs.declared.rid.Rid.{Rid}
 use Rattle.mdc_ast.specs.declared.definition.TableDef.{TableDef}
 use Rattle.mdc_ast.specs.declared.row.Row.{Row}
-use Rattle.mdc_ast.specs.meaning.Database.{Database, PlainTable, changed_at}
+use Rattle.mdc_ast.specs.Database.{Database, PlainTable, changed_at}
 use Rattle.store_api.specs.Frame.{Touches}
 use Rattle.store_api.specs.Works.{Works}
 use Rattle.store_api.specs.declared.pages.Pages.{Ghosts}
@@ -67,6 +67,7 @@ module _ {S : Type 0} (g : Ghosts S) where
     owners_now = deletes.takes.owners_now;
     forests_now = deletes.takes.forests_now;
     changes = deletes.takes.changes;
+    records = deletes.takes.records;
     now = record { ready = record { stands = deletes.takes.changes.stands; notes = deletes.takes.changes.notes ready.ready.notes; rooms = deletes.takes.rooms }; sound = sound };
     space = left_by g before old def rid row owners forests this;
     places = λ rows more is rest. TakesRowsBy.one this.lies deletes.takes.takes deletes.takes.returns rest;

@@ -7,8 +7,7 @@ use Rattle.mdc_values.specs.declared.rid.Rid.{Rid}
 use Rattle.mdc_values.specs.declared.value.Value.{Value}
 use Rattle.mdc_ast.specs.declared.definition.TableDef.{TableDef}
 use Rattle.mdc_ast.specs.declared.row.Row.{Row}
-use Rattle.mdc_ast.specs.meaning.Database.{Database, PlainTable, changed_at}
-use Rattle.mdc_ast.specs.meaning.Doing.{appended, numbered}
+use Rattle.mdc_ast.specs.Database.{Database, PlainTable, changed_at, appended, numbered}
 use Rattle.store_api.specs.Frame.{Touches}
 use Rattle.store_api.specs.Works.{Works}
 use Rattle.store_api.specs.declared.pages.Pages.{Ghosts}
@@ -155,6 +154,7 @@ module _ {S : Type 0} (g : Ghosts S) (before now : Extents) (room_of room_now : 
     owners_now = inserts.places.owners_now;
     forests_now = inserts.places.forests_now;
     changes = inserts.places.changes;
+    records = inserts.places.records;
     now = record {
       ready = record {
         stands = stands_next g now new def (def.next + 1) inserts.places.owners_now inserts.places.forests_now inserts.places.changes.stands;

@@ -7,8 +7,7 @@ use Rattle.mdc_values.specs.declared.rid.Rid.{Rid}
 use Rattle.mdc_values.specs.declared.value.Value.{Value}
 use Rattle.mdc_ast.specs.declared.definition.TableDef.{TableDef}
 use Rattle.mdc_ast.specs.declared.row.Row.{Row}
-use Rattle.mdc_ast.specs.meaning.Database.{Database, changed_at}
-use Rattle.mdc_ast.specs.meaning.Doing.{appended, numbered}
+use Rattle.mdc_ast.specs.Database.{Database, changed_at, appended, numbered}
 use Rattle.store_api.specs.Frame.{Touches}
 use Rattle.store_api.specs.RunsOverPages.{RunsOverPages}
 use Rattle.store_api.specs.Works.{Works}
@@ -19,7 +18,7 @@ use Rattle.extent_map.specs.Owners.{IsSameShape}
 use Rattle.extent_map.specs.declared.extents.Extents.{Extents}
 use Rattle.extent_map.specs.declared.kind.Kind.{Kind}
 use Rattle.table_trees.specs.SpaceChanges.{MakesChanges}
-use Rattle.mdc_sound.specs.FittingRows.{RowFits}
+use Rattle.mdc_ast.specs.FittingRows.{RowFits}
 use Rattle.mdc_sound.specs.Placing.Spot.{OtherBlock}
 use Rattle.mdc_sound.specs.RunningFull.{InsertRunsFull, putting_changes}
 use Rattle.mdc_sound.specs.SoundDatabase.{IsSoundBetweenChanges, with_table_page}

@@ -12,20 +12,9 @@ use Rattle.extent_map.specs.Owners.{IsSameShape}
 use Rattle.extent_map.specs.declared.extents.Extents.{Extents}
 use Rattle.extent_map.specs.declared.kind.Kind.{Kind}
 use Rattle.mdc_sound.specs.StandingTable.{BreaksExpected, NamesTablePart, RoomNote, StandsTable, TableForests}
+use Rattle.mdc_sound.proofs.NamedPartsLemmas.{names_at, names_next}
 use Rattle.mdc_sound.proofs.NextNumberLemmas.{with_next}
-use Rattle.cell_change.proofs.ChangeRunsLemmas.{names_at}
 use Rattle.statement_rows.specs.RowsOfStatement.{AnyPage, BreaksReady, IsReadyBetween}
-
--- what damage names, whatever the next row number is
-names_next : (ext : Extents) (def : TableDef) (next : ℕ) (damage : Damage) → NamesTablePart ext (with_next def next) damage → NamesTablePart ext def damage
-names_next ext def next damage (NamesTablePart.count rule page) = NamesTablePart.count rule page
-names_next ext def next damage (NamesTablePart.map_page rule page) = NamesTablePart.map_page rule page
-names_next ext def next damage (NamesTablePart.tree rule page) = NamesTablePart.tree rule page
-names_next ext def next damage (NamesTablePart.tree_page rule) = NamesTablePart.tree_page rule
-names_next ext def next damage (NamesTablePart.block_map rule page) = NamesTablePart.block_map rule page
-names_next ext def next damage (NamesTablePart.row_page block rule page) = NamesTablePart.row_page block rule page
-names_next ext def next damage (NamesTablePart.row_count block rule page) = NamesTablePart.row_count block rule page
-names_next ext def next damage (NamesTablePart.block_index rule page) = NamesTablePart.block_index rule page
 
 module _ {S : Type 0} (g : Ghosts S) (before now : Extents) (room_of : Entry → RoomNote) (old mid : S) (def def_now : TableDef) (next : ℕ) (is : def_now ≡ with_next def next) (shape : IsSameShape before now)
     (Expected Later : List Kind → TableForests → Type 0) where

@@ -4,7 +4,7 @@ use Rattle.std.specs.Prelude.{slice_index_or}
 use Rattle.std.proofs.lemmas.List.{drop_more}
 use Rattle.mdc_words.specs.ByteOrder.{Entry}
 use Rattle.mdc_ast.specs.declared.definition.TableDef.{TableDef}
-use Rattle.mdc_ast.specs.meaning.Database.{Database, PlainTable, changed_at}
+use Rattle.mdc_ast.specs.Database.{Database, PlainTable, changed_at}
 use Rattle.store_api.specs.declared.pages.Pages.{Ghosts}
 use Rattle.extent_map.specs.Owners.{owner_of}
 use Rattle.extent_map.specs.declared.extents.Extents.{Extents}
@@ -68,7 +68,6 @@ module _ {S : Type 0} (g : Ghosts S) where
   changes_next before ext old new def next owners owners_now forests forests_now changes = record {
     stands = stands_next g ext new def next owners_now forests_now changes.stands;
     shape = changes.shape;
-    records = changes.records;
     others_blocks = changes.others_blocks;
     no_others_blocks = changes.no_others_blocks;
     others_pages = changes.others_pages;
@@ -93,6 +92,7 @@ module _ {S : Type 0} (g : Ghosts S) where
     owners_now = owners;
     forests_now = forests;
     changes = same_table g ext s def owners forests ready.ready.stands;
+    records = refl;
     now = ready;
     space = [];
     places = places (spots_of g ext s def owners forests);
@@ -115,6 +115,7 @@ module _ {S : Type 0} (g : Ghosts S) where
     forests_now = second.forests_now;
     changes = changes_table_then g before mid old middle def owners forests first.owners_now first.forests_now first.changes ext new second.owners_now second.forests_now
         (back mid ext middle new def next first.owners_now second.owners_now first.forests_now second.forests_now second.changes) no_block longer still_longer;
+    records = second.records ∙ first.records;
     now = second.now;
     space = first.space ++ second.space;
     places = places _ _ _ first.space second.space first.places second.places;

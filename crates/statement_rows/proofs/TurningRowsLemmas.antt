@@ -6,7 +6,7 @@ use Rattle.mdc_words.specs.ByteOrder.{Entry}
 use Rattle.mdc_values.specs.declared.rid.Rid.{Rid}
 use Rattle.mdc_ast.specs.declared.definition.TableDef.{TableDef}
 use Rattle.mdc_ast.specs.declared.row.Row.{Row}
-use Rattle.mdc_ast.specs.meaning.Database.{Database, changed_at}
+use Rattle.mdc_ast.specs.Database.{Database, changed_at}
 use Rattle.store_api.specs.Frame.{Touches}
 use Rattle.store_api.specs.Works.{Works}
 use Rattle.store_api.specs.declared.pages.Pages.{Ghosts}
@@ -103,6 +103,7 @@ module _ {S : Type 0} (g : Ghosts S) (before now : Extents) (room_of room_now : 
     owners_now = turns.owners_now;
     forests_now = turns.forests_now;
     changes = turns.changes;
+    records = turns.records;
     now = record { ready = record { stands = turns.changes.stands; notes = turns.changes.notes ready.ready.notes; rooms = turns.rooms }; sound = sound };
     space = turns.space.changes;
     places = λ rows more is rest. TurnsRowsBy.one turns.space.turns rest;

@@ -4,10 +4,10 @@ ghost use Rattle.store_api.specs.Causes.{fault_of};
 ghost use Rattle.store_api.specs.RunsOverPages.{RunsOverPages};
 ghost use Rattle.extent_map.specs.Owners.{IsSameShape};
 ghost use Rattle.extent_map.specs.declared.kind.Kind.{Kind};
-ghost use Rattle.table_page.specs.TableLimits.{IsTableDef};
+ghost use Rattle.mdc_ast.specs.TableLimits.{IsTableDef};
 ghost use Rattle.block_rows.specs.HeldRows.{HaveReadValues, placed_row};
 ghost use Rattle.mdc_sound.specs.StandingTable.{TableForests};
-ghost use Rattle.cell_rooms.specs.RoomNotes.{room_of};
+ghost use Rattle.free_space.specs.RoomNotes.{room_of};
 ghost use Rattle.statement_rows.specs.RowsAndSpace.{TakesRowsBy};
 ghost use Rattle.statement_rows.specs.RowsOfStatement.{AnyPage, BreaksReady, ChangesRowsOf, HasTheseRows, IsReadyBetween, without_rows};
 

@@ -6,13 +6,13 @@ ghost use Rattle.store_api.specs.RunsOverPages.{RunsOverPages};
 ghost use Rattle.extent_map.specs.Damages.{IfFull, store_part_of};
 ghost use Rattle.extent_map.specs.Owners.{IsSameShape};
 ghost use Rattle.extent_map.specs.declared.kind.Kind.{Kind};
-ghost use Rattle.mdc_ast.specs.meaning.Doing.{appended, numbered};
-ghost use Rattle.table_page.specs.TableLimits.{IsTableDef};
-ghost use Rattle.mdc_sound.specs.FittingRows.{RowFits};
+ghost use Rattle.mdc_ast.specs.Database.{appended, numbered};
+ghost use Rattle.mdc_ast.specs.TableLimits.{IsTableDef};
+ghost use Rattle.mdc_ast.specs.FittingRows.{RowFits};
 ghost use Rattle.mdc_sound.specs.Placing.{block_slot_count};
 ghost use Rattle.mdc_sound.specs.RunningFull.{InsertRunsFull};
 ghost use Rattle.mdc_sound.specs.StandingTable.{TableForests, pages_of};
-ghost use Rattle.cell_rooms.specs.RoomNotes.{room_of};
+ghost use Rattle.free_space.specs.RoomNotes.{room_of};
 ghost use Rattle.statement_rows.specs.RowsAndSpace.{PutsRowsBy};
 ghost use Rattle.statement_rows.specs.RowsOfStatement.{AnyPage, BreaksReady, ChangesRowsOf, IsReadyBetween, NothingMore};
 

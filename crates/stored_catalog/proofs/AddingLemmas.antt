@@ -18,7 +18,7 @@ use Rattle.extent_map.specs.declared.kind.Kind.TheVariants.{Free, Block, Index}
 use Rattle.extent_map.proofs.HoldsMapLemmas.{on_map}
 use Rattle.entry_tree.specs.Forest.{Forest, times}
 use Rattle.entry_tree.proofs.ForestLemmas.{once_same}
-use Rattle.table_page.specs.TableLimits.{IsTableDef}
+use Rattle.mdc_ast.specs.TableLimits.{IsTableDef}
 use Rattle.table_page.specs.TablePage.{table_page}
 use Rattle.table_page.proofs.TablePageLemmas.{no_blank_table}
 use Rattle.table_trees.specs.TableTrees.{TreePlace, rising_parts, tree_places}

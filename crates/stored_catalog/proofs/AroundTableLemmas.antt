@@ -7,8 +7,8 @@ use Rattle.std.proofs.lemmas.Bool.{cases_eq, cases_lt}
 use Rattle.std.proofs.lemmas.Option.{same_Some, slice_get-get_or, slice_get_within}
 use Rattle.mdc_words.proofs.PlacesLemmas.{slice_get-set_other, slice_get-set_same}
 use Rattle.mdc_ast.specs.declared.definition.TableDef.{TableDef}
-use Rattle.mdc_ast.specs.meaning.Database.{Database, PlainTable, with_place}
-use Rattle.mdc_ast.specs.meaning.Definitions.{Definitions}
+use Rattle.mdc_ast.specs.Database.{Database, PlainTable, with_place}
+use Rattle.mdc_ast.specs.Definitions.{Definitions}
 use Rattle.store_api.specs.Frame.{HoldsPage, OnlyPage, Touches}
 use Rattle.store_api.specs.declared.pages.Pages.{Ghosts}
 use Rattle.store_api.proofs.FrameLemmas.{touches_wider}

@@ -4,7 +4,7 @@ use Rattle.std.proofs.lemmas.Bool.{cases_lt}
 use Rattle.std.proofs.lemmas.List.{get_or_past}
 use Rattle.std.specs.Prelude.{IsTrue}
 use Rattle.mdc_ast.specs.declared.definition.TableDef.{TableDef}
-use Rattle.mdc_ast.specs.meaning.Database.{Database, PlainTable, with_place}
+use Rattle.mdc_ast.specs.Database.{Database, PlainTable, with_place}
 use Rattle.store_api.specs.Frame.{Touches}
 use Rattle.store_api.specs.StoreState.{page_at, zero_page}
 use Rattle.store_api.specs.declared.pages.Pages.{Ghosts}

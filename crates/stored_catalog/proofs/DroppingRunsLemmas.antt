@@ -1,53 +1,33 @@
 -- Runs that give the blocks and the trees of a table back and clear its page, one behind the other: which pages they touch, and which
 -- damage they name.
-use Rattle.std.proofs.Common.{◌≡◌, ◌<◌, ◌+◌, ℕ, List, [], ◌∷◌, ◌++◌, None, length, refl, arith, ◌∙◌, inl, inr}
+use Rattle.std.proofs.Common.{◌≡◌, ◌<◌, ◌+◌, ℕ, List, [], ◌∷◌, ◌++◌, None, length, arith, inl, inr}
 use Rattle.std.specs.Prelude.{Contains, Option}
 use Rattle.std.proofs.lemmas.List.Elements.{Contains-append_cases}
 use Rattle.mdc_ast.specs.declared.definition.TableDef.{TableDef}
-use Rattle.store_api.specs.Extents.{first_page_of}
 use Rattle.store_api.specs.Frame.{NoPage, OnlyPage}
 use Rattle.store_api.specs.RunsOverPages.{RunsOverPages}
-use Rattle.store_api.specs.declared.fault.Damage.{Damage}
 use Rattle.store_api.specs.declared.fault.StoreFault.{StoreFault}
 use Rattle.store_api.specs.declared.pages.Pages.{Ghosts}
 use Rattle.store_api.proofs.RunsOverPagesLemmas.{runs_as, runs_none, runs_then}
 use Rattle.extent_map.specs.Map.{IsMapPage}
-use Rattle.extent_map.specs.Owners.{IsSameShape, extent_of}
+use Rattle.extent_map.specs.Owners.{IsSameShape}
 use Rattle.extent_map.specs.declared.extents.Extents.{Extents}
 use Rattle.extent_map.specs.declared.kind.Kind.{Kind}
 use Rattle.extent_map.proofs.DamagesLemmas.{holds_first_count}
 use Rattle.entry_tree.specs.Forest.{Forest}
 use Rattle.entry_tree.proofs.ClaimsLemmas.{shape_none}
 use Rattle.entry_tree.proofs.ReturnedPagesLemmas.{map_page-shape}
-use Rattle.entry_tree.proofs.UsedPagesLemmas.{extent_page_same}
 use Rattle.block_map.specs.BlockMaps.{IsMapForm}
 use Rattle.block_map.specs.MapLines.{blocks_of_state, free_blocks, used_blocks}
 use Rattle.table_trees.specs.TableTrees.{tree_places}
 use Rattle.table_trees.specs.TreesBeside.{IsTreesOrMapPage, StandTrees}
 use Rattle.mdc_sound.specs.StandingTable.{BreaksTable, NamesTablePart, forests_in_order}
 use Rattle.mdc_sound.proofs.MappedBlocksLemmas.{map_form}
+use Rattle.mdc_sound.proofs.NamedPartsLemmas.{names_at}
 use Rattle.stored_catalog.specs.StoredDefinitions.{LacksTablePage}
 use Rattle.stored_catalog.specs.TreeRuns.{BreaksGiving, BreaksTrees, GivesBlocks, IsDroppingPage, without_blocks}
 use Rattle.stored_catalog.proofs.BlocksInMapLemmas.{one_state, stands_to_give}
 use Rattle.stored_catalog.proofs.GivenBlocksLemmas.{gives_none, gives_then, trees_after_giving}
-
--- ---- damage in extents of the same shape
-
-first_page_at : (before mid : Extents) (block : ℕ) → IsSameShape before mid → first_page_of mid.cap mid.extent_pages block ≡ first_page_of before.cap before.extent_pages block
-first_page_at before mid block s = rw (s.cap, s.extent_pages) refl
-
-extent_at : (before mid : Extents) (p : ℕ) → IsSameShape before mid → extent_of before p ≡ extent_of mid p
-extent_at before mid p s = rw (s.cap, s.extent_pages) refl
-
-pub names_at : (before mid : Extents) (def : TableDef) (damage : Damage) → IsSameShape before mid → NamesTablePart mid def damage → NamesTablePart before def damage
-names_at before mid def damage s (NamesTablePart.count rule page) = NamesTablePart.count rule page
-names_at before mid def damage s (NamesTablePart.map_page rule page) = NamesTablePart.map_page rule (map_page-shape before mid damage.page s page)
-names_at before mid def damage s (NamesTablePart.tree rule page) = NamesTablePart.tree rule page
-names_at before mid def damage s (NamesTablePart.tree_page rule) = NamesTablePart.tree_page rule
-names_at before mid def damage s (NamesTablePart.block_map rule page) = NamesTablePart.block_map rule page
-names_at before mid def damage s (NamesTablePart.row_page block rule page) = NamesTablePart.row_page block rule (extent_page_same before mid damage.page s page.0, extent_at before mid damage.page s ∙ page.1)
-names_at before mid def damage s (NamesTablePart.row_count block rule page) = NamesTablePart.row_count block rule (page ∙ first_page_at before mid block s)
-names_at before mid def damage s (NamesTablePart.block_index rule page) = NamesTablePart.block_index rule page
 
 -- ---- states one after the other
 

@@ -5,7 +5,7 @@ use Rattle.std.specs.List.{AllZip, position_from, range_with_len}
 use Rattle.std.proofs.lemmas.Option.{same_Some}
 use Rattle.mdc_ast.specs.declared.definition.TableDef.{TableDef}
 use Rattle.mdc_ast.specs.declared.name.Name.{Name}
-use Rattle.mdc_ast.specs.meaning.Definitions.{Definitions, def_at, empty_place, is_defined, is_same, place_of, with_def, without_def}
+use Rattle.mdc_ast.specs.Definitions.{Definitions, def_at, empty_place, is_defined, is_same, place_of, with_def, without_def}
 use Rattle.mdc_ast.proofs.FitsLemmas.{bytes_eq-refl}
 use Rattle.store_api.specs.Frame.{Touches}
 use Rattle.store_api.specs.StoreState.{zero_page}
@@ -15,7 +15,7 @@ use Rattle.extent_map.specs.Map.{HoldsMap}
 use Rattle.extent_map.specs.declared.extents.Extents.{Extents}
 use Rattle.extent_map.specs.declared.kind.Kind.{Kind}
 use Rattle.extent_map.proofs.DamagesLemmas.{holds_first_count}
-use Rattle.table_page.specs.TableLimits.{AreRootsFor, IsTableDef}
+use Rattle.mdc_ast.specs.TableLimits.{AreRootsFor, IsTableDef}
 use Rattle.table_page.specs.TablePage.{table_page}
 use Rattle.table_page.proofs.TablePageLemmas.{no_blank_table, one_definition}
 use Rattle.table_trees.specs.ToldPages.{PageList}

@@ -8,7 +8,8 @@ use Rattle.std.proofs.lemmas.Slice.Eq.{bytes_eq-Decides}
 use Rattle.mdc_words.proofs.PlacesLemmas.{slice_get-set_other, slice_get-set_same}
 use Rattle.mdc_ast.specs.declared.definition.TableDef.{TableDef}
 use Rattle.mdc_ast.specs.declared.name.Name.{Name}
-use Rattle.mdc_ast.specs.meaning.Definitions.{AllDefsDiffer, Definitions, def_at, def_named, is_defined, is_same, no_tables, place_of, with_def}
+use Rattle.mdc_ast.specs.ValidDatabase.{AllDefsDiffer}
+use Rattle.mdc_ast.specs.Definitions.{Definitions, def_at, def_named, is_defined, is_same, no_tables, place_of, with_def}
 use Rattle.mdc_ast.proofs.DefinitionsLemmas.{differ_put, emptied_too, none_named}
 use Rattle.catalog.proofs.PlacesLemmas.{position_from-least}
 use Rattle.store_api.specs.Frame.{NoPage, OnlyPage}
@@ -20,7 +21,7 @@ use Rattle.store_api.specs.declared.pages.Pages.{Ghosts}
 use Rattle.store_api.proofs.RunsOverPagesLemmas.{runs_damage, runs_then}
 use Rattle.table_page.specs.PageAnswers.{TellsTable}
 use Rattle.table_page.specs.TablePage.{IsTablePageOf}
-use Rattle.table_page.specs.TableLimits.{IsTableDef}
+use Rattle.mdc_ast.specs.TableLimits.{IsTableDef}
 use Rattle.table_trees.specs.ToldPages.{PageList}
 use Rattle.mdc_sound.specs.TablePages.{table_page_at}
 use Rattle.mdc_sound.proofs.SpaceRulesLemmas.{range_each}

@@ -2,7 +2,7 @@
 use Rattle.std.proofs.Common.{◌≡◌, ◌<◌, ◌≤◌, ◌+◌, inl, ℕ, List, [], length, length-set, None, Some, arith, sym, subst, get_or-set_other}
 use Rattle.std.specs.Prelude.{IsTrue, slice_get}
 use Rattle.mdc_ast.specs.declared.definition.TableDef.{TableDef}
-use Rattle.mdc_ast.specs.meaning.Database.{Database, with_place}
+use Rattle.mdc_ast.specs.Database.{Database, with_place}
 use Rattle.store_api.specs.Frame.{Touches}
 use Rattle.store_api.specs.StoreState.{zero_page}
 use Rattle.store_api.specs.declared.fault.Damage.{Damage}
@@ -15,7 +15,7 @@ use Rattle.extent_map.proofs.DamagesLemmas.{holds_first_count}
 use Rattle.extent_map.proofs.HoldsMapLemmas.{holds_map_along}
 use Rattle.entry_tree.specs.Standing.{IsMapSpace, with_pages}
 use Rattle.entry_tree.proofs.UsedPagesLemmas.{shape_back}
-use Rattle.table_page.specs.TableLimits.{IsTableDef}
+use Rattle.mdc_ast.specs.TableLimits.{IsTableDef}
 use Rattle.table_page.specs.TablePage.{table_page}
 use Rattle.table_trees.specs.SpaceChanges.{IsSameSpace}
 use Rattle.table_trees.proofs.ToldPagesLemmas.{told_of_map}

@@ -9,7 +9,7 @@ use Rattle.mdc_ast.specs.declared.definition.ColumnDef.{ColumnDef}
 use Rattle.mdc_ast.specs.declared.definition.IndexDef.{IndexDef}
 use Rattle.mdc_ast.specs.declared.definition.Roots.{Roots}
 use Rattle.mdc_ast.specs.declared.definition.TableDef.{TableDef}
-use Rattle.table_page.specs.TableLimits.{AreRootsFor, AreTableIndexes, IsTableDef}
+use Rattle.mdc_ast.specs.TableLimits.{AreRootsFor, AreTableIndexes, IsTableDef}
 use Rattle.table_trees.specs.TableTrees.{AreIndexParts, cell_parts, composite_place, dimension_place, dimension_places, map_place, record_place, rising_parts, tree_places}
 use Rattle.mdc_sound.specs.SpaceRules.{tables_there}
 use Rattle.mdc_sound.specs.TableViews.{TableView, trees_of_table}

@@ -4,7 +4,7 @@ use Rattle.std.proofs.Common.{◌≡◌, ◌<◌, ◌+◌, ◌∙◌, ℕ, List,
 use Rattle.std.specs.Prelude.{IsTrue, slice_set}
 use Rattle.std.proofs.lemmas.Option.{same_Some}
 use Rattle.mdc_ast.specs.declared.definition.TableDef.{TableDef}
-use Rattle.mdc_ast.specs.meaning.Definitions.{Definitions, def_at}
+use Rattle.mdc_ast.specs.Definitions.{Definitions, def_at}
 use Rattle.store_api.specs.Calls.{Edits}
 use Rattle.store_api.specs.Frame.{OnlyPage, Touches}
 use Rattle.store_api.specs.StoreState.{StoreState, page_at, seen}

@@ -4,13 +4,13 @@ use Rattle.std.specs.Prelude.{IfSome, IsTrue, OnOk, slice_set}
 use Rattle.std.proofs.lemmas.Bool.{cases_eq}
 use Rattle.std.proofs.lemmas.List.{ext_get_or}
 use Rattle.mdc_ast.specs.declared.definition.TableDef.{TableDef}
-use Rattle.mdc_ast.specs.meaning.Definitions.{Definitions}
+use Rattle.mdc_ast.specs.Definitions.{Definitions}
 use Rattle.store_api.specs.Frame.{OnlyPage, Touches, WritesPage}
 use Rattle.store_api.specs.StoreState.{page_at}
 use Rattle.store_api.specs.declared.fault.StoreFault.{StoreFault}
 use Rattle.store_api.specs.declared.pages.Pages.{Ghosts}
 use Rattle.store_api.proofs.FrameLemmas.{holds_here}
-use Rattle.table_page.specs.TableLimits.{IsTableDef}
+use Rattle.mdc_ast.specs.TableLimits.{IsTableDef}
 use Rattle.table_trees.specs.ToldPages.{PageList}
 use Rattle.stored_catalog.specs.StoredDefinitions.{AreStored, IsStoredPlace, stored_page, with_stored}
 use Rattle.stored_catalog.proofs.AroundTableLemmas.{stored_but}

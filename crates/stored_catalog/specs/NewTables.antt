@@ -4,7 +4,7 @@ use Rattle.mdc_ast.specs.declared.definition.Roots.{Roots}
 use Rattle.mdc_ast.specs.declared.definition.TableDef.{TableDef}
 use Rattle.entry_tree.specs.Forest.{Forest}
 use Rattle.entry_tree.specs.Forest.Forest.{Nil, Leaf}
-use Rattle.table_page.specs.TableLimits.{AreTableColumns, AreTableDims, is_given_name}
+use Rattle.mdc_ast.specs.TableLimits.{AreTableColumns, AreTableDims, is_given_name}
 use Rattle.table_trees.specs.TableTrees.{TreePlace, block_index_places, dimension_place, map_place}
 use Rattle.mdc_sound.specs.TableViews.{TableView}
 

@@ -3,7 +3,7 @@
 use Rattle.std.specs.Prelude.{◌≡◌, ◌≢◌, ◌≤◌, ◌<◌, ◌⊎◌, ℕ, ◌+◌, List, length, Option, Some, None, slice_set}
 use Rattle.std.specs.List.{AllZip, range_with_len}
 use Rattle.mdc_ast.specs.declared.definition.TableDef.{TableDef}
-use Rattle.mdc_ast.specs.meaning.Definitions.{Definitions, def_at}
+use Rattle.mdc_ast.specs.Definitions.{Definitions, def_at}
 use Rattle.store_api.specs.Frame.{HoldsPage}
 use Rattle.store_api.specs.StoreState.{zero_page}
 use Rattle.store_api.specs.declared.fault.Damage.{Damage}
@@ -11,7 +11,7 @@ use Rattle.store_api.specs.declared.fault.StoreFault.{StoreFault}
 use Rattle.store_api.specs.declared.fault.StoreFault.TheVariants.{Damaged}
 use Rattle.store_api.specs.declared.pages.Pages.{Ghosts}
 use Rattle.table_page.specs.PageAnswers.{IsNoTablePage}
-use Rattle.table_page.specs.TableLimits.{IsTableDef}
+use Rattle.mdc_ast.specs.TableLimits.{IsTableDef}
 use Rattle.table_page.specs.TablePage.{IsTablePageOf, table_page}
 use Rattle.table_trees.specs.ToldPages.{PageList}
 use Rattle.mdc_sound.specs.TablePages.{DefinesTable, table_page_at}

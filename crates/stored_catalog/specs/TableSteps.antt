@@ -2,7 +2,7 @@
 use Rattle.std.specs.Prelude.{◌≡◌, ◌≢◌, ℕ, List, [], Some, None}
 use Rattle.mdc_ast.specs.declared.definition.TableDef.{TableDef}
 use Rattle.mdc_ast.specs.declared.name.Name.{Name}
-use Rattle.mdc_ast.specs.meaning.Database.{PlainTable}
+use Rattle.mdc_ast.specs.Database.{PlainTable}
 use Rattle.extent_map.specs.Owners.{AreRightNotes, owner_of}
 use Rattle.extent_map.specs.declared.extents.Extents.{Extents}
 use Rattle.extent_map.specs.declared.kind.Kind.{Kind}

@@ -1,7 +1,7 @@
 // A table less.
 ghost use Rattle.std.specs.Prelude.{◌≡◌, ◌+◌, ◌<◌, ◌∷◌, [], List, length, false, None, IsTrue, IsSome, IfSome, OnErr, OnOk};
-ghost use Rattle.mdc_ast.specs.meaning.Database.{Database, with_place};
-ghost use Rattle.mdc_ast.specs.meaning.Definitions.{def_at, without_def};
+ghost use Rattle.mdc_ast.specs.Database.{Database, with_place};
+ghost use Rattle.mdc_ast.specs.Definitions.{def_at, without_def};
 ghost use Rattle.store_api.specs.Causes.{fault_of};
 ghost use Rattle.store_api.specs.RunsOverPages.{RunsOverPages};
 ghost use Rattle.store_api.specs.StoreState.{zero_page};
@@ -9,7 +9,7 @@ ghost use Rattle.extent_map.specs.Map.{IsMapPage};
 ghost use Rattle.extent_map.specs.Owners.{IsSameShape};
 ghost use Rattle.extent_map.specs.declared.kind.Kind.{Kind};
 ghost use Rattle.entry_tree.specs.Forest.{Forest};
-ghost use Rattle.table_page.specs.TableLimits.{IsTableDef};
+ghost use Rattle.mdc_ast.specs.TableLimits.{IsTableDef};
 ghost use Rattle.block_map.specs.MapLines.{blocks_of_state};
 ghost use Rattle.block_map.specs.MapRows.{state_number};
 ghost use Rattle.table_trees.specs.TableTrees.{tree_places};

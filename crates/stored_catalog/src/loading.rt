@@ -1,6 +1,7 @@
 // The definitions of all tables, from their pages.
 ghost use Rattle.std.specs.Prelude.{◌≡◌, ◌+◌, ◌<◌, false, IsTrue, IfOk, IfErr, OnOk, slice_set};
-ghost use Rattle.mdc_ast.specs.meaning.Definitions.{AllDefsDiffer, no_tables};
+ghost use Rattle.mdc_ast.specs.ValidDatabase.{AllDefsDiffer};
+ghost use Rattle.mdc_ast.specs.Definitions.{no_tables};
 ghost use Rattle.store_api.specs.Causes.{fault_of};
 ghost use Rattle.store_api.specs.Frame.{NoPage, OnlyPage};
 ghost use Rattle.store_api.specs.RunsOverPages.{RunsOverPages};

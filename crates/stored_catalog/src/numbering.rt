@@ -1,7 +1,7 @@
 // The next row number of a table, onto its page.
 ghost use Rattle.std.specs.Prelude.{◌≡◌, ◌+◌, ◌<◌, ℕ, length, false, Some, IsTrue, IsSome, OnOk, slice_set};
 ghost use Rattle.mdc_ast.specs.declared.definition.TableDef.{TableDef};
-ghost use Rattle.mdc_ast.specs.meaning.Definitions.{Definitions, def_at};
+ghost use Rattle.mdc_ast.specs.Definitions.{Definitions, def_at};
 ghost use Rattle.store_api.specs.Causes.{NoDamage, fault_of};
 ghost use Rattle.store_api.specs.Frame.{OnlyPage};
 ghost use Rattle.store_api.specs.RunsOverPages.{RunsOverPages};

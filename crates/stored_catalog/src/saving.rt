@@ -1,10 +1,10 @@
 // The definition of a table, onto its page.
 ghost use Rattle.std.specs.Prelude.{◌≡◌, ◌+◌, ◌<◌, length, false, None, Some, IsTrue, IfSome, OnOk, slice_set};
-ghost use Rattle.mdc_ast.specs.meaning.Definitions.{Definitions, def_at};
+ghost use Rattle.mdc_ast.specs.Definitions.{Definitions, def_at};
 ghost use Rattle.store_api.specs.Causes.{fault_of};
 ghost use Rattle.store_api.specs.Frame.{NoPage, OnlyPage};
 ghost use Rattle.store_api.specs.RunsOverPages.{RunsOverPages};
-ghost use Rattle.table_page.specs.TableLimits.{IsTableDef};
+ghost use Rattle.mdc_ast.specs.TableLimits.{IsTableDef};
 ghost use Rattle.stored_catalog.specs.StoredDefinitions.{AreStored, LacksTablePage, with_stored};
 
 use catalog::Catalog;

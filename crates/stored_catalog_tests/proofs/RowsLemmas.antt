@@ -2,7 +2,7 @@
 use Rattle.std.proofs.Common.{◌≡◌, ◌+◌, ◌<◌, Result, Ok, Err, sym, subst}
 use Rattle.std.specs.Prelude.{OnOk, OnErr}
 use Rattle.mdc_ast.specs.declared.definition.TableDef.{TableDef}
-use Rattle.table_page.specs.TableLimits.{IsTableDef}
+use Rattle.mdc_ast.specs.TableLimits.{IsTableDef}
 use Rattle.mdc_sound.proofs.NextNumberLemmas.{limits_next, with_next}
 
 -- it is one of its own number, with the next row number that it had or with the one after that

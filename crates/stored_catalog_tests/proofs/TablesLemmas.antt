@@ -1,8 +1,8 @@
 -- A definition that is taken out of a catalog.
 use Rattle.std.proofs.Common.{◌≡◌, ℕ, Some, arith, sym, subst}
 use Rattle.mdc_ast.specs.declared.definition.TableDef.{TableDef}
-use Rattle.mdc_ast.specs.meaning.Definitions.{Definitions, def_at, without_def}
-use Rattle.table_page.specs.TableLimits.{IsTableDef}
+use Rattle.mdc_ast.specs.Definitions.{Definitions, def_at, without_def}
+use Rattle.mdc_ast.specs.TableLimits.{IsTableDef}
 use Rattle.mdc_sound.proofs.SpaceRulesLemmas.{range_at}
 use Rattle.stored_catalog.specs.StoredDefinitions.{AreWithinLimits, IsWithinLimits}
 use Rattle.stored_catalog.proofs.LeftDefinitionsLemmas.{def_there, limits_at, limits_left}

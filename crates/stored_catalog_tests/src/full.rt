@@ -1,6 +1,6 @@
 // Databases with no free extent left: one that is full of rows, and one that is full of tables.
 ghost use Rattle.std.specs.Prelude.{◌≡◌, None, [], false, IfOk};
-ghost use Rattle.table_page.specs.TableLimits.{IsTableDef};
+ghost use Rattle.mdc_ast.specs.TableLimits.{IsTableDef};
 ghost use Rattle.stored_catalog.specs.StoredDefinitions.{AreWithinLimits};
 
 use crate::looks::{check_count, check_map, check_tables};

@@ -1,7 +1,7 @@
 // Rows of the wide tables, each told by its number in the table and by D.
 ghost use Rattle.std.specs.Prelude.{◌≡◌, [], false, IfOk};
-ghost use Rattle.table_page.specs.TableLimits.{IsTableDef};
-ghost use Rattle.mdc_sound.specs.FittingRows.{RowFits};
+ghost use Rattle.mdc_ast.specs.TableLimits.{IsTableDef};
+ghost use Rattle.mdc_ast.specs.FittingRows.{RowFits};
 ghost use Rattle.stored_catalog.specs.StoredDefinitions.{AreWithinLimits};
 
 use crate::tables::{save, taken};

@@ -1,6 +1,6 @@
 // Scripts of changes of a catalog and its pages, and of looks at them.
 ghost use Rattle.std.specs.Prelude.{◌≡◌, false, OnOk};
-ghost use Rattle.table_page.specs.TableLimits.{IsTableDef};
+ghost use Rattle.mdc_ast.specs.TableLimits.{IsTableDef};
 ghost use Rattle.stored_catalog.specs.StoredDefinitions.{AreWithinLimits};
 
 use crate::looks::{Look, check_count, check_map, check_page, check_tables};

@@ -1,7 +1,7 @@
 // Tables by their names of one letter: made, taken out of a catalog, written back and dropped.
 ghost use Rattle.std.specs.Prelude.{◌≡◌, ◌<◌, [], false, None, IfOk, IfSome, IsSome, IsTrue, OnOk};
-ghost use Rattle.mdc_ast.specs.meaning.Definitions.{def_at, empty_place, place_of};
-ghost use Rattle.table_page.specs.TableLimits.{IsTableDef};
+ghost use Rattle.mdc_ast.specs.Definitions.{def_at, empty_place, place_of};
+ghost use Rattle.mdc_ast.specs.TableLimits.{IsTableDef};
 ghost use Rattle.stored_catalog.specs.NewTables.{IsNewTableDef};
 ghost use Rattle.stored_catalog.specs.StoredDefinitions.{AreWithinLimits};
 

@@ -3,7 +3,7 @@ use Rattle.std.proofs.Common.{◌≡◌, ℕ, ◌+◌, ◌≤◌, Bool, true, fa
 use Rattle.std.specs.Prelude.{IsTrue, ◌&&◌, pos, int_le, ◌*◌, ◌/◌, ◌%◌}
 use Rattle.std.proofs.lemmas.Bool.Decides.{nat_tests}
 use Rattle.mdc_values.specs.declared.value.Value.TheVariants.{Day}
-use Rattle.mdc_ast.specs.meaning.Database.{fits, is_day_number}
+use Rattle.mdc_ast.specs.Database.{fits, is_day_number}
 use Rattle.table_bench.specs.TableW.{column_s}
 
 -- the parts of a number yyyymmdd

@@ -4,10 +4,10 @@ use crate::plan::Amount;
 use crate::setup::{extents_of, opened};
 use crate::stop::Stop;
 use crate::text::{append, append_number};
+use checked_table::Account;
 use mdc_outside::Host;
 use mdc_values::Memory;
 use std::alloc::Global;
-use table_calls::Account;
 
 /// Fills a table of a file, and says how many of its blocks are in each state.
 pub fn fill<H: Host + Drop>(

@@ -4,11 +4,11 @@ ghost use Rattle.std.specs.Prelude.{◌≡◌, false, None, OnOk};
 use crate::filled::Filled;
 use crate::plan::Amount;
 use crate::stop::Stop;
+use checked_table::Account;
 use extent_map::Extents;
 use mdc_values::Rid;
 use std::alloc::Global;
 use store_api::Store;
-use table_calls::Account;
 
 /// Makes a table, puts so many rows, changes every fifth and deletes every seventh. Answers how many of its blocks are in each
 /// state.

@@ -8,13 +8,13 @@ use crate::row_values::{Which, changed, row_of};
 use crate::stop::Stop;
 use crate::table_w::{COMPOSITE_WIDTH, FIRST_WIDTH, MAP_WIDTH, SECOND_WIDTH, table_w};
 use cell_change::{change_row, delete_row, insert_row};
+use checked_table::{Account, Rooms, account_of, row_at};
 use entry_tree::Tree;
 use extent_map::Extents;
 use mdc_ast::{Roots, Row, TableDef};
 use mdc_values::{List, Rid};
 use std::alloc::Global;
 use store_api::{Pages, Store, blank_page};
-use table_calls::{Account, Rooms, account_of, row_at};
 use table_page::def_page;
 
 // The page of the table in place 0.

@@ -7,7 +7,7 @@
 //!
 //! `fill` makes a table W in a database without one in place 0, puts so many rows into it, changes every fifth and deletes
 //! every seventh, and prints how many blocks are in each state. `bench/tables` runs it under a counter of instructions. It
-//! stands on `cell_change` for one change at a time, and on `table_calls` for rows that are read and for the count.
+//! stands on `cell_change` for one change at a time, and on `checked_table` for rows that are read and for the count.
 #![tactic(auto)]
 
 mod columns;

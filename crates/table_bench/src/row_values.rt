@@ -1,8 +1,8 @@
 // The rows that the table is filled with. A row of a number is the same each time.
 ghost use Rattle.std.specs.Prelude.{◌≡◌, IsTrue, IfOk};
 ghost use Rattle.mdc_ast.specs.declared.definition.TableDef.{TableDef};
-ghost use Rattle.mdc_ast.specs.meaning.Database.{fits_all};
-ghost use Rattle.mdc_sound.specs.FittingRows.{RowFits};
+ghost use Rattle.mdc_ast.specs.Database.{fits_all};
+ghost use Rattle.mdc_ast.specs.FittingRows.{RowFits};
 ghost use Rattle.table_bench.specs.TableW.{IsTableW, columns_w};
 
 use crate::generator::Numbers;

@@ -1,7 +1,7 @@
 // The values of a row, made from numbers. Some are null.
 ghost use Rattle.std.specs.Prelude.{◌≡◌, ◌<◌, IsTrue, IfOk};
 ghost use Rattle.mdc_values.specs.declared.value.Value.{Value};
-ghost use Rattle.mdc_ast.specs.meaning.Database.{fits};
+ghost use Rattle.mdc_ast.specs.Database.{fits};
 ghost use Rattle.table_bench.specs.TableW.{column_d, column_k, column_s, column_t, column_v};
 
 use mdc_values::{Chars, Memory, Value};

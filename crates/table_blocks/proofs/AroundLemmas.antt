@@ -14,7 +14,7 @@ use Rattle.store_api.specs.declared.fault.Damage.{Damage}
 use Rattle.store_api.specs.declared.fault.StoreFault.{StoreFault}
 use Rattle.store_api.specs.declared.pages.Pages.{Ghosts}
 use Rattle.store_api.proofs.RunsOverPagesLemmas.{runs_then}
-use Rattle.extent_map.specs.Map.{HoldsMap, IsMapPage}
+use Rattle.extent_map.specs.Map.{HoldsMap}
 use Rattle.extent_map.specs.Owners.{IsSameShape, IsUsedPage, extent_of, owner_of, place_in_extent}
 use Rattle.extent_map.specs.declared.extents.Extents.{Extents}
 use Rattle.extent_map.specs.declared.kind.Kind.{Kind}
@@ -27,6 +27,7 @@ use Rattle.row_page.specs.RowPage.{IsRowPage, rows_of}
 use Rattle.entry_tree.specs.Forest.{Forest, leaf_entries, times}
 use Rattle.entry_tree.specs.Standing.{IsIdlePage}
 use Rattle.entry_tree.proofs.ClaimsLemmas.{space_same}
+use Rattle.entry_tree.proofs.ReturnedPagesLemmas.{map_page-shape}
 use Rattle.entry_tree.proofs.UsedPagesLemmas.{extent_page_same, unused_same}
 use Rattle.block_map.specs.MapLines.{MapLine, map_line, map_lines, mapped_state, used_blocks}
 use Rattle.block_map.proofs.MapLinesLemmas.{named_in_state}
@@ -37,11 +38,12 @@ use Rattle.table_trees.proofs.KeptOwnersLemmas.{idle_back, keeps_all, used_no_bl
 use Rattle.table_trees.proofs.PageCountLemmas.{grows_pages_none, grows_pages_then}
 use Rattle.table_trees.proofs.SideBySideLemmas.{changes_none, changes_then, stand_still}
 use Rattle.table_trees.specs.RowCells.{AreOfOneCell}
-use Rattle.mdc_sound.specs.FittingRows.{RowFits}
+use Rattle.mdc_ast.specs.FittingRows.{RowFits}
 use Rattle.mdc_sound.specs.Placing.{Spot, spot_of_kind, spot_of_state}
 use Rattle.mdc_sound.specs.Placing.Spot.{OtherBlock}
 use Rattle.mdc_sound.specs.StandingTable.{BreaksExpected, IsPageOfBlock, NamesTablePart, StandsTable, TableForests, forests_in_order, pages_of}
 use Rattle.mdc_sound.specs.TableRows.{PlacedRow, block_page, rows_in_block}
+use Rattle.mdc_sound.proofs.NamedPartsLemmas.{extent_at, names_at, page_of_block_at}
 use Rattle.mdc_sound.proofs.StandingTableLemmas.{block_below}
 use Rattle.mdc_sound.proofs.TableRowsLemmas.{KeepsBlockPages, block_slots-kept, rows_in_block-kept}
 use Rattle.table_blocks.specs.AroundBlock.{IsIndexAround, IsLineSound, IsOtherRow, StandsAround}
@@ -68,35 +70,14 @@ block_page_unused ext owners p t is used =
 
 -- ---- the same pages of extents with other notes
 
-extent_along : (before mid_ext : Extents) (p : ℕ) → IsSameShape before mid_ext → extent_of before p ≡ extent_of mid_ext p
-extent_along before mid_ext p shape = rw (shape.cap, shape.extent_pages) refl
-
-block_page_back : (before mid_ext : Extents) (block p : ℕ) → IsSameShape before mid_ext → IsPageOfBlock mid_ext block p → IsPageOfBlock before block p
-block_page_back before mid_ext block p shape of = (extent_page_same before mid_ext p shape of.0, extent_along before mid_ext p shape ∙ of.1)
-
-map_page_back : (before mid_ext : Extents) (p : ℕ) → IsSameShape before mid_ext → IsMapPage mid_ext p → IsMapPage before p
-map_page_back before mid_ext p shape on = (on.0, subst (λ (n : ℕ). p < first_count n) shape.cap on.1)
-
 idle_along : (before mid_ext : Extents) (owners : List Kind) (p : ℕ) → IsSameShape before mid_ext → IsIdlePage mid_ext owners p → IsIdlePage before owners p
 idle_along before mid_ext owners p shape idle = record {
   page = extent_page_same before mid_ext p shape idle.page;
   idle = elim idle.idle [
     | inl unused ↦ inl (unused_same before mid_ext owners p shape unused)
-    | inr free ↦ inr (ap (owner_of owners) (extent_along before mid_ext p shape) ∙ free)
+    | inr free ↦ inr (ap (owner_of owners) (extent_at before mid_ext p shape) ∙ free)
   ];
 }
-
--- and the same parts of a table
-names_back : (before mid_ext : Extents) (def : TableDef) (damage : Damage) → IsSameShape before mid_ext → NamesTablePart mid_ext def damage → NamesTablePart before def damage
-names_back before mid_ext def damage shape (NamesTablePart.count rule page) = NamesTablePart.count rule page
-names_back before mid_ext def damage shape (NamesTablePart.map_page rule page) = NamesTablePart.map_page rule (map_page_back before mid_ext damage.page shape page)
-names_back before mid_ext def damage shape (NamesTablePart.tree rule page) = NamesTablePart.tree rule page
-names_back before mid_ext def damage shape (NamesTablePart.tree_page rule) = NamesTablePart.tree_page rule
-names_back before mid_ext def damage shape (NamesTablePart.block_map rule page) = NamesTablePart.block_map rule page
-names_back before mid_ext def damage shape (NamesTablePart.row_page block rule page) = NamesTablePart.row_page block rule (block_page_back before mid_ext block damage.page shape page)
-names_back before mid_ext def damage shape (NamesTablePart.row_count block rule page) =
-    NamesTablePart.row_count block rule (let same : first_page_of mid_ext.cap mid_ext.extent_pages block ≡ first_page_of before.cap before.extent_pages block = rw (shape.cap, shape.extent_pages) refl in page ∙ same)
-names_back before mid_ext def damage shape (NamesTablePart.block_index rule page) = NamesTablePart.block_index rule page
 
 -- ---- where pages of one block alone are touched
 
@@ -292,7 +273,7 @@ module _ {S : Type 0} {g : Ghosts S} {After : Spot → Spot → Type 0} where
       → ((owners : List Kind) (forests : TableForests) → StandsAround g before old def owners forests block → IsOwnBlock before owners def block → StepsTo g After before mid_ext old mid def block Expected Then owners forests)
       → (damage : Damage) → BreaksAround g mid_ext mid def block Then damage → BreaksAround g before old def block Expected damage
   breaks_back before mid_ext old mid def block Expected Then shape steps damage breaks = record {
-    names = names_back before mid_ext def damage shape breaks.names;
+    names = names_at before mid_ext def damage shape breaks.names;
     broken = λ owners forests st own expected.
         let step = steps owners forests st own in
         breaks.broken step.owners_now step.forests_now step.changes.stands
@@ -316,7 +297,7 @@ module _ {S : Type 0} {g : Ghosts S} {After : Spot → Spot → Type 0} where
           elim (is step.owners_now step.forests_now step.changes.stands own_mid) [
             | inl here ↦ elim (trees.pages p here) [ inl was ↦ inl was | inr idle ↦ inr (inr (inr idle)) ]
             | inr rest ↦ elim rest [
-              | inl of_block ↦ inr (inl (block_page_back before mid_ext block p shape of_block))
+              | inl of_block ↦ inr (inl (page_of_block_at before mid_ext block p shape of_block))
               | inr other ↦ elim other [
                 | inl on_map ↦ inr (inr (inl (space_same before mid_ext p shape on_map)))
                 | inr idle ↦ elim (idle_back before owners step.owners_now (forests_in_order forests) (forests_in_order step.forests_now) p trees.kept (idle_along before mid_ext step.owners_now p shape idle)) [
@@ -346,8 +327,8 @@ module _ {S : Type 0} {g : Ghosts S} {After : Spot → Spot → Type 0} where
           elim (is step.owners_now step.forests_now step.changes.stands own_mid) [
             | inl here ↦ inl (leads.1 p here)
             | inr rest ↦ elim rest [
-              | inl of_block ↦ inr (inl (block_page_back before mid_ext block p shape of_block))
-              | inr on_map ↦ inr (inr (map_page_back before mid_ext p shape on_map))
+              | inl of_block ↦ inr (inl (page_of_block_at before mid_ext block p shape of_block))
+              | inr on_map ↦ inr (inr (map_page-shape before mid_ext p shape on_map))
             ]
           ]
 

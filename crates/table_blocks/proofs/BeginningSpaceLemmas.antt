@@ -17,7 +17,7 @@ use Rattle.extent_map.specs.declared.kind.Kind.{Kind}
 use Rattle.entry_tree.specs.Forest.{Forest}
 use Rattle.entry_tree.specs.HeldTrees.{HoldsTree, IsTreePage}
 use Rattle.entry_tree.specs.declared.tree.Tree.{Tree}
-use Rattle.table_page.specs.TableLimits.{IsTableDef}
+use Rattle.mdc_ast.specs.TableLimits.{IsTableDef}
 use Rattle.block_index.specs.Cells.{index_listings}
 use Rattle.block_map.specs.BlockMaps.{BreaksMapTree, HasRow, IsMapForm}
 use Rattle.block_map.specs.Counting.{used_row}
@@ -37,7 +37,7 @@ use Rattle.table_blocks.specs.AroundBlock.{StandsAround}
 use Rattle.table_blocks.specs.BlockNow.{IsOwnBlock, free_line}
 use Rattle.table_blocks.proofs.AroundLemmas.{own_still}
 use Rattle.table_blocks.proofs.BlockSpaceLemmas.{line_makes, rows_same}
-use Rattle.table_blocks.proofs.FillBegunLemmas.{PutsFirstRow, changes_put, row_keys}
+use Rattle.table_blocks.proofs.FillBegunLemmas.{PutsFirstRow, changes_put}
 use Rattle.table_blocks.proofs.FreeBlockLemmas.{takes_line}
 use Rattle.table_blocks.proofs.IndexStepLemmas.{indexes_around}
 use Rattle.table_blocks.proofs.LineStepLemmas.{map_around}
@@ -58,7 +58,7 @@ module _ {S : Type 0} {g : Ghosts S} {ext : Extents} {old mid new : S} {def : Ta
       → IsTrue (g.state new).is_told × StandTrees g ext new owners (block_index_places def) (forests.composite ∷ forests.dims)
   indexes_put owners forests st own =
       let put = changes_put is owners forests st own in
-      (put.stands.told, indexes_around def cell row.values block is.small (has_block_indexes def.number def is.defined) is.of_row (row_keys def row is.defined is.fits) ext new owners forests put.stands)
+      (put.stands.told, indexes_around def block (has_block_indexes def.number def is.defined) ext new owners forests put.stands)
 
   -- the block is listed
   pub filling_makes : (now : S)

@@ -7,7 +7,7 @@ use Rattle.mdc_ast.specs.declared.definition.TableDef.{TableDef}
 use Rattle.mdc_ast.specs.declared.row.Row.{Row}
 use Rattle.row_page.specs.RowPage.{count_rows}
 use Rattle.table_trees.specs.RowCells.{cell_values}
-use Rattle.mdc_sound.specs.FittingRows.{RowFits}
+use Rattle.mdc_ast.specs.FittingRows.{RowFits}
 use Rattle.table_blocks.specs.BlockNow.{AreOfCell}
 
 none_there : (n : ℕ) (other : Row) → Contains (replicate n None) (Some other) → ⊥

@@ -11,7 +11,7 @@ use Rattle.block_index.proofs.SpansLemmas.{named_under}
 use Rattle.mdc_values.specs.declared.value.Value.{Value}
 use Rattle.mdc_ast.specs.declared.definition.KeyPart.{KeyPart}
 use Rattle.mdc_ast.specs.declared.definition.TableDef.{TableDef}
-use Rattle.mdc_ast.specs.meaning.Database.{fits_all}
+use Rattle.mdc_ast.specs.Database.{fits_all}
 use Rattle.key_codec.specs.Keys.{ArePartsOf, key_bytes, width_of_parts}
 use Rattle.table_trees.specs.TableTrees.{AreIndexParts, block_entry, rising_parts}
 use Rattle.table_blocks.specs.AroundBlock.{block_in_entry}

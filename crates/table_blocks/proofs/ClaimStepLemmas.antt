@@ -7,7 +7,7 @@ use Rattle.mdc_values.specs.declared.value.Value.{Value}
 use Rattle.mdc_ast.specs.declared.definition.KeyPart.{KeyPart}
 use Rattle.mdc_ast.specs.declared.definition.TableDef.{TableDef}
 use Rattle.mdc_ast.specs.declared.row.Row.{Row}
-use Rattle.store_api.specs.Extents.{first_count, first_page_of, map_pages}
+use Rattle.store_api.specs.Extents.{first_page_of, map_pages}
 use Rattle.store_api.specs.Frame.{Touches}
 use Rattle.store_api.specs.declared.fault.Damage.{Damage}
 use Rattle.store_api.specs.declared.pages.Pages.{Ghosts}
@@ -25,7 +25,7 @@ use Rattle.entry_tree.specs.Forest.{Forest, times}
 use Rattle.entry_tree.specs.Standing.{IsIdlePage}
 use Rattle.entry_tree.proofs.ClaimsLemmas.{shape_then, space_same}
 use Rattle.entry_tree.proofs.UsedPagesLemmas.{extent_page_same, shape_back, unused_same, used_same}
-use Rattle.table_page.specs.TableLimits.{IsTableDef}
+use Rattle.mdc_ast.specs.TableLimits.{IsTableDef}
 use Rattle.block_map.specs.MapLines.{MapLine, map_line, map_lines, mapped_state, used_blocks}
 use Rattle.table_trees.specs.TableTrees.{cell_parts, rising_parts, tree_places}
 use Rattle.table_trees.specs.TreesBeside.{table_of_block}
@@ -33,12 +33,13 @@ use Rattle.table_trees.proofs.KeptOwnersLemmas.{idle_back}
 use Rattle.table_trees.proofs.PageCountLemmas.{grows_pages_then}
 use Rattle.table_trees.proofs.SideBySideLemmas.{stand_on}
 use Rattle.table_trees.specs.RowCells.{AreOfOneCell}
-use Rattle.mdc_sound.specs.FittingRows.{RowFits}
+use Rattle.mdc_ast.specs.FittingRows.{RowFits}
 use Rattle.mdc_sound.specs.Placing.{AfterClaims, Spot, spot_of_kind, spot_of_state}
 use Rattle.mdc_sound.specs.Placing.Spot.{OtherBlock, UsedBlock}
 use Rattle.mdc_sound.specs.StandingTable.{BreaksTable, ChangesTable, NamesTablePart, StandsTable, TableForests, forests_in_order, pages_of}
 use Rattle.mdc_sound.specs.TableRows.{PlacedRow, block_slots, rows_in_block}
 use Rattle.mdc_sound.proofs.BlockRulesLemmas.{named_owned}
+use Rattle.mdc_sound.proofs.NamedPartsLemmas.{extent_at, names_at}
 use Rattle.mdc_sound.proofs.StandingTableLemmas.{block_below, block_kept}
 use Rattle.mdc_sound.proofs.TableRowsLemmas.{KeepsBlockPages, block_slots-kept, rows_in_block-kept}
 use Rattle.table_blocks.specs.AroundBlock.{IsIndexAround, IsLineSound, IsOtherRow, StandsAround}
@@ -57,15 +58,12 @@ block_of_table Free t is = absurd cc
 block_of_table (Block table) t is = let same : table ≡ t = cc in ap Block same
 block_of_table (Index used) t is = absurd cc
 
-same_extent : (one other : Extents) (p : ℕ) → IsSameShape one other → extent_of other p ≡ extent_of one p
-same_extent one other p shape = rw (shape.cap, shape.extent_pages) refl
-
 idle_same : (one other : Extents) (owners : List Kind) (p : ℕ) → IsSameShape one other → IsIdlePage other owners p → IsIdlePage one owners p
 idle_same one other owners p shape idle = record {
   page = extent_page_same one other p shape idle.page;
   idle = elim idle.idle [
     | inl unused ↦ inl (unused_same one other owners p shape unused)
-    | inr free ↦ inr (ap (owner_of owners) (sym (same_extent one other p shape)) ∙ free)
+    | inr free ↦ inr (ap (owner_of owners) (extent_at one other p shape) ∙ free)
   ];
 }
 
@@ -258,7 +256,6 @@ module _ {S : Type 0} {g : Ghosts S} (before mid_ext : Extents) (old mid : S) (d
       changes_claimed stands = record {
         stands = stands;
         shape = shape_now;
-        records = changes.records;
         others_blocks = λ e t other is. block_of_table (owner_of owners_now e) t (changes.trees.kept.blocks e ∙ ap table_of_block (other_block e t other is));
         no_others_blocks = λ e t other is. other_block_was e t other (block_of_table (owner_of (with_block owners block def.number) e) t (sym (changes.trees.kept.blocks e) ∙ ap table_of_block is));
         others_pages = λ p used none. used_same before mid_ext owners_now p claims.shape (changes.trees.kept.others p (used_now p used) none);
@@ -276,6 +273,7 @@ module _ {S : Type 0} {g : Ghosts S} (before mid_ext : Extents) (old mid : S) (d
       → TurnsSpot g AfterClaims before ext old new def block (UsedBlock slots) owners forests owners_now forests_now
   turns_claimed ext new owners_now forests_now values slots claims changes now = record {
     changes = changes_claimed claims ext new owners_now forests_now changes (stands_used ext new def owners_now forests_now defined block values slots changes.stands now);
+    records = changes.records;
     spots = spots_beside g claims_change before ext old new def block (UsedBlock slots) owners owners_now forests forests_now (shape_now claims ext new owners_now forests_now changes)
         (omega (arith, claims.own.within, claims.shape.cap))
         (λ e other. subst (λ (was : Spot). AfterClaims was (spot_in g ext new def owners_now forests_now e)) (claims.spots e other) (changes.spots e other))
@@ -294,7 +292,7 @@ module _ {S : Type 0} {g : Ghosts S} (before mid_ext : Extents) (old mid : S) (d
         | inr rest ↦ elim rest [
           | inl here ↦ inr (inr (record {
             page = extent_page_same before ext p shape here.0;
-            idle = inr (ap (owner_of owners) (sym (same_extent before ext p shape) ∙ here.1) ∙ claims.free);
+            idle = inr (ap (owner_of owners) (extent_at before ext p shape ∙ here.1) ∙ claims.free);
           }))
           | inr more ↦ elim more [
             | inl space ↦ inr (inl (space_same before ext p shape space))
@@ -328,27 +326,13 @@ breaks_claiming g ext s def damage (inr (i, breaks)) = record {
   broken = λ owners forests st. breaks.none_told owners (st.trees.map.pages i breaks.on_map) tt;
 }
 
--- what is named by other notes
-pub names_same : (before mid_ext : Extents) (def : TableDef) (damage : Damage) → IsSameShape before mid_ext → NamesTablePart mid_ext def damage → NamesTablePart before def damage
-names_same before mid_ext def damage shape (NamesTablePart.count rule page) = NamesTablePart.count rule page
-names_same before mid_ext def damage shape (NamesTablePart.map_page rule on) = NamesTablePart.map_page rule (on.0, subst (λ (n : ℕ). damage.page < first_count n) shape.cap on.1)
-names_same before mid_ext def damage shape (NamesTablePart.tree rule root) = NamesTablePart.tree rule root
-names_same before mid_ext def damage shape (NamesTablePart.tree_page rule) = NamesTablePart.tree_page rule
-names_same before mid_ext def damage shape (NamesTablePart.block_map rule root) = NamesTablePart.block_map rule root
-names_same before mid_ext def damage shape (NamesTablePart.row_page block rule page) =
-    NamesTablePart.row_page block rule (extent_page_same before mid_ext damage.page shape page.0, sym (same_extent before mid_ext damage.page shape) ∙ page.1)
-names_same before mid_ext def damage shape (NamesTablePart.row_count block rule page) =
-    let first : first_page_of mid_ext.cap mid_ext.extent_pages block ≡ first_page_of before.cap before.extent_pages block = rw (shape.cap, shape.extent_pages) refl in
-    NamesTablePart.row_count block rule (page ∙ first)
-names_same before mid_ext def damage shape (NamesTablePart.block_index rule root) = NamesTablePart.block_index rule root
-
--- and damage that is met since
+-- damage that is met since
 pub breaks_since_claim : {S : Type 0} (g : Ghosts S) (before mid_ext : Extents) (old mid : S) (def : TableDef) (block : ℕ) (Expected : List Kind → TableForests → Type 0) (damage : Damage) → IsSameShape before mid_ext
     → ((owners : List Kind) (forests : TableForests) → StandsTable g before old def owners forests → ClaimsBlock g before mid_ext old mid def block owners forests)
     → ((owners : List Kind) (forests : TableForests) → StandsTable g before old def owners forests → Expected (with_block owners block def.number) forests)
     → BreaksAround g mid_ext mid def block Expected damage → BreaksTable g before old def damage
 breaks_since_claim g before mid_ext old mid def block Expected damage shape claims expects breaks = record {
-  names = names_same before mid_ext def damage shape breaks.names;
+  names = names_at before mid_ext def damage shape breaks.names;
   broken = λ owners forests st.
       let claim = claims owners forests st in
       breaks.broken (with_block owners block def.number) forests claim.stands claim.own (expects owners forests st);

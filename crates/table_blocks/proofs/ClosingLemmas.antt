@@ -1,5 +1,5 @@
 -- A table that stands around a block stands, where the block is sound too; what it is then.
-use Rattle.std.proofs.Common.{◌≡◌, ◌≢◌, ◌<◌, ◌^◌, ◌==◌, ℕ, List, [], ◌∷◌, length, get_or, set, map, refl, ap, arith, sym, ◌∙◌, subst, inl, inr}
+use Rattle.std.proofs.Common.{◌≡◌, ◌≢◌, ◌<◌, ◌≤◌, ◌^◌, ◌==◌, ℕ, List, [], ◌∷◌, length, get_or, set, map, refl, ap, arith, sym, ◌∙◌, subst, inl, inr}
 use Rattle.std.specs.Prelude.{Contains, IsTrue, Option, Some, slice_set}
 use Rattle.std.specs.List.{AllByRecursion, AllZip}
 use Rattle.std.proofs.lemmas.Bool.{cases_eq, eq-eqb, eqb-true}
@@ -22,31 +22,53 @@ use Rattle.entry_tree.specs.EntryBounds.{IsEntryOf}
 use Rattle.entry_tree.specs.Forest.{Forest, leaf_entries}
 use Rattle.block_map.specs.BlockMaps.{HasRow}
 use Rattle.block_map.specs.Counting.{used_row}
-use Rattle.block_map.specs.MapLines.{map_line, mapped_blocks, free_blocks, used_blocks}
-use Rattle.block_map.specs.MapRows.{row_entry}
+use Rattle.block_map.specs.MapLines.{map_line, mapped_blocks, used_blocks}
+use Rattle.block_map.specs.MapRows.{row_entry, state_number}
 use Rattle.block_map.specs.declared.row.BlockRow.{BlockRow}
+use Rattle.block_map.specs.declared.state.BlockState.{BlockState}
+use Rattle.block_map.specs.declared.state.BlockState.TheVariants as state
 use Rattle.block_map.proofs.MapFormLemmas.{form_one}
 use Rattle.block_map.proofs.MapLinesLemmas.{in_state_named, named_in_state, row_block, row_state}
 use Rattle.block_index.specs.Cells.{entry_under}
-use Rattle.table_page.specs.TableLimits.{IsTableDef}
+use Rattle.mdc_ast.specs.TableLimits.{IsTableDef}
 use Rattle.table_trees.specs.TableTrees.{block_entry, cell_parts, rising_parts}
 use Rattle.table_trees.specs.TreesBeside.{table_of_block}
 use Rattle.table_trees.specs.ToldPages.{PageList}
 use Rattle.mdc_sound.specs.BlockRules.{AreBlockRowsSound, IsBlockIndexSound, IsIdleCountSound, IsOfOneCell, IsUsedCountSound, entry_of_block}
-use Rattle.mdc_sound.specs.FittingRows.{RowFits}
-use Rattle.mdc_sound.specs.Placing.{Spot}
-use Rattle.mdc_sound.specs.Placing.Spot.{FreeBlock, OtherBlock, UsedBlock}
+use Rattle.mdc_ast.specs.FittingRows.{RowFits}
+use Rattle.mdc_sound.specs.Placing.{Spot, spot_of_state}
+use Rattle.mdc_sound.specs.Placing.Spot.{OtherBlock, UsedBlock}
 use Rattle.mdc_sound.specs.SpaceRules.{IsMapLineSound}
 use Rattle.mdc_sound.specs.StandingTable.{ChangesTable, StandsTable, TableForests, pages_of, spots_of}
 use Rattle.mdc_sound.specs.TableRows.{PlacedRow, block_slots, rows_in_block, rows_in_table}
-use Rattle.mdc_sound.proofs.TableSpotsLemmas.{free_block_spot, length-spots, spot_at, used_spot}
+use Rattle.mdc_sound.proofs.TableSpotsLemmas.{length-spots, own_spot, spot_at, state_of_named, used_spot}
 use Rattle.mdc_sound.proofs.CellKeysLemmas.{cell_key-same, dimension_key-same}
 use Rattle.mdc_sound.proofs.ElementsLemmas.{contains_entry, contains_flat, each_in, each_line, entry_in, flat_contains, in_map, named_block, zip_of}
 use Rattle.mdc_sound.proofs.MappedBlocksLemmas.{entry_rows, small_block}
 use Rattle.mdc_sound.proofs.SlotRowsLemmas.{few_rows, length-rows_from_slot, placed_in_slot, slot_of_placed, some_row}
 use Rattle.table_blocks.specs.AroundBlock.{IsIndexAround, IsLineSound, StandsAround, block_in_entry}
 use Rattle.table_blocks.specs.BlockChanges.{ChangesAround, IsSpotChange, TurnsSpot, spot_in}
-use Rattle.table_blocks.specs.BlockNow.{IsFreeNow, IsListedIn, IsUnlistedIn, IsUsedNow, free_line}
+use Rattle.table_blocks.specs.BlockNow.{IsListedIn, IsOwnBlock, IsReleasedNow, IsUnlistedIn, IsUsedNow, released_line, released_spot}
+
+-- ---- states
+
+-- a state other than Used has another number
+not_used : (given : BlockState) → given ≢ state.Used → state_number given ≡ 1 → ⊥
+not_used state.Free idle is = absurd (omega (arith, is))
+not_used state.Used idle is = idle refl
+not_used state.Pending idle is = absurd (omega (arith, is))
+
+-- there are three
+few_states : (given : BlockState) → state_number given ≤ 2
+few_states state.Free = omega arith
+few_states state.Used = omega arith
+few_states state.Pending = omega arith
+
+-- in which slots don't matter to what a block is, unless it is Used
+no_slots : (given : BlockState) → given ≢ state.Used → (slots : List (Option Row)) → spot_of_state (state_number given) slots ≡ released_spot given
+no_slots state.Free idle slots = refl
+no_slots state.Used idle slots = absurd (idle refl)
+no_slots state.Pending idle slots = refl
 
 -- ---- the block indexes
 
@@ -124,7 +146,7 @@ module _ (ext : Extents) (pages : PageList) (def : TableDef) (map_tree : Forest)
       dims_listed dims indexes (λ row there. (keys row there).1) listed.1,
     )
 
-  -- ---- a Free block
+  -- ---- a block that isn't Used
 
   module _ (unused : Contains (used_blocks map_tree) block → ⊥) where
     unlisted_here : (parts : List KeyPart) (index : Forest) → IsUnlistedIn def parts block index → IsIndexHere ext pages def map_tree block parts index
@@ -250,40 +272,34 @@ module _ {S : Type 0} {g : Ghosts S} (ext : Extents) (s : S) (def : TableDef) (o
           (λ row there. each_in (λ dim. key_bytes def.columns (rising_parts dim) row.values ≡ key_bytes def.columns (rising_parts dim) values) def.dims (λ dim at. dimension_key-same def dim row.values values at (now.cell.one_cell row there))) now.listed.dims;
     }
 
-  -- ---- a Free block
+  -- ---- a block in a state other than Used
 
-  module _ (block : ℕ) (st : StandsAround g ext s def owners forests block) (now : IsFreeNow ext def owners forests block) where
-    free_entry : (x : Entry) → IsEntryOf x (leaf_entries forests.map) → (map_line x).block ≡ block → row_entry (free_line block) ≡ x
-    free_entry x there same = row_of_block (free_line block) x block st now.own.within now.line refl there same
+  module _ (given : BlockState) (idle : given ≢ state.Used) (block : ℕ) (st : StandsAround g ext s def owners forests block) (now : IsReleasedNow ext def given owners forests block) where
+    released_entry : (x : Entry) → IsEntryOf x (leaf_entries forests.map) → (map_line x).block ≡ block → row_entry (released_line given block) ≡ x
+    released_entry x there same = row_of_block (released_line given block) x block st now.own.within now.line refl there same
 
-    is_free : Contains (free_blocks forests.map) block
-    is_free = in_state_named 0 (leaf_entries forests.map) block (record {
-      entry = row_entry (free_line block);
-      there = now.line;
-      state = eq-eqb (map_line (row_entry (free_line block))).state 0 (row_state (free_line block));
-      block_is = row_block (free_line block) (small_block ext block now.own.within);
-    })
-
-    free_state : (x : Entry) → IsEntryOf x (leaf_entries forests.map) → (map_line x).block ≡ block → (map_line x).state ≡ 0
-    free_state x there same = sym (ap (λ (y : Entry). (map_line y).state) (free_entry x there same)) ∙ row_state (free_line block)
+    its_state : (x : Entry) → IsEntryOf x (leaf_entries forests.map) → (map_line x).block ≡ block → (map_line x).state ≡ state_number given
+    its_state x there same = sym (ap (λ (y : Entry). (map_line y).state) (released_entry x there same)) ∙ row_state (released_line given block)
 
     unused : Contains (used_blocks forests.map) block → ⊥
     unused used =
         let named = named_in_state 1 (leaf_entries forests.map) block used in
-        omega (arith, free_state named.entry named.there named.block_is, eqb-true (map_line named.entry).state 1 named.state)
+        not_used given idle (sym (its_state named.entry named.there named.block_is) ∙ eqb-true (map_line named.entry).state 1 named.state)
 
-    free_sound : IsBlockSound ext (pages_of g s) owners def forests block
-    free_sound = record {
+    released_sound : IsBlockSound ext (pages_of g s) owners def forests block
+    released_sound = record {
       line = λ x there same.
-          let state_is = free_state x there same in
+          let state_is = its_state x there same in
           record {
-            mapped = record { state = omega (arith, state_is); within = omega (arith, same, now.own.within); owned = ap (owner_of owners) same ∙ now.own.owned };
-            used_count = record { some_row = λ used. absurd (omega (arith, used, state_is)); counted = λ used. absurd (omega (arith, used, state_is)) };
-            idle_count = λ idle. sym (ap (λ (y : Entry). (map_line y).rows) (free_entry x there same)) ∙ entry_rows (free_line block) (omega arith);
-            rows = λ used. absurd (omega (arith, used, state_is));
-            cell = λ used. absurd (omega (arith, used, state_is));
+            mapped = record { state = omega (arith, state_is, few_states given); within = omega (arith, same, now.own.within); owned = ap (owner_of owners) same ∙ now.own.owned };
+            used_count = record { some_row = λ used. absurd (not_used given idle (sym state_is ∙ used)); counted = λ used. absurd (not_used given idle (sym state_is ∙ used)) };
+            idle_count = λ unused. sym (ap (λ (y : Entry). (map_line y).rows) (released_entry x there same)) ∙ entry_rows (released_line given block) (omega arith);
+            rows = λ used. absurd (not_used given idle (sym state_is ∙ used));
+            cell = λ used. absurd (not_used given idle (sym state_is ∙ used));
           };
-      named = subst (Contains (mapped_blocks forests.map)) (row_block (free_line block) (small_block ext block now.own.within)) (named_block (leaf_entries forests.map) (row_entry (free_line block)) now.line);
+      named =
+          subst (Contains (mapped_blocks forests.map)) (row_block (released_line given block) (small_block ext block now.own.within))
+          (named_block (leaf_entries forests.map) (row_entry (released_line given block)) now.line);
       composite = unlisted_here ext (pages_of g s) def forests.map block unused (cell_parts def) forests.composite now.unlisted.composite;
       dims = dims_unlisted ext (pages_of g s) def forests.map block unused def.dims forests.dims now.unlisted.dims;
     }
@@ -293,8 +309,8 @@ module _ {S : Type 0} {g : Ghosts S} (ext : Extents) (s : S) (def : TableDef) (o
       → StandsTable g ext s def owners forests
   stands_used block values slots st now = stands_sound ext s def owners forests block st (used_sound ext s def owners forests block values slots st now)
 
-  pub stands_free : (block : ℕ) → StandsAround g ext s def owners forests block → IsFreeNow ext def owners forests block → StandsTable g ext s def owners forests
-  stands_free block st now = stands_sound ext s def owners forests block st (free_sound ext s def owners forests block st now)
+  stands_released : (given : BlockState) → given ≢ state.Used → (block : ℕ) → StandsAround g ext s def owners forests block → IsReleasedNow ext def given owners forests block → StandsTable g ext s def owners forests
+  stands_released given idle block st now = stands_sound ext s def owners forests block st (released_sound ext s def owners forests given idle block st now)
 
   -- what the block is then
   pub spot_of_used : (block : ℕ) (values : List Value) (slots : List (Option Row)) → StandsAround g ext s def owners forests block → IsUsedNow g ext s def owners forests block values slots
@@ -304,10 +320,19 @@ module _ {S : Type 0} {g : Ghosts S} (ext : Extents) (s : S) (def : TableDef) (o
       ∙ used_spot ext (pages_of g s) def owners forests.map block OtherBlock (stands_used block values slots st now).map (is_used ext s def owners forests block values slots st now)
       ∙ ap UsedBlock now.rows.slots_are
 
-  pub spot_of_free : (block : ℕ) → StandsAround g ext s def owners forests block → IsFreeNow ext def owners forests block → spot_in g ext s def owners forests block ≡ FreeBlock
-  spot_of_free block st now =
-      sym (spot_at ext (pages_of g s) def owners forests.map block OtherBlock now.own.within)
-      ∙ free_block_spot ext (pages_of g s) def owners forests.map block OtherBlock (stands_free block st now).map (is_free ext s def owners forests block st now)
+  pub spot_of_released : (given : BlockState) → given ≢ state.Used → (block : ℕ) → StandsAround g ext s def owners forests block → IsOwnBlock ext owners def block → HasRow (released_line given block) forests.map
+      → spot_in g ext s def owners forests block ≡ released_spot given
+  spot_of_released given idle block st own line =
+      let slots = block_slots ext (pages_of g s) def block in
+      sym (spot_at ext (pages_of g s) def owners forests.map block OtherBlock own.within)
+      ∙ own_spot ext (pages_of g s) def owners forests.map block OtherBlock own.within own.owned
+      ∙ ap (λ n. spot_of_state n slots) (state_of_named (state_number given) (leaf_entries forests.map) block st.map.form.once_each (record {
+        entry = row_entry (released_line given block);
+        there = line;
+        state = eq-eqb (map_line (row_entry (released_line given block))).state (state_number given) (row_state (released_line given block));
+        block_is = row_block (released_line given block) (small_block ext block own.within);
+      }))
+      ∙ no_slots given idle slots
 
 -- other spots as a change has it, and the one as it is
 pub spots_beside : {S : Type 0} (g : Ghosts S) {After : Spot → Spot → Type 0} → IsSpotChange After → (before ext : Extents) (old new : S) (def : TableDef) (block : ℕ) (spot : Spot) (owners owners_now : List Kind) (forests forests_now : TableForests)
@@ -355,7 +380,6 @@ module _ {S : Type 0} {g : Ghosts S} {After : Spot → Spot → Type 0} (change 
   changes_table st = record {
     stands = st;
     shape = changes.trees.shape;
-    records = changes.records;
     others_blocks = λ e t other is. block_of (owner_of owners_now e) t (changes.trees.kept.blocks e ∙ ap table_of_block is);
     no_others_blocks = λ e t other is. block_of (owner_of owners e) t (sym (changes.trees.kept.blocks e) ∙ ap table_of_block is);
     others_pages = changes.trees.kept.others;
@@ -368,13 +392,16 @@ module _ {S : Type 0} {g : Ghosts S} {After : Spot → Spot → Type 0} (change 
   pub turns_used : (values : List Value) (slots : List (Option Row)) → IsUsedNow g ext new def owners_now forests_now block values slots → TurnsSpot g After before ext old new def block (UsedBlock slots) owners forests owners_now forests_now
   turns_used values slots now = record {
     changes = changes_table (stands_used ext new def owners_now forests_now defined block values slots changes.stands now);
+    records = changes.records;
     spots = spots_beside g change before ext old new def block (UsedBlock slots) owners owners_now forests forests_now changes.trees.shape (omega (arith, now.own.within, changes.trees.shape.cap)) changes.spots
         (spot_of_used ext new def owners_now forests_now defined block values slots changes.stands now);
   }
 
-  pub turns_free : IsFreeNow ext def owners_now forests_now block → TurnsSpot g After before ext old new def block FreeBlock owners forests owners_now forests_now
-  turns_free now = record {
-    changes = changes_table (stands_free ext new def owners_now forests_now defined block changes.stands now);
-    spots = spots_beside g change before ext old new def block FreeBlock owners owners_now forests forests_now changes.trees.shape (omega (arith, now.own.within, changes.trees.shape.cap)) changes.spots
-        (spot_of_free ext new def owners_now forests_now defined block changes.stands now);
+  pub turns_released : (given : BlockState) → given ≢ state.Used → IsReleasedNow ext def given owners_now forests_now block
+      → TurnsSpot g After before ext old new def block (released_spot given) owners forests owners_now forests_now
+  turns_released given idle now = record {
+    changes = changes_table (stands_released ext new def owners_now forests_now defined given idle block changes.stands now);
+    records = changes.records;
+    spots = spots_beside g change before ext old new def block (released_spot given) owners owners_now forests forests_now changes.trees.shape (omega (arith, now.own.within, changes.trees.shape.cap)) changes.spots
+        (spot_of_released ext new def owners_now forests_now defined given idle block changes.stands now.own now.line);
   }

@@ -15,7 +15,7 @@ use Rattle.block_map.specs.Counting.{used_row}
 use Rattle.block_map.specs.MapChanges.{ChangesRowTo}
 use Rattle.block_map.specs.MapRows.{row_entry}
 use Rattle.block_map.specs.declared.row.BlockRow.{BlockRow}
-use Rattle.table_page.specs.TableLimits.{IsTableDef}
+use Rattle.mdc_ast.specs.TableLimits.{IsTableDef}
 use Rattle.table_trees.specs.SpaceChanges.{MakesChange, MakesChanges}
 use Rattle.table_trees.specs.SpaceChanges.SpaceChange.{AmendEntry}
 use Rattle.table_trees.specs.TableTrees.{map_place}

@@ -20,7 +20,7 @@ use Rattle.block_map.specs.BlockMaps.{HasRow, IsMapForm}
 use Rattle.block_map.specs.Counting.{used_row}
 use Rattle.block_map.specs.MapChanges.{ChangesRowTo}
 use Rattle.block_rows.specs.HeldRows.{HoldsRows}
-use Rattle.table_page.specs.TableLimits.{IsTableDef}
+use Rattle.mdc_ast.specs.TableLimits.{IsTableDef}
 use Rattle.table_trees.specs.SpaceChanges.{MakesChanges}
 use Rattle.mdc_sound.specs.Placing.{AfterReturns, IsRowAt, Spot}
 use Rattle.mdc_sound.specs.Placing.Spot.{OtherBlock}

@@ -17,17 +17,16 @@ use Rattle.extent_map.specs.declared.extents.Extents.{Extents}
 use Rattle.extent_map.specs.declared.fault.SpaceFault.{SpaceFault}
 use Rattle.extent_map.specs.declared.fault.SpaceFault.TheVariants.{Full, Store}
 use Rattle.extent_map.specs.declared.kind.Kind.{Kind}
-use Rattle.table_page.specs.TableLimits.{IsTableDef}
+use Rattle.mdc_ast.specs.TableLimits.{IsTableDef}
 use Rattle.entry_tree.specs.Forest.{Forest}
-use Rattle.table_trees.specs.RowCells.{cell_places}
+use Rattle.table_trees.specs.RowCells.{cell_places, IsCellOf}
 use Rattle.table_trees.specs.TableTrees.{HasBlockIndexes, block_index_places}
 use Rattle.table_trees.specs.TreesBeside.{GrowsPages, IsSpaceOfTrees, StandTrees}
 use Rattle.block_index.specs.Cells.{HaveKeys}
 use Rattle.block_index.specs.Listing.{BreaksListing, FillsListing, ListsBlock}
 use Rattle.block_index.proofs.CellsLemmas.{keys_of_fitting}
 use Rattle.block_rows.specs.HeldRows.{BreaksExtent, BreaksRows, HoldsRows}
-use Rattle.table_trees.specs.RowCells.{IsCellOf}
-use Rattle.mdc_sound.specs.FittingRows.{RowFits}
+use Rattle.mdc_ast.specs.FittingRows.{RowFits}
 use Rattle.mdc_sound.specs.Placing.{AfterClaims, block_slot_count}
 use Rattle.mdc_sound.specs.StandingTable.{IsPageOfBlock, MeetsNoFree, TableForests}
 use Rattle.mdc_sound.proofs.DefinitionTreesLemmas.{has_block_indexes}
@@ -134,7 +133,7 @@ module _ {S : Type 0} {g : Ghosts S} {ext : Extents} {old mid new : S} {def : Ta
       → FillsBegun g ext ext_now old now def block row owners forests
   fills_begun ext_now now lists grows shape run owners forests st own =
       let first = changes_put owners forests st own in
-      let stand = indexes_around def cell row.values block is.small indexes is.of_row keys ext new owners forests first.stands in
+      let stand = indexes_around def block indexes ext new owners forests first.stands in
       let listed =
       lists_entries def cell row.values block is.small indexes is.of_row keys ext ext_now new now owners forests first.stands own (lists owners (forests.composite ∷ forests.dims) stand)
       (grows owners (forests.composite ∷ forests.dims) stand) shape run.touches run.works.steady.is_told run.works.no_shorter in
@@ -152,7 +151,7 @@ module _ {S : Type 0} {g : Ghosts S} {ext : Extents} {old mid new : S} {def : Ta
       → RunsOverPages g (IsSpaceAround g ext old def block) (IsSpaceAround g ext old def block) (BreaksAround g ext old def block (Unlisted def block)) old now fault
   run_listing now fault run =
       runs_around_then ext ext old new now def block (Unlisted def block) (Unlisted def block) fault (record { cap = refl; extent_pages = refl }) step (run_putting ext def block old mid new None is.low is.wipes is.wipe_count is.empty is.puts)
-      (runs_wider run (λ p there of. space_of_indexes def cell row.values block is.small indexes is.of_row keys ext new p of) (space_of_indexes def cell row.values block is.small indexes is.of_row keys ext new)
+      (runs_wider run (λ p there of. space_of_indexes def block indexes ext new p of) (space_of_indexes def block indexes ext new)
       (breaks_listing def cell row.values block is.small indexes is.of_row keys ext new))
     where
       step : (owners : List Kind) (forests : TableForests) → StandsAround g ext old def owners forests block → IsOwnBlock ext owners def block → StepsTo g AfterClaims ext ext old new def block (Unlisted def block) (Unlisted def block) owners forests

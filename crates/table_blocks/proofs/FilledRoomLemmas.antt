@@ -16,9 +16,9 @@ use Rattle.block_map.specs.BlockMaps.{AnyMap, BreaksMapTree, HasRow, IsMapForm}
 use Rattle.block_map.specs.Counting.{IfUsed, used_row}
 use Rattle.block_map.specs.MapChanges.{ChangesRowTo}
 use Rattle.block_rows.specs.HeldRows.{HoldsRows, PutsFirst}
-use Rattle.table_page.specs.TableLimits.{IsTableDef}
+use Rattle.mdc_ast.specs.TableLimits.{IsTableDef}
 use Rattle.table_trees.specs.SpaceChanges.{MakesChanges}
-use Rattle.mdc_sound.specs.FittingRows.{RowFits}
+use Rattle.mdc_ast.specs.FittingRows.{RowFits}
 use Rattle.mdc_sound.specs.Placing.{HasRoomFor}
 use Rattle.mdc_sound.specs.Placing.Spot.{OtherBlock}
 use Rattle.mdc_sound.specs.RunningFull.{block_changes}

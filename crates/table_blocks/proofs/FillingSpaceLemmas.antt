@@ -23,7 +23,7 @@ use Rattle.block_map.specs.MapLines.{map_entry}
 use Rattle.block_map.specs.MapRows.{row_entry}
 use Rattle.block_map.specs.declared.row.BlockRow.{BlockRow}
 use Rattle.block_map.specs.declared.state.BlockState.TheVariants as state
-use Rattle.table_page.specs.TableLimits.{IsTableDef}
+use Rattle.mdc_ast.specs.TableLimits.{IsTableDef}
 use Rattle.table_trees.specs.SpaceChanges.{IsSameSpace, MakesChanges}
 use Rattle.table_trees.specs.SpaceChanges.SpaceChange.{AmendEntry}
 use Rattle.table_trees.specs.TableTrees.{map_place}

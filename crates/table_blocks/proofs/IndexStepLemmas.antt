@@ -180,7 +180,17 @@ module _ (def : TableDef) (values : List Value) (block : ℕ) (small : block < 2
       let here = at_dimension (IsKeyedDimension def.columns values) (λ dim index. IsListedIn def (rising_parts dim) values block index) dimension_entry def.dims forests.dims n x t keyed listed.dims entry there in
       subst (λ (y : Entry). IsEntryOf y (leaf_entries t)) (sym here.3) here.2.has
 
-module _ {S : Type 0} {g : Ghosts S} (def : TableDef) (cell : Cell) (values : List Value) (block : ℕ) (small : block < 2 ^ 32) (has : HasBlockIndexes def) (is : IsCellOf def cell values) (keys : HaveKeys def.columns (cell_places def) values) where
+-- what taking a block out of the indexes names, under whichever values
+pub names_unlisting : {S : Type 0} (g : Ghosts S) (def : TableDef) (values : List Value) (block : ℕ) (ext : Extents) (s : S) (damage : Damage) → BreaksUnlisting g ext s def values block damage → NamesTablePart ext def damage
+names_unlisting g def values block ext s damage breaks = elim breaks.breaks [
+  | inl tree_or_return ↦ elim tree_or_return [
+    | inl broken ↦ tree_named def breaks.comes.n breaks.tree breaks.comes.place ext breaks.now breaks.comes.shape damage broken.page broken.rule
+    | inr at_return ↦ return_named def ext breaks.now s breaks.mid breaks.tree breaks.comes.shape damage at_return
+  ]
+  | inr index ↦ index_named def breaks.comes.n breaks.tree breaks.comes.place ext breaks.now breaks.comes.shape damage index.page index.rule
+]
+
+module _ {S : Type 0} {g : Ghosts S} (def : TableDef) (block : ℕ) (has : HasBlockIndexes def) where
   as_many : (ext : Extents) (s : S) (owners : List Kind) (forests : TableForests) → StandsAround g ext s def owners forests block → length (block_index_places def) ≡ length (forests.composite ∷ forests.dims)
   as_many ext s owners forests st =
       let dims = AllZip-long (λ dim index. IsIndexAround ext (pages_of g s) def forests.map (rising_parts dim) block index) def.dims forests.dims st.dims in
@@ -191,6 +201,16 @@ module _ {S : Type 0} {g : Ghosts S} (def : TableDef) (cell : Cell) (values : Li
   indexes_around ext s owners forests st =
       part_stands ext s owners (map_place def ∷ []) (block_index_places def) (record_places def) (forests.map ∷ []) (forests.composite ∷ forests.dims) forests.indexes refl (as_many ext s owners forests st) st.trees
 
+  -- the pages
+  pub space_of_indexes : (ext : Extents) (s : S) (p : ℕ) → IsSpaceOfTrees g ext s (block_index_places def) p → IsSpaceAround g ext s def block p
+  space_of_indexes ext s p at owners forests st own =
+      elim (part_space ext s (map_place def ∷ []) (block_index_places def) (record_places def) p at owners (forests_in_order forests) st.trees) [ inl here ↦ inl here | inr rest ↦ inr (inr rest) ]
+
+  pub place_of_indexes : (ext : Extents) (s : S) (p : ℕ) → IsTreesOrMapPage g ext s (block_index_places def) p → IsPlaceAround g ext s def block p
+  place_of_indexes ext s p at owners forests st own =
+      elim (part_trees_or_map ext s (map_place def ∷ []) (block_index_places def) (record_places def) p at owners (forests_in_order forests) st.trees) [ inl here ↦ inl here | inr map ↦ inr (inr map) ]
+
+module _ {S : Type 0} {g : Ghosts S} (def : TableDef) (cell : Cell) (values : List Value) (block : ℕ) (small : block < 2 ^ 32) (has : HasBlockIndexes def) (is : IsCellOf def cell values) (keys : HaveKeys def.columns (cell_places def) values) where
   -- ---- a change of them
 
   module _ (before ext : Extents) (old new : S) (owners owners_now : List Kind) (forests : TableForests) (u : Forest) (us : List Forest) (st : StandsAround g before old def owners forests block)
@@ -203,7 +223,7 @@ module _ {S : Type 0} {g : Ghosts S} (def : TableDef) (cell : Cell) (values : Li
     blocks_kept : (e : ℕ) → owner_of owners e ≡ Block def.number → KeepsBlockPages before ext (pages_of g old) (pages_of g new) e
     blocks_kept e is =
         block_kept (IsSpaceOfTrees g before old (block_index_places def)) before ext old new owners def.number e st.trees.map changes.shape st.told touched
-        (λ p of mine. block_page_apart before old owners (block_index_places def) (forests.composite ∷ forests.dims) p def.number (indexes_around before old owners forests st) of.page of.block mine)
+        (λ p of mine. block_page_apart before old owners (block_index_places def) (forests.composite ∷ forests.dims) p def.number (indexes_around def block has before old owners forests st) of.page of.block mine)
         (omega (arith, block_below owners e def.number is, st.trees.map.count)) is
 
     other_now : (placed : PlacedRow) → IsOtherRow before (pages_of g old) def forests.map block placed → IsOtherRow ext (pages_of g new) def forests.map block placed
@@ -221,7 +241,7 @@ module _ {S : Type 0} {g : Ghosts S} (def : TableDef) (cell : Cell) (values : Li
     whole_changes : ChangesTrees g before ext new (tree_places def) owners (forests_in_order forests) owners_now (forests_in_order after)
     whole_changes =
         part_changes before ext old new (map_place def ∷ []) (block_index_places def) (record_places def) (forests.map ∷ []) (forests.composite ∷ forests.dims) (u ∷ us) forests.indexes owners owners_now refl
-        (as_many before old owners forests st) st.trees touched told changes
+        (as_many def block has before old owners forests st) st.trees touched told changes
 
     -- how often a page stands in all of them
     times_before : (p : ℕ) → sum_by (times p) (forests_in_order forests) ≡ sum_by (times p) (forests.map ∷ []) + (sum_by (times p) (forests.composite ∷ forests.dims) + sum_by (times p) forests.indexes)
@@ -298,7 +318,7 @@ module _ {S : Type 0} {g : Ghosts S} (def : TableDef) (cell : Cell) (values : Li
       let changes : ChangesTrees g before ext new (block_index_places def) owners (forests.composite ∷ forests.dims) unlists.first.owners_now (both.first ∷ both.rest) =
       subst (λ ts. ChangesTrees g before ext new (block_index_places def) owners (forests.composite ∷ forests.dims) unlists.first.owners_now ts) both.after_is unlists.first.changes in
       let fewer : (p : ℕ) → sum_by (times p) (both.first ∷ both.rest) ≤ sum_by (times p) (forests.composite ∷ forests.dims) = λ p. omega (arith, unlists.pages p, ap (sum_by (times p)) both.after_is) in
-      let stand = indexes_around before old owners forests st in
+      let stand = indexes_around def block has before old owners forests st in
       let wide : Touches g (IsSpaceOfTrees g before old (block_index_places def)) old new = touches_wider touched (λ p at. space_of_trees_or_map before old (block_index_places def) p at) in
       let longer : length (g.state old).work ≤ length (g.state new).work = omega (arith, count) in (
         moves_entries before ext old new owners unlists.first.owners_now forests both.first both.rest st changes wide told returns_change longer own
@@ -329,15 +349,6 @@ module _ {S : Type 0} {g : Ghosts S} (def : TableDef) (cell : Cell) (values : Li
         ),
       )
 
-  -- the pages, and the damage
-  pub space_of_indexes : (ext : Extents) (s : S) (p : ℕ) → IsSpaceOfTrees g ext s (block_index_places def) p → IsSpaceAround g ext s def block p
-  space_of_indexes ext s p at owners forests st own =
-      elim (part_space ext s (map_place def ∷ []) (block_index_places def) (record_places def) p at owners (forests_in_order forests) st.trees) [ inl here ↦ inl here | inr rest ↦ inr (inr rest) ]
-
-  pub place_of_indexes : (ext : Extents) (s : S) (p : ℕ) → IsTreesOrMapPage g ext s (block_index_places def) p → IsPlaceAround g ext s def block p
-  place_of_indexes ext s p at owners forests st own =
-      elim (part_trees_or_map ext s (map_place def ∷ []) (block_index_places def) (record_places def) p at owners (forests_in_order forests) st.trees) [ inl here ↦ inl here | inr map ↦ inr (inr map) ]
-
   -- what the index that a call had come to is to the table as it was
   module _ (Moves : Entry → Forest → Forest → Type 0) (before now : Extents) (old mid : S) (tree : Tree) (x : Entry) (comes : ComesTo g Moves before old def cell.values block now mid tree x) (owners : List Kind) (forests : TableForests)
       (st : StandsAround g before old def owners forests block) where
@@ -351,7 +362,7 @@ module _ {S : Type 0} {g : Ghosts S} (def : TableDef) (cell : Cell) (values : Li
 
     next_index : IsNext
     next_index =
-        let d = comes.done owners (forests.composite ∷ forests.dims) (indexes_around before old owners forests st) in
+        let d = comes.done owners (forests.composite ∷ forests.dims) (indexes_around def block has before old owners forests st) in
         let one = tree_among now mid d.owners_now (block_index_places def) d.trees_now tree comes.n d.changes.stand comes.place in
         record {
           owners_mid = d.owners_now;
@@ -384,13 +395,7 @@ module _ {S : Type 0} {g : Ghosts S} (def : TableDef) (cell : Cell) (values : Li
 
   pub breaks_unlisting : (ext : Extents) (s : S) (damage : Damage) → BreaksUnlisting g ext s def cell.values block damage → BreaksAround g ext s def block (λ owners forests. IsListed def forests values block) damage
   breaks_unlisting ext s damage breaks = record {
-    names = elim breaks.breaks [
-      | inl tree_or_return ↦ elim tree_or_return [
-        | inl broken ↦ tree_named def breaks.comes.n breaks.tree breaks.comes.place ext breaks.now breaks.comes.shape damage broken.page broken.rule
-        | inr at_return ↦ return_named def ext breaks.now s breaks.mid breaks.tree breaks.comes.shape damage at_return
-      ]
-      | inr index ↦ index_named def breaks.comes.n breaks.tree breaks.comes.place ext breaks.now breaks.comes.shape damage index.page index.rule
-    ];
+    names = names_unlisting g def cell.values block ext s damage breaks;
     broken = λ owners forests st own listed.
         let next = next_index LosesEntry ext breaks.now s breaks.mid breaks.tree breaks.x breaks.comes owners forests st in
         elim breaks.breaks [

@@ -26,7 +26,7 @@ use Rattle.table_trees.proofs.SideBySideLemmas.{block_page_apart}
 use Rattle.mdc_sound.specs.BlockRules.{IsBlockPageSound}
 use Rattle.table_trees.specs.RowCells.{AreOfOneCell}
 use Rattle.table_trees.specs.ToldPages.{PageList}
-use Rattle.mdc_sound.specs.FittingRows.{RowFits}
+use Rattle.mdc_ast.specs.FittingRows.{RowFits}
 use Rattle.mdc_sound.specs.Placing.{AfterClaims, Spot, spot_of_kind, spot_of_state}
 use Rattle.mdc_sound.specs.Placing.Spot.{OtherBlock}
 use Rattle.mdc_sound.specs.StandingTable.{TableForests, forests_in_order, pages_of}

@@ -1,10 +1,13 @@
--- The last row of a block is taken out, and the block is freed. The block map was asked for its line first, behind a call that
+-- The last row of a block is taken out, and the block is Free then. The block map was asked for its line first, behind a call that
 -- changed nothing.
-use Rattle.std.proofs.Common.{◌≡◌, ◌<◌, ◌≤◌, ◌+◌, ◌^◌, ℕ, List, refl, ap, arith, sym, ◌∙◌, subst, length, inl, inr}
+use Rattle.std.proofs.Common.{◌≡◌, ◌<◌, ◌≤◌, ◌+◌, ◌^◌, ℕ, false, List, [], ◌∷◌, refl, ap, arith, sym, ◌∙◌, subst, length, inl, inr}
+use Rattle.std.proofs.lemmas.Bool.Decides.{nat_tests}
 use Rattle.std.specs.Prelude.{IfNone, None, Option, slice_set}
 use Rattle.mdc_values.specs.declared.rid.Rid.{Rid}
 use Rattle.mdc_values.specs.declared.value.Value.{Value}
 use Rattle.mdc_ast.specs.declared.definition.TableDef.{TableDef}
+use Rattle.mdc_ast.specs.declared.definition.ColumnDef.{ColumnDef}
+use Rattle.mdc_ast.specs.declared.row.Cell.{Cell}
 use Rattle.mdc_ast.specs.declared.row.Row.{Row}
 use Rattle.store_api.specs.Causes.{NoDamage}
 use Rattle.store_api.specs.Frame.{NoPage}
@@ -17,7 +20,8 @@ use Rattle.store_api.proofs.RunsOverPagesLemmas.{runs_none, runs_on, runs_then, 
 use Rattle.extent_map.specs.declared.extents.Extents.{Extents}
 use Rattle.extent_map.specs.declared.kind.Kind.{Kind}
 use Rattle.row_page.specs.RowPage.{count_rows}
-use Rattle.table_page.specs.TableLimits.{IsTableDef}
+use Rattle.mdc_ast.specs.TableLimits.{IsTableDef}
+use Rattle.key_codec.proofs.KeyLemmas.{first_there}
 use Rattle.entry_tree.specs.Forest.{Forest}
 use Rattle.entry_tree.specs.HeldTrees.{HoldsTree, IsTreePage}
 use Rattle.entry_tree.specs.declared.tree.Tree.{Tree}
@@ -26,26 +30,48 @@ use Rattle.block_map.specs.BlockMaps.{BreaksMapTree, HasRow, IsMapForm}
 use Rattle.block_map.specs.Counting.{IfUsed, used_row}
 use Rattle.block_map.specs.declared.row.BlockRow.{BlockRow}
 use Rattle.block_map.specs.declared.state.BlockState.TheVariants.{Used}
+use Rattle.block_map.specs.declared.state.BlockState.TheVariants as state
+use Rattle.block_index.specs.Cells.{HaveKeys}
+use Rattle.block_rows.specs.HeldRows.{HasReadValues}
 use Rattle.block_rows.proofs.HeldRowsLemmas.{rows_stay}
+use Rattle.table_trees.specs.RowCells.{cell_places}
+use Rattle.table_trees.specs.TableTrees.{rising_parts}
+use Rattle.table_trees.proofs.TableTreesLemmas.{AreColumns}
 use Rattle.mdc_sound.specs.Placing.{AfterReturns, IsRowAt, Spot}
 use Rattle.mdc_sound.specs.Placing.Spot.{OtherBlock}
 use Rattle.mdc_sound.specs.StandingTable.{BreaksExpected, HasRowAt, IsBlockOrMapPage, IsPageOfBlock, NamesTablePart, StandsTable, TableForests, spots_of}
+use Rattle.mdc_sound.proofs.DefinitionTreesLemmas.{has_block_indexes}
 use Rattle.mdc_sound.proofs.StandingTableLemmas.{stands_same}
 use Rattle.table_blocks.specs.AroundBlock.{StandsAround}
 use Rattle.table_blocks.specs.BlockChanges.{BreaksAround, ChangesAround, IsPlaceAround, TurnsSpot}
-use Rattle.table_blocks.specs.BlockNow.{IsListed, IsOwnBlock, IsUsedNow, MapsUsed}
-use Rattle.table_blocks.specs.BlockSteps.{EmptiesSlot, ExpectsFreeing, FreesBlock, HasFilledSlot, HasThisRow}
+use Rattle.table_blocks.specs.BlockNow.{IsKeyedCell, IsListed, IsOwnBlock, IsUsedNow, MapsUsed}
+use Rattle.table_blocks.specs.BlockSteps.{EmptiesSlot, ExpectsReleasing, HasFilledSlot, HasThisRow, ReleasesBlock}
 use Rattle.table_blocks.proofs.AroundLemmas.{around_then, breaks_of_table, own_still, rows_step, runs_place_then}
 use Rattle.table_blocks.proofs.BlockPagesLemmas.{place_of_block}
 use Rattle.table_blocks.proofs.BlockSpaceLemmas.{line_used}
 use Rattle.table_blocks.proofs.ClearedSlotsLemmas.{count_cleared, left_free, row_there}
-use Rattle.table_blocks.proofs.ClosingLemmas.{turns_free}
+use Rattle.table_blocks.proofs.ClosingLemmas.{turns_released}
 use Rattle.table_blocks.proofs.CountedBlockLemmas.{rows_counted}
 use Rattle.table_blocks.proofs.LineStepLemmas.{place_of_map}
 use Rattle.table_blocks.proofs.ListedCellsLemmas.{listed_in_cell}
 use Rattle.table_blocks.proofs.MapOfTableLemmas.{form_of_table, map_of_table, map_page}
 use Rattle.table_blocks.proofs.OpeningLemmas.{around_block, own_of_line, used_spot_now}
 use Rattle.table_blocks.proofs.SpotChangesLemmas.{returns_change}
+
+-- ---- the cell of a row that was read
+
+-- which has keys in the dimension columns
+keys_read : (columns : List ColumnDef) (places : List ℕ) (row : Row) → AreColumns columns (rising_parts places) → HasReadValues columns row → HaveKeys columns places row.values
+keys_read columns [] row are read = tt
+keys_read columns (place ∷ places) row are read =
+    let split = first_there columns (record { column = place; descending = false }) (rising_parts places) are in
+    let within : place < length columns = grind (arith, nat_tests, split.0) in
+    (read.each place within, keys_read columns places row split.1 read)
+
+pub cell_keys : (def : TableDef) (row : Row) → IsTableDef def.number def → HasReadValues def.columns row → HaveKeys def.columns (cell_places def) row.values
+cell_keys def row defined read = keys_read def.columns (cell_places def) row (has_block_indexes def.number def defined).composite.key.there read
+
+-- ---- the line of its block
 
 -- what the line of a block says, which was looked at behind a call that counted none less of it
 pub record SeesLast {S : Type 0} (g : Ghosts S) (ext : Extents) (s looked : S) (def : TableDef) (rid : Rid) (tree : Tree) (line : BlockRow) : Type 0 where
@@ -143,62 +169,67 @@ module _ {S : Type 0} {g : Ghosts S} (ext : Extents) (s : S) (def : TableDef) (d
         (as_was : (g.state looked).work ≡ (g.state s).work)
         (second : RunsOverPages g (IsPageOfBlock ext rid.block) (IsPageOfBlock ext rid.block) (BreaksAround g ext looked def rid.block (HasFilledSlot rid.slot g ext looked def rid.block)) looked cleared None)
         (count : length (g.state cleared).work ≡ length (g.state looked).work) where
-      pub so_far : RunsOverPages g (IsPageOfBlock ext rid.block) (IsPlaceAround g ext s def rid.block) (BreaksAround g ext s def rid.block (ExpectsFreeing def (used_row rid.block rows) row)) s cleared None
+      pub so_far : {Breaks : Damage → Type 0} → RunsOverPages g (IsPageOfBlock ext rid.block) (IsPlaceAround g ext s def rid.block) Breaks s cleared None
       so_far =
           runs_then (runs_wider (runs_on {Breaks = NoDamage} first) (λ p within none. absurd none) (λ p is. place_of_map tree def root width ext s rid.block p is) (λ damage none. absurd none)) (runs_on {Breaks = NoDamage} second)
           (λ p within is. is) (λ p is owners forests st own. inr (inl is)) (λ damage none. absurd none)
 
       pub cleared_change : (owners : List Kind) (forests : TableForests) → StandsAround g ext s def owners forests rid.block → IsOwnBlock ext owners def rid.block
           → ChangesAround g AfterReturns ext ext s cleared def rid.block owners forests owners forests
-      cleared_change owners forests st own = rows_step returns_change ext s cleared def rid.block owners forests st own so_far.touches so_far.works.steady.is_told (count ∙ ap length as_was)
+      cleared_change owners forests st own =
+          let run = so_far {Breaks = NoDamage} in
+          rows_step returns_change ext s cleared def rid.block owners forests st own run.touches run.works.steady.is_told (count ∙ ap length as_was)
 
       listed : (owners : List Kind) (forests : TableForests) → StandsTable g ext s def owners forests → HasThisRow g ext s def rid row owners forests → IsListed def forests row.values rid.block
       listed owners forests st has =
           let now = row_now row has.slots owners forests st has.lies in
           listed_in_cell def forests now.0 row.values rid.block (sym (now.1.cell.one_cell row (row_there has.slots rid.slot row has.lies.slot))) now.1.listed
 
-      -- its block is freed
-      pub runs_last : (line : BlockRow) → line ≡ used_row rid.block rows → {new : S} {fault : Option StoreFault}
-          → RunsOverPages g (IsPlaceAround g ext cleared def line.block) (IsPlaceAround g ext cleared def line.block) (BreaksAround g ext cleared def line.block (ExpectsFreeing def line row)) cleared new fault
-          → RunsOverPages g (IsBlockOrMapPage g ext s def rid.block) (IsBlockOrMapPage g ext s def rid.block) (BreaksExpected g ext s def (HasThisRow g ext s def rid row)) s new fault
-      runs_last line is {new} {fault} run =
-          let expects = ExpectsFreeing def (used_row rid.block rows) row in
-          let last : RunsOverPages g (IsPlaceAround g ext cleared def rid.block) (IsPlaceAround g ext cleared def rid.block) (BreaksAround g ext cleared def rid.block expects) cleared new fault =
-          subst (λ (l : BlockRow). RunsOverPages g (IsPlaceAround g ext cleared def l.block) (IsPlaceAround g ext cleared def l.block) (BreaksAround g ext cleared def l.block (ExpectsFreeing def l row)) cleared new fault) is run in
-          let before = runs_wider so_far (λ p within is owners forests st own. inr (inl is)) (λ p is. is) (λ damage b. b) in
-          let whole = runs_place_then ext ext s cleared new def rid.block expects expects fault (record { cap = refl; extent_pages = refl })
-          (λ owners forests st own. (record { owners_now = owners; forests_now = forests; changes = cleared_change owners forests st own; expects = λ e. e }, λ p l. l)) before last in
-          runs_wider whole (λ p within is. place_of_block ext s def rid.block p opens is) (λ p is. place_of_block ext s def rid.block p opens is)
-          (λ damage b. breaks_of_table ext s def rid.block expects (HasThisRow g ext s def rid row) damage b
-          (λ owners forests st has.
-          let o = opens owners forests st in
-          (o.0, o.1, record { line_there = there owners forests st; listed = listed owners forests st has })))
+      -- its block is released
+      module _ (cell : Cell) (is_cell : IsKeyedCell def cell row.values) where
+        pub runs_last : (line : BlockRow) → line ≡ used_row rid.block rows → {new : S} {fault : Option StoreFault}
+            → RunsOverPages g (IsPlaceAround g ext cleared def line.block) (IsPlaceAround g ext cleared def line.block) (BreaksAround g ext cleared def line.block (ExpectsReleasing def line cell)) cleared new fault
+            → RunsOverPages g (IsBlockOrMapPage g ext s def rid.block) (IsBlockOrMapPage g ext s def rid.block) (BreaksExpected g ext s def (HasThisRow g ext s def rid row)) s new fault
+        runs_last line is {new} {fault} run =
+            let expects = ExpectsReleasing def (used_row rid.block rows) cell in
+            let last : RunsOverPages g (IsPlaceAround g ext cleared def rid.block) (IsPlaceAround g ext cleared def rid.block) (BreaksAround g ext cleared def rid.block expects) cleared new fault =
+            subst (λ (l : BlockRow). RunsOverPages g (IsPlaceAround g ext cleared def l.block) (IsPlaceAround g ext cleared def l.block) (BreaksAround g ext cleared def l.block (ExpectsReleasing def l cell)) cleared new fault) is run in
+            let before = runs_wider (so_far {Breaks = BreaksAround g ext s def rid.block expects}) (λ p within is owners forests st own. inr (inl is)) (λ p is. is) (λ damage b. b) in
+            let whole = runs_place_then ext ext s cleared new def rid.block expects expects fault (record { cap = refl; extent_pages = refl })
+            (λ owners forests st own. (record { owners_now = owners; forests_now = forests; changes = cleared_change owners forests st own; expects = λ e. e }, λ p l. l)) before last in
+            runs_wider whole (λ p within is. place_of_block ext s def rid.block p opens is) (λ p is. place_of_block ext s def rid.block p opens is)
+            (λ damage b. breaks_of_table ext s def rid.block expects (HasThisRow g ext s def rid row) damage b
+            (λ owners forests st has.
+            let o = opens owners forests st in
+            (o.0, o.1, record { line_there = there owners forests st; listed = record { values = row.values; of_cell = is_cell; listed = listed owners forests st has } })))
 
-      pub empties_last : (line : BlockRow) → line ≡ used_row rid.block rows → (now : Extents) (new : S)
-          → ((owners : List Kind) (forests : TableForests) → StandsAround g ext cleared def owners forests line.block → IsOwnBlock ext owners def line.block → FreesBlock g ext now cleared new def line.block row owners forests)
-          → (owners : List Kind) (forests : TableForests) → StandsTable g ext s def owners forests → HasThisRow g ext s def rid row owners forests → rows ≤ 1 → EmptiesSlot g ext now s new def rid row owners forests
-      empties_last line is now new frees owners forests st has last =
-          let o = opens owners forests st in
-          let left = slice_set has.slots rid.slot None in
-          let none : count_rows left ≡ 0 = omega (arith, count_cleared has.slots rid.slot row has.lies.slot, line_counted row has.slots owners forests st has.lies, last) in
-          let step = cleared_change owners forests o.0 o.1 in
-          let freed : FreesBlock g ext now cleared new def rid.block row owners forests =
-          subst
-          (λ (l : BlockRow). (owners : List Kind) (forests : TableForests) → StandsAround g ext cleared def owners forests l.block → IsOwnBlock ext owners def l.block → FreesBlock g ext now cleared new def l.block row owners forests)
-          is frees owners forests step.stands o.1 in
-          let whole = around_then returns_change ext ext now s cleared new def rid.block owners owners freed.owners_now forests forests freed.forests_now step freed.changes in
-          record {
-            owners_now = freed.owners_now;
-            forests_now = freed.forests_now;
-            slots = has.slots;
-            lies = has.lies;
-            turns = subst (λ (spot : Spot). TurnsSpot g AfterReturns ext now s new def rid.block spot owners forests freed.owners_now freed.forests_now) (sym (left_free left none))
-                (turns_free returns_change ext now s new def rid.block owners freed.owners_now forests freed.forests_now defined whole (record {
-                  own = own_still ext now s new def rid.block owners freed.owners_now forests freed.forests_now whole o.1;
-                  line = freed.line;
-                  unlisted = freed.unlisted (listed owners forests st has);
-                }));
-          }
+        pub empties_last : (line : BlockRow) → line ≡ used_row rid.block rows → (now : Extents) (new : S)
+            → ((owners : List Kind) (forests : TableForests) (values : List Value) → StandsAround g ext cleared def owners forests line.block → IsOwnBlock ext owners def line.block → IsKeyedCell def cell values
+            → ReleasesBlock g ext now cleared new def line.block state.Free values owners forests)
+            → (owners : List Kind) (forests : TableForests) → StandsTable g ext s def owners forests → HasThisRow g ext s def rid row owners forests → rows ≤ 1 → EmptiesSlot g ext now s new def rid row owners forests
+        empties_last line is now new releases owners forests st has last =
+            let o = opens owners forests st in
+            let left = slice_set has.slots rid.slot None in
+            let none : count_rows left ≡ 0 = omega (arith, count_cleared has.slots rid.slot row has.lies.slot, line_counted row has.slots owners forests st has.lies, last) in
+            let step = cleared_change owners forests o.0 o.1 in
+            let released : ReleasesBlock g ext now cleared new def rid.block state.Free row.values owners forests =
+            subst
+            (λ (l : BlockRow). (owners : List Kind) (forests : TableForests) (values : List Value) → StandsAround g ext cleared def owners forests l.block → IsOwnBlock ext owners def l.block → IsKeyedCell def cell values
+            → ReleasesBlock g ext now cleared new def l.block state.Free values owners forests)
+            is releases owners forests row.values step.stands o.1 is_cell in
+            let whole = around_then returns_change ext ext now s cleared new def rid.block owners owners released.owners_now forests forests released.forests_now step released.changes in
+            record {
+              owners_now = released.owners_now;
+              forests_now = released.forests_now;
+              slots = has.slots;
+              lies = has.lies;
+              turns = subst (λ (spot : Spot). TurnsSpot g AfterReturns ext now s new def rid.block spot owners forests released.owners_now released.forests_now) (sym (left_free left none))
+                  (turns_released returns_change ext now s new def rid.block owners released.owners_now forests released.forests_now defined whole state.Free (λ same. absurd cc) (record {
+                    own = own_still ext now s new def rid.block owners released.owners_now forests released.forests_now whole o.1;
+                    line = released.line;
+                    unlisted = released.unlisted (listed owners forests st has);
+                  }));
+            }
 
   -- it was the last one, since the map counted none less
   pub is_last : (tree : Tree) (root : tree.root ≡ def.roots.map) (width : tree.width ≡ 7) (counted : Option ℕ) → counted ≡ None

@@ -19,8 +19,8 @@ pub mod FilledRoomLemmas
 pub mod FillingLemmas
 pub mod FillingSpaceLemmas
 pub mod FreeBlockLemmas
-pub mod FreeingLemmas
-pub mod FreeingSpaceLemmas
+pub mod ReleasingLemmas
+pub mod ReleasingSpaceLemmas
 pub mod IndexEntriesLemmas
 pub mod IndexStepLemmas
 pub mod KeptAroundLemmas

@@ -22,24 +22,25 @@ use Rattle.entry_tree.specs.Forest.{Forest}
 use Rattle.entry_tree.specs.Standing.{AddsEntry, FindsFull, IsTreeSpace, StandsTree, with_pages}
 use Rattle.entry_tree.specs.declared.tree.Tree.{Tree}
 use Rattle.entry_tree.proofs.ClaimsLemmas.{shape_then}
-use Rattle.table_page.specs.TableLimits.{IsTableDef}
+use Rattle.mdc_ast.specs.TableLimits.{IsTableDef}
 use Rattle.block_map.specs.BlockMaps.{HasRow}
 use Rattle.block_map.specs.Counting.{used_row}
 use Rattle.block_map.specs.MapChanges.{BreaksEntering}
 use Rattle.block_map.specs.MapRows.{row_entry}
 use Rattle.block_map.specs.declared.row.BlockRow.{BlockRow}
 use Rattle.table_trees.specs.TableTrees.{cell_parts, rising_parts}
-use Rattle.mdc_sound.specs.FittingRows.{RowFits}
+use Rattle.mdc_ast.specs.FittingRows.{RowFits}
 use Rattle.mdc_sound.specs.Placing.{AfterClaims, begun_with, block_slot_count}
 use Rattle.mdc_sound.specs.StandingTable.{BreaksTable, IsTreeSpaceOfTable, MeetsNoFree, StandsTable, TableForests}
 use Rattle.mdc_sound.proofs.ChangedRowsLemmas.{some_slots}
+use Rattle.mdc_sound.proofs.NamedPartsLemmas.{names_at}
 use Rattle.table_blocks.specs.AroundBlock.{StandsAround}
 use Rattle.table_blocks.specs.BlockChanges.{BreaksAround, IsSpaceAround, TurnsSpot}
 use Rattle.table_blocks.specs.BlockNow.{IsOwnBlock, IsUnlisted, IsUnlistedIn, IsUnnamed, IsUsedNow}
 use Rattle.table_blocks.specs.BlockSteps.{BeginsBlock, ClaimsBlock, FillsBegun, MovesLine}
 use Rattle.table_blocks.proofs.BegunSlotsLemmas.{begun_cell, begun_count}
 use Rattle.table_blocks.proofs.AroundLemmas.{around_then, own_still}
-use Rattle.table_blocks.proofs.ClaimStepLemmas.{breaks_claiming, breaks_since_claim, claims_block, names_same, space_since_change, space_since_claim, turns_claimed}
+use Rattle.table_blocks.proofs.ClaimStepLemmas.{breaks_claiming, breaks_since_claim, claims_block, space_since_change, space_since_claim, turns_claimed}
 use Rattle.table_blocks.proofs.LineStepLemmas.{breaks_entering, enters_line, map_around, space_of_map}
 use Rattle.table_blocks.proofs.SpotChangesLemmas.{claims_change}
 
@@ -143,7 +144,7 @@ module _ {S : Type 0} {g : Ghosts S} {before mid_ext : Extents} {old mid : S} {d
     fill_run second =
         runs_then (enter_run {fault = None} enters.run) second (λ p low mine. space p mine) space
         (λ damage breaks. record {
-          names = names_same before two_ext def damage (shape_then before mid_ext two_ext is.shape enters.shape) breaks.names;
+          names = names_at before two_ext def damage (shape_then before mid_ext two_ext is.shape enters.shape) breaks.names;
           broken = λ owners forests st.
               let moves = where_entered owners forests st in
               breaks.broken moves.owners_now moves.forests_now moves.changes.stands (own_then owners forests st) (unlisted_then owners forests st);

@@ -13,7 +13,7 @@ use Rattle.extent_map.specs.declared.extents.Extents.{Extents}
 use Rattle.extent_map.specs.declared.kind.Kind.{Kind}
 use Rattle.extent_map.specs.declared.kind.Kind.TheVariants.{Free, Block}
 use Rattle.extent_map.proofs.HoldsMapLemmas.{on_map}
-use Rattle.table_page.specs.TableLimits.{IsTableDef}
+use Rattle.mdc_ast.specs.TableLimits.{IsTableDef}
 use Rattle.key_codec.specs.Keys.{ArePartsOf, key_bytes}
 use Rattle.row_page.specs.RowPage.{count_rows}
 use Rattle.entry_tree.specs.EntryBounds.{IsEntryOf}
@@ -28,7 +28,7 @@ use Rattle.table_trees.specs.TableTrees.{AreIndexParts, block_entry, cell_parts,
 use Rattle.mdc_sound.specs.BlockRules.{AreBlockRowsSound, IsBlockIndexSound, IsIdleCountSound, IsOfOneCell, IsUsedCountSound, entry_of_block}
 use Rattle.table_trees.specs.RowCells.{AreOfOneCell}
 use Rattle.table_trees.specs.ToldPages.{PageList}
-use Rattle.mdc_sound.specs.FittingRows.{RowFits}
+use Rattle.mdc_ast.specs.FittingRows.{RowFits}
 use Rattle.mdc_sound.specs.Placing.Spot.{OtherBlock, UsedBlock}
 use Rattle.mdc_sound.specs.SpaceRules.{IsMapLineSound}
 use Rattle.mdc_sound.specs.StandingTable.{StandsTable, TableForests, pages_of, spots_of}
@@ -207,11 +207,14 @@ module _ {S : Type 0} {g : Ghosts S} (ext : Extents) (s : S) (def : TableDef) (o
   }
 
   -- a block that the block map names
+  pub own_of_small : (line : BlockRow) → HasRow line forests.map → line.block < 2 ^ 32 → IsOwnBlock ext owners def line.block
+  own_of_small line there small =
+      let named : (map_line (row_entry line)).block ≡ line.block = row_block line small in
+      let mapped = (line_sound (row_entry line) there).mapped in
+      record { within = omega (arith, named, mapped.within); owned = subst (λ (e : ℕ). owner_of owners e ≡ Block def.number) named mapped.owned }
+
   pub own_of_line : (line : BlockRow) → HasRow line forests.map → line.block < ext.cap → IsOwnBlock ext owners def line.block
-  own_of_line line there low =
-      let named : (map_line (row_entry line)).block ≡ line.block = row_block line (omega (arith, low, few_extents ext)) in
-      let owned = (line_sound (row_entry line) there).mapped.owned in
-      record { within = low; owned = subst (λ (e : ℕ). owner_of owners e ≡ Block def.number) named owned }
+  own_of_line line there low = own_of_small line there (omega (arith, low, few_extents ext))
 
   -- a Used line counts the rows of its block, which has some
   used_counted : (x : Entry) (block : ℕ) → IsEntryOf x (leaf_entries forests.map) → (map_line x).block ≡ block → (map_line x).state ≡ 1

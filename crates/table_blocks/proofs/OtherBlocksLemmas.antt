@@ -25,7 +25,7 @@ use Rattle.block_map.proofs.MapLinesLemmas.{entry_small, named_in_state}
 use Rattle.table_trees.specs.TreesBeside.{table_of_block}
 use Rattle.table_trees.specs.RowCells.{AreOfOneCell}
 use Rattle.table_trees.specs.ToldPages.{PageList}
-use Rattle.mdc_sound.specs.FittingRows.{RowFits}
+use Rattle.mdc_ast.specs.FittingRows.{RowFits}
 use Rattle.mdc_sound.specs.Placing.{Spot, spot_of_kind, spot_of_state}
 use Rattle.mdc_sound.specs.Placing.Spot.{FreeExtent, IndexExtent, OtherBlock}
 use Rattle.mdc_sound.specs.StandingTable.{pages_of}

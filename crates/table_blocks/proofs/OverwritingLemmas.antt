@@ -16,7 +16,7 @@ use Rattle.store_api.proofs.FrameLemmas.{touches_same, touches_then}
 use Rattle.store_api.proofs.RunsOverPagesLemmas.{runs_then, runs_wider}
 use Rattle.extent_map.specs.declared.extents.Extents.{Extents}
 use Rattle.extent_map.specs.declared.kind.Kind.{Kind}
-use Rattle.table_page.specs.TableLimits.{IsTableDef}
+use Rattle.mdc_ast.specs.TableLimits.{IsTableDef}
 use Rattle.row_page.specs.RowPage.{count_rows}
 use Rattle.entry_tree.specs.Forest.{Forest}
 use Rattle.entry_tree.specs.HeldTrees.{HoldsTree}
@@ -25,7 +25,7 @@ use Rattle.block_map.specs.BlockMaps.{HasRow}
 use Rattle.block_map.specs.Counting.{used_row}
 use Rattle.block_map.specs.declared.row.BlockRow.{BlockRow}
 use Rattle.table_trees.specs.RowCells.{AreOfOneCell}
-use Rattle.mdc_sound.specs.FittingRows.{RowFits}
+use Rattle.mdc_ast.specs.FittingRows.{RowFits}
 use Rattle.mdc_sound.specs.Placing.{IsRowAt}
 use Rattle.mdc_sound.specs.Placing.Spot.{OtherBlock, UsedBlock}
 use Rattle.mdc_sound.specs.StandingTable.{BreaksExpected, HasRowAt, IsBlockOrMapPage, IsPageOfBlock, StandsTable, TableForests, spots_of}

@@ -34,8 +34,8 @@ pub record IsSpotChange (After : Spot → Spot → Type 0) : Type 0 where
 
 -- ---- midway
 
--- Calls changed one block, and the trees of its table: all else stands, and other extents are as they were but for what trees
--- took or gave back.
+-- Calls changed one block, and the trees of its table but for its record indexes: all else stands, and other extents are as they
+-- were but for what trees took or gave back.
 pub record ChangesAround {S : Type 0} (g : Ghosts S) (After : Spot → Spot → Type 0) (before ext : Extents) (old new : S) (def : TableDef) (block : ℕ)
     (owners : List Kind) (forests : TableForests) (owners_now : List Kind) (forests_now : TableForests) : Type 0 where
   pub stands : StandsAround g ext new def owners_now forests_now block
@@ -66,8 +66,9 @@ pub record BreaksAround {S : Type 0} (g : Ghosts S) (ext : Extents) (s : S) (def
 -- ---- afterwards
 
 -- A table that stood stands again, with one block another spot. Other extents are as they were but for what trees took or gave
--- back.
+-- back, and the record indexes have the trees that they had.
 pub record TurnsSpot {S : Type 0} (g : Ghosts S) (After : Spot → Spot → Type 0) (before ext : Extents) (old new : S) (def : TableDef) (block : ℕ) (spot : Spot)
     (owners : List Kind) (forests : TableForests) (owners_now : List Kind) (forests_now : TableForests) : Type 0 where
   pub changes : ChangesTable g before ext old new def owners forests owners_now forests_now
+  pub records : forests_now.indexes ≡ forests.indexes
   pub spots : AllZip After (slice_set (spots_of g before old def owners forests) block spot) (spots_of g ext new def owners_now forests_now)

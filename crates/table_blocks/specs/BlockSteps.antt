@@ -1,7 +1,9 @@
 -- What each call on one block says, in the words of a table that stands around it and of one that stands.
 use Rattle.std.specs.Prelude.{◌≡◌, ◌≢◌, ◌≤◌, ℕ, List, [], ◌∷◌, Contains, Option, Some, None, length, replicate, slice_index_or, slice_set}
 use Rattle.mdc_values.specs.declared.rid.Rid.{Rid}
+use Rattle.mdc_values.specs.declared.value.Value.{Value}
 use Rattle.mdc_ast.specs.declared.definition.TableDef.{TableDef}
+use Rattle.mdc_ast.specs.declared.row.Cell.{Cell}
 use Rattle.mdc_ast.specs.declared.row.Row.{Row}
 use Rattle.store_api.specs.declared.pages.Pages.{Ghosts}
 use Rattle.extent_map.specs.Owners.{AreRightNotes, HasNoFree, IsLowestFree, IsSameShape, owner_of, with_block}
@@ -12,6 +14,8 @@ use Rattle.block_map.specs.BlockMaps.{HasRow}
 use Rattle.block_map.specs.MapLines.{free_blocks}
 use Rattle.block_map.specs.MapRows.{row_entry}
 use Rattle.block_map.specs.declared.row.BlockRow.{BlockRow}
+use Rattle.block_map.specs.declared.state.BlockState.{BlockState}
+use Rattle.block_index.specs.Cells.{index_listings}
 use Rattle.table_trees.specs.RowCells.{AreOfOneCell}
 use Rattle.table_trees.specs.SpaceChanges.{RunsFull, SpaceChange, removed_entries}
 use Rattle.table_trees.specs.SpaceChanges.SpaceChange.{AmendEntry, ClaimBlock}
@@ -20,12 +24,12 @@ use Rattle.table_trees.specs.ToldPages.{PageList}
 use Rattle.table_trees.specs.TreesBeside.{GrowsPages}
 use Rattle.mdc_sound.specs.Placing.{AfterClaims, AfterReturns, HasRoomFor, IsEmptySlot, IsLowestAt, IsRowAt, Spot, begun_with, block_slot_count, left_with}
 use Rattle.mdc_sound.specs.Placing.Spot.{FreeExtent, OtherBlock, UsedBlock}
-use Rattle.mdc_sound.specs.RunningFull.{block_changes, block_listings}
+use Rattle.mdc_sound.specs.RunningFull.{block_changes}
 use Rattle.mdc_sound.specs.StandingTable.{TableForests, pages_of, spots_of}
 use Rattle.block_rows.specs.HeldRows.{HoldsRows}
 use Rattle.table_blocks.specs.AroundBlock.{StandsAround}
 use Rattle.table_blocks.specs.BlockChanges.{ChangesAround, SameSpot, TurnsSpot, spot_in}
-use Rattle.table_blocks.specs.BlockNow.{IsListed, IsOwnBlock, IsUnlisted, IsUnnamed, free_line}
+use Rattle.table_blocks.specs.BlockNow.{IsListed, IsListedUnder, IsOwnBlock, IsUnlisted, IsUnnamed, released_line, released_spot}
 
 -- ---- a block that comes into use
 
@@ -106,28 +110,38 @@ pub record EmptiesSlot {S : Type 0} (g : Ghosts S) (before ext : Extents) (old n
   pub lies : IsRowAt (spots_of g before old def owners forests) rid row slots
   pub turns : TurnsSpot g AfterReturns before ext old new def rid.block (left_with (slice_set slots rid.slot None)) owners forests owners_now forests_now
 
--- ---- a block that is freed
+-- ---- a block that is released
 
--- The block is Free in the block map, and none of its entries under the cell of these values is left in a block index.
-pub record FreesBlock {S : Type 0} (g : Ghosts S) (before ext : Extents) (old new : S) (def : TableDef) (block : ℕ) (row : Row) (owners : List Kind) (forests : TableForests) : Type 0 where
+-- The block has this state in the block map, without rows, and is what the state says to the table. None of its entries under the
+-- cell of these values is left in a block index.
+pub record ReleasesBlock {S : Type 0} (g : Ghosts S) (before ext : Extents) (old new : S) (def : TableDef) (block : ℕ) (given : BlockState) (values : List Value)
+    (owners : List Kind) (forests : TableForests) : Type 0 where
   pub owners_now : List Kind
   pub forests_now : TableForests
   pub changes : ChangesAround g AfterReturns before ext old new def block owners forests owners_now forests_now
-  pub line : HasRow (free_line block) forests_now.map
-  pub unlisted : IsListed def forests row.values block → IsUnlisted def forests_now block
+  pub line : HasRow (released_line given block) forests_now.map
+  pub spot : spot_in g ext new def owners_now forests_now block ≡ released_spot given
+  pub unlisted : IsListed def forests values block → IsUnlisted def forests_now block
 
--- what freeing a block expects: it has this line, and is listed under the cell of the row
-pub record ExpectsFreeing (def : TableDef) (line : BlockRow) (row : Row) (owners : List Kind) (forests : TableForests) : Type 0 where
+-- A block of a table that stood was released, and the table stands; after that trees may have given extents back.
+pub record TurnsReleased {S : Type 0} (g : Ghosts S) (before ext : Extents) (old new : S) (def : TableDef) (block : ℕ) (given : BlockState) (owners : List Kind) (forests : TableForests) : Type 0 where
+  pub owners_now : List Kind
+  pub forests_now : TableForests
+  pub turns : TurnsSpot g AfterReturns before ext old new def block (released_spot given) owners forests owners_now forests_now
+
+-- what releasing a block expects: it has this line, and is listed under this cell
+pub record ExpectsReleasing (def : TableDef) (line : BlockRow) (cell : Cell) (owners : List Kind) (forests : TableForests) : Type 0 where
   pub line_there : HasRow line forests.map
-  pub listed : IsListed def forests row.values line.block
+  pub listed : IsListedUnder def forests cell line.block
 
 -- the table has this Free block
 pub record HasFreeBlock (block : ℕ) (owners : List Kind) (forests : TableForests) : Type 0 where
   pub free : Contains (free_blocks forests.map) block
 
--- the changes of space of freeing it: its line, and then its entries under the cell of the row
-abbrev pub free_changes : TableDef → Row → BlockRow → List SpaceChange
-free_changes def row line = AmendEntry (map_place def) (row_entry line) (row_entry (free_line line.block)) ∷ removed_entries (block_listings def row line.block)
+-- the changes of space of releasing it: its line, and then its entries under the cell
+abbrev pub released_changes : TableDef → Cell → BlockState → BlockRow → List SpaceChange
+released_changes def cell given line =
+    AmendEntry (map_place def) (row_entry line) (row_entry (released_line given line.block)) ∷ removed_entries (index_listings def cell.values line.block)
 
 -- ---- steps midway
 

@@ -2,7 +2,9 @@
 //!
 //! A block comes into use with its first row (`begin_free_block`, `begin_new_block`), takes rows (`put_in_block`, and
 //! `put_if_room` where it isn't known yet whether it has room), has rows written over (`overwrite_row`, and
-//! `overwrite_row_of_used` where it is known to be Used), and loses rows until the last one frees it (`take_row`). Each call changes that block, its line in the block map and its entries in the block indexes.
+//! `overwrite_row_of_used` where it is known to be Used), and loses rows until it is Free without the last one (`take_row`). It goes
+//! out of use as a whole too, whatever rows it holds (`release_block`): Free, or Pending, while record indexes still name it. Each
+//! call changes that block, its line in the block map and its entries in the block indexes, and leaves the record indexes.
 //! Where the table was told to stand it stands afterwards: one block is another, and other extents are as they were but for what
 //! its trees took or gave back. Where it wasn't, damage of a part of it may be named, and of nothing else.
 //!
@@ -14,12 +16,13 @@ mod beginning;
 mod cells;
 mod faults;
 mod filling;
-mod freeing;
 mod lines;
 mod overwriting;
+mod releasing;
 mod taking;
 
 pub use beginning::{begin_free_block, begin_new_block};
 pub use filling::{put_if_room, put_in_block};
 pub use overwriting::{overwrite_row, overwrite_row_of_used};
+pub use releasing::release_block;
 pub use taking::take_row;

@@ -6,7 +6,7 @@ ghost use Rattle.extent_map.specs.Owners.{IsSameShape};
 ghost use Rattle.extent_map.specs.declared.kind.Kind.{Kind};
 ghost use Rattle.mdc_ast.specs.declared.row.Row.{Row};
 ghost use Rattle.row_page.specs.RowPage.{count_rows};
-ghost use Rattle.table_page.specs.TableLimits.{IsTableDef};
+ghost use Rattle.mdc_ast.specs.TableLimits.{IsTableDef};
 ghost use Rattle.table_trees.specs.SpaceChanges.{MakesChanges};
 ghost use Rattle.block_rows.specs.HeldRows.{HasReadValues, HoldsRows};
 ghost use Rattle.mdc_sound.specs.Placing.{IsRowAt, block_slot_count};
@@ -15,10 +15,11 @@ ghost use Rattle.mdc_sound.specs.StandingTable.{BreaksExpected, IsBlockOrMapPage
 ghost use Rattle.table_blocks.specs.BlockChanges.{BreaksAround};
 ghost use Rattle.table_blocks.specs.BlockSteps.{EmptiesSlot, HasFilledSlot, HasThisRow};
 
+use crate::cells::cell_of;
 use crate::faults::miscounted;
-use crate::freeing::free_block;
 use crate::lines::line_of_used;
-use block_map::BlockMap;
+use crate::releasing::release_block;
+use block_map::{BlockMap, BlockState};
 use block_rows::clear_slot;
 use extent_map::Extents;
 use mdc_ast::{Row, TableDef};
@@ -60,7 +61,8 @@ pub fn take_row<P: Pages>(
     }
     let line = line_of_used(def, &map, pages, rid.block)?;
     clear_filled(def, ext, pages, rid)?;
-    free_block(alloc, def, ext, pages, line, row)?;
+    let cell = cell_of(alloc, def, &row.values)?;
+    release_block(alloc, def, ext, pages, line, BlockState::Free, &cell)?;
     Ok(0)
 }
 

@@ -11,7 +11,7 @@ use Rattle.mdc_ast.specs.declared.definition.GenExpr.{GenExpr}
 use Rattle.mdc_ast.specs.declared.definition.IndexDef.{IndexDef}
 use Rattle.mdc_ast.specs.declared.definition.KeyPart.{KeyPart}
 use Rattle.mdc_ast.specs.declared.name.Name.{Name}
-use Rattle.mdc_ast.specs.meaning.Definitions.{IsShort}
+use Rattle.mdc_ast.specs.Definitions.{IsShort}
 use Rattle.key_codec.proofs.TextLemmas.{length-padded}
 use Rattle.table_page.specs.Printing.{IsShortIndex}
 use Rattle.table_page.specs.TablePage.{zero_filled, in_a_row, type_code, char_length, printed_made, printed_flag, printed_name, printed_column, printed_dimension, printed_part, printed_index}

@@ -6,9 +6,9 @@ use Rattle.mdc_ast.specs.Classes.{is_name}
 use Rattle.mdc_ast.specs.declared.definition.ColumnDef.{ColumnDef}
 use Rattle.mdc_ast.specs.declared.definition.IndexDef.{IndexDef}
 use Rattle.mdc_ast.specs.declared.name.Name.{Name}
-use Rattle.mdc_ast.specs.meaning.Definitions.{IsShort, is_good_type}
+use Rattle.mdc_ast.specs.Definitions.{IsShort, is_good_type}
 use Rattle.table_page.specs.Printing.{IsShortIndex}
-use Rattle.table_page.specs.TableLimits.{is_kept_word, is_given_name, is_good_column, is_good_source, is_good_dimension, IsGoodIndex}
+use Rattle.mdc_ast.specs.TableLimits.{is_kept_word, is_given_name, is_good_column, is_good_source, is_good_dimension, IsGoodIndex}
 use Rattle.table_page.proofs.PartsLemmas.{all_weaker, and_left, and_right, each_passes}
 
 pub short_name : (name : Name) → IsTrue (is_given_name name) → IsShort name

@@ -7,8 +7,8 @@ use Rattle.mdc_ast.specs.Tokens.{is_letter, is_lower, is_word_byte}
 use Rattle.mdc_ast.specs.declared.definition.ColumnDef.{ColumnDef}
 use Rattle.mdc_ast.specs.declared.definition.IndexDef.{IndexDef}
 use Rattle.mdc_ast.specs.declared.name.Name.{Name}
-use Rattle.mdc_ast.specs.meaning.Definitions.{column_names, is_among, is_same}
-use Rattle.table_page.specs.TableLimits.{is_kept_word}
+use Rattle.mdc_ast.specs.Definitions.{column_names, is_among, is_same}
+use Rattle.mdc_ast.specs.TableLimits.{is_kept_word}
 
 -- two tests at once
 both_at : (a b c d : Bool) → ((a && b) && (c && d)) ≡ ((a && c) && (b && d))

@@ -5,7 +5,7 @@ use Rattle.byteorder.specs.Endian.{big_bytes}
 use Rattle.byteorder.specs.Numbers.{length-bytes_high_first}
 use Rattle.mdc_ast.specs.declared.definition.TableDef.{TableDef}
 use Rattle.store_api.specs.StoreState.{patched, zero_page}
-use Rattle.table_page.specs.TableLimits.{IsTableDef}
+use Rattle.mdc_ast.specs.TableLimits.{IsTableDef}
 use Rattle.table_page.specs.TablePage.{IsTablePageOf, in_a_row, printed_name, table_page, table_parts}
 use Rattle.table_page.proofs.EntriesLemmas.{length-printed_name}
 use Rattle.table_page.proofs.LimitsLemmas.{short_name}

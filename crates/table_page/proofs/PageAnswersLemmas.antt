@@ -4,7 +4,7 @@ use Rattle.mdc_ast.specs.declared.definition.TableDef.{TableDef}
 use Rattle.store_api.specs.StoreState.{zero_page}
 use Rattle.table_page.specs.PageAnswers.{IsNoTablePage}
 use Rattle.table_page.specs.ReadingBack.{definition_in_page}
-use Rattle.table_page.specs.TableLimits.{IsTableDef}
+use Rattle.mdc_ast.specs.TableLimits.{IsTableDef}
 use Rattle.table_page.specs.TablePage.{IsTablePageOf, table_page}
 use Rattle.table_page.proofs.TablePageLemmas.{definition_back, no_blank_table}
 

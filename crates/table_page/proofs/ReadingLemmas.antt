@@ -21,11 +21,11 @@ use Rattle.mdc_ast.specs.declared.definition.GenKind.TheVariants.{IntegerOver, Y
 use Rattle.mdc_ast.specs.declared.definition.IndexDef.{IndexDef}
 use Rattle.mdc_ast.specs.declared.definition.KeyPart.{KeyPart}
 use Rattle.mdc_ast.specs.declared.name.Name.{Name}
-use Rattle.mdc_ast.specs.meaning.Definitions.{is_good_type}
+use Rattle.mdc_ast.specs.Definitions.{is_good_type}
 use Rattle.key_codec.proofs.TextLemmas.{trimmed-filled}
 use Rattle.node_page.specs.Node.{bytes_in}
 use Rattle.table_page.specs.ReadingBack.{column_in_page, dimension_in_page, entries_in_page, expression_in_page, index_in_page, kind_in_page, made_in_page, name_in_page, part_in_page, type_in_page}
-use Rattle.table_page.specs.TableLimits.{is_kept_word, is_given_name, is_good_column, is_good_source, IsGoodIndex}
+use Rattle.mdc_ast.specs.TableLimits.{is_kept_word, is_given_name, is_good_column, is_good_source, IsGoodIndex}
 use Rattle.table_page.specs.TablePage.{zero_filled, type_code, char_length, kind_code, printed_expression, printed_made, printed_flag, printed_name, column_parts, printed_column, printed_dimension, printed_part, index_parts, printed_index}
 use Rattle.table_page.proofs.EntriesLemmas.{any_part, length-printed_made, length-printed_name, length-printed_part, length-printed_parts}
 use Rattle.table_page.proofs.LimitsLemmas.{name_of_column, short_name}

@@ -10,12 +10,12 @@ use Rattle.mdc_ast.specs.declared.definition.IndexDef.{IndexDef}
 use Rattle.mdc_ast.specs.declared.definition.Roots.{Roots}
 use Rattle.mdc_ast.specs.declared.definition.TableDef.{TableDef}
 use Rattle.mdc_ast.specs.declared.name.Name.{Name}
-use Rattle.mdc_ast.specs.meaning.Definitions.{IsShort}
+use Rattle.mdc_ast.specs.Definitions.{IsShort}
 use Rattle.node_page.specs.Node.{bytes_in}
 use Rattle.store_api.specs.StoreState.{zero_page}
 use Rattle.table_page.specs.Printing.{IsShortIndex, PrintsBytes}
 use Rattle.table_page.specs.ReadingBack.{column_in_page, definition_in_page, dimension_in_page, entries_in_page, index_in_page, name_in_page}
-use Rattle.table_page.specs.TableLimits.{IsGoodIndex, IsTableDef}
+use Rattle.mdc_ast.specs.TableLimits.{IsGoodIndex, IsTableDef}
 use Rattle.table_page.specs.TablePage.{IsTablePageOf, zero_filled, in_a_row, head_parts, printed_column, printed_dimension, printed_index, printed_name, table_parts, table_page}
 use Rattle.table_page.proofs.EntriesLemmas.{length-printed_column, length-printed_dimension, length-printed_index, length-printed_name}
 use Rattle.table_page.proofs.LimitsLemmas.{few_in_dims, short_columns, short_indexes, short_name}

@@ -3,7 +3,7 @@ use Rattle.std.proofs.Common.{◌≡◌, ℕ, ◌+◌, ◌<◌, ◌≤◌, ◌�
 use Rattle.std.proofs.lemmas.List.{drop_more}
 use Rattle.mdc_values.specs.declared.value.ColType.{ColType}
 use Rattle.mdc_ast.specs.declared.definition.ColumnDef.{ColumnDef}
-use Rattle.mdc_ast.specs.meaning.Definitions.{column_types, key_width, row_width, types_at, width}
+use Rattle.mdc_ast.specs.Definitions.{column_types, key_width, row_width, types_at, width}
 
 least_row : (types : List ColType) → 10 ≤ row_width types
 least_row [] = omega arith

@@ -15,7 +15,7 @@ use Rattle.mdc_ast.specs.declared.definition.KeyPart.{KeyPart}
 use Rattle.mdc_ast.specs.declared.definition.TableDef.{TableDef}
 use Rattle.mdc_ast.specs.declared.name.Name.{Name}
 use Rattle.node_page.specs.Node.{filled_page}
-use Rattle.table_page.specs.TableLimits.{IsTableDef}
+use Rattle.mdc_ast.specs.TableLimits.{IsTableDef}
 
 -- these bytes and then zeros, n in all
 abbrev pub zero_filled : ℕ → List ℕ → List ℕ

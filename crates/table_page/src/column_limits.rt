@@ -1,12 +1,12 @@
 // Which columns may stand in a table.
 ghost use Rattle.std.specs.List.{list_all, list_any};
 ghost use Rattle.std.specs.Prelude.{◌≡◌, ◌↔◌, ◌&&◌, IsTrue, slice_get};
-ghost use Rattle.mdc_ast.specs.meaning.Definitions as definitions;
-ghost use Rattle.mdc_ast.specs.meaning.Definitions.{AllNamesDiffer, column_names};
-ghost use Rattle.mdc_ast.specs.meaning.Judging as judging;
+ghost use Rattle.mdc_ast.specs.Definitions as definitions;
+ghost use Rattle.mdc_ast.specs.Definitions.{AllNamesDiffer, column_names};
+ghost use Rattle.mdc_ast.specs.Kinds as kinds;
 ghost use Rattle.mdc_values.specs.Fitting.{in_bigint};
-ghost use Rattle.table_page.specs.TableLimits as limits;
-ghost use Rattle.table_page.specs.TableLimits.{AreTableColumns};
+ghost use Rattle.mdc_ast.specs.TableLimits as limits;
+ghost use Rattle.mdc_ast.specs.TableLimits.{AreTableColumns};
 
 use crate::key_limits::{column_at, is_narrow};
 use crate::layout::MOST_COLUMNS;
@@ -91,7 +91,7 @@ fn is_day(ty: ColType) -> bool
 }
 
 fn is_number(ty: ColType) -> bool
-    ensures { result ≡ judging.is_number ty }
+    ensures { result ≡ kinds.is_number ty }
 {
     matches!(ty, ColType::Integer | ColType::Bigint)
 }

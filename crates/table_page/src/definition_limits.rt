@@ -1,10 +1,10 @@
 // Whether a definition is one that statements can make, whatever its roots and its next row number.
 ghost use Rattle.std.specs.List.{AllByRecursion, list_all, list_any};
 ghost use Rattle.std.specs.Prelude.{◌≡◌, ◌<◌, ◌↔◌, IfOk, IsTrue, length, map};
-ghost use Rattle.mdc_ast.specs.meaning.Definitions as definitions;
-ghost use Rattle.mdc_ast.specs.meaning.Definitions.{AllNamesDiffer};
-ghost use Rattle.table_page.specs.TableLimits as limits;
-ghost use Rattle.table_page.specs.TableLimits.{AreRootsFor, AreTableDims, AreTableIndexes, IsGoodIndex, IsTableDef};
+ghost use Rattle.mdc_ast.specs.Definitions as definitions;
+ghost use Rattle.mdc_ast.specs.Definitions.{AllNamesDiffer};
+ghost use Rattle.mdc_ast.specs.TableLimits as limits;
+ghost use Rattle.mdc_ast.specs.TableLimits.{AreRootsFor, AreTableDims, AreTableIndexes, IsGoodIndex, IsTableDef};
 
 use crate::column_limits::are_table_columns;
 use crate::key_limits::{

@@ -3,7 +3,7 @@ ghost use Rattle.std.specs.Prelude.{◌≡◌, ◌↔◌, Ok, None, IsTrue};
 ghost use Rattle.mdc_ast.specs.declared.definition.TableDef.{TableDef};
 ghost use Rattle.store_api.specs.StoreState.{zero_page};
 ghost use Rattle.table_page.specs.PageAnswers.{GivesTable, TellsTable};
-ghost use Rattle.table_page.specs.TableLimits.{IsTableDef};
+ghost use Rattle.mdc_ast.specs.TableLimits.{IsTableDef};
 ghost use Rattle.table_page.specs.TablePage.{IsTablePageOf, table_page};
 
 use crate::DefFault;

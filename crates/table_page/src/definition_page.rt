@@ -2,10 +2,10 @@
 ghost use Rattle.std.specs.Prelude.{◌≡◌, ◌≤◌, [], ◌∷◌, drop, length, flat_map};
 ghost use Rattle.std.specs.List.{All};
 ghost use Rattle.byteorder.specs.Endian.{big_bytes};
-ghost use Rattle.mdc_ast.specs.meaning.Definitions.{IsShort};
+ghost use Rattle.mdc_ast.specs.Definitions.{IsShort};
 ghost use Rattle.store_api.specs.StoreState.{zero_page};
 ghost use Rattle.table_page.specs.Printing.{IsShortIndex, PrintsBytes};
-ghost use Rattle.table_page.specs.TableLimits.{IsTableDef};
+ghost use Rattle.mdc_ast.specs.TableLimits.{IsTableDef};
 ghost use Rattle.table_page.specs.TablePage.{head_parts, in_a_row, printed_column, printed_dimension, printed_index, table_page, zero_filled};
 
 use crate::entry_printing::{print_column, print_dimension, print_index};

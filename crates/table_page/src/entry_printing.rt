@@ -1,6 +1,6 @@
 // The entries of a table page: a column, a dimension, an index.
 ghost use Rattle.std.specs.Prelude.{◌≡◌, ◌≤◌, ◌+◌, length, flat_map};
-ghost use Rattle.mdc_ast.specs.meaning.Definitions.{IsShort};
+ghost use Rattle.mdc_ast.specs.Definitions.{IsShort};
 ghost use Rattle.table_page.specs.Printing.{IsShortIndex, PrintsBytes};
 ghost use Rattle.table_page.specs.TablePage as spec;
 ghost use Rattle.table_page.specs.TablePage.{printed_column, printed_dimension, printed_index, printed_made, printed_part, zero_filled};

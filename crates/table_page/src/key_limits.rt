@@ -2,10 +2,9 @@
 ghost use Rattle.std.specs.List.{list_any};
 ghost use Rattle.std.specs.Option.{option_copied};
 ghost use Rattle.std.specs.Prelude.{◌≡◌, ◌≤◌, ◌↔◌, ◌==◌, [], ◌∷◌, IfOk, IsTrue, flat_map, length, nat_le, nat_lt, slice_get};
-ghost use Rattle.key_codec.specs.Keys as keys;
-ghost use Rattle.mdc_ast.specs.meaning.Definitions as definitions;
-ghost use Rattle.mdc_ast.specs.meaning.Definitions.{AllPlacesDiffer, column_types};
-ghost use Rattle.table_page.specs.TableLimits as limits;
+ghost use Rattle.mdc_ast.specs.Definitions as definitions;
+ghost use Rattle.mdc_ast.specs.Definitions.{AllPlacesDiffer, column_types};
+ghost use Rattle.mdc_ast.specs.TableLimits as limits;
 
 use crate::layout::MOST_PARTS;
 use mdc_ast::{ColumnDef, KeyPart};
@@ -128,7 +127,7 @@ pub fn places_of_all(alloc: Global, dims: &[List<u8>]) -> Result<Vec<u8>, Memory
 
 /// The places of the columns of a key.
 pub fn places_of(alloc: Global, parts: &[KeyPart]) -> Result<Vec<u8>, Memory>
-    ensures { IfOk result (λ places. places.items ≡ keys.places_of parts.now) }
+    ensures { IfOk result (λ places. places.items ≡ definitions.places_of parts.now) }
 {
     let mut places = Vec::new(alloc);
     for part in parts {

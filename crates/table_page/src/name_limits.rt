@@ -3,8 +3,8 @@ ghost use Rattle.std.specs.List.{list_all, list_any};
 ghost use Rattle.std.specs.Prelude.{◌≡◌, ◌&&◌, not};
 ghost use Rattle.std.specs.Str.{bytes_eq};
 ghost use Rattle.mdc_ast.specs.Tokens.{is_letter, is_lower, is_word_byte};
-ghost use Rattle.mdc_ast.specs.meaning.Definitions as definitions;
-ghost use Rattle.table_page.specs.TableLimits as limits;
+ghost use Rattle.mdc_ast.specs.Definitions as definitions;
+ghost use Rattle.mdc_ast.specs.TableLimits as limits;
 
 use crate::layout::NAME_BYTES;
 use mdc_ast::Name;

@@ -1,7 +1,7 @@
 // Bytes, names and zeros put into a page at a place.
 ghost use Rattle.std.specs.Prelude.{◌≤◌, ◌+◌, ◌-◌, length, replicate};
 ghost use Rattle.byteorder.specs.Endian.{big_bytes};
-ghost use Rattle.mdc_ast.specs.meaning.Definitions.{IsShort};
+ghost use Rattle.mdc_ast.specs.Definitions.{IsShort};
 ghost use Rattle.table_page.specs.Printing.{PrintsBytes};
 ghost use Rattle.table_page.specs.TablePage.{printed_name};
 

@@ -6,7 +6,7 @@ use Rattle.std.proofs.lemmas.List.Elements.{filter-append}
 use Rattle.mdc_ast.specs.declared.definition.TableDef.{TableDef}
 use Rattle.mdc_ast.specs.declared.predicate.Pred.{Pred}
 use Rattle.mdc_values.specs.Rising.{IsLower, IsRising}
-use Rattle.predicate.specs.Cells.{may_hold}
+use Rattle.cell_filter.specs.Cells.{may_hold}
 use Rattle.block_index.specs.declared.listed_cells.CellBlock.{CellBlock}
 use Rattle.table_scan.specs.Choices.{ChoosesBlocks, HaveSameMembers, blocks_that_may}
 use Rattle.table_scan.proofs.RisingNumbersLemmas.{same_moved}

@@ -9,14 +9,13 @@ use Rattle.std.proofs.lemmas.List.Sorted.{IsPermutation-append_right, IsPermutat
 use Rattle.mdc_words.specs.ByteOrder.{Entry}
 use Rattle.mdc_values.specs.Rising.{IsLower, IsRising}
 use Rattle.mdc_values.specs.declared.value.Value.{Value}
-use Rattle.mdc_ast.specs.Truth.{value_at}
+use Rattle.mdc_ast.specs.Truth.{value_at, qualifies}
 use Rattle.mdc_ast.specs.declared.definition.ColumnDef.{ColumnDef}
 use Rattle.mdc_ast.specs.declared.definition.TableDef.{TableDef}
 use Rattle.mdc_ast.specs.declared.predicate.Pred.{Pred}
-use Rattle.mdc_ast.specs.meaning.Database.{fits_all}
-use Rattle.mdc_ast.specs.meaning.Doing.{qualifies}
-use Rattle.predicate.specs.Cells.{may_hold}
-use Rattle.predicate.proofs.MayHoldLemmas.{may_hold_at-true}
+use Rattle.mdc_ast.specs.Database.{fits_all}
+use Rattle.cell_filter.specs.Cells.{may_hold}
+use Rattle.cell_filter.proofs.MayHoldLemmas.{may_hold_at-true}
 use Rattle.store_api.specs.declared.pages.Pages.{Ghosts}
 use Rattle.extent_map.specs.declared.extents.Extents.{Extents}
 use Rattle.extent_map.specs.declared.kind.Kind.{Kind}
@@ -33,7 +32,7 @@ use Rattle.block_index.specs.ListedCells.{AreCellEntries, AreOfTypes, IsCellEntr
 use Rattle.block_index.specs.declared.listed_cells.CellBlock.{CellBlock}
 use Rattle.block_index.proofs.CellsLemmas.{key_of_values-row}
 use Rattle.mdc_sound.specs.BlockRules.{AreBlockRowsSound, entry_of_block}
-use Rattle.mdc_sound.specs.FittingRows.{RowFits}
+use Rattle.mdc_ast.specs.FittingRows.{RowFits}
 use Rattle.mdc_sound.specs.StandingTable.{StandsTable, TableForests, pages_of}
 use Rattle.mdc_sound.specs.TableRows.{PlacedRow, block_slots, rows_in_block, rows_in_table}
 use Rattle.mdc_sound.proofs.BlockRulesLemmas.{each_of, named_owned}

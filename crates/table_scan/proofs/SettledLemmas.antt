@@ -17,8 +17,8 @@ use Rattle.mdc_ast.specs.declared.predicate.Test.TheVariants.{Compare, Between, 
 use Rattle.mdc_ast.specs.Truth.{all_of, all_true, and_of, any_of, is_true, may_judge, may_test, negated_if, not_of, or_of, test_truth, truth, value_at, has_column}
 use Rattle.mdc_ast.proofs.PredLemmas.{may_judge-All, may_judge-Any, may_judge-Atom, may_judge-Not, truth-All, truth-Any, truth-Atom, truth-Not}
 use Rattle.mdc_ast.proofs.TestsLemmas.{both}
-use Rattle.predicate.specs.Cells.{any_true, is_against_literals, joined_by, may_hold_at, may_hold_under, may_pass, may_pass_in, value_in_cell}
-use Rattle.predicate.proofs.CellsLemmas.{may_hold_under-All, may_hold_under-Any, may_hold_under-Atom, may_hold_under-Not}
+use Rattle.cell_filter.specs.Cells.{any_true, is_against_literals, joined_by, may_hold_at, may_hold_under, may_pass, may_pass_in, value_in_cell}
+use Rattle.cell_filter.proofs.CellsLemmas.{may_hold_under-All, may_hold_under-Any, may_hold_under-Atom, may_hold_under-Not}
 use Rattle.predicate.proofs.OppositeLemmas.{all_of-not_of, any_of-not_of}
 use Rattle.predicate.proofs.PushedLemmas.{negated_if-not}
 use Rattle.block_map.proofs.MapLinesLemmas.{contains_cases}

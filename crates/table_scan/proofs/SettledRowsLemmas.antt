@@ -5,8 +5,8 @@ use Rattle.std.proofs.lemmas.Bool.{cases_Bool}
 use Rattle.mdc_ast.specs.declared.definition.TableDef.{TableDef}
 use Rattle.mdc_ast.specs.declared.predicate.Pred.{Pred}
 use Rattle.mdc_ast.specs.declared.row.Row.{Row}
-use Rattle.mdc_ast.specs.meaning.Doing.{qualifies}
-use Rattle.predicate.specs.Cells.{may_hold_at}
+use Rattle.mdc_ast.specs.Truth.{qualifies}
+use Rattle.cell_filter.specs.Cells.{may_hold_at}
 use Rattle.row_filter.specs.Filtering.{may_filter}
 use Rattle.store_api.specs.declared.pages.Pages.{Ghosts}
 use Rattle.extent_map.specs.declared.extents.Extents.{Extents}
@@ -17,7 +17,7 @@ use Rattle.block_rows.specs.HeldRows.{HasReadValues, placed_row, qualifying}
 use Rattle.block_rows.specs.declared.hit.Hit.{Hit}
 use Rattle.table_trees.specs.RowCells.{cell_places, cell_values}
 use Rattle.mdc_sound.specs.BlockRules.{AreBlockRowsSound, IsOfOneCell}
-use Rattle.mdc_sound.specs.FittingRows.{RowFits}
+use Rattle.mdc_ast.specs.FittingRows.{RowFits}
 use Rattle.mdc_sound.specs.StandingTable.{StandsTable, TableForests, pages_of}
 use Rattle.mdc_sound.specs.TableRows.{PlacedRow, rows_in_block}
 use Rattle.mdc_sound.proofs.BlockRulesLemmas.{each_of}

@@ -4,7 +4,7 @@ use Rattle.mdc_values.specs.Rising.{IsLower, IsRising}
 use Rattle.mdc_ast.specs.declared.definition.TableDef.{TableDef}
 use Rattle.mdc_ast.specs.declared.predicate.Pred.{Pred}
 use Rattle.block_index.specs.declared.listed_cells.CellBlock.{CellBlock}
-use Rattle.predicate.specs.Cells.{may_hold}
+use Rattle.cell_filter.specs.Cells.{may_hold}
 
 -- the blocks that are listed under a cell in which the predicate may hold
 abbrev pub blocks_that_may : TableDef → Pred → List CellBlock → List ℕ

@@ -4,8 +4,8 @@ use Rattle.std.specs.List.{AllByRecursion}
 use Rattle.mdc_values.specs.declared.value.Value.{Value}
 use Rattle.mdc_ast.specs.declared.definition.TableDef.{TableDef}
 use Rattle.mdc_ast.specs.declared.predicate.Pred.{Pred}
-use Rattle.mdc_ast.specs.meaning.Doing.{qualifies}
-use Rattle.predicate.specs.Cells.{may_hold_at}
+use Rattle.mdc_ast.specs.Truth.{qualifies}
+use Rattle.cell_filter.specs.Cells.{may_hold_at}
 use Rattle.store_api.specs.declared.pages.Pages.{Ghosts}
 use Rattle.store_api.specs.Fetching.{BringsOnce, BringsOnly}
 use Rattle.extent_map.specs.declared.extents.Extents.{Extents}

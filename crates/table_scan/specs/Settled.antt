@@ -3,9 +3,8 @@ use Rattle.std.specs.Prelude.{◌≡◌, true, IsTrue, List, map, Bool, Option, 
 use Rattle.mdc_values.specs.declared.value.Value.{Value}
 use Rattle.mdc_ast.specs.declared.definition.TableDef.{TableDef}
 use Rattle.mdc_ast.specs.declared.predicate.Pred.{Pred}
-use Rattle.mdc_ast.specs.meaning.Doing.{qualifies}
-use Rattle.mdc_ast.specs.Truth.{all_true, is_true, may_judge, negated_if, truth}
-use Rattle.predicate.specs.Cells.{may_hold_at, may_hold_under}
+use Rattle.mdc_ast.specs.Truth.{qualifies, all_true, is_true, may_judge, negated_if, truth}
+use Rattle.cell_filter.specs.Cells.{may_hold_at, may_hold_under}
 use Rattle.row_filter.specs.Filtering.{may_filter}
 use Rattle.table_trees.specs.RowCells.{cell_places, cell_values}
 use Rattle.table_scan.specs.FoundRows.{MayHoldInCell}

@@ -4,18 +4,18 @@ ghost use Rattle.store_api.specs.Causes.{fault_of};
 ghost use Rattle.store_api.specs.Frame.{NoPage};
 ghost use Rattle.store_api.specs.RunsOverPages.{RunsOverPages};
 ghost use Rattle.extent_map.specs.declared.kind.Kind.{Kind};
-ghost use Rattle.table_page.specs.TableLimits.{IsTableDef};
+ghost use Rattle.mdc_ast.specs.TableLimits.{IsTableDef};
 ghost use Rattle.mdc_values.specs.Rising.{IsLower, IsRising};
 ghost use Rattle.mdc_sound.specs.StandingTable.{BreaksTable, StandsTable, TableForests};
 ghost use Rattle.table_scan.specs.Choices.{ChoosesBlocks, HaveSameMembers};
 ghost use Rattle.table_scan.specs.FoundRows.{HaveQualifying, IsChoicePage};
 
 use block_index::{CellBlock, cells};
+use cell_filter::may_hold;
 use extent_map::Extents;
 use mdc_ast::{Pred, TableDef};
 use mdc_table::used_blocks;
 use mdc_values::{Blocks, Memory};
-use predicate::may_hold;
 use std::alloc::Global;
 use store_api::{Pages, StoreFault};
 

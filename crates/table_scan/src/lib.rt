@@ -3,7 +3,7 @@
 //! It promises that exactly the rows that qualify are found, each with its place, by rising row number, and that of row pages only
 //! those of such blocks come to hand, each once: the composite index says which these are. No clause says that a row that doesn't
 //! qualify isn't copied, nor that a test which the cell settles is left out for its rows. It stands on `block_index` for the
-//! cells, on `mdc_table` for blocks, on `predicate` for what may hold in a cell, and on `row_filter` for what is true of a row.
+//! cells, on `mdc_table` for blocks, on `cell_filter` for what may hold in a cell, and on `row_filter` for what is true of a row.
 #![tactic(auto)]
 
 mod choosing;

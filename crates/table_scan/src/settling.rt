@@ -1,6 +1,6 @@
 // What is left of a predicate to be judged on rows in whose cells it may hold.
 ghost use Rattle.std.specs.Prelude.{◌≡◌, Contains, Some, true, IfOk};
-ghost use Rattle.predicate.specs.Cells.{is_against_literals};
+ghost use Rattle.cell_filter.specs.Cells.{is_against_literals};
 ghost use Rattle.table_trees.specs.RowCells.{cell_places};
 ghost use Rattle.table_scan.specs.Settled.{AreLeftOf, IsLeftOf, IsSettled};
 

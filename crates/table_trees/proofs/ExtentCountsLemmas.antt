@@ -7,7 +7,7 @@ use Rattle.std.proofs.lemmas.List.Sums.{sum_by-cons, sum_by-set}
 use Rattle.std.proofs.lemmas.Nat.{le-div}
 use Rattle.store_api.specs.Extents.{first_page_of}
 use Rattle.extent_map.specs.Kinds.{is_free_kind, is_used_place, is_unused_place, with_used_place, without_place}
-use Rattle.extent_map.specs.Owners.{HasNoFree, HasNoUnused, IsClaimable, IsExtentPage, IsFirstOfFree, IsLowestClaimable, IsUnusedPage, extent_of, owner_of, place_in_extent, with_block, with_used_page, without_page}
+use Rattle.extent_map.specs.Owners.{HasNoFree, HasNoUnused, IsClaimable, IsExtentPage, IsFirstOfFree, IsLowestClaimable, IsUnusedPage, extent_of, owner_of, place_in_extent, with_block, with_used_page, without_block, without_page}
 use Rattle.extent_map.specs.declared.extents.Extents.{Extents}
 use Rattle.extent_map.specs.declared.kind.Kind.{Kind}
 use Rattle.extent_map.specs.declared.kind.Kind.TheVariants.{Free, Block, Index}
@@ -252,3 +252,21 @@ used_index_pages-with_block ext owners e table free =
     let n = ext.extent_pages in
     let none : used_in n (Block table) ≤ used_in n (owner_of owners e) + 0 = omega (arith, count_none (λ j. is_used_place j (Block table)) n (λ i less. refl)) in
     omega (arith, sum_by-set_le (used_in n) owners e (Block table) Free 0 none)
+
+-- ---- a block that becomes a free extent
+
+-- no extent less is free
+pub free_extents-without_block : (owners : List Kind) (e : ℕ) → free_extents owners ≤ free_extents (without_block owners e)
+free_extents-without_block owners e = sum_by-set_ge (λ k. one_if (is_free_kind k)) owners e Free Free (one_at_most (owner_of owners e))
+  where
+    one_at_most : (kind : Kind) → one_if (is_free_kind kind) ≤ one_if (is_free_kind Free)
+    one_at_most Free = omega arith
+    one_at_most (Block table) = omega arith
+    one_at_most (Index used) = omega arith
+
+-- and no more index pages are used
+pub used_index_pages-without_block : (ext : Extents) (owners : List Kind) (e : ℕ) → used_index_pages ext (without_block owners e) ≤ used_index_pages ext owners
+used_index_pages-without_block ext owners e =
+    let n = ext.extent_pages in
+    let none : used_in n Free ≤ used_in n (owner_of owners e) + 0 = omega (arith, count_none (λ j. is_used_place j Free) n (λ i less. refl)) in
+    omega (arith, sum_by-set_le (used_in n) owners e Free Free 0 none)

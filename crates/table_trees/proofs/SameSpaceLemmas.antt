@@ -20,7 +20,7 @@ use Rattle.entry_tree.proofs.ForestLemmas.{EachNode-agree, HoldsForest-agree, on
 use Rattle.entry_tree.proofs.StandingLemmas.{asked_same}
 use Rattle.entry_tree.proofs.WayLemmas.{at_place_times}
 use Rattle.table_trees.specs.SpaceChanges.{AsksSpace, ChangesSpace, GrowsToExtent, IsSameSpace, KeepsIndexPages, SpaceChange, TurnsTree}
-use Rattle.table_trees.specs.SpaceChanges.SpaceChange.{AddEntry, AmendEntry, ClaimBlock, MakeTree, RemoveEntry}
+use Rattle.table_trees.specs.SpaceChanges.SpaceChange.{AddEntry, AmendEntry, ClaimBlock, GiveBlock, MakeTree, RemoveEntry}
 use Rattle.table_trees.specs.TableTrees.{TreePlace}
 use Rattle.table_trees.specs.ToldPages.{HasTree, PageList, telling, told_pages}
 use Rattle.table_trees.proofs.ExtentCountsLemmas.{lowest-claimable}
@@ -98,6 +98,7 @@ leaves_along old new width before after keeps h =
 pub asks_along : (ext : Extents) (owners : List Kind) (old new : PageList) (change : SpaceChange) (blocks n : ℕ) → KeepsUsed ext owners old new → AsksSpace ext owners old change blocks n
     → AsksSpace ext owners new change blocks n
 asks_along ext owners old new (ClaimBlock t block) blocks n keeps a = a
+asks_along ext owners old new (GiveBlock t block) blocks n keeps a = a
 asks_along ext owners old new (AddEntry place entry) blocks n keeps a =
     let stay : KeepsPages a.1.tree old new = λ p l. keeps p (a.1.used p l) in (
       a.0,
@@ -147,21 +148,23 @@ module _ (ext : Extents) (olds news : List Kind) (old mid new : PageList) where
   }
 
   -- what a change does it does from the pages before the rows too
-  pub effect_from : (change : SpaceChange) → KeepsUsed ext olds old mid → ChangesSpace ext change olds news mid new → ChangesSpace ext change olds news old new
-  effect_from (ClaimBlock t block) keeps c = (c.0, c.1, keeps_from Forest.Nil keeps c.2)
-  effect_from (AddEntry place entry) keeps c =
+  pub effect_from : length mid ≡ length old → (change : SpaceChange) → KeepsUsed ext olds old mid → ChangesSpace ext change olds news mid new → ChangesSpace ext change olds news old new
+  effect_from same (ClaimBlock t block) keeps c = (c.0, c.1, keeps_from Forest.Nil keeps c.2)
+  effect_from same (GiveBlock t block) keeps c = (c.0, c.1, keeps_from Forest.Nil keeps c.2, c.3 ∙ same)
+  effect_from same (AddEntry place entry) keeps c =
       (c.0, c.1, c.2, turns_from place c.0 c.1 keeps c.3, c.4, c.5, leaves_along mid old place.width c.0 c.1 (λ p l. sym (keeps p (c.3.was_used p l))) c.6)
-  effect_from (RemoveEntry place entry) keeps c = (c.0, c.1, c.2, turns_from place c.0 c.1 keeps c.3, c.4, c.5)
-  effect_from (AmendEntry place was is) keeps c = (c.0, c.1, c.2, turns_from place c.0 c.1 keeps c.3, c.4, c.5, c.6, c.7)
-  effect_from (MakeTree place) keeps c = (c.0, c.1, c.2, keeps_from Forest.Nil keeps c.3, c.4)
+  effect_from same (RemoveEntry place entry) keeps c = (c.0, c.1, c.2, turns_from place c.0 c.1 keeps c.3, c.4, c.5)
+  effect_from same (AmendEntry place was is) keeps c = (c.0, c.1, c.2, turns_from place c.0 c.1 keeps c.3, c.4, c.5, c.6, c.7)
+  effect_from same (MakeTree place) keeps c = (c.0, c.1, c.2, keeps_from Forest.Nil keeps c.3, c.4)
 
   -- and to the pages after them
-  pub effect_to : length olds ≡ ext.cap → (change : SpaceChange) → KeepsUsed ext news mid new → ChangesSpace ext change olds news old mid → ChangesSpace ext change olds news old new
-  effect_to count (ClaimBlock t block) keeps c = (c.0, c.1, keeps_to Forest.Nil keeps c.2)
-  effect_to count (AddEntry place entry) keeps c = (c.0, c.1, c.2, turns_to place c.0 c.1 keeps c.3, c.4, c.5, c.6)
-  effect_to count (RemoveEntry place entry) keeps c = (c.0, c.1, c.2, turns_to place c.0 c.1 keeps c.3, c.4, c.5)
-  effect_to count (AmendEntry place was is) keeps c = (c.0, c.1, c.2, turns_to place c.0 c.1 keeps c.3, c.4, c.5, c.6, c.7)
-  effect_to count (MakeTree place) keeps c =
+  pub effect_to : length olds ≡ ext.cap → length new ≡ length mid → (change : SpaceChange) → KeepsUsed ext news mid new → ChangesSpace ext change olds news old mid → ChangesSpace ext change olds news old new
+  effect_to count same (ClaimBlock t block) keeps c = (c.0, c.1, keeps_to Forest.Nil keeps c.2)
+  effect_to count same (GiveBlock t block) keeps c = (c.0, c.1, keeps_to Forest.Nil keeps c.2, same ∙ c.3)
+  effect_to count same (AddEntry place entry) keeps c = (c.0, c.1, c.2, turns_to place c.0 c.1 keeps c.3, c.4, c.5, c.6)
+  effect_to count same (RemoveEntry place entry) keeps c = (c.0, c.1, c.2, turns_to place c.0 c.1 keeps c.3, c.4, c.5)
+  effect_to count same (AmendEntry place was is) keeps c = (c.0, c.1, c.2, turns_to place c.0 c.1 keeps c.3, c.4, c.5, c.6, c.7)
+  effect_to count same (MakeTree place) keeps c =
       (has_along mid new place (Forest.Leaf place.root [] Forest.Nil) (λ p l. keeps p (root_used p l)) c.0, c.1, c.2, keeps_to Forest.Nil keeps c.3, c.4)
     where
       root_used : (p : ℕ) → 0 < times p (Forest.Leaf place.root [] Forest.Nil) → IsUsedPage ext news p

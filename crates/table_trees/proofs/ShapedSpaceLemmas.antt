@@ -10,7 +10,7 @@ use Rattle.entry_tree.specs.Pruning.{without_pages}
 use Rattle.entry_tree.specs.Standing.{AreLowestClaims, with_pages}
 use Rattle.entry_tree.proofs.UsedPagesLemmas.{lowest_same, shape_back, used_same, with_page_same}
 use Rattle.table_trees.specs.SpaceChanges.{AsksSpace, AsksTooMuch, ChangesSpace, ClaimsForTree, GrowsToExtent, IsSameSpace, KeepsIndexPages, MakesChange, ReturnsOfTree, SpaceChange, TurnsTree, extents_for, free_extents, used_index_pages}
-use Rattle.table_trees.specs.SpaceChanges.SpaceChange.{AddEntry, AmendEntry, ClaimBlock, MakeTree, RemoveEntry}
+use Rattle.table_trees.specs.SpaceChanges.SpaceChange.{AddEntry, AmendEntry, ClaimBlock, GiveBlock, MakeTree, RemoveEntry}
 use Rattle.table_trees.specs.TableTrees.{TreePlace}
 use Rattle.table_trees.specs.ToldPages.{PageList}
 
@@ -38,6 +38,7 @@ module _ (ext other : Extents) (shape : IsSameShape ext other) where
   -- a change asks for the same
   asks_shaped : (owners : List Kind) (pages : PageList) (change : SpaceChange) (blocks n : ℕ) → AsksSpace other owners pages change blocks n → AsksSpace ext owners pages change blocks n
   asks_shaped owners pages (ClaimBlock t block) blocks n a = a
+  asks_shaped owners pages (GiveBlock t block) blocks n a = a
   asks_shaped owners pages (AddEntry place entry) blocks n a =
       (a.0, record { tree = a.1.tree; has = a.1.has; used = λ p l. to_ext owners p (a.1.used p l); absent = a.1.absent; asks = a.1.asks })
   asks_shaped owners pages (RemoveEntry place entry) blocks n a = a
@@ -110,6 +111,7 @@ module _ (ext other : Extents) (shape : IsSameShape ext other) where
   -- a change does the same
   effect_shaped : (change : SpaceChange) (olds news : List Kind) (old new : PageList) → ChangesSpace other change olds news old new → ChangesSpace ext change olds news old new
   effect_shaped (ClaimBlock t block) olds news old new c = (c.0, c.1, keeps_shaped olds news old new Forest.Nil c.2)
+  effect_shaped (GiveBlock t block) olds news old new c = (c.0, c.1, keeps_shaped olds news old new Forest.Nil c.2, c.3)
   effect_shaped (AddEntry place entry) olds news old new c =
       (c.0, c.1, c.2, turns_shaped olds news old new place c.0 c.1 c.3, claims_shaped olds news c.0 c.1 c.2 c.4, c.5, c.6)
   effect_shaped (RemoveEntry place entry) olds news old new c =

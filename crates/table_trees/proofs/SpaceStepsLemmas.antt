@@ -1,17 +1,19 @@
 -- What calls on trees and extents do is a change of space, or finds that it asks for too much.
-use Rattle.std.proofs.Common.{◌≡◌, ◌⊎◌, ◌<◌, ◌≤◌, ℕ, IsTrue, List, [], ◌∷◌, length, refl, arith, ◌∙◌, inl, inr}
+use Rattle.std.proofs.Common.{◌≡◌, ◌⊎◌, ◌<◌, ◌≤◌, ℕ, IsTrue, List, [], ◌∷◌, length, refl, ap, arith, ◌∙◌, inl, inr}
 use Rattle.mdc_words.specs.ByteOrder.{Entry}
 use Rattle.store_api.specs.Frame.{Touches}
 use Rattle.store_api.specs.StoreState.{page_at}
 use Rattle.store_api.specs.declared.pages.Pages.{Ghosts}
 use Rattle.store_api.proofs.FrameLemmas.{touches_wider}
+use Rattle.extent_map.specs.Kinds.{is_block_kind}
 use Rattle.extent_map.specs.Map.{HoldsMap, IsSpacePage}
-use Rattle.extent_map.specs.Owners.{AreRightNotes, HasNoFree, IsLowestFree, IsSameShape, IsUsedPage, with_block, with_used_page}
+use Rattle.extent_map.specs.Owners.{AreRightNotes, HasNoFree, IsLowestFree, IsSameShape, IsUsedPage, owner_of, with_block, with_used_page, without_block}
 use Rattle.extent_map.specs.declared.extents.Extents.{Extents}
 use Rattle.extent_map.specs.declared.kind.Kind.{Kind}
+use Rattle.extent_map.specs.declared.kind.Kind.TheVariants.{Block}
 use Rattle.extent_map.proofs.ExtentsLemmas.{extent_limits}
 use Rattle.extent_map.proofs.HoldsMapLemmas.{holds_map_along}
-use Rattle.extent_map.proofs.UsedPagesLemmas.{no_space_page, used-with_block}
+use Rattle.extent_map.proofs.UsedPagesLemmas.{no_space_page, used-with_block, used-without_block}
 use Rattle.entry_tree.specs.Amending.{AmendsEntry}
 use Rattle.entry_tree.specs.EntryBounds.{IsEntryOf}
 use Rattle.entry_tree.specs.Forest.{Forest, leaf_entries}
@@ -23,10 +25,10 @@ use Rattle.entry_tree.specs.declared.tree.Tree.{Tree}
 use Rattle.entry_tree.proofs.StandingLemmas.{map_stays}
 use Rattle.entry_tree.proofs.UsedPagesLemmas.{shape_back, used_after, used_not_idle}
 use Rattle.table_trees.specs.SpaceChanges.{AsksInTree, AsksTooMuch, GrowsToExtent, IsSameSpace, MakesChange}
-use Rattle.table_trees.specs.SpaceChanges.SpaceChange.{AddEntry, AmendEntry, ClaimBlock, MakeTree, RemoveEntry}
+use Rattle.table_trees.specs.SpaceChanges.SpaceChange.{AddEntry, AmendEntry, ClaimBlock, GiveBlock, MakeTree, RemoveEntry}
 use Rattle.table_trees.specs.TableTrees.{TreePlace, place_of_tree}
 use Rattle.table_trees.specs.ToldPages.{telling}
-use Rattle.table_trees.proofs.ExtentCountsLemmas.{extents_for-full, free_extents-none, free_extents-with_block, free_extents-with_pages, free_extents-without_pages, used_index_pages-with_block, used_index_pages-with_pages, used_index_pages-without_pages}
+use Rattle.table_trees.proofs.ExtentCountsLemmas.{extents_for-full, free_extents-none, free_extents-with_block, free_extents-with_pages, free_extents-without_block, free_extents-without_pages, used_index_pages-with_block, used_index_pages-with_pages, used_index_pages-without_block, used_index_pages-without_pages}
 use Rattle.table_trees.proofs.GrowingPagesLemmas.{claims_grow}
 use Rattle.table_trees.proofs.KeptOwnersLemmas.{blocks-with_pages}
 use Rattle.table_trees.proofs.ToldNodesLemmas.{asks_same, keeps_leaves_same}
@@ -184,6 +186,30 @@ module _ {S : Type 0} {g : Ghosts S} where
     asked = 0;
     asks = (refl, refl);
     short = omega (arith, free_extents-none owners none);
+  }
+
+  -- a block that is given back: each used index page stays, and no page comes
+  pub giving_makes : (before ext : Extents) (old new : S) (table block : ℕ) (owners : List Kind) → HoldsMap g before old owners → IsTrue (g.state old).is_told
+      → (g.state new).is_told ≡ (g.state old).is_told → IsSameShape before ext → owner_of owners block ≡ Block table → HoldsMap g ext new (without_block owners block)
+      → ((p : ℕ) → IsUsedPage before owners p → page_at (g.state new).work p ≡ page_at (g.state old).work p) → length (g.state new).work ≡ length (g.state old).work
+      → MakesChange before (g.state old).work (GiveBlock table block) (g.state new).work
+  giving_makes before ext old new table block owners map told still shape is now stay count = record {
+    old_owners = owners;
+    new_owners = without_block owners block;
+    old_map = map_of_told g old told before owners map;
+    new_map = map_of_told g new (still ∙ told) before (without_block owners block) (holds_map_along (shape_back before ext shape) now);
+    blocks = 0;
+    asked = 0;
+    asks = (refl, refl);
+    effect = (
+      is,
+      refl,
+      record { bytes = λ p used none. stay p used; used = λ p used none. used-without_block before owners block p (ap is_block_kind is) used },
+      count,
+    );
+    few_extents = omega (arith, free_extents-without_block owners block);
+    few_pages = omega (arith, used_index_pages-without_block before owners block);
+    grows = inl count;
   }
 
   -- a tree that is made

@@ -7,8 +7,8 @@ use Rattle.std.proofs.lemmas.Option.{same_Some}
 use Rattle.mdc_ast.specs.declared.definition.ColumnDef.{ColumnDef}
 use Rattle.mdc_ast.specs.declared.definition.KeyPart.{KeyPart}
 use Rattle.mdc_ast.specs.declared.definition.TableDef.{TableDef}
-use Rattle.mdc_ast.specs.meaning.Definitions.{are_there}
-use Rattle.key_codec.specs.Keys.{ArePartsOf, part_width, places_of, type_of_column, type_or_none, width_of_parts}
+use Rattle.mdc_ast.specs.Definitions.{are_there, places_of}
+use Rattle.key_codec.specs.Keys.{ArePartsOf, part_width, type_of_column, type_or_none, width_of_parts}
 use Rattle.key_codec.proofs.KeyLemmas.{first_there, width_of_parts-cons}
 use Rattle.table_trees.specs.TableTrees.{AreIndexParts, TreePlace, dimension_place, dimension_places, rising_parts}
 

@@ -7,7 +7,7 @@ use Rattle.store_api.specs.Extents.{first_page_of}
 use Rattle.store_api.specs.StoreState.{page_at}
 use Rattle.extent_map.specs.Kinds.{is_free_kind, is_used_place, is_unused_place}
 use Rattle.extent_map.specs.Map.{HoldsMap}
-use Rattle.extent_map.specs.Owners.{IsLowestClaimable, IsLowestFree, IsUsedPage, owner_of, with_block, with_used_page}
+use Rattle.extent_map.specs.Owners.{IsLowestClaimable, IsLowestFree, IsUsedPage, owner_of, with_block, with_used_page, without_block}
 use Rattle.extent_map.specs.declared.extents.Extents.{Extents}
 use Rattle.extent_map.specs.declared.kind.Kind.{Kind}
 use Rattle.extent_map.specs.declared.kind.Kind.TheVariants as kind
@@ -40,10 +40,12 @@ extents_for ext owners n = (n - unused_index_pages ext owners + ext.extent_pages
 
 -- ---- changes
 
--- One change of space: a free extent becomes a block of a table; an entry is added to a tree, taken out, or changed in place;
--- a tree is made. What gives pages back as a whole, as DROP TABLE does, asks for nothing and stands in no list.
+-- One change of space: a free extent becomes a block of a table, or a block of one is given back and is a free extent again; an
+-- entry is added to a tree, taken out, or changed in place; a tree is made. No statement gives back a single block yet. What gives
+-- all pages of a table back, as DROP TABLE does, asks for nothing and stands in no list.
 pub data SpaceChange : Type 0 where
   ClaimBlock : (table block : ℕ) → SpaceChange
+  GiveBlock : (table block : ℕ) → SpaceChange
   AddEntry : (place : TreePlace) (entry : Entry) → SpaceChange
   RemoveEntry : (place : TreePlace) (entry : Entry) → SpaceChange
   AmendEntry : (place : TreePlace) (before after : Entry) → SpaceChange
@@ -57,7 +59,7 @@ pub record AsksInTree (ext : Extents) (owners : List Kind) (pages : PageList) (p
   pub absent : IsEntryOf entry (leaf_entries tree) → ⊥
   pub asks : AsksPages place.width (nodes_in place.width (telling pages)) tree entry n
 
--- a change asks for so many extents as blocks, and so many index pages; what is taken out asks for none
+-- a change asks for so many extents as blocks, and so many index pages; what is taken out or given back asks for none
 abbrev pub AsksSpace : Extents → List Kind → PageList → SpaceChange → ℕ → ℕ → Type 0
 AsksSpace ext owners pages (ClaimBlock t block) blocks n = (blocks ≡ 1) × (n ≡ 0)
 AsksSpace ext owners pages (AddEntry place entry) blocks n = (blocks ≡ 0) × AsksInTree ext owners pages place entry n
@@ -99,6 +101,9 @@ pub record ReturnsOfTree (ext : Extents) (old_owners new_owners : List Kind) (be
 abbrev pub ChangesSpace : Extents → SpaceChange → List Kind → List Kind → PageList → PageList → Type 0
 ChangesSpace ext (ClaimBlock t block) old_owners new_owners old new =
     IsLowestFree old_owners block × (new_owners ≡ with_block old_owners block t) × KeepsIndexPages ext old_owners new_owners old new Forest.Nil
+ChangesSpace ext (GiveBlock t block) old_owners new_owners old new =
+    (owner_of old_owners block ≡ kind.Block t) × (new_owners ≡ without_block old_owners block)
+    × KeepsIndexPages ext old_owners new_owners old new Forest.Nil × (length new ≡ length old)
 ChangesSpace ext (AddEntry place entry) old_owners new_owners old new =
     (before : Forest) × (after : Forest) × (claimed : List ℕ) × TurnsTree ext old_owners new_owners old new place before after
     × ClaimsForTree ext old_owners new_owners before after claimed × (leaf_entries after ≡ with_entry entry (leaf_entries before))

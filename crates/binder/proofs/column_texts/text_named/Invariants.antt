@@ -1,5 +1,5 @@
 use Rattle.std.proofs.Common.{◌≡◌, drop}
-use Rattle.mdc_ast.specs.meaning.Judged.{text_named}
+use Rattle.statement_meaning.specs.Judged.{text_named}
 use Rattle.binder.proofs.column_texts.text_named.Given as goal
 
 abbrev pub invariant-loop-column : goal.invariant-loop-column

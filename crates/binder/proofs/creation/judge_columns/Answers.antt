@@ -1,7 +1,7 @@
 use Rattle.std.proofs.Common.{◌≡◌, false, sym, take, ◌∙◌}
 use Rattle.std.proofs.lemmas.Bool.{not-true}
-use Rattle.mdc_ast.specs.meaning.Definitions.{is_among}
-use Rattle.mdc_ast.specs.meaning.Judged.{text_names}
+use Rattle.mdc_ast.specs.Definitions.{is_among}
+use Rattle.statement_meaning.specs.Judged.{text_names}
 use Rattle.binder.proofs.CreateLemmas.{knows-more, twice_named-next}
 use Rattle.binder.proofs.creation.judge_columns.Goals as goal
 

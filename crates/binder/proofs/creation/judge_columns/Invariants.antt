@@ -1,5 +1,5 @@
 use Rattle.std.proofs.Common.{◌≡◌, [], drop, take}
-use Rattle.mdc_ast.specs.meaning.Judged.{text_names, twice_named}
+use Rattle.statement_meaning.specs.Judged.{text_names, twice_named}
 use Rattle.binder.specs.Knowing.{Knows}
 use Rattle.binder.specs.Saying.{first_of}
 use Rattle.binder.proofs.creation.judge_columns.Given as goal

@@ -1,7 +1,7 @@
 use Rattle.std.proofs.Common.{◌≡◌, ◌<◌, true, false, arith, length, map, sym, take, ◌∙◌}
 use Rattle.std.proofs.lemmas.Bool.{not-false, not-true}
 use Rattle.std.proofs.lemmas.List.{length-map}
-use Rattle.mdc_ast.specs.meaning.Definitions.{is_among}
+use Rattle.mdc_ast.specs.Definitions.{is_among}
 use Rattle.binder.proofs.ColumnLemmas.{listed_names-next, listed_names-no_column, listed_names-twice}
 use Rattle.binder.proofs.CreateLemmas.{knows-next, lent-at}
 use Rattle.binder.proofs.creation.judge_dims.Goals as goal

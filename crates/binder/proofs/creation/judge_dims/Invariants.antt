@@ -1,6 +1,6 @@
 use Rattle.std.proofs.Common.{◌≡◌, List, [], drop, map, take}
 use Rattle.mdc_ast.specs.declared.name.Name.{Name}
-use Rattle.mdc_ast.specs.meaning.Judging.{listed_names}
+use Rattle.statement_meaning.specs.Judging.{listed_names}
 use Rattle.binder.specs.Knowing.{Knows}
 use Rattle.binder.specs.Saying.{first_of}
 use Rattle.binder.proofs.creation.judge_dims.Given as goal

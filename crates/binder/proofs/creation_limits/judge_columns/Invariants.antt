@@ -1,5 +1,5 @@
 use Rattle.std.proofs.Common.{◌≡◌, drop}
-use Rattle.mdc_ast.specs.meaning.Judged.{column_limits}
+use Rattle.statement_meaning.specs.Judged.{column_limits}
 use Rattle.binder.specs.Saying.{first_of}
 use Rattle.binder.proofs.creation_limits.judge_columns.Given as goal
 

@@ -1,6 +1,6 @@
 use Rattle.std.proofs.Common.{◌≡◌, drop}
 use Rattle.std.specs.Prelude.{flat_map}
-use Rattle.mdc_ast.specs.meaning.Judged.{dim_limits}
+use Rattle.statement_meaning.specs.Judged.{dim_limits}
 use Rattle.binder.specs.Saying.{first_of}
 use Rattle.binder.proofs.creation_limits.judge_dims.Given as goal
 

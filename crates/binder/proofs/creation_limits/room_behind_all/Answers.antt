@@ -1,6 +1,6 @@
 use Rattle.std.proofs.Common.{ap, arith}
-use Rattle.mdc_ast.specs.meaning.Definitions.{key_width}
-use Rattle.mdc_ast.specs.meaning.Judged.{types_named}
+use Rattle.mdc_ast.specs.Definitions.{key_width}
+use Rattle.statement_meaning.specs.Judged.{types_named}
 use Rattle.binder.proofs.WidthLemmas.{dims-step}
 use Rattle.binder.proofs.creation_limits.room_behind_all.Goals as goal
 

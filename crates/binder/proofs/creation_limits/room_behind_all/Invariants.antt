@@ -1,7 +1,7 @@
 use Rattle.std.proofs.Common.{◌≡◌, ◌+◌, drop}
 use Rattle.std.specs.Prelude.{flat_map}
-use Rattle.mdc_ast.specs.meaning.Definitions.{key_width}
-use Rattle.mdc_ast.specs.meaning.Judged.{types_named}
+use Rattle.mdc_ast.specs.Definitions.{key_width}
+use Rattle.statement_meaning.specs.Judged.{types_named}
 use Rattle.binder.proofs.creation_limits.room_behind_all.Given as goal
 
 abbrev pub invariant-loop-dim : goal.invariant-loop-dim

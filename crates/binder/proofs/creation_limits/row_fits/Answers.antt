@@ -1,7 +1,7 @@
 use Rattle.std.proofs.Common.{◌<◌, arith}
 use Rattle.std.proofs.lemmas.Bool.Decides.{nat_tests}
-use Rattle.mdc_ast.specs.meaning.Definitions.{row_width}
-use Rattle.mdc_ast.specs.meaning.Judged.{text_types}
+use Rattle.mdc_ast.specs.Definitions.{row_width}
+use Rattle.statement_meaning.specs.Judged.{text_types}
 use Rattle.binder.proofs.WidthLemmas.{row_over}
 use Rattle.binder.proofs.creation_limits.row_fits.Goals as goal
 

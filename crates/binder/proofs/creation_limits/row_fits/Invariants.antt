@@ -1,6 +1,6 @@
 use Rattle.std.proofs.Common.{◌≡◌, ◌+◌, drop}
-use Rattle.mdc_ast.specs.meaning.Definitions.{row_width}
-use Rattle.mdc_ast.specs.meaning.Judged.{text_types}
+use Rattle.mdc_ast.specs.Definitions.{row_width}
+use Rattle.statement_meaning.specs.Judged.{text_types}
 use Rattle.binder.proofs.creation_limits.row_fits.Given as goal
 
 abbrev pub invariant-loop-column : goal.invariant-loop-column

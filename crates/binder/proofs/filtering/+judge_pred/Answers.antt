@@ -1,7 +1,7 @@
 use Rattle.std.proofs.Common.{Some, ap, sym, ◌∙◌}
 use Rattle.std.specs.Prelude.{flat_map}
 use Rattle.std.proofs.lemmas.Result.{err_from_is_err_and}
-use Rattle.mdc_ast.specs.meaning.Judging.{atoms_of}
+use Rattle.statement_meaning.specs.Judging.{atoms_of}
 use Rattle.binder.specs.Classes.{atom_causes}
 use Rattle.binder.specs.Saying.{objected, first_of}
 use Rattle.binder.proofs.FirstLemmas.{first_of-end, first_of-here}

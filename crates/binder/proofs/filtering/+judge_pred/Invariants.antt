@@ -1,6 +1,6 @@
 use Rattle.std.proofs.Common.{◌≡◌, Some, drop}
 use Rattle.std.specs.Prelude.{flat_map}
-use Rattle.mdc_ast.specs.meaning.Judging.{atoms_of}
+use Rattle.statement_meaning.specs.Judging.{atoms_of}
 use Rattle.binder.specs.Classes.{atom_causes}
 use Rattle.binder.specs.Saying.{first_of}
 use Rattle.binder.proofs.filtering.+judge_pred.Given as goal

@@ -1,6 +1,6 @@
 use Rattle.std.proofs.Common.{◌∙◌}
 use Rattle.std.proofs.lemmas.Result.{err_from_is_err_and}
-use Rattle.mdc_ast.specs.meaning.Judging.{fit_compared}
+use Rattle.statement_meaning.specs.Judging.{fit_compared}
 use Rattle.binder.specs.Classes.{literal_causes}
 use Rattle.binder.specs.Saying.{objected}
 use Rattle.binder.proofs.FirstLemmas.{first_of-here, first_of-next}

@@ -1,6 +1,6 @@
 use Rattle.std.proofs.Common.{◌≡◌, drop}
 use Rattle.std.specs.Prelude.{flat_map}
-use Rattle.mdc_ast.specs.meaning.Judging.{fit_compared}
+use Rattle.statement_meaning.specs.Judging.{fit_compared}
 use Rattle.binder.specs.Classes.{literal_causes}
 use Rattle.binder.specs.Saying.{first_of}
 use Rattle.binder.proofs.filtering.judge_literals.Given as goal

@@ -1,7 +1,7 @@
 use Rattle.std.proofs.Common.{ap, refl, sym, ◌∙◌}
 use Rattle.std.specs.Prelude.{flat_map}
 use Rattle.std.proofs.lemmas.Result.{err_from_is_err_and}
-use Rattle.mdc_ast.specs.meaning.Judged.{insert_judged}
+use Rattle.statement_meaning.specs.Judged.{insert_judged}
 use Rattle.binder.specs.Classes.{tuple_causes}
 use Rattle.binder.specs.Saying.{objected, first_of}
 use Rattle.binder.specs.declared.literals.Class.TheVariants.{Types, Values}

@@ -1,5 +1,5 @@
 use Rattle.std.proofs.Common.{◌≡◌, drop}
-use Rattle.mdc_ast.specs.meaning.Judged.{each_item}
+use Rattle.statement_meaning.specs.Judged.{each_item}
 use Rattle.binder.specs.Classes.{item_causes, target_names}
 use Rattle.binder.specs.Saying.{first_of}
 use Rattle.binder.proofs.insertion.judge_items.Given as goal

@@ -1,5 +1,5 @@
 use Rattle.std.proofs.Common.{sym, ◌∙◌}
-use Rattle.mdc_ast.specs.meaning.Definitions.{column_names}
+use Rattle.mdc_ast.specs.Definitions.{column_names}
 use Rattle.binder.proofs.ColumnLemmas.{is_among-column_names, listed_names-next, listed_names-no_column, listed_names-twice}
 use Rattle.binder.proofs.insertion.judge_names.Goals as goal
 

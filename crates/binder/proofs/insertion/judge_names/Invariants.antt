@@ -1,6 +1,6 @@
 use Rattle.std.proofs.Common.{◌≡◌, [], drop, take}
-use Rattle.mdc_ast.specs.meaning.Definitions.{column_names}
-use Rattle.mdc_ast.specs.meaning.Judging.{listed_names}
+use Rattle.mdc_ast.specs.Definitions.{column_names}
+use Rattle.statement_meaning.specs.Judging.{listed_names}
 use Rattle.binder.specs.Saying.{first_of}
 use Rattle.binder.proofs.insertion.judge_names.Given as goal
 

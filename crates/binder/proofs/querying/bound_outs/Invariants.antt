@@ -1,5 +1,5 @@
 use Rattle.std.proofs.Common.{◌≡◌, map, take}
-use Rattle.mdc_ast.specs.meaning.Binding.{bound_out_of}
+use Rattle.statement_meaning.specs.Binding.{bound_out_of}
 use Rattle.binder.proofs.querying.bound_outs.Given as goal
 
 abbrev pub invariant-loop-out : goal.invariant-loop-out

@@ -1,7 +1,7 @@
 use Rattle.std.proofs.Common.{ap, map, sym, ◌∙◌}
 use Rattle.std.proofs.lemmas.List.{take_all}
 use Rattle.mdc_ast.specs.declared.bound.BoundOut.TheVariants as out
-use Rattle.mdc_ast.specs.meaning.Binding.{the_place}
+use Rattle.statement_meaning.specs.Binding.{the_place}
 use Rattle.binder.proofs.ColumnLemmas.{map-column_names}
 use Rattle.binder.proofs.querying.bound_star.Goals as goal
 

@@ -1,6 +1,6 @@
 use Rattle.std.proofs.Common.{◌≡◌, map, take}
 use Rattle.mdc_ast.specs.declared.bound.BoundOut.TheVariants as out
-use Rattle.mdc_ast.specs.meaning.Binding.{the_place}
+use Rattle.statement_meaning.specs.Binding.{the_place}
 use Rattle.binder.proofs.querying.bound_star.Given as goal
 
 abbrev pub invariant-loop-column : goal.invariant-loop-column

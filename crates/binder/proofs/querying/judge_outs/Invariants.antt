@@ -1,6 +1,6 @@
 use Rattle.std.proofs.Common.{◌≡◌, drop}
 use Rattle.std.specs.Prelude.{flat_map}
-use Rattle.mdc_ast.specs.meaning.Judged.{out_columns}
+use Rattle.statement_meaning.specs.Judged.{out_columns}
 use Rattle.binder.specs.Saying.{first_of}
 use Rattle.binder.proofs.querying.judge_outs.Given as goal
 

@@ -1,5 +1,5 @@
 use Rattle.std.proofs.Common.{◌≡◌, map, take}
-use Rattle.mdc_ast.specs.meaning.Binding.{given_for}
+use Rattle.statement_meaning.specs.Binding.{given_for}
 use Rattle.binder.specs.Classes.{target_names}
 use Rattle.binder.proofs.row_binding.bound_tuple.Given as goal
 

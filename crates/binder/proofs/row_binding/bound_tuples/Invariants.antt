@@ -1,5 +1,5 @@
 use Rattle.std.proofs.Common.{◌≡◌, map, take}
-use Rattle.mdc_ast.specs.meaning.Binding.{bound_tuple}
+use Rattle.statement_meaning.specs.Binding.{bound_tuple}
 use Rattle.binder.specs.Classes.{target_names}
 use Rattle.binder.proofs.row_binding.bound_tuples.Given as goal
 

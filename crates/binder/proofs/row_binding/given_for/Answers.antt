@@ -1,6 +1,6 @@
 use Rattle.std.proofs.Common.{◌≡◌, ◌<◌, arith, length, sym, ◌∙◌}
 use Rattle.std.proofs.lemmas.Result.{IfOk-weaker}
-use Rattle.mdc_ast.specs.meaning.Binding.{given_for, item_value}
+use Rattle.statement_meaning.specs.Binding.{given_for, item_value}
 use Rattle.binder.specs.Classes.{target_names}
 use Rattle.binder.proofs.TupleLemmas.{given_for-end, given_for-here, given_for-next}
 use Rattle.binder.proofs.row_binding.given_for.Goals as goal

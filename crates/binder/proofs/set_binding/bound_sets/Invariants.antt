@@ -1,5 +1,5 @@
 use Rattle.std.proofs.Common.{◌≡◌, map, take}
-use Rattle.mdc_ast.specs.meaning.Binding.{bound_set}
+use Rattle.statement_meaning.specs.Binding.{bound_set}
 use Rattle.binder.proofs.set_binding.bound_sets.Given as goal
 
 abbrev pub invariant-loop-set : goal.invariant-loop-set

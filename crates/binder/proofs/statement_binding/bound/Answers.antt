@@ -1,6 +1,6 @@
 use Rattle.std.proofs.Common.{ap, sym, ◌∙◌}
-use Rattle.mdc_ast.specs.meaning.Judged.{judged_of}
-use Rattle.mdc_ast.specs.meaning.Judging.{in_order}
+use Rattle.statement_meaning.specs.Judged.{judged_of}
+use Rattle.statement_meaning.specs.Judging.{in_order}
 use Rattle.binder.proofs.CreateLemmas.{bounded}
 use Rattle.binder.proofs.statement_binding.bound.Goals as goal
 

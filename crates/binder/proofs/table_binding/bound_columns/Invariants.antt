@@ -1,5 +1,5 @@
 use Rattle.std.proofs.Common.{◌≡◌, map, take}
-use Rattle.mdc_ast.specs.meaning.Binding.{bound_column}
+use Rattle.statement_meaning.specs.Binding.{bound_column}
 use Rattle.binder.proofs.table_binding.bound_columns.Given as goal
 
 abbrev pub invariant-loop-column : goal.invariant-loop-column

@@ -1,5 +1,5 @@
 use Rattle.std.proofs.Common.{◌≡◌, map, take}
-use Rattle.mdc_ast.specs.meaning.Binding.{text_place}
+use Rattle.statement_meaning.specs.Binding.{text_place}
 use Rattle.binder.proofs.table_binding.bound_dim.Given as goal
 
 abbrev pub invariant-loop-name : goal.invariant-loop-name

@@ -1,5 +1,5 @@
 use Rattle.std.proofs.Common.{◌≡◌, [], drop, map, take}
-use Rattle.mdc_ast.specs.meaning.Judged.{set_columns}
+use Rattle.statement_meaning.specs.Judged.{set_columns}
 use Rattle.binder.specs.Saying.{first_of}
 use Rattle.binder.proofs.updating.judge_set_columns.Given as goal
 

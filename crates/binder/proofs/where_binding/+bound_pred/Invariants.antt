@@ -1,7 +1,7 @@
 use Rattle.std.proofs.Common.{◌≡◌, map, take}
 use Rattle.mdc_ast.specs.declared.predicate.Pred.{Pred}
 use Rattle.mdc_ast.specs.declared.predicate.PredText.TheFolds.{fold-PredText}
-use Rattle.mdc_ast.specs.meaning.Binding.{bound_layer}
+use Rattle.statement_meaning.specs.Binding.{bound_layer}
 use Rattle.binder.proofs.where_binding.+bound_pred.Given as goal
 
 abbrev pub decreases-bound_pred : goal.decreases-bound_pred

@@ -1,5 +1,5 @@
 use Rattle.std.proofs.Common.{◌≡◌, map, take}
-use Rattle.mdc_ast.specs.meaning.Judging.{fit_compared, judged_value}
+use Rattle.statement_meaning.specs.Judging.{fit_compared, judged_value}
 use Rattle.binder.proofs.where_binding.bound_values.Given as goal
 
 abbrev pub invariant-loop-literal : goal.invariant-loop-literal

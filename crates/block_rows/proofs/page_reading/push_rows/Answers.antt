@@ -1,5 +1,5 @@
 use Rattle.std.proofs.Common.{◌+◌, ◌++◌, ◌∷◌, [], ◌∙◌, IsTrue, ap, arith, drop, map, refl, subst, sym}
-use Rattle.mdc_ast.specs.meaning.Doing.{qualifies}
+use Rattle.mdc_ast.specs.Truth.{qualifies}
 use Rattle.row_page.specs.Row.{row_in}
 use Rattle.row_page.specs.RowPage.{slot_count}
 use Rattle.row_filter.specs.Filtering.{may_filter}

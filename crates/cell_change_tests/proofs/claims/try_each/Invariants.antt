@@ -1,6 +1,6 @@
 use Rattle.std.proofs.Common.{◌≡◌, false, []}
 use Rattle.std.specs.Prelude.{None}
-use Rattle.table_page.specs.TableLimits.{IsTableDef}
+use Rattle.mdc_ast.specs.TableLimits.{IsTableDef}
 use Rattle.cell_change_tests.proofs.claims.try_each.Given as goal
 
 -- the definition stays one of a table without indexes, the store goes on, and no mark is open

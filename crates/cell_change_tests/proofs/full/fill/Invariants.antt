@@ -1,5 +1,5 @@
 use Rattle.std.proofs.Common.{◌≡◌, false, []}
-use Rattle.table_page.specs.TableLimits.{IsTableDef}
+use Rattle.mdc_ast.specs.TableLimits.{IsTableDef}
 use Rattle.cell_change_tests.proofs.full.fill.Given as goal
 
 -- the definition stays one of a table without indexes, the store goes on, and its mark is as it was

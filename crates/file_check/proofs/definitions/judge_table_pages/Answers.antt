@@ -1,7 +1,7 @@
 use Rattle.std.proofs.Common.{◌≡◌, ◌+◌, ◌∙◌, [], ◌∷◌, ◌++◌, None, Option, ℕ, Some, ap, arith, length, length-append, refl, subst, sym}
 use Rattle.store_api.proofs.RunsOverPagesLemmas.{runs_exit, runs_memory, runs_none}
 use Rattle.stored_catalog.specs.StoredDefinitions.{IsWithinLimits}
-use Rattle.mdc_ast.specs.meaning.Definitions.{Definitions}
+use Rattle.mdc_ast.specs.Definitions.{Definitions}
 use Rattle.file_check.specs.TablePagesJudged.{HasOwners, JudgesTablePage}
 use Rattle.file_check.proofs.JudgedDefinitionsLemmas.{EachPlace, JudgedSoFar, each_place_more, limits_of_all, no_place, none_judged, one_more_judged, table_pages_judged}
 use Rattle.file_check.proofs.RootPagesLemmas.{said_before}

@@ -1,7 +1,7 @@
 use Rattle.std.proofs.Common.{◌≡◌, ◌<◌, ℕ, Some}
 use Rattle.mdc_ast.specs.declared.row.Row.{Row}
 use Rattle.row_page.specs.RowPage.{slot_row}
-use Rattle.mdc_sound.specs.FittingRows.{RowFits}
+use Rattle.mdc_ast.specs.FittingRows.{RowFits}
 use Rattle.file_check.proofs.row_pages.do_rows_fit.Given as goal
 
 -- the rows in the slots so far fit

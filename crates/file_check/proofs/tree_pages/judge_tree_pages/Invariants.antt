@@ -1,6 +1,6 @@
 use Rattle.std.proofs.Common.{◌≡◌, ◌<◌, ℕ, None, false}
 use Rattle.std.specs.Prelude.{IsTrue}
-use Rattle.mdc_ast.specs.meaning.Definitions.{Definitions}
+use Rattle.mdc_ast.specs.Definitions.{Definitions}
 use Rattle.store_api.specs.Extents.{first_page_of}
 use Rattle.mdc_sound.specs.SpaceRules.{DatabaseView, IsTreePageSound}
 use Rattle.file_check.specs.Known.{AreTimesInTrees, ViewHasTrees}

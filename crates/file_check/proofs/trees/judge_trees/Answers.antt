@@ -1,7 +1,7 @@
 use Rattle.std.proofs.Common.{None, ◌<◌, ◌+◌, length, take, refl, ap, sym, subst, ◌∙◌, arith, Some}
 use Rattle.std.proofs.lemmas.List.{take_all}
 use Rattle.std.proofs.lemmas.Option.{slice_get-get_or}
-use Rattle.mdc_ast.specs.meaning.Definitions.{Definitions}
+use Rattle.mdc_ast.specs.Definitions.{Definitions}
 use Rattle.store_api.proofs.RunsOverPagesLemmas.{runs_exit, runs_memory, runs_more, runs_none, runs_on}
 use Rattle.file_check.specs.TreeMarks.{AreMarks}
 use Rattle.file_check.specs.TreesJudged.{JudgesPlaces, all_places, places_of_def}

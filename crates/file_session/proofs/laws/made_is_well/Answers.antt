@@ -1,5 +1,5 @@
 -- A file that was just made is well, and stands for no table.
-use Rattle.mdc_ast.specs.meaning.Definitions.{no_tables}
+use Rattle.mdc_ast.specs.Definitions.{no_tables}
 use Rattle.file_session.proofs.MadeFilesLemmas.{made_images, made_stands, made_well}
 use Rattle.file_session.proofs.laws.made_is_well.Goals as goal
 

@@ -108,11 +108,10 @@ pub returns-in-Err-clause-cause : goal.returns-in-Err-clause-cause
 returns-in-Err-clause-cause g c = λ before is. cause_of_opening before.bytes c.in-Err.field-0.fault c.stop_of_opening.result (c.in-Err.ensures.refused before is) c.stop_of_opening.ensures
 
 pub returns-in-Err-clause-left_alone : goal.returns-in-Err-clause-left_alone
-returns-in-Err-clause-left_alone g c = λ file is unserved other.
-    let fault = not_device c.in-Err.field-0.fault c.stop_of_opening.result c.stop_of_opening.ensures (λ e. other (ap Err e)) in (
-      c.in-Err.ensures.untouched fault,
-      c.in-Err.ensures.left_alone fault,
-    )
+returns-in-Err-clause-left_alone g c = λ file is unserved. (
+  c.in-Err.ensures.unserved file is unserved,
+  λ other. c.in-Err.ensures.untouched (not_device c.in-Err.field-0.fault c.stop_of_opening.result c.stop_of_opening.ensures (λ e. other (ap Err e))),
+)
 
 pub returns-in-Err-clause-takes : goal.returns-in-Err-clause-takes
 returns-in-Err-clause-takes g c = takes_unopened (g.I.Source.left c.args.input.now) c.in-Err.field-0.fault c.stop_of_opening.result c.stop_of_opening.ensures

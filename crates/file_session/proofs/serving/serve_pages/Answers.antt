@@ -85,3 +85,8 @@ returns-in-Err-clause-breaks g c = λ damage is.
       replies,
       breaks_unopened g.S.Pages c.args.ext replies.items c.args.store c.in-Err.field-0.store damage c.in-Err.ensures.pages (c.in-Err.ensures.ended ∙ c.requires.going) (c.in-Err.ensures.breaks damage stop),
     )
+
+pub returns-in-Err-clause-damaged : goal.returns-in-Err-clause-damaged
+returns-in-Err-clause-damaged g c = λ damage is sound.
+    let named : c.from.result ≡ session.Damaged damage = cc in
+    c.in-Err.ensures.damaged damage (names_damage c.in-Err.field-0.stop damage (sym c.from.ensures ∙ named)) sound.told sound.sound

@@ -124,7 +124,7 @@ pub returns-in-Err-clause-reopens : goal.returns-in-Err-clause-reopens
 returns-in-Err-clause-reopens g c = λ path line before said is told formed. reopens_file-before g.H.Disk before said _ c.args.host c.args.host Memory tt told over_time_none
 
 pub returns-in-Err-clause-refuses : goal.returns-in-Err-clause-refuses
-returns-in-Err-clause-refuses g c = λ path line before said is told not_served. (refuses_file-before g.H.Disk before said _ c.args.host c.args.host Memory tt told (λ not_failed. over_time_none), refl)
+returns-in-Err-clause-refuses g c = λ path line before said is told not_served. (refuses_file-before g.H.Disk before said _ c.args.host c.args.host Memory tt told over_time_none, refl)
 
 pub returns-in-Err-clause-scratch : goal.returns-in-Err-clause-scratch
 returns-in-Err-clause-scratch g c = λ line before said is told empty. runs_scratch-ended said _ _ _ _ _ 8 (c.nothing_is_run.ensures.scratch said _ Memory tt) (sym told) refl
@@ -135,7 +135,8 @@ returns-in-Ok-None-clause-keeps_refused g c = λ path line.
     absurd (asked (RunFile path) line)
 
 pub returns-in-Err-clause-keeps_refused : goal.returns-in-Err-clause-keeps_refused
-returns-in-Err-clause-keeps_refused g c = λ path line before is not_served not_failed. (before, is, refl)
+returns-in-Err-clause-keeps_refused g c = λ path line before is not_served.
+    (before, is, sound_image (g.H.Disk.file c.args.host) before (g.met.H.Disk.sound c.args.host) is, λ not_failed. refl)
 
 pub returns-in-Ok-None-clause-takes : goal.returns-in-Ok-None-clause-takes
 returns-in-Ok-None-clause-takes g c = λ path line.

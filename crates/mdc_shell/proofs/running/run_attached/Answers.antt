@@ -8,7 +8,7 @@ use Rattle.file_session.specs.Ending.{IsRefused}
 use Rattle.file_session.specs.Serving.{RepliesBySession}
 use Rattle.file_session.specs.declared.stop.FileStop.TheVariants.{Device}
 use Rattle.mdc_shell.specs.Status.{SaysEnd, line_of_end, status_of}
-use Rattle.mdc_shell.proofs.RunsLemmas.{file_of_bytes, refused_time, reopens_file-said, runs_items-quiet, runs_path-ended, status_either, takes_by_status}
+use Rattle.mdc_shell.proofs.RunsLemmas.{refused_time, reopens_file-said, runs_items-quiet, runs_path-ended, same_bytes, status_either, takes_by_status}
 use Rattle.script_session.proofs.ToldLemmas.{same-told, tells_more-told, told_behind, told_then}
 use Rattle.mdc_shell.proofs.running.run_attached.Goals as goal
 
@@ -76,10 +76,8 @@ returns-clause-refuses g c = λ before said is told not_served.
         unopened = unopened.0;
         cause = c.serve_file-ended.ensures.cause before is;
         ends = subst (λ (t : Option (List ℕ)). SaysEnd t (g.H.Host.tape c.end_run.result.host) c.end_run.result.status.0 c.serve_file-ended.result.end) tape c.end_run.ensures.ends;
-        time = λ not_failed.
-            let failed : c.serve_file-ended.result.end ≡ Err Device → ⊥ = λ ends. not_failed ((c.end_run.ensures.quiet (ap line_of_end ends)).1 ∙ ap status_of ends) in
-            let left = c.serve_file-ended.ensures.left_alone before is not_served failed in
-            refused_time g.H.Disk before said (line_of_end c.serve_file-ended.result.end) c.args.host mid c.end_run.result.host is beside (g.H.Host.tape mid) tape left.1 c.end_run.ensures.time;
+        time = refused_time g.H.Disk before said (line_of_end c.serve_file-ended.result.end) c.args.host mid c.end_run.result.host is beside (g.H.Host.tape mid) tape
+            (c.serve_file-ended.ensures.left_alone before is not_served).0 c.end_run.ensures.time;
       },
       unopened.1,
     )
@@ -92,11 +90,14 @@ returns-clause-told g c =
     )
 
 pub returns-clause-keeps_refused : goal.returns-clause-keeps_refused
-returns-clause-keeps_refused g c = λ before is not_served not_failed.
-    let failed : c.serve_file-ended.result.end ≡ Err Device → ⊥ = λ ends. not_failed ((c.end_run.ensures.quiet (ap line_of_end ends)).1 ∙ ap status_of ends) in
-    let left = c.serve_file-ended.ensures.left_alone before is not_served failed in
-    let after = file_of_bytes (g.H.Disk.file c.serve_file-ended.result.host) before.bytes (left.0 ∙ ap file_bytes is) in
-    (after.0, c.end_run.ensures.disk.same_file ∙ after.1, after.2)
+returns-clause-keeps_refused g c = λ before is not_served.
+    let alone = c.serve_file-ended.ensures.left_alone before is not_served in
+    let after = alone.0.told before is in (
+      after.0,
+      c.end_run.ensures.disk.same_file ∙ after.1,
+      after.2,
+      λ not_failed. same_bytes _ _ before after.0 is after.1 (alone.1 (λ ends. not_failed ((c.end_run.ensures.quiet (ap line_of_end ends)).1 ∙ ap status_of ends))),
+    )
 
 pub returns-clause-takes : goal.returns-clause-takes
 returns-clause-takes g c =

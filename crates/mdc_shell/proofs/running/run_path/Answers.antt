@@ -1,5 +1,6 @@
 use Rattle.std.proofs.Common.{◌∙◌, ap, refl}
 use Rattle.std.specs.Option.{option_map}
+use Rattle.page_file.proofs.LeavesLemmas.{sound_image}
 use Rattle.mdc_words.proofs.TimeLemmas.{over_time_wider}
 use Rattle.mdc_outside.specs.Disk.{opened}
 use Rattle.file_session.specs.declared.stop.FileStop.TheVariants.{Device}
@@ -77,14 +78,15 @@ pub returns-in-Err-clause-refuses : goal.returns-in-Err-clause-refuses
 returns-in-Err-clause-refuses g c = λ before said is told not_served.
     let lies = g.met.H.Host.lies_beside in
     let tape = tape_stays _ _ _ _ c.attach.ensures.beside (lies c.attach.new.self).0 (lies c.args.host).0 ∙ told in
-    (refuses_file-before g.H.Disk before said _ c.args.host c.attach.new.self Device tt tape (λ not_failed. absurd (not_failed refl)), refl)
+    let meanwhile = over_time_wider c.attach.ensures.time (could_be_left-quiet _ _ before said is ((lies c.args.host).0 ∙ told)) in
+    (refuses_file-before g.H.Disk before said _ c.args.host c.attach.new.self Device tt tape meanwhile, refl)
 
 pub returns-in-Ok-clause-keeps_refused : goal.returns-in-Ok-clause-keeps_refused
-returns-in-Ok-clause-keeps_refused g c = λ before is not_served not_failed.
-    c.run_attached.ensures.keeps_refused (opened before) (c.in-Ok.ensures.opened ∙ ap (option_map opened) is) not_served not_failed
+returns-in-Ok-clause-keeps_refused g c = λ before is not_served. c.run_attached.ensures.keeps_refused (opened before) (c.in-Ok.ensures.opened ∙ ap (option_map opened) is) not_served
 
 pub returns-in-Err-clause-keeps_refused : goal.returns-in-Err-clause-keeps_refused
-returns-in-Err-clause-keeps_refused g c = λ before is not_served not_failed. absurd (not_failed refl)
+returns-in-Err-clause-keeps_refused g c = λ before is not_served.
+    (before, attach_failed _ _ c.in-Err.ensures.file_failed ∙ is, sound_image (g.H.Disk.file c.args.host) before (g.met.H.Disk.sound c.args.host) is, λ not_failed. refl)
 
 pub returns-in-Err-clause-takes : goal.returns-in-Err-clause-takes
 returns-in-Err-clause-takes g c = takes_none (g.I.Source.left c.args.input.now) 3 (λ e. absurd (cc)) (λ e. absurd (cc)) (λ e. absurd (cc))

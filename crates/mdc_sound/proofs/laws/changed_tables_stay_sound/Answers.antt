@@ -10,6 +10,6 @@ returns-clause-next_number g c = λ before ext def owners owners_now forests for
     sound_with_next g.P.Pages before ext c.args.old.now c.args.new.now def owners owners_now forests forests_now sound st changes touched longer next small
 
 pub returns-clause-between_changes : goal.returns-clause-between_changes
-returns-clause-between_changes g c = λ before ext def owners owners_now forests forests_now next between st changes touched longer none small numbers.
+returns-clause-between_changes g c = λ before ext def owners owners_now forests forests_now next between st changes touched longer indexes small numbers.
     between_with_next g.P.Pages before ext c.args.old.now c.args.new.now def owners owners_now forests forests_now between.sound st changes touched longer
-    between.rule11 between.numbers between.other_keys none next small numbers
+    between.rule11 between.numbers between.other_keys indexes next small numbers

@@ -1,6 +1,6 @@
 use Rattle.std.proofs.Common.{ap, length, ◌∙◌}
 use Rattle.store_api.proofs.RunsOverPagesLemmas.{runs_exit}
-use Rattle.cell_rooms.proofs.TableRunsLemmas.{holds_block_map}
+use Rattle.free_space.proofs.TableRunsLemmas.{holds_block_map}
 use Rattle.mdc_table.proofs.StandingBlocksLemmas.{runs_on_map}
 use Rattle.mdc_table.proofs.account.count_blocks.Goals as goal
 

@@ -1,8 +1,8 @@
 use Rattle.std.proofs.Common.{◌∙◌, arith, inl, inr, refl, sym}
 use Rattle.std.proofs.lemmas.Result.{IfOk-weaker}
 use Rattle.store_api.proofs.RunsOverPagesLemmas.{runs_none}
-use Rattle.cell_rooms.specs.RoomNotes.{room_of}
-use Rattle.cell_rooms.proofs.TableRunsLemmas.{runs_broken}
+use Rattle.free_space.specs.RoomNotes.{room_of}
+use Rattle.free_space.proofs.TableRunsLemmas.{runs_broken}
 use Rattle.mdc_table.proofs.KeptBlocksLemmas.{keeps_but_one, keeps_in_block, runs_of_block}
 use Rattle.mdc_table.proofs.KnownBlocksLemmas.{is_known, runs_of_asked, runs_of_known}
 use Rattle.mdc_table.proofs.TakingRowsLemmas.{no_row_there, row_overwritten}

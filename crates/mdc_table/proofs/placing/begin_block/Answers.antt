@@ -5,7 +5,7 @@ use Rattle.entry_tree.proofs.ClaimsLemmas.{if_err_by}
 use Rattle.block_map.specs.BlockMaps.{FindsFree}
 use Rattle.mdc_sound.proofs.StandingTableLemmas.{stands_same}
 use Rattle.table_blocks.specs.BlockSteps.{HasFreeBlock}
-use Rattle.cell_rooms.proofs.TableRunsLemmas.{holds_block_map, runs_broken}
+use Rattle.free_space.proofs.TableRunsLemmas.{holds_block_map, runs_broken}
 use Rattle.mdc_table.proofs.KeptBlocksLemmas.{if_ok_all, keeps_in_space, keeps_in_trees, runs_of_space, runs_of_trees}
 use Rattle.mdc_table.proofs.NextBlocksLemmas.{begins_free, begins_new, full_along, full_result_along, past_breaks, runs_in_space, runs_space_expecting, runs_space_then}
 use Rattle.mdc_table.proofs.RowSpaceLemmas.{free_block_full, free_block_makes, new_block_full, new_block_makes}

@@ -3,8 +3,8 @@ use Rattle.store_api.proofs.RunsOverPagesLemmas.{runs_exit_as}
 use Rattle.extent_map.specs.Damages.{store_part_of}
 use Rattle.entry_tree.proofs.ClaimsLemmas.{if_err_by}
 use Rattle.mdc_sound.specs.StandingTable.{RoomNote, spots_of}
-use Rattle.cell_rooms.specs.FoundRoom.{FindsRoom}
-use Rattle.cell_rooms.specs.RoomNotes.{room_of}
+use Rattle.free_space.specs.FoundRoom.{FindsRoom}
+use Rattle.free_space.specs.RoomNotes.{room_of}
 use Rattle.mdc_table.proofs.NextBlocksLemmas.{runs_in_space}
 use Rattle.mdc_table.proofs.SearchedRoomLemmas.{SearchesRoom, block_makes, block_placed, block_run, block_stays, next_full, next_makes, next_placed, next_run, next_stays}
 use Rattle.mdc_table.proofs.placing.place_by_search.Given.{Over}

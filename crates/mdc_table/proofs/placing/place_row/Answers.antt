@@ -7,7 +7,7 @@ use Rattle.block_index.proofs.CellsLemmas.{keys_of_fitting}
 use Rattle.table_trees.specs.RowCells.{cell_places}
 use Rattle.mdc_sound.specs.StandingTable.{BreaksTable, IsTableSpace, KeepsBlocksBut}
 use Rattle.mdc_sound.proofs.DefinitionTreesLemmas.{has_block_indexes}
-use Rattle.cell_rooms.specs.RoomNotes.{note_of, room_of}
+use Rattle.free_space.specs.RoomNotes.{note_of, room_of}
 use Rattle.mdc_table.proofs.KeptBlocksLemmas.{if_some_at, keeps_along, keeps_in_block}
 use Rattle.mdc_table.proofs.LaterPlacesLemmas.{no_place_result_along, placed_along, ready_along}
 use Rattle.mdc_table.proofs.NextBlocksLemmas.{runs_of_place, runs_space_behind}

@@ -1,7 +1,7 @@
 use Rattle.std.proofs.Common.{◌≡◌, ◌++◌, map}
 use Rattle.store_api.proofs.RunsOverPagesLemmas.{runs_none, runs_wider}
 use Rattle.block_rows.specs.HeldRows.{placed_row, qualifying}
-use Rattle.cell_rooms.proofs.TableRunsLemmas.{runs_broken}
+use Rattle.free_space.proofs.TableRunsLemmas.{runs_broken}
 use Rattle.mdc_table.proofs.StandingBlocksLemmas.{breaks_past, breaks_rows_of_used, rows_found}
 use Rattle.mdc_table.proofs.reading.push_rows_of_used_block.Goals as goal
 

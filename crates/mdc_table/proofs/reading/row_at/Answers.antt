@@ -3,8 +3,8 @@ use Rattle.std.specs.Prelude.{false}
 use Rattle.store_api.proofs.RunsOverPagesLemmas.{runs_exit}
 use Rattle.block_map.specs.BlockMaps.{FindsBlock}
 use Rattle.block_map.specs.declared.state.BlockState.TheVariants as state
-use Rattle.cell_rooms.proofs.FoundRoomLemmas.{used_is_mapped, used_is_used}
-use Rattle.cell_rooms.proofs.TableRunsLemmas.{holds_block_map}
+use Rattle.free_space.proofs.FoundRoomLemmas.{used_is_mapped, used_is_used}
+use Rattle.free_space.proofs.TableRunsLemmas.{holds_block_map}
 use Rattle.mdc_table.proofs.StandingBlocksLemmas.{no_row_past, no_row_unless_used, row_found, runs_looking, runs_on_map, runs_on_rows, used_of_line}
 use Rattle.mdc_table.proofs.reading.row_at.Goals.{then-rid-ext-via-then-rid-ext, then-rid-ext-via-else-rid-ext+then-from-block_slots}
 use Rattle.mdc_table.proofs.reading.row_at.Goals as goal

@@ -1,7 +1,7 @@
 use Rattle.std.proofs.Common.{None, Some, arith, inl, inr, refl}
 use Rattle.store_api.proofs.RunsOverPagesLemmas.{runs_exit, runs_none}
-use Rattle.cell_rooms.specs.RoomNotes.{room_of}
-use Rattle.cell_rooms.proofs.TableRunsLemmas.{runs_broken}
+use Rattle.free_space.specs.RoomNotes.{room_of}
+use Rattle.free_space.proofs.TableRunsLemmas.{runs_broken}
 use Rattle.mdc_table.proofs.KeptBlocksLemmas.{keeps_in_block, runs_of_block}
 use Rattle.mdc_table.proofs.TakingRowsLemmas.{not_this_row_there, row_taken, row_taken_of_several}
 use Rattle.mdc_table.proofs.taking.take_row.Goals.{then-rid-ext-via-then-rid-ext, then-rid-ext-via-else-rid-ext+then-from-slots}
@@ -36,11 +36,11 @@ returns-clause-takes g c owners forests ready has =
 
 pub returns-then-left-slots-clause-leaves : goal.returns-then-left-slots-clause-leaves
 returns-then-left-slots-clause-leaves g c owners forests st has =
-    let empties = c.in_ok-take_row.ensures.takes owners forests st has in (empties.owners_now, empties.forests_now, empties.turns.changes)
+    let empties = c.in_ok-take_row.ensures.takes owners forests st has in (empties.owners_now, empties.forests_now, empties.turns.changes, empties.turns.records)
 
 pub returns-clause-leaves : goal.returns-clause-leaves
 returns-clause-leaves g c owners forests st has =
-    let empties = c.in_ok-take_row.ensures.takes owners forests st has in (empties.owners_now, empties.forests_now, empties.turns.changes)
+    let empties = c.in_ok-take_row.ensures.takes owners forests st has in (empties.owners_now, empties.forests_now, empties.turns.changes, empties.turns.records)
 
 pub returns-then-left-slots-clause-makes : goal.returns-then-left-slots-clause-makes
 returns-then-left-slots-clause-makes g c owners forests ready slots lies = c.in_ok-take_row.ensures.makes owners forests ready.stands slots lies

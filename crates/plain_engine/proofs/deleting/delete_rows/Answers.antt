@@ -3,7 +3,7 @@ use Rattle.std.specs.Prelude.{filter, not}
 use Rattle.std.proofs.lemmas.List.{length-take-le}
 use Rattle.std.proofs.lemmas.List.Filters.{FiltersInPlace-all, FiltersInPlace-more_no, FiltersInPlace-more_swap, length-filter_both}
 use Rattle.mdc_ast.specs.declared.row.Row.{Row}
-use Rattle.mdc_ast.specs.meaning.Doing.{qualifies}
+use Rattle.mdc_ast.specs.Truth.{qualifies}
 use Rattle.plain_engine.proofs.Filterable.{filterable-at}
 use Rattle.plain_engine.proofs.deleting.delete_rows.Goals as goal
 use Rattle.plain_engine.proofs.deleting.delete_rows.Goals.{then-not-qualifies, else-not-qualifies}

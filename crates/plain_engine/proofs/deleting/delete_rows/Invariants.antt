@@ -1,6 +1,6 @@
 use Rattle.std.specs.Prelude.{not}
 use Rattle.std.proofs.lemmas.List.Filters.{FiltersInPlace}
-use Rattle.mdc_ast.specs.meaning.Doing.{qualifies}
+use Rattle.mdc_ast.specs.Truth.{qualifies}
 use Rattle.plain_engine.proofs.deleting.delete_rows.Given as goal
 
 abbrev pub invariant-loop-i : goal.invariant-loop-i

@@ -1,6 +1,6 @@
 use Rattle.std.proofs.Common.{◌≡◌, ◌+◌, ◌++◌, length}
 use Rattle.std.specs.Vec.Iter.{into_iter_items}
-use Rattle.mdc_ast.specs.meaning.Doing.{numbered}
+use Rattle.mdc_ast.specs.Database.{numbered}
 use Rattle.plain_engine.proofs.inserting.append_rows.Given as goal
 
 abbrev pub invariant-loop-values : goal.invariant-loop-values

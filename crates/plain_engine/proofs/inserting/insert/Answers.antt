@@ -1,7 +1,7 @@
 use Rattle.std.proofs.Common.{◌≡◌, ◌∙◌, ◌+◌, [], refl, sym, ap, length, arith}
 use Rattle.std.specs.Prelude.{flat_map}
-use Rattle.mdc_ast.specs.meaning.Database.{PlainTable}
-use Rattle.mdc_ast.specs.meaning.Doing.{null_causes}
+use Rattle.mdc_ast.specs.Database.{PlainTable}
+use Rattle.statement_meaning.specs.Doing.{null_causes}
 use Rattle.binder.specs.Saying.{first_of}
 use Rattle.binder.proofs.FirstLemmas.{first_of-nothing}
 use Rattle.plain_engine.proofs.ChangedTables.{emptied_keeps, is_there-some, on_err, still_numbered, still_there, valid_number}

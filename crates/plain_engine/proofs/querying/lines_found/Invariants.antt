@@ -1,7 +1,7 @@
 use Rattle.std.proofs.Common.{◌≡◌, take}
 use Rattle.std.specs.Prelude.{filter}
 use Rattle.answer_text.specs.Lines.{lines_shown}
-use Rattle.mdc_ast.specs.meaning.Doing.{qualifies}
+use Rattle.mdc_ast.specs.Truth.{qualifies}
 use Rattle.plain_engine.proofs.querying.lines_found.Given as goal
 
 abbrev pub invariant-loop-row : goal.invariant-loop-row

@@ -1,9 +1,10 @@
-use Rattle.mdc_ast.specs.meaning.Database.{PlainTable}
-use Rattle.mdc_ast.proofs.DatabaseLemmas.{is_valid_at}
-use Rattle.row_judging.proofs.Changeable.{rows_are_wide}
+use Rattle.mdc_ast.specs.Database.{PlainTable}
+use Rattle.statement_meaning.proofs.BuiltLemmas.{values_fit}
+use Rattle.statement_meaning.proofs.DatabaseLemmas.{is_valid_at}
+use Rattle.row_checks.proofs.Changeable.{rows_are_wide}
 use Rattle.plain_engine.proofs.querying.query.Goals as goal
 
 pub lines_found-requires-clause-wide : goal.lines_found-requires-clause-wide
 lines_found-requires-clause-wide c =
     let table : PlainTable = record { def = c.table-table.result.def.now; rows = c.table-table.result.rows.now } in
-    rows_are_wide table.def.columns table.rows (is_valid_at c.args.tables.now c.args.select.now.table table c.requires.valid c.table-table.ensures).rows.fitting
+    rows_are_wide table.def.columns table.rows (values_fit table.def table.rows (is_valid_at c.args.tables.now c.args.select.now.table table c.requires.valid c.table-table.ensures).rows.fitting)

@@ -1,7 +1,7 @@
 use Rattle.std.proofs.Common.{◌∙◌, sym, ap}
 use Rattle.std.specs.Prelude.{if◌then◌else◌}
 use Rattle.mdc_ast.specs.declared.row.Row.{Row}
-use Rattle.mdc_ast.specs.meaning.Doing.{set_on}
+use Rattle.statement_meaning.specs.Doing.{set_on}
 use Rattle.plain_engine.proofs.updating.change.Goals as goal
 
 pub returns-clause-changed : goal.returns-clause-changed

@@ -1,10 +1,11 @@
 use Rattle.std.proofs.Common.{◌<◌, ◌≤◌, ◌∙◌, sym, ap, subst, length, get_or, arith}
 use Rattle.std.specs.Prelude.{Bool, IsTrue}
 use Rattle.mdc_ast.specs.declared.row.Row.{Row}
-use Rattle.mdc_ast.specs.meaning.Doing.{changed_row, qualifies}
+use Rattle.statement_meaning.specs.Doing.{changed_row}
+use Rattle.mdc_ast.specs.Truth.{qualifies}
 use Rattle.row_filter.specs.Filtering.{may_filter}
-use Rattle.row_judging.specs.Filtering.{may_change}
-use Rattle.row_judging.proofs.Each.{list_all-at}
+use Rattle.row_checks.specs.Filtering.{may_change}
+use Rattle.row_checks.proofs.Each.{list_all-at}
 use Rattle.plain_engine.proofs.FoundRows.{count_below, count_more, count_same}
 use Rattle.plain_engine.proofs.Mapped.{get_or-mapped, set-mapped}
 use Rattle.plain_engine.proofs.updating.change_rows.Goals as goal

@@ -1,6 +1,7 @@
 use Rattle.std.proofs.Common.{◌≡◌, ◌++◌, take, drop, length, map}
 use Rattle.std.specs.Prelude.{filter}
-use Rattle.mdc_ast.specs.meaning.Doing.{changed_row, qualifies}
+use Rattle.statement_meaning.specs.Doing.{changed_row}
+use Rattle.mdc_ast.specs.Truth.{qualifies}
 use Rattle.plain_engine.proofs.updating.change_rows.Given as goal
 
 abbrev pub invariant-loop-row : goal.invariant-loop-row

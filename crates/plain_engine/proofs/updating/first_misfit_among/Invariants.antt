@@ -1,6 +1,6 @@
 use Rattle.std.proofs.Common.{◌≡◌, drop}
 use Rattle.std.specs.List.{flat_map}
-use Rattle.mdc_ast.specs.meaning.Doing.{changed_causes}
+use Rattle.statement_meaning.specs.Doing.{changed_causes}
 use Rattle.binder.specs.Saying.{first_of}
 use Rattle.plain_engine.proofs.updating.first_misfit_among.Given as goal
 

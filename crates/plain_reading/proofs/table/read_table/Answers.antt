@@ -4,7 +4,7 @@ use Rattle.mdc_ast.specs.declared.definition.TableDef.{TableDef}
 use Rattle.mdc_ast.specs.declared.row.Row.{Row}
 use Rattle.store_api.specs.StoreState.{zero_page}
 use Rattle.store_api.proofs.RunsOverPagesLemmas.{runs_exit}
-use Rattle.table_page.specs.TableLimits.{IsTableDef}
+use Rattle.mdc_ast.specs.TableLimits.{IsTableDef}
 use Rattle.table_trees.specs.TableTrees.{map_place}
 use Rattle.table_trees.specs.ToldPages.{HasTree}
 use Rattle.mdc_sound.specs.TablePages.{DefinesTable, table_page_at}

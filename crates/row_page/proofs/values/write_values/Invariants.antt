@@ -1,5 +1,5 @@
 use Rattle.std.proofs.Common.{◌≡◌, ◌+◌, ◌*◌, ◌^◌, ◌++◌, IsTrue, take, drop, length}
-use Rattle.mdc_ast.specs.meaning.Database.{fits_all}
+use Rattle.mdc_ast.specs.Database.{fits_all}
 use Rattle.row_page.specs.Row.{columns_bytes, null_bits, row_width_of}
 use Rattle.row_page.proofs.values.write_values.Given as goal
 

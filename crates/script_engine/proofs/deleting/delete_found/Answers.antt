@@ -1,7 +1,7 @@
 use Rattle.std.proofs.Common.{◌≡◌, ◌∙◌, ap, length, map, refl, rules, subst, sym}
 use Rattle.store_api.proofs.RunsOverPagesLemmas.{runs_exit, runs_wider}
 use Rattle.block_rows.specs.HeldRows.{HaveReadValues, placed_row}
-use Rattle.row_judging.specs.Served.{MayJudge}
+use Rattle.row_checks.specs.Served.{MayJudge}
 use Rattle.script_engine.proofs.DoneRowsLemmas.{delete_does, runs_change}
 use Rattle.script_engine.proofs.NotedRoomsLemmas.{room_left, room_lent, rooms_beside, table_below}
 use Rattle.script_engine.proofs.ReadRowsLemmas.{may_judge_read}

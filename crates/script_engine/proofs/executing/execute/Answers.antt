@@ -19,12 +19,12 @@ insert-requires-clause-there g c =
 pub returns-in-Some-clause-does : goal.returns-in-Some-clause-does
 returns-in-Some-clause-does g c =
     let whole = rw c.in-Some.is at c.in_ok-whole.ensures.bound in
-    steps_as_bound g.P.Pages c.args.pages.now c.insert.new.pages c.args.tables.now c.insert.new.tables c.args.stmt.now (bound.Insert c.in-Some.whole.table c.in-Some.whole.rows) c.insert.result whole c.insert.ensures.does
+    steps_as_bound g.P.Pages c.args.pages.now c.insert.new.pages c.args.tables.now c.insert.new.tables c.args.stmt.now (bound.Insert c.in-Some.whole.table c.in-Some.whole.rows) c.insert.result c.requires.served whole c.insert.ensures.does
 
 pub returns-in-Some-clause-full : goal.returns-in-Some-clause-full
 returns-in-Some-clause-full g c =
     let whole = rw c.in-Some.is at c.in_ok-whole.ensures.bound in
-    full_as_bound g.P.Pages c.args.pages.now c.args.tables.now c.args.stmt.now (bound.Insert c.in-Some.whole.table c.in-Some.whole.rows) c.insert.result whole c.insert.ensures.full
+    full_as_bound g.P.Pages c.args.pages.now c.args.tables.now c.args.stmt.now (bound.Insert c.in-Some.whole.table c.in-Some.whole.rows) c.insert.result c.requires.served whole c.insert.ensures.full
 
 pub returns-in-Some-clause-reads : goal.returns-in-Some-clause-reads
 returns-in-Some-clause-reads g c =

@@ -19,12 +19,12 @@ carry_out-requires-clause-may g c =
 
 pub returns-in-Ok-clause-does : goal.returns-in-Ok-clause-does
 returns-in-Ok-clause-does g c =
-    steps_as_bound g.P.Pages c.args.pages.now c.carry_out.new.pages c.args.tables.now c.carry_out.new.tables c.args.stmt.now c.in-Ok.bound c.carry_out.result
+    steps_as_bound g.P.Pages c.args.pages.now c.carry_out.new.pages c.args.tables.now c.carry_out.new.tables c.args.stmt.now c.in-Ok.bound c.carry_out.result c.requires.served
     (is_bound_on c.args.tables.now.catalog c.args.stmt.now c.in-Ok.bound (sym c.built.ensures ∙ c.if-not-built.false) c.in-Ok.ensures.bound) c.carry_out.ensures.does
 
 pub returns-in-Ok-clause-full : goal.returns-in-Ok-clause-full
 returns-in-Ok-clause-full g c =
-    full_as_bound g.P.Pages c.args.pages.now c.args.tables.now c.args.stmt.now c.in-Ok.bound c.carry_out.result
+    full_as_bound g.P.Pages c.args.pages.now c.args.tables.now c.args.stmt.now c.in-Ok.bound c.carry_out.result c.requires.served
     (is_bound_on c.args.tables.now.catalog c.args.stmt.now c.in-Ok.bound (sym c.built.ensures ∙ c.if-not-built.false) c.in-Ok.ensures.bound) c.carry_out.ensures.full
 
 pub returns-in-Ok-clause-reads : goal.returns-in-Ok-clause-reads
@@ -34,7 +34,7 @@ returns-in-Ok-clause-reads g c =
 
 pub returns-in-Err-Refused-clause-does : goal.returns-in-Err-Refused-clause-does
 returns-in-Err-Refused-clause-does g c =
-    steps_refused g.P.Pages c.args.pages.now c.args.tables.now c.args.stmt.now c.in-Err-Refused.field-0 c.in-Err-Refused.refusal (sym c.built.ensures ∙ c.if-not-built.false) c.in-Err-Refused.field-0-is c.in-Err-Refused.ensures.refused
+    steps_refused g.P.Pages c.args.pages.now c.args.tables.now c.args.stmt.now c.in-Err-Refused.field-0 c.in-Err-Refused.refusal c.requires.served.built (sym c.built.ensures ∙ c.if-not-built.false) c.in-Err-Refused.field-0-is c.in-Err-Refused.ensures.refused
 
 pub returns-in-Err-Refused-clause-runs : goal.returns-in-Err-Refused-clause-runs
 returns-in-Err-Refused-clause-runs g c = runs_none

@@ -1,7 +1,7 @@
 use Rattle.std.proofs.Common.{◌∙◌, ◌-◌, ap, sym}
 use Rattle.std.proofs.lemmas.Option.{same_Some}
 use Rattle.mdc_ast.specs.declared.definition.TableDef.{TableDef}
-use Rattle.mdc_ast.specs.meaning.Definitions.{with_def}
+use Rattle.mdc_ast.specs.Definitions.{with_def}
 use Rattle.script_engine.proofs.PuttingTuplesLemmas.{emptied_and_put}
 use Rattle.script_engine.proofs.ReadyTablesLemmas.{served_def}
 use Rattle.script_engine.proofs.inserting.number_back.Goals as goal

@@ -3,10 +3,10 @@ use Rattle.std.specs.Prelude.{OnOk}
 use Rattle.std.proofs.lemmas.Option.{same_Some}
 use Rattle.mdc_words.specs.ByteOrder.{Entry}
 use Rattle.extent_map.specs.declared.kind.Kind.{Kind}
-use Rattle.mdc_ast.specs.meaning.Doing.{appended, numbered}
+use Rattle.mdc_ast.specs.Database.{appended, numbered}
 use Rattle.mdc_sound.specs.Placing.{block_slot_count}
 use Rattle.mdc_sound.specs.StandingTable.{RoomNote, TableForests}
-use Rattle.cell_rooms.specs.RoomNotes.{room_of}
+use Rattle.free_space.specs.RoomNotes.{room_of}
 use Rattle.statement_rows.specs.RowsAndSpace.{PutsRowsBy}
 use Rattle.statement_rows.specs.RowsOfStatement.{ChangesRowsOf, IsReadyBetween}
 use Rattle.store_api.proofs.RunsOverPagesLemmas.{runs_wider}
@@ -14,7 +14,7 @@ use Rattle.script_engine.specs.Inserting.{numbered_on}
 use Rattle.script_engine.proofs.NotedRoomsLemmas.{room_left, room_lent, rooms_as, table_below}
 use Rattle.script_engine.proofs.PuttingTuplesLemmas.{becomes, defs_stay, may_put, number_stays, numbers_on, of_that, tuples_fit}
 use Rattle.script_engine.proofs.ReadyTablesLemmas.{ready_between, served_def}
-use Rattle.script_engine.proofs.ServedDefsLemmas.{served_valid}
+use Rattle.script_engine.proofs.ServedDefsLemmas.{none_made}
 use Rattle.script_engine.proofs.inserting.put_rows.Goals as goal
 
 pub insert_rows-result-requires-clause-defined : goal.insert_rows-result-requires-clause-defined
@@ -28,7 +28,7 @@ insert_rows-result-requires-clause-no_indexes g c =
 pub insert_rows-result-requires-clause-fit : goal.insert_rows-result-requires-clause-fit
 insert_rows-result-requires-clause-fit g c =
     let at = sym c.in-Some.ensures.taken in
-    tuples_fit c.args.table c.in-Some.def c.args.tuples (served_valid c.args.tables.now.catalog c.args.table c.in-Some.def c.requires.served at)
+    tuples_fit c.in-Some.def c.args.tuples (none_made c.args.tables.now.catalog c.args.table c.in-Some.def c.requires.served at)
     (may_put _ c.in-Some.def c.args.tuples at c.requires.there) (of_that _ c.in-Some.def _ at c.requires.unsaid)
 
 pub put-requires : goal.put-requires

@@ -1,8 +1,8 @@
 use Rattle.std.proofs.Common.{◌∙◌, ap, map}
-use Rattle.mdc_ast.specs.meaning.Doing.{lines_of}
+use Rattle.statement_meaning.specs.Doing.{lines_of}
 use Rattle.block_rows.specs.declared.hit.Hit.{Hit}
 use Rattle.store_api.proofs.RunsOverPagesLemmas.{runs_exit, runs_memory}
-use Rattle.row_judging.specs.Served.{MayShowRows}
+use Rattle.row_checks.specs.Served.{MayShowRows}
 use Rattle.script_engine.proofs.DoneRowsLemmas.{query_does}
 use Rattle.script_engine.proofs.FetchesForQueryLemmas.{fetches_scan}
 use Rattle.script_engine.proofs.ReadRowsLemmas.{may_judge_read}

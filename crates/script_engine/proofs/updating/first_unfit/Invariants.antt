@@ -1,6 +1,6 @@
 use Rattle.std.proofs.Common.{◌≡◌, drop}
 use Rattle.std.specs.List.{list_all}
-use Rattle.mdc_ast.specs.meaning.Database.{fits_all}
+use Rattle.mdc_ast.specs.Database.{fits_all}
 use Rattle.script_engine.proofs.updating.first_unfit.Given as goal
 
 abbrev pub invariant-loop-hit : goal.invariant-loop-hit

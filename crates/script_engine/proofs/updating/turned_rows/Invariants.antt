@@ -2,9 +2,9 @@ use Rattle.std.proofs.Common.{◌≡◌, ◌++◌, map}
 use Rattle.std.specs.Prelude.{IsTrue, None}
 use Rattle.std.specs.List.{list_all}
 use Rattle.std.specs.Vec.Iter.{into_iter_items}
-use Rattle.mdc_ast.specs.meaning.Doing.{changed_row}
+use Rattle.statement_meaning.specs.Doing.{changed_row}
 use Rattle.block_rows.specs.HeldRows.{placed_row}
-use Rattle.row_judging.specs.Filtering.{may_change}
+use Rattle.row_checks.specs.Filtering.{may_change}
 use Rattle.statement_rows.specs.Turning.{turned_row}
 use Rattle.script_engine.proofs.updating.turned_rows.Given as goal
 

@@ -4,16 +4,16 @@ use Rattle.std.specs.List.{AllByRecursion}
 use Rattle.std.proofs.lemmas.List.{set-get_or}
 use Rattle.std.proofs.lemmas.Result.{IfOk-weaker}
 use Rattle.mdc_ast.specs.declared.bound.Bound.TheVariants as bound
-use Rattle.mdc_ast.specs.meaning.Doing.{changed_causes}
+use Rattle.statement_meaning.specs.Doing.{changed_causes}
 use Rattle.store_api.proofs.RunsOverPagesLemmas.{runs_exit_as, runs_wider}
 use Rattle.extent_map.specs.Damages.{store_part_of}
 use Rattle.entry_tree.proofs.ClaimsLemmas.{if_err_by}
 use Rattle.block_rows.specs.HeldRows.{HasReadValues}
 use Rattle.block_rows.specs.declared.hit.Hit.{Hit}
-use Rattle.cell_rooms.specs.declared.rooms.Rooms.{Rooms}
+use Rattle.free_space.specs.declared.rooms.Rooms.{Rooms}
 use Rattle.binder.proofs.FirstLemmas.{first_of-nothing}
-use Rattle.row_judging.specs.RowChange.{misfit_cause}
-use Rattle.row_judging.specs.Served.{MaySet}
+use Rattle.row_checks.specs.RowChange.{misfit_cause}
+use Rattle.row_checks.specs.Served.{MaySet}
 use Rattle.statement_rows.specs.Turning.{MayTurn, turned_row}
 use Rattle.statement_rows.specs.declared.changing.Turned.{Turned}
 use Rattle.script_engine.specs.Doing.{DoesStatement}
@@ -21,7 +21,8 @@ use Rattle.script_engine.proofs.DoneRowsLemmas.{refused_does, runs_change, updat
 use Rattle.script_engine.proofs.NotedRoomsLemmas.{room_left, room_lent, rooms_beside, table_below}
 use Rattle.script_engine.proofs.ReadRowsLemmas.{may_judge_read}
 use Rattle.script_engine.proofs.ReadyTablesLemmas.{served_def}
-use Rattle.script_engine.proofs.ScannedTablesLemmas.{is_defined, none_made, stands_ready}
+use Rattle.script_engine.proofs.ScannedTablesLemmas.{is_defined, stands_ready}
+use Rattle.script_engine.proofs.ServedDefsLemmas.{none_made}
 use Rattle.script_engine.proofs.TurnedRowsLemmas.{all_may_turn, all_settable, each_hit, said_of, turned_places}
 use Rattle.script_engine.proofs.updating.update.Goals as goal
 

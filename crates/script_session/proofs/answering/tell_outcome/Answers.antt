@@ -1,5 +1,5 @@
 use Rattle.std.proofs.Common.{◌≡◌, ◌++◌, ap, subst, rules, ◌∙◌}
-use Rattle.mdc_ast.specs.meaning.Texts.{outcome_text}
+use Rattle.statement_meaning.specs.Texts.{outcome_text}
 use Rattle.store_api.specs.Calls.{TellsPart}
 use Rattle.mdc_outside.proofs.Answering.{on_err}
 use Rattle.script_session.proofs.AnsweringLemmas.{tells_part-none, tells_part-any_hand}

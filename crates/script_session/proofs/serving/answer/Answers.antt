@@ -2,7 +2,7 @@ use Rattle.std.proofs.Common.{◌≡◌, ℕ, List, Option, subst, Err, None, Ok
 use Rattle.std.proofs.lemmas.Result.{err_from_is_err_and}
 use Rattle.script_engine.specs.declared.stop.EngineStop.{EngineStop}
 use Rattle.script_engine.specs.declared.stop.EngineStop.TheVariants as engine
-use Rattle.mdc_ast.specs.meaning.Texts.{outcome_text}
+use Rattle.statement_meaning.specs.Texts.{outcome_text}
 use Rattle.mdc_outside.specs.Outside.{Takes}
 use Rattle.store_api.specs.declared.fault.Damage.{Damage}
 use Rattle.script_engine.specs.Leaving.{IsAllCommitted}

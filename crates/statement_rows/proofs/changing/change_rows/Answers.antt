@@ -3,7 +3,7 @@ use Rattle.std.proofs.Math.ListN.{drop_of_length-le}
 use Rattle.store_api.proofs.RunsOverPagesLemmas.{runs_exit_as}
 use Rattle.extent_map.specs.Damages.{store_part_of}
 use Rattle.entry_tree.proofs.ClaimsLemmas.{if_err_by}
-use Rattle.cell_rooms.specs.RoomNotes.{room_of}
+use Rattle.free_space.specs.RoomNotes.{room_of}
 use Rattle.statement_rows.proofs.TurningStepsLemmas.{full_at_one, runs_one, turning_at, turning_begins, turning_ends, turning_goes_on}
 use Rattle.statement_rows.proofs.changing.change_rows.Goals as goal
 

@@ -1,5 +1,5 @@
 use Rattle.std.proofs.Common.{drop}
-use Rattle.cell_rooms.specs.RoomNotes.{room_of}
+use Rattle.free_space.specs.RoomNotes.{room_of}
 use Rattle.statement_rows.proofs.TurningStepsLemmas.{IsTurning}
 use Rattle.statement_rows.proofs.changing.change_rows.Given as goal
 

@@ -5,7 +5,7 @@ use Rattle.store_api.proofs.RunsOverPagesLemmas.{runs_exit, runs_none}
 use Rattle.entry_tree.proofs.ClaimsLemmas.{shape_none, shape_then}
 use Rattle.block_rows.specs.HeldRows.{HasReadValues}
 use Rattle.block_rows.specs.declared.hit.Hit.{Hit}
-use Rattle.cell_rooms.specs.RoomNotes.{room_of}
+use Rattle.free_space.specs.RoomNotes.{room_of}
 use Rattle.statement_rows.proofs.DeletingRowsLemmas.{DeletesOn, deletes_all, deletes_none}
 use Rattle.statement_rows.proofs.DeletingStepsLemmas.{row_out, row_out_run}
 use Rattle.statement_rows.proofs.RowsThenLemmas.{rest_at}

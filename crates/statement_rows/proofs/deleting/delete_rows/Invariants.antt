@@ -4,7 +4,7 @@ use Rattle.extent_map.specs.Owners.{IsSameShape}
 use Rattle.extent_map.specs.declared.kind.Kind.{Kind}
 use Rattle.block_rows.specs.HeldRows.{placed_row}
 use Rattle.mdc_sound.specs.StandingTable.{TableForests}
-use Rattle.cell_rooms.specs.RoomNotes.{room_of}
+use Rattle.free_space.specs.RoomNotes.{room_of}
 use Rattle.statement_rows.specs.RowsOfStatement.{AnyPage, BreaksReady, HasTheseRows, IsReadyBetween}
 use Rattle.statement_rows.proofs.DeletingRowsLemmas.{DeletesOn}
 use Rattle.statement_rows.proofs.deleting.delete_rows.Given as goal

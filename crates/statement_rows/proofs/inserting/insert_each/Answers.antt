@@ -5,9 +5,9 @@ use Rattle.std.proofs.lemmas.List.{nil_from_length}
 use Rattle.store_api.proofs.RunsOverPagesLemmas.{runs_exit_as, runs_none}
 use Rattle.extent_map.specs.Damages.{store_part_of}
 use Rattle.entry_tree.proofs.ClaimsLemmas.{if_err_by, shape_none, shape_then}
-use Rattle.mdc_ast.specs.meaning.Doing.{numbered}
-use Rattle.mdc_sound.specs.FittingRows.{RowFits}
-use Rattle.cell_rooms.specs.RoomNotes.{room_of}
+use Rattle.mdc_ast.specs.Database.{numbered}
+use Rattle.mdc_ast.specs.FittingRows.{RowFits}
+use Rattle.free_space.specs.RoomNotes.{room_of}
 use Rattle.cell_change.proofs.ChangedRowLemmas.{full_as}
 use Rattle.statement_rows.proofs.InsertingRowsLemmas.{InsertsOn, inserts_all, inserts_none}
 use Rattle.statement_rows.proofs.InsertingStepsLemmas.{fits_on, number_on, raised_on, row_full, row_in, row_run}

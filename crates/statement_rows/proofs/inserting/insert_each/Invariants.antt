@@ -4,11 +4,11 @@ use Rattle.std.specs.Vec.Iter.{into_iter_items}
 use Rattle.store_api.specs.RunsOverPages.{RunsOverPages}
 use Rattle.extent_map.specs.Owners.{IsSameShape}
 use Rattle.extent_map.specs.declared.kind.Kind.{Kind}
-use Rattle.mdc_ast.specs.meaning.Doing.{numbered}
-use Rattle.mdc_sound.specs.FittingRows.{RowFits}
+use Rattle.mdc_ast.specs.Database.{numbered}
+use Rattle.mdc_ast.specs.FittingRows.{RowFits}
 use Rattle.mdc_sound.specs.StandingTable.{TableForests}
 use Rattle.mdc_sound.proofs.NextNumberLemmas.{with_next}
-use Rattle.cell_rooms.specs.RoomNotes.{room_of}
+use Rattle.free_space.specs.RoomNotes.{room_of}
 use Rattle.statement_rows.specs.RowsOfStatement.{AnyPage, BreaksReady, IsReadyBetween, NothingMore}
 use Rattle.statement_rows.proofs.InsertingRowsLemmas.{InsertsOn}
 use Rattle.statement_rows.proofs.inserting.insert_each.Given as goal

@@ -1,7 +1,7 @@
 use Rattle.std.proofs.Common.{◌≡◌, ◌<◌, ◌+◌, Some, IfSome, inl, inr, sym, ap, ◌∙◌, subst}
 use Rattle.store_api.proofs.RunsOverPagesLemmas.{runs_exit_as, runs_wider}
 use Rattle.mdc_ast.specs.declared.definition.TableDef.{TableDef}
-use Rattle.mdc_ast.specs.meaning.Database.{with_place}
+use Rattle.mdc_ast.specs.Database.{with_place}
 use Rattle.store_api.specs.Frame.{Touches}
 use Rattle.store_api.specs.StoreState.{zero_page}
 use Rattle.extent_map.specs.Damages.{IfFull, store_part_of}

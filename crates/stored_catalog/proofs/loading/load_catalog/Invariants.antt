@@ -1,6 +1,6 @@
 use Rattle.std.proofs.Common.{◌≡◌, false, None}
 use Rattle.std.specs.Prelude.{IsTrue}
-use Rattle.mdc_ast.specs.meaning.Definitions.{AllDefsDiffer}
+use Rattle.mdc_ast.specs.ValidDatabase.{AllDefsDiffer}
 use Rattle.store_api.specs.Frame.{NoPage}
 use Rattle.store_api.specs.RunsOverPages.{RunsOverPages}
 use Rattle.stored_catalog.specs.StoredDefinitions.{BreaksTablePages, IsAnyTablePage, IsStoredPlace, IsWithinLimits}

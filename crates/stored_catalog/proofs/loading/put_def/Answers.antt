@@ -1,6 +1,6 @@
 use Rattle.std.proofs.Common.{◌∙◌, None, ap, subst, sym}
 use Rattle.std.specs.Prelude.{slice_set}
-use Rattle.mdc_ast.specs.meaning.Definitions.{AllDefsDiffer}
+use Rattle.mdc_ast.specs.ValidDatabase.{AllDefsDiffer}
 use Rattle.mdc_ast.proofs.DefinitionsLemmas.{differ_put}
 use Rattle.stored_catalog.specs.StoredDefinitions.{IsWithinLimits}
 use Rattle.stored_catalog.proofs.LoadingLemmas.{differ_put_new, name_taken, put_as_it_is}

@@ -1,4 +1,4 @@
-use Rattle.mdc_ast.specs.meaning.Definitions.{def_at}
+use Rattle.mdc_ast.specs.Definitions.{def_at}
 use Rattle.stored_catalog.proofs.NumberingLemmas.{saved_next, stored_next}
 use Rattle.stored_catalog.proofs.numbering.save_next.Goals as goal
 

@@ -1,6 +1,6 @@
 use Rattle.std.proofs.Common.{None, Some}
 use Rattle.std.specs.Prelude.{IsTrue}
-use Rattle.mdc_ast.specs.meaning.Definitions.{def_at}
+use Rattle.mdc_ast.specs.Definitions.{def_at}
 use Rattle.stored_catalog.proofs.SavingLemmas.{saved_stored}
 use Rattle.stored_catalog.proofs.saving.save_table.Goals as goal
 

@@ -1,5 +1,5 @@
 use Rattle.std.proofs.Common.{◌≡◌, false, []}
-use Rattle.table_page.specs.TableLimits.{IsTableDef}
+use Rattle.mdc_ast.specs.TableLimits.{IsTableDef}
 use Rattle.stored_catalog_tests.proofs.rows.fill.Given as goal
 
 -- the definition stays one of a table without indexes, the store goes on, and its mark is as it was

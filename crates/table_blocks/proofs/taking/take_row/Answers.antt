@@ -1,13 +1,16 @@
-use Rattle.std.proofs.Common.{◌≡◌, ℕ, Some, arith, subst}
+use Rattle.std.proofs.Common.{◌≡◌, ℕ, Some, arith, subst, sym}
 use Rattle.std.specs.Prelude.{IfNone, Option}
-use Rattle.store_api.proofs.RunsOverPagesLemmas.{runs_exit}
+use Rattle.store_api.specs.RunsOverPages.{RunsOverPages}
+use Rattle.store_api.proofs.RunsOverPagesLemmas.{runs_exit, runs_memory}
+use Rattle.mdc_sound.specs.StandingTable.{BreaksExpected, IsBlockOrMapPage}
+use Rattle.table_blocks.specs.BlockNow.{IsKeyedCell}
 use Rattle.table_blocks.specs.BlockSteps.{HasThisRow}
 use Rattle.table_blocks.proofs.FewerRowsLemmas.{empties_fewer, fewer_space, left_counted, runs_fewer}
-use Rattle.table_blocks.proofs.LastRowLemmas.{SeesLast, empties_last, none_left, runs_last, runs_looking, runs_of_table, runs_on_slot, runs_this_row, sees_last}
+use Rattle.table_blocks.proofs.LastRowLemmas.{SeesLast, cell_keys, empties_last, none_left, runs_last, runs_looking, runs_of_table, runs_on_slot, runs_this_row, sees_last}
 use Rattle.table_blocks.proofs.LastRowSpaceLemmas.{last_space}
 use Rattle.table_blocks.proofs.MapOfTableLemmas.{runs_expected, runs_on_map}
 use Rattle.table_blocks.proofs.taking.take_row.Given.{Over}
-use Rattle.table_blocks.proofs.taking.take_row.Goals.{In_default, In_ok-line}
+use Rattle.table_blocks.proofs.taking.take_row.Goals.{In_default, In_ok-cell, In_ok-line}
 use Rattle.table_blocks.proofs.taking.take_row.Goals as goal
 
 pub returns-in_err-had-clause-runs : goal.returns-in_err-had-clause-runs
@@ -97,24 +100,46 @@ returns-in_err-clear_filled-2-clause-runs g c =
     (runs_on_slot ext s def c.requires.defined c.args.rid c.requires.within c.in_ok-line.line.rows last.few last.there c.args.row.now last.as_was
     (runs_of_table ext s def c.requires.defined c.args.rid c.requires.within map.tree c.at-map.ensures map.seven last.looking) c.in_err-clear_filled-2.ensures.runs)
 
-pub returns-in_err-free_block-clause-runs : goal.returns-in_err-free_block-clause-runs
-returns-in_err-free_block-clause-runs g c =
+-- the cell of the row
+cell : (g : Over) (c : In_ok-cell g) → IsKeyedCell c.args.def.now c.in_ok-cell.cell c.args.row.now.values
+cell g c = record { cell_is = c.in_ok-cell.ensures.cell; keys = cell_keys c.args.def.now c.args.row.now c.requires.defined c.requires.keyed }
+
+pub cell_of-requires : goal.cell_of-requires
+cell_of-requires g c = record { keys = cell_keys c.args.def.now c.args.row.now c.requires.defined c.requires.keyed }
+
+pub returns-in_err-cell-clause-runs : goal.returns-in_err-cell-clause-runs
+returns-in_err-cell-clause-runs g c =
+    let ext = c.args.ext.now in
+    let s = c.args.pages.now in
+    let def = c.args.def.now in
+    let map = c.at-map.result in
+    let last = sees g (goal.at.returns-in_err-cell-clause-runs g c).In_ok-line in
+    runs_exit c.from_residual-in_err-cell.result c.from_residual-in_err-cell.ensures.1
+    (subst (λ fault. RunsOverPages g.P.Pages (IsBlockOrMapPage g.P.Pages ext s def c.args.rid.block) (IsBlockOrMapPage g.P.Pages ext s def c.args.rid.block)
+    (BreaksExpected g.P.Pages ext s def (HasThisRow g.P.Pages ext s def c.args.rid c.args.row.now)) s c.clear_filled-2.new.pages (Some fault)) (sym c.in_err-cell.ensures.memory)
+    (runs_memory (runs_on_slot ext s def c.requires.defined c.args.rid c.requires.within c.in_ok-line.line.rows last.few last.there c.args.row.now last.as_was
+    (runs_of_table ext s def c.requires.defined c.args.rid c.requires.within map.tree c.at-map.ensures map.seven last.looking) c.in_ok-clear_filled-2.ensures.runs)))
+
+pub returns-in_err-release_block-clause-runs : goal.returns-in_err-release_block-clause-runs
+returns-in_err-release_block-clause-runs g c =
     let map = c.at-map.result in
     let line = c.in_ok-line.line in
-    let last = sees g (goal.at.returns-in_err-free_block-clause-runs g c).In_ok-line in
+    let at = goal.at.returns-in_err-release_block-clause-runs g c in
+    let last = sees g at.In_ok-line in
     let cleared = c.in_ok-clear_filled-2.ensures in
-    runs_exit c.from_residual-in_err-free_block.result c.from_residual-in_err-free_block.ensures.1
+    runs_exit c.from_residual-in_err-release_block.result c.from_residual-in_err-release_block.ensures.1
     (runs_last c.args.ext.now c.args.pages.now c.args.def.now c.requires.defined c.args.rid c.requires.within line.rows last.few last.there map.tree c.at-map.ensures map.seven c.args.row.now c.line_of_used.new.pages c.clear_filled-2.new.pages
-    last.looking last.as_was cleared.runs cleared.count line last.is c.in_err-free_block.ensures.runs)
+    last.looking last.as_was cleared.runs cleared.count c.in_ok-cell.cell (cell g at.In_ok-cell) line last.is c.in_err-release_block.ensures.runs)
 
 pub returns-clause-takes : goal.returns-clause-takes
 returns-clause-takes g c owners forests st has =
     let map = c.at-map.result in
     let line = c.in_ok-line.line in
-    let last = sees g (goal.at.returns-clause-takes g c).In_ok-line in
+    let at = goal.at.returns-clause-takes g c in
+    let last = sees g at.In_ok-line in
     let cleared = c.in_ok-clear_filled-2.ensures in
     empties_last c.args.ext.now c.args.pages.now c.args.def.now c.requires.defined c.args.rid c.requires.within line.rows last.few last.there map.tree c.at-map.ensures map.seven c.args.row.now c.line_of_used.new.pages c.clear_filled-2.new.pages
-    last.looking last.as_was cleared.runs cleared.count line last.is c.free_block.new.ext c.free_block.new.pages c.in_ok-free_block.ensures.frees owners forests st has (last.last owners forests st)
+    last.looking last.as_was cleared.runs cleared.count c.in_ok-cell.cell (cell g at.In_ok-cell) line last.is c.release_block.new.ext c.release_block.new.pages c.in_ok-release_block.ensures.releases owners forests st has (last.last owners forests st)
 
 pub returns-clause-left : goal.returns-clause-left
 returns-clause-left g c =
@@ -127,14 +152,15 @@ returns-clause-makes g c owners forests st =
     let line = c.in_ok-line.line in
     let last = sees g (goal.at.returns-clause-makes g c).In_ok-line in
     let cleared = c.in_ok-clear_filled-2.ensures in
-    last_space c.args.ext.now c.args.pages.now c.args.def.now c.requires.defined c.args.rid c.requires.within line.rows last.few last.there map.tree c.at-map.ensures map.seven c.args.row.now c.line_of_used.new.pages c.clear_filled-2.new.pages
-    last.looking last.as_was cleared.runs cleared.count line last.is c.free_block.new.pages c.in_ok-free_block.ensures.makes owners forests st (last.last owners forests st)
+    last_space c.args.ext.now c.args.pages.now c.args.def.now c.requires.defined c.args.rid c.requires.within line.rows last.few last.there map.tree c.at-map.ensures map.seven c.args.row.now c.in_ok-cell.cell c.in_ok-cell.ensures.cell
+    c.line_of_used.new.pages c.clear_filled-2.new.pages last.looking last.as_was cleared.runs cleared.count line last.is c.release_block.new.pages c.in_ok-release_block.ensures.makes owners forests st (last.last owners forests st)
 
 pub returns-clause-runs : goal.returns-clause-runs
 returns-clause-runs g c =
     let map = c.at-map.result in
     let line = c.in_ok-line.line in
-    let last = sees g (goal.at.returns-clause-runs g c).In_ok-line in
+    let at = goal.at.returns-clause-runs g c in
+    let last = sees g at.In_ok-line in
     let cleared = c.in_ok-clear_filled-2.ensures in
     runs_last c.args.ext.now c.args.pages.now c.args.def.now c.requires.defined c.args.rid c.requires.within line.rows last.few last.there map.tree c.at-map.ensures map.seven c.args.row.now c.line_of_used.new.pages c.clear_filled-2.new.pages
-    last.looking last.as_was cleared.runs cleared.count line last.is c.in_ok-free_block.ensures.runs
+    last.looking last.as_was cleared.runs cleared.count c.in_ok-cell.cell (cell g at.In_ok-cell) line last.is c.in_ok-release_block.ensures.runs

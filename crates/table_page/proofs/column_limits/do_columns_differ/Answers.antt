@@ -2,7 +2,7 @@
 use Rattle.std.proofs.Common.{◌∙◌, Bool, List, refl, sym}
 use Rattle.std.specs.List.{list_any}
 use Rattle.mdc_ast.specs.declared.definition.ColumnDef.{ColumnDef}
-use Rattle.mdc_ast.specs.meaning.Definitions.{AllNamesDiffer, column_names, is_same}
+use Rattle.mdc_ast.specs.Definitions.{AllNamesDiffer, column_names, is_same}
 use Rattle.table_page.proofs.DifferingLemmas.{SaysNoneTwice, none_twice-all, none_twice-more, none_twice-not}
 use Rattle.table_page.proofs.NamesLemmas.{is_among-columns}
 use Rattle.table_page.proofs.column_limits.do_columns_differ.Goals as goal

@@ -1,5 +1,5 @@
 use Rattle.std.proofs.Common.{◌↔◌, drop}
-use Rattle.mdc_ast.specs.meaning.Definitions.{AllNamesDiffer, column_names}
+use Rattle.mdc_ast.specs.Definitions.{AllNamesDiffer, column_names}
 use Rattle.table_page.proofs.column_limits.do_columns_differ.Given as goal
 
 -- none of the first ones stands again

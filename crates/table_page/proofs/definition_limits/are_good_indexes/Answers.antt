@@ -3,7 +3,7 @@ use Rattle.std.proofs.Common.{subst, refl}
 use Rattle.std.specs.List.{All}
 use Rattle.std.proofs.lemmas.List.{take_all}
 use Rattle.std.proofs.lemmas.List.Elements.{All-more, recursion_from_All}
-use Rattle.table_page.specs.TableLimits.{IsGoodIndex}
+use Rattle.mdc_ast.specs.TableLimits.{IsGoodIndex}
 use Rattle.table_page.proofs.definition_limits.are_good_indexes.Goals as goal
 
 pub loop-index-preserved : goal.loop-index-preserved

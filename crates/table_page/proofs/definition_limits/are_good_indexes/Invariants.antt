@@ -1,6 +1,6 @@
 use Rattle.std.proofs.Common.{take}
 use Rattle.std.specs.List.{All}
-use Rattle.table_page.specs.TableLimits.{IsGoodIndex}
+use Rattle.mdc_ast.specs.TableLimits.{IsGoodIndex}
 use Rattle.table_page.proofs.definition_limits.are_good_indexes.Given as goal
 
 -- the first ones are good

@@ -3,7 +3,7 @@ use Rattle.std.proofs.Common.{◌∙◌, Bool, List, refl, sym}
 use Rattle.std.specs.List.{list_any}
 use Rattle.mdc_ast.specs.declared.definition.IndexDef.{IndexDef}
 use Rattle.std.specs.Prelude.{map}
-use Rattle.mdc_ast.specs.meaning.Definitions.{AllNamesDiffer, is_same}
+use Rattle.mdc_ast.specs.Definitions.{AllNamesDiffer, is_same}
 use Rattle.table_page.proofs.DifferingLemmas.{SaysNoneTwice, none_twice-all, none_twice-more, none_twice-not}
 use Rattle.table_page.proofs.NamesLemmas.{is_among-indexes}
 use Rattle.table_page.proofs.definition_limits.do_indexes_differ.Goals as goal

@@ -1,6 +1,6 @@
 use Rattle.std.proofs.Common.{◌↔◌, drop}
 use Rattle.std.specs.Prelude.{map}
-use Rattle.mdc_ast.specs.meaning.Definitions.{AllNamesDiffer}
+use Rattle.mdc_ast.specs.Definitions.{AllNamesDiffer}
 use Rattle.table_page.proofs.definition_limits.do_indexes_differ.Given as goal
 
 -- none of the first ones stands again

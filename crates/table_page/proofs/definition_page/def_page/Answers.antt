@@ -3,7 +3,7 @@ use Rattle.std.proofs.Common.{◌≤◌, length, subst, sym}
 use Rattle.std.specs.List.{All}
 use Rattle.std.specs.Prelude.{flat_map}
 use Rattle.std.proofs.lemmas.List.Elements.{All-from_recursion}
-use Rattle.mdc_ast.specs.meaning.Definitions.{IsShort}
+use Rattle.mdc_ast.specs.Definitions.{IsShort}
 use Rattle.byteorder.specs.Endian.{big_bytes}
 use Rattle.table_page.specs.Printing.{IsShortIndex, PrintsBytes}
 use Rattle.table_page.specs.TablePage.{printed_column, printed_dimension, printed_index, zero_filled}

@@ -1,6 +1,6 @@
 -- Each entry stands behind those before it, and zeros behind them all.
 use Rattle.std.proofs.Common.{arith, subst, sym}
-use Rattle.mdc_ast.specs.meaning.Definitions.{IsShort}
+use Rattle.mdc_ast.specs.Definitions.{IsShort}
 use Rattle.table_page.specs.TablePage.{printed_column}
 use Rattle.table_page.proofs.EntriesLemmas.{length-printed_column}
 use Rattle.table_page.proofs.PrintingLemmas.{PrintsBytes-none, prints_entries, prints_more}

@@ -2,7 +2,7 @@
 use Rattle.std.proofs.Common.{◌∙◌, ℕ, Bool, List, refl, sym}
 use Rattle.std.specs.List.{list_any}
 use Rattle.std.specs.Prelude.{◌==◌}
-use Rattle.mdc_ast.specs.meaning.Definitions.{AllPlacesDiffer}
+use Rattle.mdc_ast.specs.Definitions.{AllPlacesDiffer}
 use Rattle.table_page.proofs.DifferingLemmas.{SaysNoneTwice, none_twice-all, none_twice-more, none_twice-not}
 use Rattle.table_page.proofs.key_limits.do_places_differ.Goals as goal
 

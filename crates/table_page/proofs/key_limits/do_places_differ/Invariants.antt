@@ -1,5 +1,5 @@
 use Rattle.std.proofs.Common.{◌↔◌, drop}
-use Rattle.mdc_ast.specs.meaning.Definitions.{AllPlacesDiffer}
+use Rattle.mdc_ast.specs.Definitions.{AllPlacesDiffer}
 use Rattle.table_page.proofs.key_limits.do_places_differ.Given as goal
 
 -- none of the first ones stands again

@@ -1,7 +1,7 @@
 -- A column that has no room left.
 use Rattle.std.proofs.Common.{◌<◌, arith}
 use Rattle.std.proofs.lemmas.Bool.Decides.{nat_tests}
-use Rattle.mdc_ast.specs.meaning.Definitions.{column_types, row_width}
+use Rattle.mdc_ast.specs.Definitions.{column_types, row_width}
 use Rattle.table_page.proofs.WidthLemmas.{row_over}
 use Rattle.table_page.proofs.key_limits.is_narrow.Goals as goal
 

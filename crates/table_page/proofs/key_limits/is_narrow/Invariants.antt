@@ -1,5 +1,5 @@
 use Rattle.std.proofs.Common.{◌≡◌, ◌+◌, drop}
-use Rattle.mdc_ast.specs.meaning.Definitions.{column_types, row_width}
+use Rattle.mdc_ast.specs.Definitions.{column_types, row_width}
 use Rattle.table_page.proofs.key_limits.is_narrow.Given as goal
 
 -- the room that the first columns leave

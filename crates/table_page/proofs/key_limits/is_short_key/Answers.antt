@@ -1,7 +1,7 @@
 -- A place that has no room left, or one that has.
 use Rattle.std.proofs.Common.{◌<◌, arith}
 use Rattle.std.proofs.lemmas.Bool.Decides.{nat_tests}
-use Rattle.mdc_ast.specs.meaning.Definitions.{key_width, types_at}
+use Rattle.mdc_ast.specs.Definitions.{key_width, types_at}
 use Rattle.table_page.proofs.WidthLemmas.{key_at-step}
 use Rattle.table_page.proofs.key_limits.is_short_key.Goals as goal
 

@@ -1,5 +1,5 @@
 use Rattle.std.proofs.Common.{◌≡◌, ◌+◌, drop}
-use Rattle.mdc_ast.specs.meaning.Definitions.{key_width, types_at}
+use Rattle.mdc_ast.specs.Definitions.{key_width, types_at}
 use Rattle.table_page.proofs.key_limits.is_short_key.Given as goal
 
 -- the room that the first places leave

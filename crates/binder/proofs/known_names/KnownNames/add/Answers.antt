@@ -1,6 +1,6 @@
 use Rattle.std.proofs.Common.{◌≡◌, Bool, true, false, cond, ◌||◌, ap, refl, ◌∙◌}
 use Rattle.std.specs.Str.{bytes_eq}
-use Rattle.mdc_ast.specs.meaning.Definitions.{is_same}
+use Rattle.mdc_ast.specs.Definitions.{is_same}
 use Rattle.binder.proofs.ColumnLemmas.{is_same-sym}
 use Rattle.binder.proofs.known_names.KnownNames.add.Goals as goal
 

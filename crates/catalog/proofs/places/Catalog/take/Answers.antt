@@ -1,6 +1,6 @@
 use Rattle.std.proofs.Common.{◌≡◌, ◌<◌, ◌∙◌, None, Option, arith, ap, length, set, subst, sym}
 use Rattle.mdc_ast.specs.declared.definition.TableDef.{TableDef}
-use Rattle.mdc_ast.specs.meaning.Definitions.{def_at}
+use Rattle.mdc_ast.specs.Definitions.{def_at}
 use Rattle.catalog.specs.Places.{AreNumberedFrom}
 use Rattle.catalog.proofs.PlacesLemmas.{changed, def_at-get_or}
 use Rattle.catalog.proofs.places.Catalog.take.Goals as goal

@@ -1,5 +1,5 @@
 use Rattle.std.proofs.Common.{◌∙◌, sym, ap}
-use Rattle.mdc_ast.specs.meaning.Database.{defs_of}
+use Rattle.mdc_ast.specs.Database.{defs_of}
 use Rattle.plain_engine.proofs.TablesLemmas.{defs_of-tables_of}
 use Rattle.plain_engine.proofs.tables.Tables.catalog.Goals as goal
 

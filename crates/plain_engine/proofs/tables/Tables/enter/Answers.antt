@@ -1,7 +1,7 @@
 use Rattle.std.proofs.Common.{◌∙◌, sym, ap, subst, arith}
 use Rattle.std.specs.Prelude.{IsSome}
-use Rattle.mdc_ast.specs.meaning.Definitions.{empty_place}
-use Rattle.mdc_ast.specs.meaning.Database.{defs_of}
+use Rattle.mdc_ast.specs.Definitions.{empty_place}
+use Rattle.mdc_ast.specs.Database.{defs_of}
 use Rattle.plain_engine.proofs.TablesLemmas.{are_tables-set_def, defs_of-tables_of, enter_is, is_free, IsFree}
 use Rattle.plain_engine.specs.Tables.{AreTables}
 use Rattle.plain_engine.proofs.tables.Tables.enter.Goals as goal

@@ -2,7 +2,7 @@
 use Rattle.std.proofs.Common.{◌≡◌, ◌/◌, ◌%◌, ◌^◌, ap, sym, ◌∙◌, arith, get_or, drop, take, false}
 use Rattle.std.specs.Prelude.{◌==◌}
 use Rattle.std.proofs.lemmas.Bool.Decides.{nat_tests}
-use Rattle.mdc_ast.specs.meaning.Definitions.{width}
+use Rattle.mdc_ast.specs.Definitions.{width}
 use Rattle.row_page.specs.Row.{nulls_in}
 use Rattle.row_page.proofs.RowLemmas.{row_width_of-take_more, stored_bytes-take}
 use Rattle.row_page.proofs.row_view.RowView.bytes.Goals as goal

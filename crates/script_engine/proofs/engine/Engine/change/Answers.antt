@@ -1,6 +1,6 @@
 use Rattle.std.proofs.Common.{ap, sym, ◌∙◌}
 use Rattle.std.specs.Prelude.{◌||◌}
-use Rattle.mdc_ast.specs.meaning.Session.{is_refusal}
+use Rattle.statement_meaning.specs.Session.{is_refusal}
 use Rattle.script_engine.proofs.TurnsLemmas.{change_committed, change_kept, change_stops, change_untried}
 use Rattle.script_engine.proofs.engine.Engine.change.Goals as goal
 

@@ -1,6 +1,6 @@
 use Rattle.std.proofs.Common.{◌≡◌, ◌<◌, ℕ}
 use Rattle.mdc_words.specs.ByteOrder.{Entry}
-use Rattle.cell_rooms.specs.RoomNotes.{no_note}
+use Rattle.free_space.specs.RoomNotes.{no_note}
 use Rattle.script_engine.specs.NotedRooms.{rooms_at}
 use Rattle.script_engine.proofs.table_rooms.TableRooms.forget.Given as goal
 

@@ -1,5 +1,5 @@
 use Rattle.std.proofs.Common.{ap, arith, get_or, rules, subst, ◌∙◌}
-use Rattle.cell_rooms.specs.RoomNotes.{IsForgotten}
+use Rattle.free_space.specs.RoomNotes.{IsForgotten}
 use Rattle.script_engine.specs.NotedRooms.{note_in}
 use Rattle.script_engine.proofs.NotedRoomsLemmas.{item_below}
 use Rattle.script_engine.proofs.table_rooms.TableRooms.new.Goals as goal

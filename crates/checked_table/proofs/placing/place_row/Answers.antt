@@ -1,0 +1,54 @@
+use Rattle.std.proofs.Common.{slice_index_or}
+use Rattle.table_trees.specs.SpaceChanges.{MakesChanges}
+use Rattle.mdc_sound.specs.Placing.{table_spots}
+use Rattle.mdc_sound.specs.Placing.Spot.{OtherBlock}
+use Rattle.mdc_sound.specs.RunningFull.{block_changes}
+use Rattle.free_space.specs.RoomNotes.{room_of}
+use Rattle.mdc_table.specs.NextBlock.{FindsNoPlace}
+use Rattle.checked_table.specs.MissingPlaces.{LacksPlace}
+use Rattle.checked_table.proofs.EndingLemmas.{end_change, end_unkept, full_back, whole_back}
+use Rattle.checked_table.proofs.ExactDamageLemmas.{answers_none, lacks_place}
+use Rattle.checked_table.proofs.MarkedChangesLemmas.{whole_kept}
+use Rattle.checked_table.proofs.SamePagesLemmas.{if_stood, places_between, ready_there, said_between, stays_between}
+use Rattle.checked_table.proofs.placing.place_row.Goals as goal
+
+pub returns-in-Ok-keep_or_undo : goal.returns-in-Ok-keep_or_undo
+returns-in-Ok-keep_or_undo g c =
+    let ext = c.args.ext.now in
+    let def = c.args.def.now in
+    let first = c.begin_change.ensures.pages in
+    let keeps = c.in-Ok-keep_or_undo.ensures.keeps in
+    let rid = c.in-Ok.rid in
+    record {
+      places = λ owners forests ready. places_between first keeps.pages (c.in-Ok.ensures.places owners forests (ready_there first ready));
+      full = tt;
+      makes = λ owners forests ready.
+          said_between first keeps.pages (λ was is. MakesChanges ext was (block_changes def c.args.row.now rid.block (slice_index_or (table_spots ext was def owners forests.map) rid.block OtherBlock)) is)
+          (c.in-Ok.ensures.makes owners forests (ready_there first ready));
+      stay = λ owners forests ready. stays_between first keeps.pages (c.in-Ok.ensures.stay owners forests (ready_there first ready));
+      exact = answers_none g.P.Pages ext def c.args.pages.now;
+      whole = whole_kept c.begin_change.ensures c.in-Ok.ensures.runs (λ p. if_stood first) keeps c.in-Ok-keep_or_undo.ensures.device c.place_row.ensures.shape;
+    }
+
+pub returns-in-Err-keep_or_undo : goal.returns-in-Err-keep_or_undo
+returns-in-Err-keep_or_undo g c =
+    let undone = c.in-Err-keep_or_undo.ensures in
+    let ends = end_unkept c.args.def.now c.begin_change.ensures c.in-Ok.ensures.runs c.place_row.ensures.shape undone.undoes undone.device undone.damaged c.forget_notes.ensures in
+    record { places = tt; full = tt; makes = tt; stay = tt; exact = ends.left.exact; whole = whole_back ends }
+
+pub returns-in-Err : goal.returns-in-Err
+returns-in-Err g c =
+    let ext = c.args.ext.now in
+    let def = c.args.def.now in
+    let first = c.begin_change.ensures.pages in
+    let undone = c.undo_space_change.ensures in
+    let ends = end_change c.begin_change.ensures c.in-Err.ensures.runs c.place_row.ensures.shape undone.undoes undone.device undone.forgets undone.exact c.requires.defined c.requires.place in
+    record {
+      places = tt;
+      full = full_back ext def (room_of c.args.rooms.now) (FindsNoPlace g.P.Pages ext c.place_row.new.ext c.begin_change.new.pages c.place_row.new.pages def c.args.row.now) (LacksPlace g.P.Pages ext c.args.pages.now def c.args.row.now)
+          c.in-Err.fault c.undo_space_change.result first (λ owners forests. lacks_place first) undone.full c.in-Err.ensures.full;
+      makes = tt;
+      stay = tt;
+      exact = ends.left.exact;
+      whole = whole_back ends;
+    }

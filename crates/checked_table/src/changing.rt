@@ -1,0 +1,80 @@
+// A row becomes another.
+ghost use Rattle.std.specs.Prelude.{◌≡◌, ◌<◌, ◌⊎◌, [], ◌∷◌, List, None, false, IfErr, IfOk, OnOk};
+ghost use Rattle.store_api.specs.Causes.{store_fault_in};
+ghost use Rattle.extent_map.specs.Damages.{IfFull, store_part_of};
+ghost use Rattle.extent_map.specs.declared.kind.Kind.{Kind};
+ghost use Rattle.mdc_ast.specs.Database.{Database, changed_at};
+ghost use Rattle.mdc_ast.specs.TableLimits.{IsTableDef};
+ghost use Rattle.block_rows.specs.HeldRows.{HasReadValues};
+ghost use Rattle.mdc_ast.specs.FittingRows.{RowFits};
+ghost use Rattle.mdc_sound.specs.RunningFull.{UpdateRunsFull};
+ghost use Rattle.mdc_sound.specs.SoundDatabase.{IsSoundBetweenChanges, with_table_page};
+ghost use Rattle.mdc_sound.specs.StandingTable.{IsReadyTable, KeepsBlocksBut, TableForests, pages_of};
+ghost use Rattle.mdc_sound.specs.StandsForDatabase.{PagesStandFor, with_row};
+ghost use Rattle.free_space.specs.RoomNotes.{room_of};
+ghost use Rattle.mdc_table.specs.KnownBlocks.{IsExpectedSpace};
+ghost use Rattle.table_blocks.specs.BlockSteps.{HasThisRow};
+ghost use Rattle.cell_change.specs.RowChanges.{ChangesOneRow, row_in_place};
+ghost use Rattle.checked_table.specs.ExactDamage.{AnswersExactly, HasRowIfStanding};
+ghost use Rattle.checked_table.specs.WholeChanges.{IsWholeChange};
+
+use crate::ending::{begin_change, forget_notes, keep_or_undo, undo_space_change};
+use extent_map::{Extents, SpaceFault};
+use free_space::Rooms;
+use mdc_ast::{Row, TableDef};
+use mdc_values::Rid;
+use std::alloc::Global;
+use store_api::Pages;
+
+/// Makes the row in a place, which is given, another one that fits the definition and has its number, and answers where that
+/// lies: in the same place where the cell is the same, else where placing puts it once the old one is out. It claims no more pages
+/// than the row asks for, and `Full` says that an UPDATE of this row runs full: it moves, and what it needs then asks for more
+/// extents than are free. After a fault all pages are as they were, the notes are forgotten, and where the row lies there if the
+/// table stands, damage is exact.
+pub fn change_row<P: Pages>(
+    alloc: Global,
+    def: &TableDef,
+    ext: &mut Extents,
+    rooms: &mut Rooms,
+    pages: &mut P,
+    rid: Rid,
+    was: &Row,
+    is: &Row,
+) -> Result<Rid, SpaceFault>
+    requires defined { IsTableDef def.now.number def.now }
+    requires place { def.now.number < 16 }
+    requires no_indexes { def.now.indexes ≡ [] }
+    requires was { HasReadValues def.now.columns was.now }
+    requires fits { RowFits def.now is.now }
+    requires number { is.now.number ≡ was.now.number }
+    requires going { (P.state pages.old).ended ≡ false }
+    requires unmarked { (P.state pages.old).marked ≡ None }
+    ensures changes { IfOk result (λ to. (owners : List Kind) (forests : TableForests) → IsReadyTable P.Pages ext.old (room_of rooms.old) pages.old def.now owners forests
+        → HasThisRow P.Pages ext.old pages.old def.now rid was.now owners forests
+        → ChangesOneRow P.Pages ext.old ext.new (room_of rooms.new) pages.old pages.new def.now was.now is.now rid to owners forests) }
+    ensures stay { IfOk result (λ to. (owners : List Kind) (forests : TableForests) → IsReadyTable P.Pages ext.old (room_of rooms.old) pages.old def.now owners forests
+        → HasThisRow P.Pages ext.old pages.old def.now rid was.now owners forests → KeepsBlocksBut P.Pages ext.old pages.old pages.new def.now owners (λ block. (block ≡ rid.block) ⊎ (block ≡ to.block))) }
+    ensures sound { OnOk result ((owners : List Kind) (forests : TableForests) → IsReadyTable P.Pages ext.old (room_of rooms.old) pages.old def.now owners forests
+        → HasThisRow P.Pages ext.old pages.old def.now rid was.now owners forests
+        → IsSoundBetweenChanges ext.old def.now (pages_of P.Pages pages.old) → IsSoundBetweenChanges ext.new def.now (pages_of P.Pages pages.new)) }
+    ensures stands_for { OnOk result ((owners : List Kind) (forests : TableForests) → IsReadyTable P.Pages ext.old (room_of rooms.old) pages.old def.now owners forests
+        → HasThisRow P.Pages ext.old pages.old def.now rid was.now owners forests → IsSoundBetweenChanges ext.old def.now (pages_of P.Pages pages.old)
+        → (db : Database) → PagesStandFor ext.old (with_table_page def.now (pages_of P.Pages pages.old)) db
+        → PagesStandFor ext.new (with_table_page def.now (pages_of P.Pages pages.new)) (changed_at db def.now.number (with_row is.now))) }
+    ensures full { IfErr result (λ fault. IfFull fault (λ cap. (cap ≡ ext.old.cap) × ((owners : List Kind) (forests : TableForests) → IsReadyTable P.Pages ext.old (room_of rooms.old) pages.old def.now owners forests
+        → HasThisRow P.Pages ext.old pages.old def.now rid was.now owners forests → UpdateRunsFull ext.old (pages_of P.Pages pages.old) def.now ((row_in_place rid was.now, is.now) ∷ [])))) }
+    ensures exact { HasRowIfStanding P.Pages ext.old pages.old def.now rid was.now → AnswersExactly P.Pages ext.old def.now pages.old (store_fault_in store_part_of result) }
+    ensures whole { IsWholeChange P.Pages (IsExpectedSpace P.Pages ext.old pages.old def.now (HasThisRow P.Pages ext.old pages.old def.now rid was.now)) ext.old ext.new rooms.new pages.old pages.new result (store_fault_in store_part_of result) }
+{
+    begin_change(pages);
+    match cell_change::change_row(alloc, def, ext, rooms, pages, None, rid, was, is) {
+        Ok(to) => match keep_or_undo(pages) {
+            Ok(()) => Ok(to),
+            Err(fault) => {
+                forget_notes(ext, rooms);
+                Err(SpaceFault::Store(fault))
+            }
+        },
+        Err(fault) => Err(undo_space_change(alloc, def, ext, rooms, pages, fault)),
+    }
+}

@@ -1,0 +1,75 @@
+// A row less.
+ghost use Rattle.std.specs.Prelude.{◌≡◌, ◌<◌, [], List, Option, None, false, length, OnOk};
+ghost use Rattle.store_api.specs.Causes.{fault_of};
+ghost use Rattle.extent_map.specs.declared.kind.Kind.{Kind};
+ghost use Rattle.mdc_ast.specs.declared.row.Row.{Row};
+ghost use Rattle.mdc_ast.specs.Database.{Database, changed_at};
+ghost use Rattle.row_page.specs.RowPage.{count_rows};
+ghost use Rattle.mdc_ast.specs.TableLimits.{IsTableDef};
+ghost use Rattle.table_trees.specs.SpaceChanges.{MakesChanges};
+ghost use Rattle.mdc_sound.specs.Placing.{IsRowAt};
+ghost use Rattle.mdc_sound.specs.RunningFull.{taking_changes};
+ghost use Rattle.mdc_sound.specs.SoundDatabase.{IsSoundBetweenChanges, with_table_page};
+ghost use Rattle.mdc_sound.specs.StandingTable.{IsReadyTable, IsTableOrMapPage, KeepsBlocksBut, TableForests, pages_of, spots_of};
+ghost use Rattle.mdc_sound.specs.StandsForDatabase.{PagesStandFor, without_row};
+ghost use Rattle.block_rows.specs.HeldRows.{HasReadValues};
+ghost use Rattle.table_blocks.specs.BlockSteps.{HasThisRow};
+ghost use Rattle.free_space.specs.RoomNotes.{room_of};
+ghost use Rattle.cell_change.specs.RowChanges.{DeletesRow};
+ghost use Rattle.checked_table.specs.ExactDamage.{AnswersExactly, HasRowIfStanding};
+ghost use Rattle.checked_table.specs.WholeChanges.{IsWholeChange};
+
+use crate::ending::{begin_change, forget_notes, keep_or_undo, undo_change};
+use extent_map::Extents;
+use free_space::Rooms;
+use mdc_ast::{Row, TableDef};
+use mdc_values::Rid;
+use std::alloc::Global;
+use store_api::{Pages, StoreFault};
+
+/// Deletes the row that lies in a place; it is given too. It claims no page. After a fault all pages are as they were, the notes are
+/// forgotten, and where the row lies there if the table stands, damage is exact.
+pub fn delete_row<P: Pages>(
+    alloc: Global,
+    def: &TableDef,
+    ext: &mut Extents,
+    rooms: &mut Rooms,
+    pages: &mut P,
+    rid: Rid,
+    row: &Row,
+) -> Result<(), StoreFault>
+    requires defined { IsTableDef def.now.number def.now }
+    requires place { def.now.number < 16 }
+    requires no_indexes { def.now.indexes ≡ [] }
+    requires row { HasReadValues def.now.columns row.now }
+    requires going { (P.state pages.old).ended ≡ false }
+    requires unmarked { (P.state pages.old).marked ≡ None }
+    ensures deletes { OnOk result ((owners : List Kind) (forests : TableForests) → IsReadyTable P.Pages ext.old (room_of rooms.old) pages.old def.now owners forests
+        → HasThisRow P.Pages ext.old pages.old def.now rid row.now owners forests → DeletesRow P.Pages ext.old ext.new (room_of rooms.new) pages.old pages.new def.now row.now rid owners forests) }
+    ensures makes { OnOk result ((owners : List Kind) (forests : TableForests) → IsReadyTable P.Pages ext.old (room_of rooms.old) pages.old def.now owners forests
+        → (slots : List (Option Row)) → IsRowAt (spots_of P.Pages ext.old pages.old def.now owners forests) rid row.now slots
+        → MakesChanges ext.old (pages_of P.Pages pages.old) (taking_changes def.now row.now rid (count_rows slots)) (pages_of P.Pages pages.new)) }
+    ensures stay { (owners : List Kind) (forests : TableForests) → IsReadyTable P.Pages ext.old (room_of rooms.old) pages.old def.now owners forests → KeepsBlocksBut P.Pages ext.old pages.old pages.new def.now owners (λ block. block ≡ rid.block) }
+    ensures sound { OnOk result ((owners : List Kind) (forests : TableForests) → IsReadyTable P.Pages ext.old (room_of rooms.old) pages.old def.now owners forests
+        → HasThisRow P.Pages ext.old pages.old def.now rid row.now owners forests
+        → IsSoundBetweenChanges ext.old def.now (pages_of P.Pages pages.old) → IsSoundBetweenChanges ext.new def.now (pages_of P.Pages pages.new)) }
+    ensures stands_for { OnOk result ((owners : List Kind) (forests : TableForests) → IsReadyTable P.Pages ext.old (room_of rooms.old) pages.old def.now owners forests
+        → HasThisRow P.Pages ext.old pages.old def.now rid row.now owners forests → IsSoundBetweenChanges ext.old def.now (pages_of P.Pages pages.old)
+        → (db : Database) → PagesStandFor ext.old (with_table_page def.now (pages_of P.Pages pages.old)) db
+        → PagesStandFor ext.new (with_table_page def.now (pages_of P.Pages pages.new)) (changed_at db def.now.number (without_row row.now.number))) }
+    ensures count { length (P.state pages.new).work ≡ length (P.state pages.old).work }
+    ensures exact { HasRowIfStanding P.Pages ext.old pages.old def.now rid row.now → AnswersExactly P.Pages ext.old def.now pages.old (fault_of result) }
+    ensures whole { IsWholeChange P.Pages (IsTableOrMapPage P.Pages ext.old pages.old def.now) ext.old ext.new rooms.new pages.old pages.new result (fault_of result) }
+{
+    begin_change(pages);
+    match cell_change::delete_row(alloc, def, ext, rooms, pages, rid, row) {
+        Ok(()) => match keep_or_undo(pages) {
+            Ok(()) => Ok(()),
+            Err(fault) => {
+                forget_notes(ext, rooms);
+                Err(fault)
+            }
+        },
+        Err(fault) => Err(undo_change(alloc, def, ext, rooms, pages, fault)),
+    }
+}

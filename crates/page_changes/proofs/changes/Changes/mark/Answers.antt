@@ -1,6 +1,0 @@
-use Rattle.std.proofs.Common.{◌+◌, ◌-◌}
-use Rattle.page_changes.proofs.Steps.{mark_view}
-use Rattle.page_changes.proofs.changes.Changes.mark.Goals as goal
-
-pub returns : goal.returns
-returns c = mark_view c.self.inside.base c.self.inside.count c.len.result (c.self.inside.below + (c.self.inside.count - c.self.inside.base)) c.self.inside.table c.truncate.new.self _ c.args.self.now c.truncate.ensures c.len.ensures c.self.view_is

@@ -1,0 +1,9 @@
+pub mod BoundPlaces
+pub mod Causes
+pub mod Changeable
+pub mod Each
+pub mod KindsLemmas
+pub mod Ready
+pub mod ServedLemmas
+pub mod SetLemmas
+pub mod Stepping

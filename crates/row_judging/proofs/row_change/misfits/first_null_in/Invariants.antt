@@ -1,9 +1,0 @@
-use Rattle.std.proofs.Common.{◌≡◌, drop}
-use Rattle.std.specs.List.{flat_map}
-use Rattle.mdc_ast.specs.meaning.Doing.{null_causes}
-use Rattle.binder.specs.Saying.{first_of}
-use Rattle.row_judging.proofs.row_change.misfits.first_null_in.Given as goal
-
-abbrev pub invariant-loop-tuple : goal.invariant-loop-tuple
-invariant-loop-tuple l =
-    first_of (flat_map (null_causes l.columns) l.tuples) ≡ first_of (flat_map (null_causes l.columns) (drop l.tuple-index l.tuples))

@@ -1,7 +1,0 @@
-use Rattle.std.proofs.Common.{◌≡◌, take}
-use Rattle.mdc_ast.specs.meaning.Doing.{set_on}
-use Rattle.row_judging.specs.RowChange.{is_null_at}
-use Rattle.row_judging.proofs.row_change.misfits.is_null_after.Given as goal
-
-abbrev pub invariant-loop-set : goal.invariant-loop-set
-invariant-loop-set l = l.null ≡ is_null_at l.place (set_on l.values (take l.set-index l.sets) l.values)

@@ -1,0 +1,9 @@
+pub mod BindingLemmas
+pub mod BuiltLemmas
+pub mod CausesLemmas
+pub mod CreateLemmas
+pub mod DatabaseLemmas
+pub mod KeepingLemmas
+pub mod LiteralsLemmas
+pub mod RowsLemmas
+pub mod UpdateLemmas

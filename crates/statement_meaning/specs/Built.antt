@@ -1,0 +1,71 @@
+-- Which forms are built: those of statements, and those of tables (docs/SQL.md, "What is built").
+use Rattle.std.specs.Prelude.{◌≡◌, List, [], ◌∷◌, Bool, true, false, ◌&&◌, is_none, Option, Some, None}
+use Rattle.std.specs.List.{list_all}
+use Rattle.mdc_ast.specs.declared.definition.TableDef.{TableDef}
+use Rattle.mdc_ast.specs.declared.statement.ColumnText.{ColumnText}
+use Rattle.mdc_ast.specs.declared.statement.Out.{Out}
+use Rattle.mdc_ast.specs.declared.statement.Out.TheVariants as out
+use Rattle.mdc_ast.specs.declared.statement.OutList.{OutList}
+use Rattle.mdc_ast.specs.declared.statement.OutList.TheVariants.{Star, Outs}
+use Rattle.mdc_ast.specs.declared.statement.Select.{Select}
+use Rattle.mdc_ast.specs.declared.statement.Stmt.{Stmt}
+use Rattle.mdc_ast.specs.declared.statement.Stmt.TheVariants.{CreateTable, DropTable, Insert, Update, Delete, Query}
+use Rattle.mdc_ast.specs.Database.{Database, defs_of}
+use Rattle.mdc_ast.specs.Definitions.{Definitions}
+use Rattle.mdc_ast.specs.ValidDatabase.{AreValidDefs, IsValid}
+
+-- ---- statements
+
+-- a column, and no COUNT, SUM, MIN or MAX
+abbrev pub is_plain_out : Out → Bool
+is_plain_out (out.Column name) = true
+is_plain_out aggregate = false
+
+-- `*`, or columns alone
+abbrev pub shows_columns : OutList → Bool
+shows_columns Star = true
+shows_columns (Outs outs) = list_all is_plain_out outs
+
+-- an empty list, as a clause has that isn't written
+abbrev pub is_empty : {X : Type 0} → List X → Bool
+is_empty [] = true
+is_empty (x ∷ xs) = false
+
+-- a query without aggregate, GROUP BY, ORDER BY and FETCH FIRST
+abbrev pub is_plain_query : Select → Bool
+is_plain_query select = shows_columns select.list && is_empty select.group && is_empty select.order && is_none select.first
+
+-- no column is generated
+abbrev pub has_no_generated : List ColumnText → Bool
+has_no_generated columns = list_all (λ column. is_none column.made) columns
+
+-- a form that is built, whose answer a database alone gives; transactions and LIST BLOCKS aren't judged here
+abbrev pub is_built : Stmt → Bool
+is_built (CreateTable name columns dims) = has_no_generated columns
+is_built (DropTable name) = true
+is_built (Insert name listed tuples) = true
+is_built (Update name sets pred) = true
+is_built (Delete name pred) = true
+is_built (Query select) = is_plain_query select
+is_built stmt = false
+
+-- ---- tables
+
+-- a place has no table, or one with no generated column and no record index
+abbrev pub is_built_place : Option TableDef → Bool
+is_built_place None = true
+is_built_place (Some def) = list_all (λ column. is_none column.made) def.columns && is_empty def.indexes
+
+-- so has each place
+abbrev pub are_built : Definitions → Bool
+are_built defs = list_all is_built_place defs
+
+-- valid definitions of built forms
+pub record AreBuiltDefs (defs : Definitions) : Type 0 where
+  pub valid : AreValidDefs defs
+  pub built : are_built defs ≡ true
+
+-- a valid database of tables of built forms
+pub record IsBuiltDatabase (db : Database) : Type 0 where
+  pub valid : IsValid db
+  pub built : are_built (defs_of db) ≡ true

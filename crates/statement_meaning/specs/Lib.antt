@@ -1,0 +1,12 @@
+pub mod Binding
+pub mod Built
+pub mod Cause
+pub mod Doing
+pub mod Judged
+pub mod Judging
+pub mod Laws
+pub mod Orders
+pub mod Rows
+pub mod Session
+pub mod Step
+pub mod Texts

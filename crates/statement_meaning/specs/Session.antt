@@ -1,0 +1,111 @@
+-- A session: a plain database with transactions and settings, and what is answered in it, item by item (docs/SQL.md, "Transactions").
+use Rattle.std.specs.Prelude.{List, [], ◌∷◌, Bool, true, false, if◌then◌else◌, ℕ}
+use Rattle.std.specs.List.{list_any}
+use Rattle.mdc_ast.specs.declared.name.Name.{Name}
+use Rattle.mdc_ast.specs.declared.reply.Outcome.{Outcome}
+use Rattle.mdc_ast.specs.declared.reply.Outcome.TheVariants as outcome
+use Rattle.mdc_ast.specs.declared.reply.Reply.TheVariants as reply
+use Rattle.mdc_ast.specs.declared.statement.PlanMode.{PlanMode}
+use Rattle.mdc_ast.specs.declared.statement.PlanMode.TheVariants.{Auto}
+use Rattle.mdc_ast.specs.declared.statement.RolloutMode.{RolloutMode}
+use Rattle.mdc_ast.specs.declared.statement.RolloutMode.TheVariants.{Immediate}
+use Rattle.mdc_ast.specs.declared.statement.Stmt.{Stmt}
+use Rattle.mdc_ast.specs.declared.statement.Stmt.TheVariants as stmt
+use Rattle.mdc_ast.specs.Database.{Database, defs_of}
+use Rattle.mdc_ast.specs.Definitions.{Definitions}
+use Rattle.mdc_ast.specs.Reading.{Item, Statement}
+use Rattle.mdc_ast.specs.Reading as reading
+use Rattle.statement_meaning.specs.Built.{are_built}
+use Rattle.statement_meaning.specs.Cause.{Cause, NoTable, NotBuilt, State, refusal_of}
+use Rattle.statement_meaning.specs.Step.{Answer, Refused, Replied, step}
+
+-- what a run is set to; a database keeps none of it
+pub record Settings : Type 0 where
+  pub rollout : RolloutMode
+  pub plan : PlanMode
+  pub pace : ℕ
+
+-- IMMEDIATE, AUTO and a pace of 1, as each run begins with
+abbrev pub first_settings : Settings
+first_settings = record { rollout = Immediate; plan = Auto; pace = 1 }
+
+-- the kept database, the working one, whether a transaction is open, and the settings
+pub record Session : Type 0 where
+  pub kept : Database
+  pub working : Database
+  pub open_ : Bool
+  pub settings : Settings
+
+-- a session at its beginning
+abbrev pub session_on : Database → Session
+session_on db = record { kept = db; working = db; open_ = false; settings = first_settings }
+
+-- another working database, which is kept where no transaction is open
+abbrev pub working_on : Session → Database → Session
+working_on session db = record session { kept = if session.open_ then session.kept else db; working = db }
+
+-- the session on the database that a statement leaves, with the statement's answer
+abbrev pub stepped : Session → Database × Answer → Session × Answer
+stepped session (db, answer) = (working_on session db, answer)
+
+-- ---- transactions
+
+-- 12: a statement that the state of the transaction doesn't allow
+abbrev pub not_now : Session → Session × Answer
+not_now session = (session, Refused (refusal_of State))
+
+-- BEGIN opens a transaction, where none is open
+abbrev pub begun : Session → Bool → Session × Answer
+begun session true = not_now session
+begun session false = (record session { open_ = true }, Replied reply.Done)
+
+-- COMMIT makes the working database the kept one, where a transaction is open
+abbrev pub committed : Session → Bool → Session × Answer
+committed session true = (record session { kept = session.working; open_ = false }, Replied reply.Done)
+committed session false = not_now session
+
+-- ROLLBACK goes back to the kept one
+abbrev pub rolled_back : Session → Bool → Session × Answer
+rolled_back session true = (record session { working = session.kept; open_ = false }, Replied reply.Done)
+rolled_back session false = not_now session
+
+-- ---- turns
+
+-- what is said against LIST BLOCKS of a table that isn't there: 21, or 14 where a table is of a form that isn't built
+abbrev pub listing_cause : Definitions → Name → Cause
+listing_cause defs name = if are_built defs then NoTable name else NotBuilt
+
+-- A statement in a session. LIST BLOCKS turns nothing: of a table that is there lists of rows don't tell the blocks, and the answer
+-- here is that of one that isn't there.
+abbrev pub turn : Session → Stmt → Session × Answer
+turn session stmt.Begin = begun session session.open_
+turn session stmt.Commit = committed session session.open_
+turn session stmt.Rollback = rolled_back session session.open_
+turn session (stmt.ListBlocks name) = (session, Refused (refusal_of (listing_cause (defs_of session.working) name)))
+turn session statement = stepped session (step session.working statement)
+
+-- an item in a session: what can't be read is refused, and changes nothing
+abbrev pub item_turn : Session → Item → Session × Answer
+item_turn session (Statement statement) = turn session statement
+item_turn session (reading.Refused refusal) = (session, Refused refusal)
+
+-- ---- what is said to items, one after another
+
+-- what is said for an answer
+abbrev pub outcome_of : Answer → Outcome
+outcome_of (Replied reply) = outcome.Done reply
+outcome_of (Refused refusal) = outcome.Refused refusal
+
+-- what is said to each item, judged in the session that the items before it left
+abbrev pub outcomes_from : Session → List Item → List Outcome
+outcomes_from session [] = []
+outcomes_from session (first ∷ items) = outcome_of (item_turn session first).1 ∷ outcomes_from (item_turn session first).0 items
+
+-- a refusal, and not a reply
+abbrev pub is_refusal : Outcome → Bool
+is_refusal (outcome.Done reply) = false
+is_refusal (outcome.Refused refusal) = true
+
+-- one of them is a refusal
+abbrev pub has_refusal : List Outcome → Bool
+has_refusal outcomes = list_any is_refusal outcomes

@@ -1,0 +1,8 @@
+//! What statements mean to plain lists of rows: definitions and laws, no calls.
+//!
+//! Its `specs` say what is said against a statement, in the order of refusals (`Judging`, `Judged`, `Cause`), what its names and
+//! literals stand for (`Binding`), what it does (`Doing`), which forms are built (`Built`), the step that is the first cause or else
+//! the effect (`Step`), sessions with transactions, and what is said to items in them (`Session`), and the texts of what is answered
+//! (`Texts`); with worked scripts (`Rows`, `Orders`) and laws of the step (`Laws`). Its `proofs` show that a step keeps a database
+//! valid. It stands on `mdc_ast`.
+#![tactic(auto)]
