@@ -18,7 +18,7 @@ numbers_order = record {
 -- Numbers that two lists share, so far: what was made, and what is left of the one and of the other.
 pub record CommonGoes (b0 a0 b out a : List ℕ) : Type 0 where
   pub rises : IsRising IsLower b
-  pub keeps : Keeps (λ m n. m == n) IsLower (has_number b0) a0 out a
+  pub keeps : Keeps IsLower (has_number b0) a0 out a
   pub tells : Tells (λ m n. m == n) (has_number b) (has_number b0) a
 
 pub not_below : (x z : ℕ) → ((x ≡ z) ⊎ IsLower x z) → x ≤ z
@@ -35,7 +35,7 @@ common_moved {b0} {a0} {b} {out} {x} {a} b' g r same = record {
 pub common_taken : {b0 a0 b out : List ℕ} {x : ℕ} {a : List ℕ} → CommonGoes b0 a0 b out (x ∷ a) → BeginsWith x b → CommonGoes b0 a0 b (out ++ x ∷ []) a
 common_taken {b0} {a0} {b} {out} {x} {a} g h = record {
   rises = g.rises;
-  keeps = keeps_taken numbers_order g.keeps (sym (tells_first numbers_order g.tells) ∙ begins_in numbers_order x b h);
+  keeps = keeps_taken g.keeps (sym (tells_first numbers_order g.tells) ∙ begins_in numbers_order x b h);
   tells = tells_past g.tells;
 }
 

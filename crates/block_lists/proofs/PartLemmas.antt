@@ -10,7 +10,7 @@ use Rattle.mdc_values.specs.declared.rid.Rid.{Rid}
 use Rattle.mdc_values.specs.Rising.{IsEarlier, IsLower, IsRising}
 use Rattle.block_lists.specs.declared.part.Part.{Part}
 use Rattle.block_lists.specs.Lists.{AreLists}
-use Rattle.block_lists.specs.Parts.{AreSlots, IsLowerPart, StandForRows, in_part, in_parts, in_slots, parts_of, parts_of_rids, some_slots, whole_block, with_block, with_slot}
+use Rattle.block_lists.specs.Parts.{AreSlots, StandForRows, blocks_of, in_part, in_parts, in_slots, parts_of, parts_of_rids, some_slots, whole_block, with_block, with_slot}
 use Rattle.block_lists.specs.Places.{AreApart, has_number, has_rid, holds_in, in_block, same_rid}
 use Rattle.block_lists.proofs.NumberLemmas.{numbers_order}
 use Rattle.block_lists.proofs.PlaceLemmas.{rids_order}
@@ -94,7 +94,7 @@ in_parts-parts_of (block ∷ blocks) rids rid =
 
 -- one of the parts is of the block
 abbrev named : List Part → ℕ → Bool
-named parts n = list_any (λ part. part.block == n) parts
+named parts = has_number (blocks_of parts)
 
 named-with_block : (block : ℕ) (parts : List Part) (n : ℕ) → named (with_block block parts) n ≡ ((block == n) || named parts n)
 named-with_block block [] n = refl
@@ -120,23 +120,27 @@ named-parts_of_rids : (rids : List Rid) (n : ℕ) → named (parts_of_rids rids)
 named-parts_of_rids [] n = refl
 named-parts_of_rids (rid ∷ rids) n = named-with_slot rid (parts_of_rids rids) n ∙ ap (λ p. (rid.block == n) || p) (named-parts_of_rids rids n)
 
-named-parts_of : (blocks : List ℕ) (rids : List Rid) (n : ℕ) → named (parts_of blocks rids) n ≡ (has_number blocks n || in_block rids n)
+pub named-parts_of : (blocks : List ℕ) (rids : List Rid) (n : ℕ) → named (parts_of blocks rids) n ≡ (has_number blocks n || in_block rids n)
 named-parts_of [] rids n = named-parts_of_rids rids n
 named-parts_of (block ∷ blocks) rids n =
     named-with_block block (parts_of blocks rids) n ∙ ap (λ p. (block == n) || p) (named-parts_of blocks rids n) ∙ or-assoc (block == n) (has_number blocks n) (in_block rids n)
 
 -- ---- parts rise
 
+-- their blocks rise
+abbrev RiseByBlock : List Part → Type 0
+RiseByBlock parts = IsRising IsLower (blocks_of parts)
+
 -- the first part, if there is one, is of a higher block
 abbrev pub IsAbove : ℕ → List Part → Type 0
 IsAbove n [] = Unit {0}
 IsAbove n (part ∷ parts) = n < part.block
 
-rising_behind : (part : Part) (parts : List Part) → IsAbove part.block parts → IsRising IsLowerPart parts → IsRising IsLowerPart (part ∷ parts)
+rising_behind : (part : Part) (parts : List Part) → IsAbove part.block parts → RiseByBlock parts → RiseByBlock (part ∷ parts)
 rising_behind part [] above r = tt
 rising_behind part (next ∷ parts) above r = (above, r)
 
-above_rest : (part : Part) (parts : List Part) → IsRising IsLowerPart (part ∷ parts) → IsAbove part.block parts
+above_rest : (part : Part) (parts : List Part) → RiseByBlock (part ∷ parts) → IsAbove part.block parts
 above_rest part [] r = tt
 above_rest part (next ∷ parts) r = r.0
 
@@ -153,19 +157,19 @@ or_parts-false false q h = (refl, h)
 
 -- parts of rising blocks, none without a row
 pub record AreParts (parts : List Part) : Type 0 where
-  pub rise : IsRising IsLowerPart parts
+  pub rise : RiseByBlock parts
   pub slots : All (λ part. AreSlots part.slots) parts
 
-rising-with_block : (block : ℕ) (parts : List Part) → IsRising IsLowerPart parts → named parts block ≡ false → IsRising IsLowerPart (with_block block parts)
+rising-with_block : (block : ℕ) (parts : List Part) → RiseByBlock parts → named parts block ≡ false → RiseByBlock (with_block block parts)
 rising-with_block block [] r new = tt
 rising-with_block block (part ∷ parts) r new = elim (lower_or_not block part.block) [
-  | inl lt ↦ subst (IsRising IsLowerPart) (sym (with_block-lower block part parts lt)) (lt, r)
+  | inl lt ↦ subst RiseByBlock (sym (with_block-lower block part parts lt)) (lt, r)
   | inr le ↦
       let both = or_parts-false (part.block == block) (named parts block) new in
       let other : part.block ≡ block → ⊥ = λ e. false≢true (sym both.0 ∙ eq-eqb part.block block e) in
-      subst (IsRising IsLowerPart) (sym (with_block-behind block part parts le))
+      subst RiseByBlock (sym (with_block-behind block part parts le))
       (rising_behind part (with_block block parts) (above-with_block part.block block parts (omega (arith, le, other)) (above_rest part parts r))
-      (rising-with_block block parts (rising_tail IsLowerPart part parts r) both.1))
+      (rising-with_block block parts (rising_tail IsLower part.block (blocks_of parts) r) both.1))
 ]
 
 slots-with_block : (block : ℕ) (parts : List Part) → All (λ part. AreSlots part.slots) parts → All (λ part. AreSlots part.slots) (with_block block parts)
@@ -196,7 +200,7 @@ pub begins-parts_of_rids : (rid : Rid) (rids : List Rid) → BeginsAt rid (parts
 begins-parts_of_rids rid [] = (refl, ([], refl))
 begins-parts_of_rids rid (next ∷ rids) = begins-with_slot rid next (parts_of_rids (next ∷ rids)) (begins-parts_of_rids next rids)
 
-rising_as : (a b : Part) (parts : List Part) → a.block ≡ b.block → IsRising IsLowerPart (a ∷ parts) → IsRising IsLowerPart (b ∷ parts)
+rising_as : (a b : Part) (parts : List Part) → a.block ≡ b.block → RiseByBlock (a ∷ parts) → RiseByBlock (b ∷ parts)
 rising_as a b [] e r = tt
 rising_as a b (part ∷ parts) e r = (subst (λ n. n < part.block) e r.0, r.1)
 

@@ -63,7 +63,7 @@ in_blocks blocks rid = has_number blocks rid.block
 pub record HeldGoes (blocks0 : List ℕ) (others0 rids0 : List Rid) (blocks : List ℕ) (others out rids : List Rid) : Type 0 where
   pub blocks_rise : IsRising IsLower blocks
   pub others_rise : IsRising IsEarlier others
-  pub keeps : Keeps same_rid IsEarlier (holds_in blocks0 others0) rids0 out rids
+  pub keeps : Keeps IsEarlier (holds_in blocks0 others0) rids0 out rids
   pub in_blocks : Tells same_rid (λ rid. has_number blocks rid.block) (λ rid. has_number blocks0 rid.block) rids
   pub in_others : Tells same_rid (has_rid others) (has_rid others0) rids
 
@@ -97,7 +97,7 @@ held_taken {blocks0} {others0} {rids0} {blocks} {others} {out} {x} {rids} g h =
     record {
       blocks_rise = g.blocks_rise;
       others_rise = g.others_rise;
-      keeps = keeps_taken rids_order g.keeps (sym (told g) ∙ here);
+      keeps = keeps_taken g.keeps (sym (told g) ∙ here);
       in_blocks = tells_past g.in_blocks;
       in_others = tells_past g.in_others;
     }
@@ -118,7 +118,7 @@ held_past {blocks0} {others0} {rids0} {blocks} {others} {out} {x} {rids} g lb nb
 
 pub record OutsideGoes (blocks0 : List ℕ) (rids0 : List Rid) (blocks : List ℕ) (out rids : List Rid) : Type 0 where
   pub blocks_rise : IsRising IsLower blocks
-  pub keeps : Keeps same_rid IsEarlier (λ rid. not (has_number blocks0 rid.block)) rids0 out rids
+  pub keeps : Keeps IsEarlier (λ rid. not (has_number blocks0 rid.block)) rids0 out rids
   pub in_blocks : Tells same_rid (λ rid. has_number blocks rid.block) (λ rid. has_number blocks0 rid.block) rids
 
 pub outside_moved : {blocks0 : List ℕ} {rids0 : List Rid} {blocks : List ℕ} {out : List Rid} {x : Rid} {rids : List Rid} (blocks' : List ℕ)
@@ -142,7 +142,7 @@ pub outside_taken : {blocks0 : List ℕ} {rids0 : List Rid} {blocks : List ℕ} 
     → OutsideGoes blocks0 rids0 blocks out (x ∷ rids) → BeginsFrom IsLower x.block blocks → (BeginsWith x.block blocks → ⊥) → OutsideGoes blocks0 rids0 blocks (out ++ x ∷ []) rids
 outside_taken {blocks0} {rids0} {blocks} {out} {x} {rids} g low h = record {
   blocks_rise = g.blocks_rise;
-  keeps = keeps_taken rids_order g.keeps (ap not (sym (tells_first rids_order g.in_blocks) ∙ begins_not_in numbers_order x.block blocks g.blocks_rise low h));
+  keeps = keeps_taken g.keeps (ap not (sym (tells_first rids_order g.in_blocks) ∙ begins_not_in numbers_order x.block blocks g.blocks_rise low h));
   in_blocks = tells_past g.in_blocks;
 }
 
@@ -166,7 +166,7 @@ not_in_first block (rid ∷ rids) r low other = behind_block block rid rids r (l
 pub record TouchedGoes (blocks0 : List ℕ) (rids0 : List Rid) (of0 blocks : List ℕ) (rids : List Rid) (out of : List ℕ) : Type 0 where
   pub blocks_rise : IsRising IsLower blocks
   pub rids_rise : IsRising IsEarlier rids
-  pub keeps : Keeps (λ m n. m == n) IsLower (λ block. has_number blocks0 block || in_block rids0 block) of0 out of
+  pub keeps : Keeps IsLower (λ block. has_number blocks0 block || in_block rids0 block) of0 out of
   pub in_blocks : Tells (λ m n. m == n) (has_number blocks) (has_number blocks0) of
   pub in_rids : Tells (λ m n. m == n) (in_block rids) (in_block rids0) of
 
@@ -196,7 +196,7 @@ touched_taken {blocks0} {rids0} {of0} {blocks} {rids} {out} {x} {of} g h =
     record {
       blocks_rise = g.blocks_rise;
       rids_rise = g.rids_rise;
-      keeps = keeps_taken numbers_order g.keeps (sym (touch_told g) ∙ here);
+      keeps = keeps_taken g.keeps (sym (touch_told g) ∙ here);
       in_blocks = tells_past g.in_blocks;
       in_rids = tells_past g.in_rids;
     }

@@ -15,7 +15,7 @@ use Rattle.block_lists.specs.declared.tree.ListTree.TheFolds.{fold-roll-ListTree
 use Rattle.block_lists.specs.declared.tree.ListTree.TheOpen as layer
 use Rattle.block_lists.specs.declared.tree.ListTree.TheVariants as tree
 use Rattle.block_lists.specs.declared.tree.ListTree.TheVariants.{rolls-All, rolls-Any, rolls-Leaf}
-use Rattle.block_lists.specs.Trees.{IsListsOf, each_has_members, has_some, layer_has_members, layer_says, tree_holds, tree_lists_block, tree_says}
+use Rattle.block_lists.specs.Trees.{IsListsOf, can_be_members, each_has_members, has_some, layer_has_members, layer_says, tree_holds, tree_lists_block, tree_says}
 
 tree_says-Leaf : (says : Lists → Bool) (lists : Lists) → tree_says says (tree.Leaf lists) ≡ says lists
 tree_says-Leaf says lists = ap (tree_says says) (sym (rolls-Leaf lists)) ∙ fold-roll-ListTree Bool (layer_says says) (layer.Leaf lists)
@@ -26,15 +26,21 @@ tree_says-All says members = ap (tree_says says) (sym (rolls-All members)) ∙ f
 tree_says-Any : (says : Lists → Bool) (members : List ListTree) → tree_says says (tree.Any members) ≡ list_any (λ b. b) (map (tree_says says) members)
 tree_says-Any says members = ap (tree_says says) (sym (rolls-Any members)) ∙ fold-roll-ListTree Bool (layer_says says) (layer.Any members)
 
-members-All : (members : List ListTree) → each_has_members (tree.All members) ≡ (has_some (map each_has_members members) && list_all (λ b. b) (map each_has_members members))
+members-All : (members : List ListTree) → each_has_members (tree.All members) ≡ can_be_members members
 members-All members = ap each_has_members (sym (rolls-All members)) ∙ fold-roll-ListTree Bool layer_has_members (layer.All members)
 
-members-Any : (members : List ListTree) → each_has_members (tree.Any members) ≡ (has_some (map each_has_members members) && list_all (λ b. b) (map each_has_members members))
+members-Any : (members : List ListTree) → each_has_members (tree.Any members) ≡ can_be_members members
 members-Any members = ap each_has_members (sym (rolls-Any members)) ∙ fold-roll-ListTree Bool layer_has_members (layer.Any members)
 
 list_any-map : {X : Type 0} (p : X → Bool) (xs : List X) → list_any (λ b. b) (map p xs) ≡ list_any p xs
 list_any-map p [] = refl
 list_any-map p (x ∷ xs) = ap (λ b. p x || b) (list_any-map p xs)
+
+pub all_says : (says : Lists → Bool) (members : List ListTree) → tree_says says (tree.All members) ≡ list_all (tree_says says) members
+all_says says members = tree_says-All says members ∙ list_all-map (λ b. b) (tree_says says) members
+
+pub any_says : (says : Lists → Bool) (members : List ListTree) → tree_says says (tree.Any members) ≡ list_any (tree_says says) members
+any_says says members = tree_says-Any says members ∙ list_any-map (tree_says says) members
 
 -- ---- a leaf
 
@@ -103,7 +109,7 @@ module _ (whole : ListTree) (members items : List ListTree) (i : ℕ) (it : item
         rid_0 : Rid
         rid_0 = record { block = 0; slot = 0 }
 
-        no_member : (ms : List ListTree) → map (λ t. tree_holds t rid_0) ms ≡ [] → (has_some (map each_has_members ms) && list_all (λ b. b) (map each_has_members ms)) ≡ false
+        no_member : (ms : List ListTree) → map (λ t. tree_holds t rid_0) ms ≡ [] → can_be_members ms ≡ false
         no_member [] e = refl
         no_member (m ∷ ms) e = absurd (omega (arith, ap length e))
 
@@ -115,7 +121,7 @@ all-at f (y ∷ xs) zero x lt h = (and_parts (f y) (list_all (λ b. b) (map f xs
 all-at f (y ∷ xs) (suc i) x lt h = all-at f xs i x (omega (arith, lt)) (and_parts (f y) (list_all (λ b. b) (map f xs)) h).1
 
 module _ (whole : ListTree) (members items : List ListTree) (i : ℕ) (member : ListTree) (it : items ≡ members) (lt : i < length items) (at : member ≡ get_or items i member) where
-  member_at : (has_some (map each_has_members members) && list_all (λ b. b) (map each_has_members members)) ≡ true → IsTrue (each_has_members member)
+  member_at : can_be_members members ≡ true → IsTrue (each_has_members member)
   member_at h =
       let both = and_parts (has_some (map each_has_members members)) (list_all (λ b. b) (map each_has_members members)) h in
       ap each_has_members at ∙ all-at each_has_members items i member lt (ap (λ ms. list_all (λ b. b) (map each_has_members ms)) it ∙ both.1)
@@ -130,15 +136,15 @@ module _ (whole : ListTree) (members items : List ListTree) (i : ℕ) (member : 
 
 module _ (members items : List ListTree) (i : ℕ) (it : items ≡ members) where
   pub lacks_member : (member : ListTree) → i < length items → member ≡ get_or items i member → each_has_members member ≡ false
-      → (has_some (map each_has_members members) && list_all (λ b. b) (map each_has_members members)) ≡ false
+      → can_be_members members ≡ false
   lacks_member member lt at lacks = by_all (list_all (λ b. b) (map each_has_members members)) refl where
-    by_all : (b : Bool) → list_all (λ b. b) (map each_has_members members) ≡ b → (has_some (map each_has_members members) && list_all (λ b. b) (map each_has_members members)) ≡ false
+    by_all : (b : Bool) → list_all (λ b. b) (map each_has_members members) ≡ b → can_be_members members ≡ false
     by_all false e = ap (λ b. has_some (map each_has_members members) && b) e ∙ and-false (has_some (map each_has_members members))
     by_all true e =
         absurd (false≢true (sym lacks ∙ ap each_has_members at ∙ all-at each_has_members items i member lt (ap (λ ms. list_all (λ b. b) (map each_has_members ms)) it ∙ e)))
 
   pub none_lacks : length items ≤ i → list_all (λ b. b) (map each_has_members (take i items)) ≡ true
-      → (has_some (map each_has_members members) && list_all (λ b. b) (map each_has_members members)) ≡ nat_lt 0 (length members)
+      → can_be_members members ≡ nat_lt 0 (length members)
   none_lacks le all =
       let is : list_all (λ b. b) (map each_has_members members) ≡ true = ap (λ ms. list_all (λ b. b) (map each_has_members ms)) (sym (take_all i items le ∙ it)) ∙ all in
       ap (λ b. has_some (map each_has_members members) && b) is ∙ counted members where
@@ -146,6 +152,6 @@ module _ (members items : List ListTree) (i : ℕ) (it : items ≡ members) wher
         counted [] = refl
         counted (m ∷ ms) = sym (lt-ltb 0 (length (m ∷ ms)) (omega arith))
 
-pub whole_members : (whole : ListTree) (members : List ListTree) → ((whole ≡ tree.All members) ⊎ (whole ≡ tree.Any members)) → each_has_members whole ≡ (has_some (map each_has_members members) && list_all (λ b. b) (map each_has_members members))
+pub whole_members : (whole : ListTree) (members : List ListTree) → ((whole ≡ tree.All members) ⊎ (whole ≡ tree.Any members)) → each_has_members whole ≡ can_be_members members
 whole_members whole members (inl e) = ap each_has_members e ∙ members-All members
 whole_members whole members (inr e) = ap each_has_members e ∙ members-Any members

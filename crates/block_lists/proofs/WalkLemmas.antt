@@ -1,8 +1,11 @@
 -- Rising lists walked along side by side, of whatever is listed.
 use Rattle.std.proofs.Common.{◌≡◌, ◌∙◌, ◌⊎◌, inl, inr, ℕ, ◌+◌, ◌<◌, List, [], ◌∷◌, ◌++◌, Bool, true, false, refl, sym, ap, subst, append_assoc, drop, drop-cons, add-one, get_or, length, arith}
 use Rattle.std.specs.Prelude.{◌&&◌, ◌||◌}
-use Rattle.std.specs.List.{list_any}
+use Rattle.std.specs.List.{filter, list_any}
+use Rattle.std.proofs.Math.Bool.{and_comm, cond}
 use Rattle.std.proofs.lemmas.Bool.{false≢true}
+use Rattle.std.proofs.lemmas.List.{append-nil}
+use Rattle.std.proofs.lemmas.Map.Views.{any-filter_same}
 use Rattle.std.proofs.lemmas.List.Folds.{list_any-append}
 use Rattle.mdc_values.specs.Rising.{IsRising, LastIsBefore}
 use Rattle.block_lists.specs.Walks.{BeginsFrom, BeginsWith, IsLeft, IsLowerHead}
@@ -145,53 +148,37 @@ pub record IsOrder {X : Type 0} (same : X → X → Bool) (Before : X → X → 
   pub alike : (a b : X) → same a b ≡ true → a ≡ b
   pub apart : (a b : X) → Before a b → same b a ≡ false
 
--- What was made and what is left has those that pass; both together rise.
-pub record Keeps {X : Type 0} (same : X → X → Bool) (Before : X → X → Type 0) (passes : X → Bool) (xs0 out xs : List X) : Type 0 where
-  pub members : (z : X) → (is_in same out z || (is_in same xs z && passes z)) ≡ (is_in same xs0 z && passes z)
+-- What was made, and behind it what passes of what is left, is what passes of all; what was made and what is left rise.
+pub record Keeps {X : Type 0} (Before : X → X → Type 0) (passes : X → Bool) (xs0 out xs : List X) : Type 0 where
+  pub kept : out ++ filter passes xs ≡ filter passes xs0
   pub rises : IsRising Before (out ++ xs)
 
-keep_bools : (o s p t : Bool) → (s ≡ true → t ≡ true) → ((o || (s || false)) || (p && t)) ≡ (o || ((s || p) && t))
-keep_bools true s p t h = refl
-keep_bools false true p t h = sym (h refl)
-keep_bools false false p t h = refl
+pub keeps_last : {X : Type 0} {Before : X → X → Type 0} {passes : X → Bool} {xs0 out xs : List X} {x : X} → Keeps Before passes xs0 out (x ∷ xs) → LastIsBefore Before x out
+keeps_last {X} {Before} {passes} {xs0} {out} {xs} {x} k = rising_last Before out x xs k.rises
 
-past_bools : (o s p t : Bool) → (s ≡ true → t ≡ false) → (o || (p && t)) ≡ (o || ((s || p) && t))
-past_bools true s p t h = refl
-past_bools false true p t h = ap (λ t. p && t) (h refl) ∙ and-false p ∙ sym (h refl) where
-  and-false : (p : Bool) → (p && false) ≡ false
-  and-false true = refl
-  and-false false = refl
-past_bools false false p t h = refl
-
-pub keeps_start : {X : Type 0} (same : X → X → Bool) (Before : X → X → Type 0) (passes : X → Bool) (xs : List X) → IsRising Before xs → Keeps same Before passes xs [] xs
-keeps_start same Before passes xs r = record { members = λ z. refl; rises = r }
-
-pub keeps_last : {X : Type 0} {same : X → X → Bool} {Before : X → X → Type 0} {passes : X → Bool} {xs0 out xs : List X} {x : X} → Keeps same Before passes xs0 out (x ∷ xs) → LastIsBefore Before x out
-keeps_last {X} {same} {Before} {passes} {xs0} {out} {xs} {x} k = rising_last Before out x xs k.rises
-
-pub keeps_taken : {X : Type 0} {same : X → X → Bool} {Before : X → X → Type 0} {passes : X → Bool} {xs0 out xs : List X} {x : X} → IsOrder same Before → Keeps same Before passes xs0 out (x ∷ xs) → passes x ≡ true
-    → Keeps same Before passes xs0 (out ++ x ∷ []) xs
-keeps_taken {X} {same} {Before} {passes} {xs0} {out} {xs} {x} o k h = record {
-  members = λ z.
-      ap (λ p. p || (is_in same xs z && passes z)) (list_any-append (λ y. same y z) out (x ∷ []))
-      ∙ keep_bools (is_in same out z) (same x z) (is_in same xs z) (passes z) (λ s. ap passes (sym (o.alike x z s)) ∙ h)
-      ∙ k.members z;
+pub keeps_taken : {X : Type 0} {Before : X → X → Type 0} {passes : X → Bool} {xs0 out xs : List X} {x : X} → Keeps Before passes xs0 out (x ∷ xs) → passes x ≡ true
+    → Keeps Before passes xs0 (out ++ x ∷ []) xs
+keeps_taken {X} {Before} {passes} {xs0} {out} {xs} {x} k h = record {
+  kept = append_assoc out (x ∷ []) (filter passes xs) ∙ sym (ap (λ b. out ++ cond b (x ∷ filter passes xs) (filter passes xs)) h) ∙ k.kept;
   rises = rw (append_assoc) k.rises;
 }
 
-pub keeps_past : {X : Type 0} {same : X → X → Bool} {Before : X → X → Type 0} {passes : X → Bool} {xs0 out xs : List X} {x : X} → IsOrder same Before → Keeps same Before passes xs0 out (x ∷ xs) → passes x ≡ false
-    → Keeps same Before passes xs0 out xs
+pub keeps_past : {X : Type 0} {same : X → X → Bool} {Before : X → X → Type 0} {passes : X → Bool} {xs0 out xs : List X} {x : X} → IsOrder same Before → Keeps Before passes xs0 out (x ∷ xs) → passes x ≡ false
+    → Keeps Before passes xs0 out xs
 keeps_past {X} {same} {Before} {passes} {xs0} {out} {xs} {x} o k h = record {
-  members = λ z.
-      past_bools (is_in same out z) (same x z) (is_in same xs z) (passes z) (λ s. ap passes (sym (o.alike x z s)) ∙ h)
-      ∙ k.members z;
+  kept = sym (ap (λ b. out ++ cond b (x ∷ filter passes xs) (filter passes xs)) h) ∙ k.kept;
   rises = rising_past Before (record { through = o.through }) out x xs k.rises;
 }
 
-pub keeps_end : {X : Type 0} {same : X → X → Bool} {Before : X → X → Type 0} {passes : X → Bool} {xs0 out xs : List X} → Keeps same Before passes xs0 out xs → xs ≡ []
+-- nothing is left
+pub keeps_end : {X : Type 0} {Before : X → X → Type 0} {passes : X → Bool} {xs0 out xs : List X} → Keeps Before passes xs0 out xs → xs ≡ [] → out ≡ filter passes xs0
+keeps_end {X} {Before} {passes} {xs0} {out} {xs} k e = sym (append-nil out) ∙ sym (ap (λ l. out ++ filter passes l) e) ∙ k.kept
+
+-- and has those that stood in the list and pass
+pub keeps_members : {X : Type 0} {same : X → X → Bool} {Before : X → X → Type 0} {passes : X → Bool} {xs0 out xs : List X} → IsOrder same Before → Keeps Before passes xs0 out xs → xs ≡ []
     → (z : X) → is_in same out z ≡ (is_in same xs0 z && passes z)
-keeps_end {X} {same} {Before} {passes} {xs0} {out} {xs} k e z =
-    sym (or-none (is_in same out z)) ∙ sym (ap (λ l. is_in same out z || (is_in same l z && passes z)) e) ∙ k.members z
+keeps_members {X} {same} {Before} {passes} {xs0} o k e z =
+    ap (λ l. is_in same l z) (keeps_end k e) ∙ any-filter_same (λ y. same y z) passes (passes z) (λ y s. ap passes (o.alike y z s)) xs0 ∙ and_comm (passes z) (is_in same xs0 z)
 
 -- ---- a test that is looked up in a list which is walked along
 

@@ -28,9 +28,9 @@ in_part part rid = (part.block == rid.block) && in_slots part.slots rid.slot
 abbrev pub in_parts : List Part → Rid → Bool
 in_parts parts rid = list_any (λ part. in_part part rid) parts
 
--- a part is of a lower block
-abbrev pub IsLowerPart : Part → Part → Type 0
-IsLowerPart a b = a.block < b.block
+-- the blocks of parts, one after another
+abbrev pub blocks_of : List Part → List ℕ
+blocks_of parts = map (λ part. part.block) parts
 
 -- all slots, or some slots, which rise
 abbrev pub AreSlots : Option (List ℕ) → Type 0
@@ -40,7 +40,7 @@ AreSlots (Some slots) = (0 < length slots) × IsRising IsLower slots
 -- Parts of rising blocks, none of them without a row, that stand together for the rows of a test.
 pub record StandForRows (parts : List Part) (test : Rid → Bool) : Type 0 where
   pub rows : (rid : Rid) → in_parts parts rid ≡ test rid
-  pub rise : IsRising IsLowerPart parts
+  pub rise : IsRising IsLower (blocks_of parts)
   pub slots : All (λ part. AreSlots part.slots) parts
 
 -- a slot more: in the first part, if that is of its block, and else before it

@@ -1,5 +1,5 @@
 -- What a tree of lists stands for.
-use Rattle.std.specs.Prelude.{◌≡◌, ◌&&◌, ℕ, List, [], ◌∷◌, Bool, true, false}
+use Rattle.std.specs.Prelude.{◌≡◌, ◌&&◌, ℕ, List, [], ◌∷◌, map, Bool, true, false}
 use Rattle.std.specs.List.{list_all, list_any}
 use Rattle.mdc_values.specs.declared.rid.Rid.{Rid}
 use Rattle.block_lists.specs.declared.lists.Lists.{Lists}
@@ -32,10 +32,12 @@ pub record IsListsOf (tree : ListTree) (lists : Lists) : Type 0 where
   pub rows : (rid : Rid) → holds lists rid ≡ tree_holds tree rid
   pub blocks : (block : ℕ) → lists_block lists block ≡ tree_lists_block tree block
 
+-- the list isn't empty
 abbrev pub has_some : List Bool → Bool
 has_some [] = false
 has_some (b ∷ bs) = true
 
+-- one layer of a tree has a member where it needs one, and of each member that is said
 abbrev pub layer_has_members : ListTree-F Bool → Bool
 layer_has_members (layer.Leaf lists) = true
 layer_has_members (layer.All members) = has_some members && list_all (λ b. b) members
@@ -44,3 +46,7 @@ layer_has_members (layer.Any members) = has_some members && list_all (λ b. b) m
 -- each All and each Any has a member
 abbrev pub each_has_members : ListTree → Bool
 each_has_members = fold-ListTree Bool layer_has_members
+
+-- there is a tree, and in each of the trees each All and each Any has a member
+abbrev pub can_be_members : List ListTree → Bool
+can_be_members trees = has_some (map each_has_members trees) && list_all (λ b. b) (map each_has_members trees)

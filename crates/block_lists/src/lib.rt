@@ -26,7 +26,7 @@ pub use laws::{lists_rise_apart, same_rows_same_lists};
 pub use lists::Lists;
 pub use making::{empty, from_blocks, from_rids};
 pub use many::{and_all, or_all};
-pub use members::has_members;
+pub use members::{Members, has_members, leaf};
 pub use merge::Merge;
 pub use part::Part;
 pub use slots::Slots;

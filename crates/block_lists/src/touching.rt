@@ -1,5 +1,6 @@
 // The blocks that lists touch.
-ghost use Rattle.std.specs.Prelude.{◌≡◌, ◌≤◌, ◌&&◌, ◌||◌, ◌↔◌, ℕ, IfOk, IsTrue};
+ghost use Rattle.std.specs.Prelude.{◌≡◌, ◌≤◌, ◌||◌, ◌↔◌, ℕ, IfOk, IsTrue};
+ghost use Rattle.std.specs.List.{filter};
 ghost use Rattle.mdc_values.specs.Rising.{IsEarlier, IsLower, IsRising};
 ghost use Rattle.block_lists.specs.Places.{has_number, in_block};
 ghost use Rattle.block_lists.specs.Lists.{touches};
@@ -10,9 +11,9 @@ use crate::numbers::{begins_with, from_number};
 use mdc_values::{Blocks, Memory, Rid};
 use std::alloc::Global;
 
-/// The blocks of a list that are listed too, or in which a listed row lies.
+/// The blocks of a list that are listed too, or in which a listed row lies, in their order, each once.
 pub fn touched_blocks(alloc: Global, lists: &Lists, of: &Blocks) -> Result<Blocks, Memory>
-    ensures { IfOk result (λ touched. (block : ℕ) → has_number touched block ≡ (has_number of.now block && touches lists.now block)) }
+    ensures { IfOk result (λ touched. touched ≡ filter (touches lists.now) of.now) }
 {
     touched(
         alloc,
@@ -26,7 +27,7 @@ fn touched(alloc: Global, of: &[u32], blocks: &[u32], rids: &[Rid]) -> Result<Bl
     requires of_rises { IsRising IsLower of.now }
     requires blocks_rise { IsRising IsLower blocks.now }
     requires rids_rise { IsRising IsEarlier rids.now }
-    ensures { IfOk result (λ touched. (block : ℕ) → has_number touched block ≡ (has_number of.now block && (has_number blocks.now block || in_block rids.now block))) }
+    ensures { IfOk result (λ touched. touched ≡ filter (λ block. has_number blocks.now block || in_block rids.now block) of.now) }
 {
     let mut touched = Blocks::new(alloc);
     let mut blocks = blocks;

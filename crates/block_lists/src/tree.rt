@@ -2,7 +2,8 @@
 use crate::lists::Lists;
 use mdc_values::List;
 
-/// Lists joined by AND and by OR. Each `All` and each `Any` needs a member.
+/// Lists joined by AND and by OR. Each `All` and each `Any` needs a member: in a tree that `leaf` or `Members` made
+/// they have one.
 #[derive(Debug, Drop)]
 pub enum ListTree {
     Leaf(Lists),

@@ -1,7 +1,10 @@
 // Small lists worked by hand.
+ghost use Rattle.std.specs.Prelude.{◌≡◌, IfOk, IsTrue};
+ghost use Rattle.block_lists.specs.Trees.{each_has_members};
+
 use block_lists::{
-    ListTree, Lists, Merge, Slots, and_all, and_lists, empty, from_blocks, from_rids, has_members,
-    lists_of_tree, lists_rise_apart, or_all, or_lists, same_rows_same_lists, touched_blocks,
+    ListTree, Lists, Members, Merge, Slots, and_all, and_lists, empty, from_blocks, from_rids,
+    has_members, leaf, lists_of_tree, or_all, or_lists, same_rows_same_lists, touched_blocks,
 };
 use mdc_values::{Blocks, List, Memory, Rid, Rids};
 use std::alloc::Global;
@@ -36,8 +39,10 @@ fn lists(alloc: Global, blocks: &[u32], rids: &[Rid]) -> Result<Lists, Memory> {
     or_all(alloc, members.as_slice())
 }
 
-fn leaf(alloc: Global, blocks: &[u32], rids: &[Rid]) -> Result<ListTree, Memory> {
-    Ok(ListTree::Leaf(lists(alloc, blocks, rids)?))
+fn leaf_of(alloc: Global, blocks: &[u32], rids: &[Rid]) -> Result<ListTree, Memory>
+    ensures { IfOk result (λ tree. IsTrue (each_has_members tree)) }
+{
+    Ok(leaf(lists(alloc, blocks, rids)?))
 }
 
 fn are(rt: &impl Abort, lists: &Lists, blocks: &[u32], rids: &[Rid]) {
@@ -51,8 +56,9 @@ fn gives(
     alloc: Global,
     tree: &ListTree,
     parts: &[(u32, Option<&[u16]>)],
-) -> Result<(), Fail> {
-    assert!(rt; has_members(tree));
+) -> Result<(), Fail>
+    requires { IsTrue (each_has_members tree.now) }
+{
     let mut merge = Merge::over(alloc, tree)?;
     for (block, slots) in parts {
         next_is(rt, &mut merge, *block, *slots)?;
@@ -77,11 +83,20 @@ fn next_is(
 }
 
 /// The blocks 3 and 5, and the rows 0 of block 4, 1 of block 5 and 7 of block 5.
-fn two_leaves(alloc: Global) -> Result<List<ListTree>, Memory> {
-    let mut members = List::new(alloc);
-    members.push(leaf(alloc, &[3, 5], &[])?)?;
-    members.push(leaf(alloc, &[], &[rid(4, 0), rid(5, 1), rid(5, 7)])?)?;
+fn two_leaves(alloc: Global) -> Result<Members, Memory> {
+    let mut members = Members::of(alloc, leaf_of(alloc, &[3, 5], &[])?)?;
+    members.push(leaf_of(alloc, &[], &[rid(4, 0), rid(5, 1), rid(5, 7)])?)?;
     Ok(members)
+}
+
+/// The intersections of two lists in either order, which are the same.
+fn both_in_either_order(alloc: Global, a: &Lists, b: &Lists) -> Result<(Lists, Lists), Memory>
+    ensures { IfOk result (λ both. (both.0.blocks ≡ both.1.blocks) × (both.0.rids ≡ both.1.rids)) }
+{
+    let both = and_lists(alloc, a, b)?;
+    let turned = and_lists(alloc, b, a)?;
+    same_rows_same_lists(&both, &turned);
+    Ok((both, turned))
 }
 
 #[test]
@@ -89,20 +104,16 @@ fn two_lists_are_joined(rt: HostRuntime) -> Result<(), Fail> {
     let alloc = rt.alloc();
     let a = lists(alloc, &[3, 5], &[rid(7, 1), rid(7, 2), rid(9, 0)])?;
     let b = lists(alloc, &[5, 7], &[rid(3, 4), rid(9, 0), rid(9, 1)])?;
-    are(
-        &rt,
-        &and_lists(alloc, &a, &b)?,
-        &[5],
-        &[rid(3, 4), rid(7, 1), rid(7, 2), rid(9, 0)],
-    );
+    let (both, turned) = both_in_either_order(alloc, &a, &b)?;
+    let rids = [rid(3, 4), rid(7, 1), rid(7, 2), rid(9, 0)];
+    are(&rt, &both, &[5], &rids);
+    are(&rt, &turned, &[5], &rids);
     are(
         &rt,
         &or_lists(alloc, &a, &b)?,
         &[3, 5, 7],
         &[rid(9, 0), rid(9, 1)],
     );
-    lists_rise_apart(&a);
-    same_rows_same_lists(&a, &b);
     Ok(())
 }
 
@@ -150,14 +161,14 @@ fn slots_keep_what_they_are_given(rt: HostRuntime) -> Result<(), Fail> {
 #[test]
 fn all_of_two_leaves_has_some_slots_of_one_block(rt: HostRuntime) -> Result<(), Fail> {
     let alloc = rt.alloc();
-    let tree = ListTree::All(two_leaves(alloc)?);
+    let tree = two_leaves(alloc)?.all();
     gives(&rt, alloc, &tree, &[(5, Some([1, 7].as_slice()))])
 }
 
 #[test]
 fn any_of_two_leaves_has_three_blocks(rt: HostRuntime) -> Result<(), Fail> {
     let alloc = rt.alloc();
-    let tree = ListTree::Any(two_leaves(alloc)?);
+    let tree = two_leaves(alloc)?.any();
     let parts = [(3, None), (4, Some([0].as_slice())), (5, None)];
     gives(&rt, alloc, &tree, &parts)
 }
@@ -166,11 +177,9 @@ fn any_of_two_leaves_has_three_blocks(rt: HostRuntime) -> Result<(), Fail> {
 #[test]
 fn trees_have_trees_as_members(rt: HostRuntime) -> Result<(), Fail> {
     let alloc = rt.alloc();
-    let mut members = List::new(alloc);
-    members.push(ListTree::Any(two_leaves(alloc)?))?;
-    members.push(leaf(alloc, &[4, 5], &[rid(3, 2), rid(6, 0)])?)?;
-    let tree = ListTree::All(members);
-    assert!(&rt; has_members(&tree));
+    let mut members = Members::of(alloc, two_leaves(alloc)?.any())?;
+    members.push(leaf_of(alloc, &[4, 5], &[rid(3, 2), rid(6, 0)])?)?;
+    let tree = members.all();
     let joined = lists_of_tree(alloc, &tree)?;
     are(&rt, &joined, &[5], &[rid(3, 2), rid(4, 0)]);
     let parts = [
@@ -184,8 +193,10 @@ fn trees_have_trees_as_members(rt: HostRuntime) -> Result<(), Fail> {
 #[test]
 fn an_any_without_members_is_told(rt: HostRuntime) -> Result<(), Fail> {
     let alloc = rt.alloc();
-    let mut members = two_leaves(alloc)?;
-    members.push(ListTree::Any(List::new(alloc)))?;
-    assert!(rt; !has_members(&ListTree::All(members)));
+    let mut trees = List::new(alloc);
+    trees.push(two_leaves(alloc)?.all())?;
+    assert!(rt; has_members(trees.at(0)));
+    trees.push(ListTree::Any(List::new(alloc)))?;
+    assert!(rt; !has_members(&ListTree::All(trees)));
     Ok(())
 }

@@ -1,7 +1,8 @@
 use Rattle.std.proofs.Common.{refl, subst}
 use Rattle.std.proofs.lemmas.Bool.{false≢true}
-use Rattle.block_lists.proofs.WalkLemmas.{first_left, keeps_last}
-use Rattle.block_lists.proofs.NumberLemmas.{CommonGoes, common_moved, common_past, common_taken}
+use Rattle.std.proofs.lemmas.List.{drop_all}
+use Rattle.block_lists.proofs.WalkLemmas.{first_left, keeps_last, keeps_members}
+use Rattle.block_lists.proofs.NumberLemmas.{CommonGoes, common_moved, common_past, common_taken, numbers_order}
 use Rattle.block_lists.proofs.numbers.common_blocks.Goals as goal
 use Rattle.block_lists.proofs.numbers.common_blocks.Goals.{then-begins_with+in_ok-push, else-begins_with}
 
@@ -18,3 +19,6 @@ loop-number-preserved c =
       | then-begins_with+in_ok-push w ↦ rw (w.common-is, w.in_ok-push.ensures.ok) (common_taken moved (w.if-begins_with.ensures.0 refl))
       | else-begins_with w ↦ rw w.common-is (common_past moved c.from_number-b.ensures.begins (λ e. false≢true (w.if-begins_with.ensures.1 e)))
     ]
+
+pub returns : goal.returns
+returns c = keeps_members numbers_order c.loop-number.invariant.keeps (drop_all c.loop-number.number-index c.args.a.now c.loop-number-test.false)

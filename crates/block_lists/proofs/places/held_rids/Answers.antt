@@ -1,9 +1,10 @@
 use Rattle.std.proofs.Common.{◌⊎◌, inl, inr, get_or, refl, subst}
 use Rattle.std.proofs.lemmas.Bool.{false≢true}
+use Rattle.std.proofs.lemmas.List.{drop_all}
 use Rattle.mdc_values.specs.declared.rid.Rid.{Rid}
 use Rattle.block_lists.specs.Walks.{BeginsWith}
-use Rattle.block_lists.proofs.WalkLemmas.{first_left, keeps_last}
-use Rattle.block_lists.proofs.PlaceLemmas.{HeldGoes, held_moved, held_past, held_taken}
+use Rattle.block_lists.proofs.WalkLemmas.{first_left, keeps_last, keeps_members}
+use Rattle.block_lists.proofs.PlaceLemmas.{HeldGoes, held_moved, held_past, held_taken, rids_order}
 use Rattle.block_lists.proofs.places.held_rids.Goals as goal
 use Rattle.block_lists.proofs.places.held_rids.Goals.{then-begins_with+in_ok-push, then-begins_with-via-then-begins_with, then-begins_with-via-else-begins_with+then-begins_with_rid, else-begins_with+else-begins_with_rid}
 
@@ -31,3 +32,6 @@ loop-rid-preserved c =
       | else-begins_with+else-begins_with_rid w ↦
           rw w.held-is (held_past moved c.from_number-blocks.ensures.begins (λ e. false≢true (w.if-begins_with.ensures.1 e)) c.from_rid-others.ensures.begins (λ e. false≢true (w.if-begins_with_rid.ensures.1 e)))
     ]
+
+pub returns : goal.returns
+returns c = keeps_members rids_order c.loop-rid.invariant.keeps (drop_all c.loop-rid.rid-index c.args.rids.now c.loop-rid-test.false)

@@ -1,8 +1,9 @@
 use Rattle.std.proofs.Common.{refl, subst}
 use Rattle.std.proofs.lemmas.Bool.{false≢true}
+use Rattle.std.proofs.lemmas.List.{drop_all}
 use Rattle.mdc_values.specs.declared.rid.Rid.{Rid}
-use Rattle.block_lists.proofs.WalkLemmas.{first_left, keeps_last}
-use Rattle.block_lists.proofs.PlaceLemmas.{OutsideGoes, outside_moved, outside_past, outside_taken}
+use Rattle.block_lists.proofs.WalkLemmas.{first_left, keeps_last, keeps_members}
+use Rattle.block_lists.proofs.PlaceLemmas.{OutsideGoes, outside_moved, outside_past, outside_taken, rids_order}
 use Rattle.block_lists.proofs.places.outside.Goals as goal
 use Rattle.block_lists.proofs.places.outside.Goals.{then-not-begins_with+in_ok-push, else-not-begins_with}
 
@@ -24,3 +25,6 @@ loop-rid-preserved c =
       | then-not-begins_with+in_ok-push w ↦ rw (w.held-is, w.in_ok-push.ensures.ok) (outside_taken moved c.from_number-blocks.ensures.begins (λ e. false≢true (w.if-not-begins_with.ensures.1 e)))
       | else-not-begins_with w ↦ rw w.held-is (outside_past moved (w.if-not-begins_with.ensures.0 refl))
     ]
+
+pub returns : goal.returns
+returns c = keeps_members rids_order c.loop-rid.invariant.keeps (drop_all c.loop-rid.rid-index c.args.rids.now c.loop-rid-test.false)

@@ -1,7 +1,8 @@
 use Rattle.std.proofs.Common.{◌⊎◌, inl, inr, get_or, refl, subst}
 use Rattle.std.proofs.lemmas.Bool.{false≢true}
+use Rattle.std.proofs.lemmas.List.{drop_all}
 use Rattle.block_lists.specs.Walks.{BeginsInBlock, BeginsWith}
-use Rattle.block_lists.proofs.WalkLemmas.{first_left, keeps_last}
+use Rattle.block_lists.proofs.WalkLemmas.{first_left, keeps_end, keeps_last}
 use Rattle.block_lists.proofs.PlaceLemmas.{TouchedGoes, touched_moved, touched_past, touched_taken}
 use Rattle.block_lists.proofs.touching.touched.Goals as goal
 use Rattle.block_lists.proofs.touching.touched.Goals.{then-begins_with+in_ok-push, then-begins_with-via-then-begins_with, then-begins_with-via-else-begins_with+then-begins_in_block, else-begins_with+else-begins_in_block}
@@ -25,3 +26,6 @@ loop-block-preserved c =
       | else-begins_with+else-begins_in_block w ↦
           rw w.touched-is (touched_past moved c.from_number-blocks.ensures.begins (λ e. false≢true (w.if-begins_with.ensures.1 e)) c.from_block-rids.ensures.begins (λ e. false≢true (w.if-begins_in_block.ensures.1 e)))
     ]
+
+pub returns : goal.returns
+returns c = keeps_end c.loop-block.invariant.keeps (drop_all c.loop-block.block-index c.args.of.now c.loop-block-test.false)
