@@ -1,8 +1,9 @@
 //! Lists of whole blocks and of places of rows, their intersections and unions, and a cursor over the parts of a tree of them.
 //!
 //! It promises that an intersection and a union stand for exactly the rows of both and of either, that lists are
-//! determined by the rows that they stand for, and that the cursor gives the parts of a tree's lists one after another,
-//! by rising block. It stands on `mdc_values`. The program doesn't use it yet.
+//! determined by the rows that they stand for, that of given blocks exactly those are answered which lists touch, and
+//! that the cursor gives the parts of a tree's lists one after another, by rising block: a part for each block that they
+//! touch. It stands on `mdc_values`. The program doesn't use it yet.
 #![tactic(auto)]
 
 mod joining;

@@ -35,9 +35,9 @@ impl Model for Merge {
 }
 
 impl Merge {
-    /// A cursor before the first part. It joins the tree's lists at once; what it gives are their parts by rising block,
-    /// whole blocks where the lists have these and else the slots that they have. The tree stays as it is, also after
-    /// `Memory`.
+    /// A cursor before the first part. What it gives are the parts of the tree's lists by rising block, whole blocks where
+    /// the lists have these and else the slots that they have. It joins the lists at once, so that a part needs no walk
+    /// through the tree. The tree stays as it is, also after `Memory`.
     pub fn over(alloc: Global, tree: &ListTree) -> Result<Merge, Memory>
         requires { IsTrue (each_has_members tree.now) }
         ensures { IfOk result (ArePartsOf tree.now) }
