@@ -4,7 +4,6 @@ use Rattle.std.specs.Prelude.{IsTrue}
 use Rattle.std.specs.Int.{to_be_bytes, from_be_bytes, cast_unsigned, cast_signed, w32, w64}
 use Rattle.std.specs.Ordering.{int_eq}
 use Rattle.std.specs.Str.{bytes_eq}
-use Rattle.std.specs.Cmp.{IsEquivalence}
 use Rattle.std.specs.Cmp.Lexicographic.{bytes_decides}
 use Rattle.std.specs.Prelude.{FitsSigned}
 use Rattle.std.proofs.Common.{eq-eqb}
@@ -102,7 +101,7 @@ keys_same (column ∷ columns) a b sa sb =
     ∙ ap (λ r. belong_together (value_at a column) (value_at b column) && r)
     (keys_same columns a b (both_right (is_small (value_at a column)) (are_small columns a) sa) (both_right (is_small (value_at b column)) (are_small columns b) sb))
 
--- ---- rows with the same group values are classes
+-- ---- a row is of its own group
 
 together-refl : (a : Value) → belong_together a a ≡ true
 together-refl Null = refl
@@ -110,67 +109,6 @@ together-refl (Int n) = int_eq_equiv.refl n
 together-refl (Text t) = nat_list_eq_equiv.refl (trimmed t)
 together-refl (Day d) = nat_eq_equiv.refl d
 
-together-symm : (a b : Value) → belong_together a b ≡ belong_together b a
-together-symm Null Null = refl
-together-symm Null (Int n) = refl
-together-symm Null (Text u) = refl
-together-symm Null (Day e) = refl
-together-symm (Int m) Null = refl
-together-symm (Int m) (Int n) = int_eq_equiv.symm m n
-together-symm (Int m) (Text u) = refl
-together-symm (Int m) (Day e) = refl
-together-symm (Text t) Null = refl
-together-symm (Text t) (Int n) = refl
-together-symm (Text t) (Text u) = nat_list_eq_equiv.symm (trimmed t) (trimmed u)
-together-symm (Text t) (Day e) = refl
-together-symm (Day d) Null = refl
-together-symm (Day d) (Int n) = refl
-together-symm (Day d) (Text u) = refl
-together-symm (Day d) (Day e) = nat_eq_equiv.symm d e
-
-together-congr : (a b c : Value) → belong_together a b ≡ true → belong_together a c ≡ belong_together b c
-together-congr Null Null Null h = refl
-together-congr Null Null (Int k) h = refl
-together-congr Null Null (Text s) h = refl
-together-congr Null Null (Day f) h = refl
-together-congr Null (Int n) c h = cc
-together-congr Null (Text u) c h = cc
-together-congr Null (Day e) c h = cc
-together-congr (Int m) Null c h = cc
-together-congr (Int m) (Int n) Null h = refl
-together-congr (Int m) (Int n) (Int k) h = int_eq_equiv.congr m n k h
-together-congr (Int m) (Int n) (Text s) h = refl
-together-congr (Int m) (Int n) (Day f) h = refl
-together-congr (Int m) (Text u) c h = cc
-together-congr (Int m) (Day e) c h = cc
-together-congr (Text t) Null c h = cc
-together-congr (Text t) (Int n) c h = cc
-together-congr (Text t) (Text u) Null h = refl
-together-congr (Text t) (Text u) (Int k) h = refl
-together-congr (Text t) (Text u) (Text s) h = nat_list_eq_equiv.congr (trimmed t) (trimmed u) (trimmed s) h
-together-congr (Text t) (Text u) (Day f) h = refl
-together-congr (Text t) (Day e) c h = cc
-together-congr (Day d) Null c h = cc
-together-congr (Day d) (Int n) c h = cc
-together-congr (Day d) (Text u) c h = cc
-together-congr (Day d) (Day e) Null h = refl
-together-congr (Day d) (Day e) (Int k) h = refl
-together-congr (Day d) (Day e) (Text s) h = refl
-together-congr (Day d) (Day e) (Day f) h = nat_eq_equiv.congr d e f h
-
-grouped-refl : (columns : List ℕ) (a : List Value) → are_grouped columns a a ≡ true
+pub grouped-refl : (columns : List ℕ) (a : List Value) → are_grouped columns a a ≡ true
 grouped-refl [] a = refl
 grouped-refl (column ∷ columns) a = rw (together-refl (value_at a column)) (grouped-refl columns a)
-
-grouped-symm : (columns : List ℕ) (a b : List Value) → are_grouped columns a b ≡ are_grouped columns b a
-grouped-symm [] a b = refl
-grouped-symm (column ∷ columns) a b = let here = together-symm (value_at a column) (value_at b column) in let rest = grouped-symm columns a b in cc
-
-grouped-congr : (columns : List ℕ) (a b c : List Value) → are_grouped columns a b ≡ true → are_grouped columns a c ≡ are_grouped columns b c
-grouped-congr [] a b c h = refl
-grouped-congr (column ∷ columns) a b c h =
-    let here = together-congr (value_at a column) (value_at b column) (value_at c column) (both_left _ _ h) in
-    let rest = grouped-congr columns a b c (both_right (belong_together (value_at a column) (value_at b column)) _ h) in cc
-
-pub grouped_laws : (columns : List ℕ) → IsEquivalence (are_grouped columns)
-grouped_laws columns = record { refl = grouped-refl columns; symm = grouped-symm columns; congr = grouped-congr columns }

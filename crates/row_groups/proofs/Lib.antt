@@ -1,7 +1,10 @@
+pub mod AddingLemmas
+pub mod FoundLemmas
 pub mod GroupLemmas
-pub mod JoiningLemmas
 pub mod KeyLemmas
 pub mod LineLemmas
+pub mod MapLemmas
+pub mod NumberLemmas
 pub mod OneOrderLemmas
 pub mod OrderLemmas
 pub mod ShownLemmas

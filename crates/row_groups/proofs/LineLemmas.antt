@@ -1,104 +1,165 @@
--- The lines of one more row, by which rows share a line.
-use Rattle.std.proofs.Common.{◌≡◌, ℕ, ◌≤◌, List, [], ◌∷◌, ◌++◌, map, length, get_or, take, ◌+◌, ◌<◌, Result, refl, sym, ap, ◌∙◌, subst, arith}
+-- The lines of one more row, by which rows share a line, and of all.
+use Rattle.std.proofs.Common.{◌≡◌, ℕ, ◌≤◌, List, [], ◌∷◌, ◌++◌, map, length, get_or, take, ◌+◌, ◌<◌, Result, Bool, true, false, cond, refl, sym, ap, ◌∙◌, subst, arith}
 use Rattle.std.specs.Prelude.{MatchResult, slice_set}
+use Rattle.std.specs.Cmp.{IsStrictWeakOrder}
+use Rattle.std.specs.List.{IsDistinct}
+use Rattle.std.specs.Map as entries
+use Rattle.std.specs.Map.{keys_of}
+use Rattle.std.specs.Str.{bytes_eq}
 use Rattle.std.proofs.lemmas.List.{length-map, map-append, take_more}
+use Rattle.std.proofs.lemmas.List.Sorted.{IsStrictWeakOrder-by_number}
 use Rattle.mdc_values.specs.declared.value.Value.{Value}
 use Rattle.mdc_ast.specs.declared.row.Row.{Row}
 use Rattle.row_groups.specs.declared.grouping.Grouping.{Grouping}
 use Rattle.row_groups.specs.declared.grouping.Grouping.TheVariants.{EachRow, AllRows, ByValues}
 use Rattle.row_groups.specs.declared.line.Line.{Line}
-use Rattle.row_groups.specs.Adding.{with_row}
+use Rattle.row_groups.specs.Adding.{Numbered, is_numbered_lower, line_of_row, lines_in, with_row}
 use Rattle.row_groups.specs.Answers.{AnswersLines, AreWide, cut, outgrown_sums}
 use Rattle.row_groups.specs.Firsts.{firsts, group_of}
-use Rattle.row_groups.specs.Gathering.{AreGroups, AreGroupsOf, AreKeysOf, GroupsSoFar}
+use Rattle.row_groups.specs.Gathering.{AreFound, AreGathered, AreGroupsOf, GroupsSoFar}
 use Rattle.row_groups.specs.Lines.{are_grouped, grouping_of, line_of, lines_by, made_lines}
-use Rattle.row_groups.specs.Ordering.{IsOrdered}
+use Rattle.row_groups.specs.Numbers.{DifferInNumber, by_number, is_lower, values_of}
+use Rattle.row_groups.specs.Ordering.{IsOrdered, ordered, placed}
 use Rattle.row_groups.specs.Shape.{Shape}
+use Rattle.row_groups.proofs.AddingLemmas.{line_placed, no_higher}
+use Rattle.row_groups.proofs.FoundLemmas.{found_lines}
+use Rattle.row_groups.proofs.NumberLemmas.{ordered_more}
 use Rattle.row_groups.proofs.OneOrderLemmas.{sorted_is_ordered}
-use Rattle.row_groups.proofs.ShownLemmas.{line_more}
 
--- the lines where it is known which rows share one
-lines_as : (shape : Shape) (rows : List (List Value)) (grouping : Grouping) → grouping_of shape.outs shape.group ≡ grouping → made_lines shape rows ≡ lines_by grouping shape rows
-lines_as shape rows grouping is = ap (λ g. lines_by g shape rows) is
+pub numbers_rank : IsStrictWeakOrder is_numbered_lower
+numbers_rank = IsStrictWeakOrder-by_number (λ (one : Numbered). one.number)
+
+-- what is gathered where it is known which rows share a line
+gathered_as : (shape : Shape) (rows : List Row) (found : List (List ℕ × Numbered)) (lines : List Numbered) (grouping : Grouping) → grouping_of shape.outs shape.group ≡ grouping
+    → AreGathered (grouping_of shape.outs shape.group) shape rows found lines → AreGathered grouping shape rows found lines
+gathered_as shape rows found lines grouping is are = subst (λ g. AreGathered g shape rows found lines) is are
+
+gathered_from : (shape : Shape) (rows : List Row) (found : List (List ℕ × Numbered)) (lines : List Numbered) (grouping : Grouping) → grouping_of shape.outs shape.group ≡ grouping
+    → AreGathered grouping shape rows found lines → AreGathered (grouping_of shape.outs shape.group) shape rows found lines
+gathered_from shape rows found lines grouping is are = subst (λ g. AreGathered g shape rows found lines) (sym is) are
 
 -- ---- one more row
 
+grouping_is : (shape : Shape) (groups : GroupsSoFar) (grouping : Grouping) → groups.shape ≡ shape → grouping_of groups.shape.outs groups.shape.group ≡ grouping → grouping_of shape.outs shape.group ≡ grouping
+grouping_is shape groups grouping same is = ap (λ (s : Shape). grouping_of s.outs s.group) (sym same) ∙ is
+
 -- a row with a line of its own
-pub each_more : (shape : Shape) (rows : List (List Value)) (row : List Value) (lines : List Line) → grouping_of shape.outs shape.group ≡ EachRow → lines ≡ made_lines shape rows
-    → lines ++ line_of shape row (row ∷ []) ∷ [] ≡ made_lines shape (rows ++ row ∷ [])
-each_more shape rows row lines is are =
-    ap (λ ls. ls ++ line_of shape row (row ∷ []) ∷ []) (are ∙ lines_as shape rows EachRow is) ∙ sym (map-append (λ r. line_of shape r (r ∷ [])) rows (row ∷ [])) ∙ sym (lines_as shape (rows ++ row ∷ []) EachRow is)
+pub each_grows : (shape : Shape) (rows : List Row) (row : Row) (groups new : GroupsSoFar) → AreGroupsOf shape rows groups → grouping_of groups.shape.outs groups.shape.group ≡ EachRow
+    → new.shape ≡ groups.shape → new.found ≡ groups.found → new.lines ≡ groups.lines ++ line_of_row groups.shape row ∷ [] → AreGroupsOf shape (rows ++ row ∷ []) new
+each_grows shape rows row groups new are is kept same added =
+    let here = grouping_is shape groups EachRow are.shape_is is in
+    let before = gathered_as shape rows groups.found groups.lines EachRow here are.gathered in
+    record {
+      shape_is = kept ∙ are.shape_is;
+      gathered = gathered_from shape (rows ++ row ∷ []) new.found new.lines EachRow here
+          (same ∙ before.0, added ∙ ap (λ (s : Shape). groups.lines ++ line_of_row s row ∷ []) are.shape_is ∙ ap (λ ls. ls ++ line_of_row shape row ∷ []) before.1 ∙ sym (map-append (line_of_row shape) rows (row ∷ [])));
+    }
+
+-- the one line
+pub whole_line : (shape : Shape) (rows : List Row) (groups : GroupsSoFar) → AreGroupsOf shape rows groups → grouping_of groups.shape.outs groups.shape.group ≡ AllRows → lines_in groups.lines ≡ line_of shape [] (values_of (by_number rows)) ∷ []
+whole_line shape rows groups are is = (gathered_as shape rows groups.found groups.lines AllRows (grouping_is shape groups AllRows are.shape_is is) are.gathered).1
 
 -- a row of the one line
-pub whole_more : (shape : Shape) (rows : List (List Value)) (row : List Value) (lines : List Line) (d : Line) → grouping_of shape.outs shape.group ≡ AllRows → lines ≡ made_lines shape rows
-    → slice_set lines 0 (with_row shape.outs (get_or lines 0 d) row) ≡ made_lines shape (rows ++ row ∷ [])
-whole_more shape rows row lines d is are =
-    ap (λ (ls : List Line). slice_set ls 0 (with_row shape.outs (get_or ls 0 d) row)) (are ∙ lines_as shape rows AllRows is)
-    ∙ ap (λ l. l ∷ []) (sym (line_more shape [] rows row)) ∙ sym (lines_as shape (rows ++ row ∷ []) AllRows is)
-
--- ---- the groups so far
-
--- where groups aren't found by values, their keys are nothing
-other_keys : (shape : Shape) (rows : List (List Value)) (keys : List (List ℕ)) (grouping : Grouping) → grouping_of shape.outs shape.group ≡ grouping → (grouping ≡ ByValues → ⊥) → grouping_of shape.outs shape.group ≡ ByValues → AreKeysOf shape.group rows keys
-other_keys shape rows keys grouping is not by = absurd (not (sym is ∙ by))
-
-each_is_other : EachRow ≡ ByValues → ⊥
-each_is_other e = cc
-
-whole_is_other : AllRows ≡ ByValues → ⊥
-whole_is_other e = cc
-
-pub each_grows : (shape : Shape) (rows : List (List Value)) (row : List Value) (groups new : GroupsSoFar) → AreGroupsOf shape rows groups → grouping_of groups.shape.outs groups.shape.group ≡ EachRow
-    → new.shape ≡ groups.shape → new.lines ≡ groups.lines ++ line_of groups.shape row (row ∷ []) ∷ [] → AreGroupsOf shape (rows ++ row ∷ []) new
-each_grows shape rows row groups new are is kept added =
-    let here : grouping_of shape.outs shape.group ≡ EachRow = ap (λ (s : Shape). grouping_of s.outs s.group) (sym are.shape_is) ∙ is in
+pub whole_grows : (shape : Shape) (rows : List Row) (row : Row) (groups new : GroupsSoFar) → AreGroupsOf shape rows groups → grouping_of groups.shape.outs groups.shape.group ≡ AllRows
+    → new.shape ≡ groups.shape → new.found ≡ groups.found → lines_in new.lines ≡ with_row groups.shape.outs (line_of shape [] (values_of (by_number rows))) row.values ∷ [] → AreGroupsOf shape (rows ++ row ∷ []) new
+whole_grows shape rows row groups new are is kept same added =
+    let here = grouping_is shape groups AllRows are.shape_is is in
+    let before = gathered_as shape rows groups.found groups.lines AllRows here are.gathered in
+    let more : line_of shape [] (values_of (by_number (rows ++ row ∷ []))) ≡ with_row shape.outs (line_of shape [] (values_of (by_number rows))) row.values
+    = ap (λ (rs : List Row). line_of shape [] (values_of rs)) (ordered_more (λ (r : Row). r.number) rows row) ∙ line_placed no_higher shape [] row (by_number rows) in
     record {
       shape_is = kept ∙ are.shape_is;
-      lines_are = added ∙ ap (λ (s : Shape). groups.lines ++ line_of s row (row ∷ []) ∷ []) are.shape_is ∙ each_more shape rows row groups.lines here are.lines_are;
-      found = other_keys shape (rows ++ row ∷ []) new.keys EachRow here each_is_other;
+      gathered = gathered_from shape (rows ++ row ∷ []) new.found new.lines AllRows here
+          (same ∙ before.0, added ∙ ap (λ (s : Shape). with_row s.outs (line_of shape [] (values_of (by_number rows))) row.values ∷ []) are.shape_is ∙ ap (λ line. line ∷ []) (sym more));
     }
 
-pub whole_grows : (shape : Shape) (rows : List (List Value)) (row : List Value) (groups new : GroupsSoFar) (d : Line) → AreGroupsOf shape rows groups → grouping_of groups.shape.outs groups.shape.group ≡ AllRows
-    → new.shape ≡ groups.shape → new.lines ≡ slice_set groups.lines 0 (with_row groups.shape.outs (get_or groups.lines 0 d) row) → AreGroupsOf shape (rows ++ row ∷ []) new
-whole_grows shape rows row groups new d are is kept added =
-    let here : grouping_of shape.outs shape.group ≡ AllRows = ap (λ (s : Shape). grouping_of s.outs s.group) (sym are.shape_is) ∙ is in
+-- a row of a group
+pub group_grows : (shape : Shape) (rows rows' : List Row) (groups new : GroupsSoFar) → AreGroupsOf shape rows groups → grouping_of groups.shape.outs groups.shape.group ≡ ByValues
+    → new.shape ≡ groups.shape → new.lines ≡ groups.lines → AreFound groups.shape rows' new.found → AreGroupsOf shape rows' new
+group_grows shape rows rows' groups new are is kept same grown =
+    let here = grouping_is shape groups ByValues are.shape_is is in
+    let before = gathered_as shape rows groups.found groups.lines ByValues here are.gathered in
     record {
       shape_is = kept ∙ are.shape_is;
-      lines_are = added ∙ ap (λ (s : Shape). slice_set groups.lines 0 (with_row s.outs (get_or groups.lines 0 d) row)) are.shape_is ∙ whole_more shape rows row groups.lines d here are.lines_are;
-      found = other_keys shape (rows ++ row ∷ []) new.keys AllRows here whole_is_other;
+      gathered = gathered_from shape rows' new.found new.lines ByValues here (same ∙ before.0, subst (λ (s : Shape). AreFound s rows' new.found) are.shape_is grown);
     }
 
--- groups by values, as they are found
-pub by_values : (shape : Shape) (rows : List (List Value)) (groups : GroupsSoFar) → AreGroupsOf shape rows groups → grouping_of groups.shape.outs groups.shape.group ≡ ByValues → AreGroups groups.shape rows groups.keys groups.lines
+-- what is found, of groups by values
+pub by_values : (shape : Shape) (rows : List Row) (groups : GroupsSoFar) → AreGroupsOf shape rows groups → grouping_of groups.shape.outs groups.shape.group ≡ ByValues → AreFound groups.shape rows groups.found
 by_values shape rows groups are is =
-    let here : grouping_of shape.outs shape.group ≡ ByValues = ap (λ (s : Shape). grouping_of s.outs s.group) (sym are.shape_is) ∙ is in
-    subst (λ (s : Shape). AreGroups s rows groups.keys groups.lines) (sym are.shape_is) (record { found = are.found here; lines_are = are.lines_are ∙ lines_as shape rows ByValues here })
-
-pub groups_grow : (shape : Shape) (rows rows' : List (List Value)) (groups new : GroupsSoFar) → AreGroupsOf shape rows groups → grouping_of groups.shape.outs groups.shape.group ≡ ByValues
-    → new.shape ≡ groups.shape → AreGroups groups.shape rows' new.keys new.lines → AreGroupsOf shape rows' new
-groups_grow shape rows rows' groups new are is kept grown =
-    let here : grouping_of shape.outs shape.group ≡ ByValues = ap (λ (s : Shape). grouping_of s.outs s.group) (sym are.shape_is) ∙ is in
-    let so : AreGroups shape rows' new.keys new.lines = subst (λ (s : Shape). AreGroups s rows' new.keys new.lines) are.shape_is grown in
-    record { shape_is = kept ∙ are.shape_is; lines_are = so.lines_are ∙ sym (lines_as shape rows' ByValues here); found = λ by. so.found }
+    subst (λ (s : Shape). AreFound s rows groups.found) (sym are.shape_is) (gathered_as shape rows groups.found groups.lines ByValues (grouping_is shape groups ByValues are.shape_is is) are.gathered).1
 
 -- ---- the groups of no rows
 
-pub whole_of_none : (shape : Shape) → grouping_of shape.outs shape.group ≡ AllRows → line_of shape [] [] ∷ [] ≡ made_lines shape []
-whole_of_none shape is = sym (lines_as shape [] AllRows is)
+pub groups_of_none : (shape : Shape) (found : List (List ℕ × Numbered)) (lines : List Numbered) → found ≡ [] → lines_in lines ≡ made_lines shape [] → AreGroupsOf shape [] (record { shape = shape; found = found; lines = lines })
+groups_of_none shape found lines none are = record { shape_is = refl; gathered = at (grouping_of shape.outs shape.group) are }
+  where
+    no_lines : (ls : List Numbered) → lines_in ls ≡ [] → ls ≡ []
+    no_lines [] e = refl
+    no_lines (l ∷ ls) e = cc
+
+    at : (grouping : Grouping) → lines_in lines ≡ lines_by grouping shape [] → AreGathered grouping shape [] found lines
+    at EachRow is = (none, no_lines lines is)
+    at AllRows is = (none, is)
+    at ByValues is = (no_lines lines is, record { small = tt; each = λ key. ap (λ (es : List (List ℕ × Numbered)). entries.lookup (bytes_eq key) es) none })
+
+pub whole_is_there : (shape : Shape) (lines : List Numbered) → lines_in lines ≡ made_lines shape [] → grouping_of shape.outs shape.group ≡ AllRows → 1 ≤ length lines
+whole_is_there shape lines are is =
+    let one : length (lines_in lines) ≡ 1 = ap (λ (ls : List Line). length ls) (are ∙ ap (λ g. lines_by g shape []) is) in
+    omega (arith, one, length-map lines (λ (l : Numbered). l.line))
 
 pub nothing_of_none : (shape : Shape) → (grouping_of shape.outs shape.group ≡ AllRows → ⊥) → [] ≡ made_lines shape []
 nothing_of_none shape not = at (grouping_of shape.outs shape.group) refl
   where
     at : (grouping : Grouping) → grouping_of shape.outs shape.group ≡ grouping → [] ≡ made_lines shape []
-    at EachRow is = sym (lines_as shape [] EachRow is)
+    at EachRow is = sym (ap (λ g. lines_by g shape []) is)
     at AllRows is = absurd (not is)
-    at ByValues is = sym (lines_as shape [] ByValues is)
+    at ByValues is = sym (ap (λ g. lines_by g shape []) is)
 
-pub groups_of_none : (shape : Shape) (keys : List (List ℕ)) (lines : List Line) → keys ≡ [] → lines ≡ made_lines shape [] → AreGroupsOf shape [] (record { shape = shape; keys = keys; lines = lines })
-groups_of_none shape keys lines none are = record { shape_is = refl; lines_are = are; found = λ by. record { small = tt; keys_are = none } }
+-- ---- all lines
 
-pub whole_is_there : (shape : Shape) (lines : List Line) → lines ≡ made_lines shape [] → grouping_of shape.outs shape.group ≡ AllRows → 1 ≤ length lines
-whole_is_there shape lines are is = let one : length lines ≡ 1 = ap (λ (ls : List Line). length ls) (are ∙ lines_as shape [] AllRows is) in omega arith
+ordered_rows : (shape : Shape) (rows : List Row) → lines_in (ordered is_numbered_lower (map (line_of_row shape) rows)) ≡ map (λ row. line_of shape row (row ∷ [])) (values_of (by_number rows))
+ordered_rows shape rows = ap lines_in (whole rows) ∙ shown (by_number rows)
+  where
+    one : (row : Row) (rs : List Row) → placed is_numbered_lower (line_of_row shape row) (map (line_of_row shape) rs) ≡ map (line_of_row shape) (placed is_lower row rs)
+    one row [] = refl
+    one row (r ∷ rs) = at (is_lower r row) (one row rs)
+      where
+        at : (b : Bool) → placed is_numbered_lower (line_of_row shape row) (map (line_of_row shape) rs) ≡ map (line_of_row shape) (placed is_lower row rs)
+            → cond b (line_of_row shape r ∷ placed is_numbered_lower (line_of_row shape row) (map (line_of_row shape) rs)) (line_of_row shape row ∷ line_of_row shape r ∷ map (line_of_row shape) rs)
+            ≡ map (line_of_row shape) (cond b (r ∷ placed is_lower row rs) (row ∷ r ∷ rs))
+        at true rest = ap (λ ls. line_of_row shape r ∷ ls) rest
+        at false rest = refl
+
+    whole : (rs : List Row) → ordered is_numbered_lower (map (line_of_row shape) rs) ≡ map (line_of_row shape) (by_number rs)
+    whole [] = refl
+    whole (r ∷ rs) = ap (placed is_numbered_lower (line_of_row shape r)) (whole rs) ∙ one r (by_number rs)
+
+    shown : (rs : List Row) → lines_in (map (line_of_row shape) rs) ≡ map (λ row. line_of shape row (row ∷ [])) (values_of rs)
+    shown [] = refl
+    shown (r ∷ rs) = ap (λ ls. line_of shape r.values (r.values ∷ []) ∷ ls) (shown rs)
+
+ordered_one : (line : Line) (lines : List Numbered) → lines_in lines ≡ line ∷ [] → lines_in (ordered is_numbered_lower lines) ≡ line ∷ []
+ordered_one line [] e = e
+ordered_one line (one ∷ []) e = e
+ordered_one line (one ∷ other ∷ rest) e = cc
+
+-- all lines by rising number are those that the query makes
+pub all_made : (shape : Shape) (rows : List Row) (groups : GroupsSoFar) → AreGroupsOf shape rows groups → DifferInNumber rows → IsDistinct bytes_eq (keys_of groups.found)
+    → lines_in (ordered is_numbered_lower (groups.lines ++ entries.values_of groups.found)) ≡ made_lines shape (values_of (by_number rows))
+all_made shape rows groups are numbers differ = at (grouping_of shape.outs shape.group) are.gathered
+  where
+    nothing : (xs : List Numbered) → xs ++ [] ≡ xs
+    nothing [] = refl
+    nothing (x ∷ xs) = ap (λ r. x ∷ r) (nothing xs)
+
+    alone : groups.found ≡ [] → groups.lines ++ entries.values_of groups.found ≡ groups.lines
+    alone none = ap (λ (es : List (List ℕ × Numbered)). groups.lines ++ entries.values_of es) none ∙ nothing groups.lines
+
+    at : (grouping : Grouping) → AreGathered grouping shape rows groups.found groups.lines → lines_in (ordered is_numbered_lower (groups.lines ++ entries.values_of groups.found)) ≡ lines_by grouping shape (values_of (by_number rows))
+    at EachRow both = ap (λ ls. lines_in (ordered is_numbered_lower ls)) (alone both.0 ∙ both.1) ∙ ordered_rows shape rows
+    at AllRows both = ap (λ ls. lines_in (ordered is_numbered_lower ls)) (alone both.0) ∙ ordered_one (line_of shape [] (values_of (by_number rows))) groups.lines both.1
+    at ByValues both = ap (λ ls. lines_in (ordered is_numbered_lower (ls ++ entries.values_of groups.found))) both.0 ∙ found_lines shape rows groups.found both.1 differ numbers
 
 -- ---- each line has a place for each entry of the list
 
@@ -106,22 +167,13 @@ all_wide : (shape : Shape) (X : Type 0) (first : X → List Value) (rows : X →
 all_wide shape X first rows [] = tt
 all_wide shape X first rows (x ∷ xs) = (length-map shape.outs _, all_wide shape X first rows xs)
 
-pub made_wide : (shape : Shape) (rows : List (List Value)) → AreWide shape.outs (made_lines shape rows)
+made_wide : (shape : Shape) (rows : List (List Value)) → AreWide shape.outs (made_lines shape rows)
 made_wide shape rows = at (grouping_of shape.outs shape.group)
   where
     at : (grouping : Grouping) → AreWide shape.outs (lines_by grouping shape rows)
     at EachRow = all_wide shape (List Value) (λ row. row) (λ row. row ∷ []) rows
     at AllRows = (length-map shape.outs _, tt)
     at ByValues = all_wide shape (List Value) (λ row. row) (λ row. group_of (are_grouped shape.group) rows row) (firsts (are_grouped shape.group) rows)
-
--- the first of some lines, whatever stands for none
-pub first_at : (lines : List Line) (d line : Line) → 1 ≤ length lines → line ≡ get_or lines 0 line → line ≡ get_or lines 0 d
-first_at [] d line some is = absurd (omega (arith, some))
-first_at (l ∷ lines) d line some is = is
-
--- a line of nothing
-abbrev pub no_line : Line
-no_line = record { sorts = []; shows = [] }
 
 -- ---- the end
 
@@ -130,17 +182,33 @@ answered shape lines closed sorted answer both sorts cuts =
     record { whole = both.1; same = cuts ∙ ap (cut shape.first) (sorted_is_ordered shape.order lines sorted (subst (λ ls. IsOrdered shape.order ls sorted) both.0 sorts)) }
 
 -- what is answered of the lines so far is the answer to the query
-pub answers_rows : {E : Type 0} (shape : Shape) (rows : List (List Value)) (groups : GroupsSoFar) (result : Result (List Line) E) (Q : List ℕ → E → Type 0) → AreGroupsOf shape rows groups
-    → (AreWide groups.shape.outs groups.lines → MatchResult result (AnswersLines groups.shape groups.lines) (Q (outgrown_sums groups.shape.outs groups.lines)))
-    → MatchResult result (AnswersLines shape (made_lines shape rows)) (Q (outgrown_sums shape.outs (made_lines shape rows)))
-answers_rows shape rows groups result Q are told =
-    let wide : AreWide groups.shape.outs groups.lines = subst (λ (s : Shape). AreWide s.outs groups.lines) (sym are.shape_is) (subst (AreWide shape.outs) (sym are.lines_are) (made_wide shape rows)) in
-    subst (λ (s : Shape). MatchResult result (AnswersLines s (made_lines shape rows)) (Q (outgrown_sums s.outs (made_lines shape rows)))) are.shape_is
-    (subst (λ ls. MatchResult result (AnswersLines groups.shape ls) (Q (outgrown_sums groups.shape.outs ls))) are.lines_are (told wide))
+pub answers_rows : {E : Type 0} (shape : Shape) (rows : List Row) (groups : GroupsSoFar) (all : List Numbered) (result : Result (List Line) E) (Q : List ℕ → E → Type 0) → AreGroupsOf shape rows groups → DifferInNumber rows
+    → IsDistinct bytes_eq (keys_of groups.found) → all ≡ ordered is_numbered_lower (groups.lines ++ entries.values_of groups.found)
+    → (AreWide groups.shape.outs (lines_in all) → MatchResult result (AnswersLines groups.shape (lines_in all)) (Q (outgrown_sums groups.shape.outs (lines_in all))))
+    → MatchResult result (AnswersLines shape (made_lines shape (values_of (by_number rows)))) (Q (outgrown_sums shape.outs (made_lines shape (values_of (by_number rows)))))
+answers_rows shape rows groups all result Q are numbers differ is told =
+    let made : lines_in all ≡ made_lines shape (values_of (by_number rows)) = ap lines_in is ∙ all_made shape rows groups are numbers differ in
+    let wide : AreWide groups.shape.outs (lines_in all) = subst (λ (s : Shape). AreWide s.outs (lines_in all)) (sym are.shape_is) (subst (AreWide shape.outs) (sym made) (made_wide shape (values_of (by_number rows)))) in
+    subst (λ (s : Shape). MatchResult result (AnswersLines s (made_lines shape (values_of (by_number rows)))) (Q (outgrown_sums s.outs (made_lines shape (values_of (by_number rows)))))) are.shape_is
+    (subst (λ ls. MatchResult result (AnswersLines groups.shape ls) (Q (outgrown_sums groups.shape.outs ls))) made (told wide))
 
--- the values of one more row
-pub values_more : (rows : List Row) (i : ℕ) (row : Row) (values : List Value) → i < length rows → row ≡ get_or rows i row → values ≡ row.values
-    → map (λ (r : Row). r.values) (take i rows) ++ values ∷ [] ≡ map (λ (r : Row). r.values) (take (i + 1) rows)
-values_more rows i row values within at is =
-    ap (λ (vs : List Value). map (λ (r : Row). r.values) (take i rows) ++ vs ∷ []) is ∙ sym (map-append (λ (r : Row). r.values) (take i rows) (row ∷ []))
-    ∙ ap (map (λ (r : Row). r.values)) (ap (λ r. take i rows ++ r ∷ []) at ∙ sym (take_more rows i row within))
+-- ---- the one line of all rows
+
+pub whole_of_none : (shape : Shape) → grouping_of shape.outs shape.group ≡ AllRows → line_of shape [] [] ∷ [] ≡ made_lines shape []
+whole_of_none shape is = sym (ap (λ g. lines_by g shape []) is)
+
+pub one_changed : (change : Line → List Value → Line) (line : Line) (values : List Value) (lines : List Numbered) (old new : Numbered) → lines_in lines ≡ line ∷ [] → old ≡ get_or lines 0 old
+    → new.line ≡ change old.line values → lines_in (slice_set lines 0 new) ≡ change line values ∷ []
+one_changed change line values [] old new e at made = cc
+one_changed change line values (one ∷ []) old new e at made =
+    ap (λ l. l ∷ []) (made ∙ ap (λ (o : Numbered). change o.line values) at ∙ ap (λ l. change l values) (head e))
+  where
+    head : {a b : Line} {xs ys : List Line} → (a ∷ xs) ≡ (b ∷ ys) → a ≡ b
+    head q = cc
+one_changed change line values (one ∷ other ∷ rest) old new e at made = cc
+
+-- one more of the rows
+pub rows_more : (rows : List Row) (i : ℕ) (row : Row) (values : List Value) → i < length rows → row ≡ get_or rows i row → values ≡ row.values
+    → take i rows ++ record { number = row.number; values = values } ∷ [] ≡ take (i + 1) rows
+rows_more rows i row values within at is =
+    ap (λ (vs : List Value). take i rows ++ record { number = row.number; values = vs } ∷ []) is ∙ ap (λ r. take i rows ++ r ∷ []) at ∙ sym (take_more rows i row within)

@@ -153,11 +153,13 @@ module _ {X : Type 0} (lt : X → X → Bool) (o : IsStrictWeakOrder lt) where
   stable_ordered w [] = refl
   stable_ordered w (x ∷ xs) = stable_placed w x (ordered lt xs) ∙ ap (λ r. cond (ties lt w x) (x ∷ r) r) (stable_ordered w xs)
 
+  -- a list in order that keeps ties as they were is what placing one after another gives
+  pub sorted_as : (xs sorted : List X) → IsSortedBy lt sorted → ((w : X) → filter (ties lt w) sorted ≡ filter (ties lt w) xs) → sorted ≡ ordered lt xs
+  sorted_as xs sorted up stable = one_rising sorted (ordered lt xs) (rises sorted up) (rising_ordered xs) (λ w. stable w ∙ sym (stable_ordered w xs))
+
 -- the lines in order are the ones that placing one after another gives
 pub sorted_is_ordered : (parts : List KeyPart) (lines sorted : List Line) → IsOrdered parts lines sorted → sorted ≡ ordered (is_before parts) lines
-sorted_is_ordered parts lines sorted a =
-    one_rising (is_before parts) (before_ranks parts) sorted (ordered (is_before parts) lines) (rises (is_before parts) (before_ranks parts) sorted a.rising) (rising_ordered (is_before parts) (before_ranks parts) lines)
-    (λ x. a.stable x ∙ sym (stable_ordered (is_before parts) (before_ranks parts) x lines))
+sorted_is_ordered parts lines sorted a = sorted_as (is_before parts) (before_ranks parts) lines sorted a.rising a.stable
 
 -- the lines in order are determined by the lines
 pub one_order : (parts : List KeyPart) (lines sorted other : List Line) → IsOrdered parts lines sorted → IsOrdered parts lines other → sorted ≡ other

@@ -1,18 +1,19 @@
 -- SQL order is total, and so is that of lines.
-use Rattle.std.proofs.Common.{◌≡◌, ℕ, zero, suc, ◌+◌, ◌-◌, ◌≤◌, List, [], ◌∷◌, length, refl, ap, sym, ◌∙◌, arith, Ordering, Bool, true, false, ℤ, pos}
+use Rattle.std.proofs.Common.{◌≡◌, ℕ, zero, suc, ◌+◌, ◌-◌, ◌≤◌, List, [], ◌∷◌, ◌++◌, length, replicate, refl, ap, sym, ◌∙◌, arith, Ordering, Bool, true, false, ℤ, pos}
 use Rattle.std.specs.declared.cmp.Ordering.TheVariants.{Less, Equal, Greater}
 use Rattle.std.specs.Ordering.{nat_cmp, int_cmp, ordering_then, ordering_reverse}
 use Rattle.std.specs.Cmp.{IsTotalOrder, IsStrictWeakOrder}
 use Rattle.std.specs.Cmp.Lexicographic.{slice_cmp}
 use Rattle.std.proofs.lemmas.Cmp.{nat_list_cmp_total, nat_cmp_total, int_cmp_total, on_total, then_total, tied_itself}
 use Rattle.std.proofs.lemmas.List.Sorted.{ranks_by}
+use Rattle.std.proofs.lemmas.Map.Lookups.{exact_bytes, exact_signed, exact_unsigned}
 use Rattle.mdc_values.specs.declared.value.Value.{Value}
 use Rattle.mdc_values.specs.declared.value.Value.TheVariants.{Null, Int, Text, Day}
 use Rattle.mdc_values.specs.Order.{padded, text_order}
 use Rattle.mdc_values.proofs.OrderLemmas.{blanks_order, bytes_order, bytes_order-nothing, text_order_is}
 use Rattle.mdc_ast.specs.declared.definition.KeyPart.{KeyPart}
 use Rattle.row_groups.specs.declared.line.Line.{Line}
-use Rattle.row_groups.specs.Values.{sql_order}
+use Rattle.row_groups.specs.Values.{size_of, sql_order, value_order}
 use Rattle.row_groups.specs.Ordering.{behind, front, is_before, parts_order, turned_order}
 
 reverse-then : (o p : Ordering) → ordering_reverse (ordering_then o p) ≡ ordering_then (ordering_reverse o) (ordering_reverse p)
@@ -140,3 +141,48 @@ parts_total (part ∷ parts) = then_total (on_total front (turned_total part.des
 
 pub before_ranks : (parts : List KeyPart) → IsStrictWeakOrder (is_before parts)
 before_ranks parts = ranks_by (parts_total parts) (λ (line : Line). line.sorts)
+
+-- ---- SQL order with the sizes of texts tells all values apart
+
+pub value_total : IsTotalOrder value_order
+value_total = then_total sql_total (on_total size_of nat_cmp_total)
+
+text_exact : (s t : List ℕ) → ordering_then (text_order s t) (nat_cmp (length s) (length t)) ≡ Equal → s ≡ t
+text_exact s t e =
+    let sizes : length s ≡ length t = exact_unsigned (length s) (length t) (second (text_order s t) (nat_cmp (length s) (length t)) e) in
+    let same : padded (length t) s ≡ padded (length s) t = exact_bytes (padded (length t) s) (padded (length s) t) (first (text_order s t) (nat_cmp (length s) (length t)) e) in
+    let none : length t - length s ≡ 0 = omega (arith, sizes) in
+    let none' : length s - length t ≡ 0 = omega (arith, sizes) in
+    sym (nothing s) ∙ sym (ap (λ n. s ++ replicate n 32) none) ∙ same ∙ ap (λ n. t ++ replicate n 32) none' ∙ nothing t
+  where
+    nothing : (xs : List ℕ) → xs ++ [] ≡ xs
+    nothing [] = refl
+    nothing (x ∷ xs) = ap (λ r. x ∷ r) (nothing xs)
+
+    first : (o p : Ordering) → ordering_then o p ≡ Equal → o ≡ Equal
+    first Less p e = cc
+    first Equal p e = refl
+    first Greater p e = cc
+
+    second : (o p : Ordering) → ordering_then o p ≡ Equal → p ≡ Equal
+    second Less p e = cc
+    second Equal p e = e
+    second Greater p e = cc
+
+pub value_exact : (a b : Value) → value_order a b ≡ Equal → a ≡ b
+value_exact Null Null e = refl
+value_exact Null (Int n) e = cc
+value_exact Null (Text u) e = cc
+value_exact Null (Day d) e = cc
+value_exact (Int m) Null e = cc
+value_exact (Int m) (Int n) e = ap Int (exact_signed m n (sym (then-equal (int_cmp m n)) ∙ e))
+value_exact (Int m) (Text u) e = cc
+value_exact (Int m) (Day d) e = cc
+value_exact (Text t) Null e = cc
+value_exact (Text t) (Int n) e = cc
+value_exact (Text t) (Text u) e = ap Text (text_exact t u e)
+value_exact (Text t) (Day d) e = cc
+value_exact (Day d) Null e = cc
+value_exact (Day d) (Int n) e = cc
+value_exact (Day d) (Text u) e = cc
+value_exact (Day d) (Day f) e = ap Day (exact_unsigned d f (sym (then-equal (nat_cmp d f)) ∙ e))

@@ -1,6 +1,7 @@
 -- What a line shows of one more row.
 use Rattle.std.proofs.Common.{◌≡◌, ℕ, suc, zero, ◌+◌, ◌<◌, ◌≤◌, min, List, [], ◌∷◌, ◌++◌, map, length, take, get_or, Bool, true, false, not, if◌then◌else◌, None, refl, sym, ap, ◌∙◌, arith, filter, fold, length-append, add-one}
-use Rattle.std.specs.Prelude.{slice_set}
+use Rattle.std.specs.Prelude.{nat_lt, slice_set}
+use Rattle.std.proofs.lemmas.Bool.Decides.{nat_tests}
 use Rattle.std.proofs.lemmas.List.{get_or-map, length-map, map-append, map-set}
 use Rattle.std.proofs.lemmas.List.Elements.{filter-append}
 use Rattle.std.proofs.lemmas.List.Sums.{fold-append}
@@ -8,13 +9,13 @@ use Rattle.mdc_values.specs.declared.value.Value.{Value}
 use Rattle.mdc_values.specs.declared.value.Value.TheVariants.{Null, Int, Text, Day}
 use Rattle.mdc_ast.specs.declared.bound.BoundOut.{BoundOut}
 use Rattle.mdc_ast.specs.declared.bound.BoundOut.TheVariants as out
+use Rattle.mdc_ast.specs.declared.row.Row.{Row}
 use Rattle.mdc_ast.specs.Truth.{value_at}
 use Rattle.mdc_ast.specs.Database.{is_null}
-use Rattle.row_groups.specs.declared.line.Line.{Line}
 use Rattle.row_groups.specs.declared.line.Shown.{Shown}
 use Rattle.row_groups.specs.declared.line.Shown.TheVariants as shown
 use Rattle.row_groups.specs.declared.tally.Tally.{Tally}
-use Rattle.row_groups.specs.Adding.{added, all_added, seen, with_row}
+use Rattle.row_groups.specs.Adding.{Numbered, added, begun_with, in_places, joined, seen, with_row}
 use Rattle.row_groups.specs.Lines.{known, line_of, plus, shown_of, sum_of}
 use Rattle.row_groups.specs.Shape.{Shape}
 use Rattle.row_groups.specs.Values.{greater, lesser}
@@ -72,7 +73,7 @@ shown_of-more (out.Max column) first rows row = ap shown.Value (fold_more greate
     at true = refl
     at false = refl
 
-all_more : (outs : List BoundOut) (first : List Value) (rows : List (List Value)) (row : List Value) → map (λ out. shown_of out first (rows ++ row ∷ [])) outs ≡ all_added outs (map (λ out. shown_of out first rows) outs) row
+all_more : (outs : List BoundOut) (first : List Value) (rows : List (List Value)) (row : List Value) → map (λ out. shown_of out first (rows ++ row ∷ [])) outs ≡ in_places added outs (map (λ out. shown_of out first rows) outs) row
 all_more [] first rows row = refl
 all_more (out ∷ outs) first rows row = let here = shown_of-more out first rows row in let rest = all_more outs first rows row in cc
 
@@ -80,51 +81,71 @@ all_more (out ∷ outs) first rows row = let here = shown_of-more out first rows
 pub line_more : (shape : Shape) (first : List Value) (rows : List (List Value)) (row : List Value) → line_of shape first (rows ++ row ∷ []) ≡ with_row shape.outs (line_of shape first rows) row
 line_more shape first rows row = ap (λ shows. record { sorts = map (λ part. value_at first part.column) shape.order; shows = shows }) (all_more shape.outs first rows row)
 
--- ---- the loop over the places of a line
+-- ---- the loop over the places of a line, whatever it changes
 
-next_added : (outs : List BoundOut) (shows : List Shown) (values : List Value) (i : ℕ) (d : BoundOut) (show : Shown) → i < length outs → i < length shows
-    → show ≡ get_or (all_added (take i outs) shows values) i show
-    → slice_set (all_added (take i outs) shows values) i (added (get_or outs i d) show values) ≡ all_added (take (suc i) outs) shows values
-next_added [] shows values i d show il it place = absurd (omega (arith, il))
-next_added (o ∷ outs) [] values i d show il it place = absurd (omega (arith, it))
-next_added (o ∷ outs) (t ∷ shows) values zero d show il it place = rw place refl
-next_added (o ∷ outs) (t ∷ shows) values (suc i) d show il it place =
-    ap (λ ts. added o t values ∷ ts) (next_added outs shows values i d show (omega (arith, il)) (omega (arith, it)) place)
+module _ (change : BoundOut → Shown → List Value → Shown) where
+  next_place : (outs : List BoundOut) (shows : List Shown) (values : List Value) (i : ℕ) (d : BoundOut) (show : Shown) → i < length outs → i < length shows
+      → show ≡ get_or (in_places change (take i outs) shows values) i show
+      → slice_set (in_places change (take i outs) shows values) i (change (get_or outs i d) show values) ≡ in_places change (take (suc i) outs) shows values
+  next_place [] shows values i d show il it place = absurd (omega (arith, il))
+  next_place (o ∷ outs) [] values i d show il it place = absurd (omega (arith, it))
+  next_place (o ∷ outs) (t ∷ shows) values zero d show il it place = rw place refl
+  next_place (o ∷ outs) (t ∷ shows) values (suc i) d show il it place =
+      ap (λ ts. change o t values ∷ ts) (next_place outs shows values i d show (omega (arith, il)) (omega (arith, it)) place)
 
--- the loop's step: the shows now, with a new one in the next place
-pub all_added-next : (outs : List BoundOut) (shows now : List Shown) (values : List Value) (i : ℕ) (d : BoundOut) (show new : Shown) → i < length outs → i < length shows
-    → now ≡ all_added (take i outs) shows values → show ≡ get_or now i show → new ≡ added (get_or outs i d) show values
-    → slice_set now i new ≡ all_added (take (i + 1) outs) shows values
-all_added-next outs shows now values i d show new il it is place made =
-    let there : show ≡ get_or (all_added (take i outs) shows values) i show = place ∙ ap (λ ts. get_or ts i show) is in
-    rw (add-one, made, is) (next_added outs shows values i d show il it there)
+  -- the loop's step: the shows now, with a new one in the next place
+  in_places-next : (outs : List BoundOut) (shows now : List Shown) (values : List Value) (i : ℕ) (d : BoundOut) (show new : Shown) → i < length outs → i < length shows
+      → now ≡ in_places change (take i outs) shows values → show ≡ get_or now i show → new ≡ change (get_or outs i d) show values
+      → slice_set now i new ≡ in_places change (take (i + 1) outs) shows values
+  in_places-next outs shows now values i d show new il it is place made =
+      let there : show ≡ get_or (in_places change (take i outs) shows values) i show = place ∙ ap (λ ts. get_or ts i show) is in
+      rw (add-one, made, is) (next_place outs shows values i d show il it there)
 
--- past the last of both lists there is nothing to add to
-pub all_added-done : (n : ℕ) (outs : List BoundOut) (shows : List Shown) (values : List Value) → min (length outs) (length shows) ≤ n → all_added (take n outs) shows values ≡ all_added outs shows values
-all_added-done zero [] shows values le = refl
-all_added-done zero (o ∷ outs) [] values le = refl
-all_added-done zero (o ∷ outs) (s ∷ shows) values le = absurd (omega (arith, le))
-all_added-done (suc n) [] shows values le = refl
-all_added-done (suc n) (o ∷ outs) [] values le = refl
-all_added-done (suc n) (o ∷ outs) (s ∷ shows) values le = ap (λ r. added o s values ∷ r) (all_added-done n outs shows values (omega (arith, le)))
+  -- past the last of both lists there is nothing to change
+  in_places-done : (n : ℕ) (outs : List BoundOut) (shows : List Shown) (values : List Value) → min (length outs) (length shows) ≤ n → in_places change (take n outs) shows values ≡ in_places change outs shows values
+  in_places-done zero [] shows values le = refl
+  in_places-done zero (o ∷ outs) [] values le = refl
+  in_places-done zero (o ∷ outs) (s ∷ shows) values le = absurd (omega (arith, le))
+  in_places-done (suc n) [] shows values le = refl
+  in_places-done (suc n) (o ∷ outs) [] values le = refl
+  in_places-done (suc n) (o ∷ outs) (s ∷ shows) values le = ap (λ r. change o s values ∷ r) (in_places-done n outs shows values (omega (arith, le)))
 
-pub length-all_added : (outs : List BoundOut) (shows : List Shown) (values : List Value) → length (all_added outs shows values) ≡ length shows
-length-all_added [] shows values = refl
-length-all_added (o ∷ outs) [] values = refl
-length-all_added (o ∷ outs) (s ∷ shows) values = ap suc (length-all_added outs shows values)
+  length-in_places : (outs : List BoundOut) (shows : List Shown) (values : List Value) → length (in_places change outs shows values) ≡ length shows
+  length-in_places [] shows values = refl
+  length-in_places (o ∷ outs) [] values = refl
+  length-in_places (o ∷ outs) (s ∷ shows) values = ap suc (length-in_places outs shows values)
 
--- the same step on tallies
-pub tallies-next : (outs : List BoundOut) (shows : List Shown) (now : List Tally) (values : List Value) (i : ℕ) (d : BoundOut) (tally new : Tally) → i < length outs → i < length now
-    → map seen now ≡ all_added (take i outs) shows values → tally ≡ get_or now i tally → seen new ≡ added (get_or outs i d) (seen tally) values
-    → map seen (slice_set now i new) ≡ all_added (take (i + 1) outs) shows values
-tallies-next outs shows now values i d tally new il it is place made =
-    let long : length now ≡ length shows = sym (length-map now seen) ∙ ap (λ (ss : List Shown). length ss) is ∙ length-all_added (take i outs) shows values in
-    map-set seen now i new ∙ all_added-next outs shows (map seen now) values i d (seen tally) (seen new) il (omega arith) is (ap seen place ∙ sym (get_or-map seen now i tally (seen tally) it)) made
+  -- the same step on tallies
+  pub tallies-next : (outs : List BoundOut) (shows : List Shown) (now : List Tally) (values : List Value) (i : ℕ) (d : BoundOut) (tally new : Tally) → i < length outs → i < length now
+      → map seen now ≡ in_places change (take i outs) shows values → tally ≡ get_or now i tally → seen new ≡ change (get_or outs i d) (seen tally) values
+      → map seen (slice_set now i new) ≡ in_places change (take (i + 1) outs) shows values
+  tallies-next outs shows now values i d tally new il it is place made =
+      let long : length now ≡ length shows = sym (length-map now seen) ∙ ap (λ (ss : List Shown). length ss) is ∙ length-in_places (take i outs) shows values in
+      map-set seen now i new ∙ in_places-next outs shows (map seen now) values i d (seen tally) (seen new) il (omega arith) is (ap seen place ∙ sym (get_or-map seen now i tally (seen tally) it)) made
 
--- the line once all places were gone through
-pub added_whole : (outs : List BoundOut) (values : List Value) (old : Line) (sorts sorts' : List Value) (tallies tallies' : List Tally) (n : ℕ) → (let line : Line = record { sorts = sorts; shows = map seen tallies } in line ≡ old) → sorts' ≡ sorts
-    → map seen tallies' ≡ all_added (take n outs) (map seen tallies) values → min (length outs) (length tallies) ≤ n
-    → (let line : Line = record { sorts = sorts'; shows = map seen tallies' } in line ≡ with_row outs old values)
-added_whole outs values old sorts sorts' tallies tallies' n is same so all =
-    let done : map seen tallies' ≡ all_added outs (map seen tallies) values = so ∙ all_added-done n outs (map seen tallies) values (omega (arith, length-map tallies seen)) in
-    rw (← is) (cc)
+  -- the shows once all places were gone through
+  pub tallies-done : (outs : List BoundOut) (values : List Value) (old : List Shown) (tallies tallies' : List Tally) (n : ℕ) → map seen tallies ≡ old
+      → map seen tallies' ≡ in_places change (take n outs) (map seen tallies) values → min (length outs) (length tallies) ≤ n → map seen tallies' ≡ in_places change outs old values
+  tallies-done outs values old tallies tallies' n is so all =
+      so ∙ in_places-done n outs (map seen tallies) values (omega (arith, length-map tallies seen)) ∙ ap (λ shows. in_places change outs shows values) is
+
+-- ---- a line and its number
+
+pub numbered_is : {n n' : ℕ} {sorts sorts' : List Value} {shows shows' : List Shown} → n ≡ n' → sorts ≡ sorts' → shows ≡ shows'
+    → (let one : Numbered = record { number = n; line = record { sorts = sorts; shows = shows } } in one) ≡ record { number = n'; line = record { sorts = sorts'; shows = shows' } }
+numbered_is p q r = cc
+
+-- a row that isn't the first of its line
+pub joined_behind : (shape : Shape) (one new : Numbered) (row : Row) (n : ℕ) → new ≡ record { number = one.number; line = with_row shape.outs one.line row.values } → n ≡ new.number → n ≤ row.number → new ≡ joined shape one row
+joined_behind shape one new row n is same le =
+    let number : new.number ≡ one.number = ap (λ (o : Numbered). o.number) is in
+    let e : nat_lt row.number one.number ≡ false = grind (arith, nat_tests) in
+    rw e is
+
+-- a row with which its line begins
+pub joined_before : (shape : Shape) (one with_it new : Numbered) (row : Row) (n : ℕ) → with_it ≡ record { number = one.number; line = with_row shape.outs one.line row.values } → n ≡ with_it.number → row.number < n
+    → new ≡ record { number = row.number; line = begun_with shape with_it.line row.values } → new ≡ joined shape one row
+joined_before shape one with_it new row n is same lt begins =
+    let number : with_it.number ≡ one.number = ap (λ (o : Numbered). o.number) is in
+    let e : nat_lt row.number one.number ≡ true = grind (arith, nat_tests) in
+    rw e (begins ∙ ap (λ (o : Numbered). record { number = row.number; line = begun_with shape o.line row.values }) is)

@@ -1,8 +1,9 @@
 -- One more row behind a line, as a body adds it: the line of the rows with that one.
-use Rattle.std.specs.Prelude.{pos, neg_ℤ, ◌≤ℤ◌, ℤ, Option, Some, None, ◌+◌, List, [], ◌∷◌, if◌then◌else◌}
+use Rattle.std.specs.Prelude.{ℕ, nat_lt, ◌+◌, Bool, List, [], ◌∷◌, map, if◌then◌else◌}
 use Rattle.mdc_values.specs.declared.value.Value.{Value}
 use Rattle.mdc_ast.specs.declared.bound.BoundOut.{BoundOut}
 use Rattle.mdc_ast.specs.declared.bound.BoundOut.TheVariants as out
+use Rattle.mdc_ast.specs.declared.row.Row.{Row}
 use Rattle.mdc_ast.specs.Truth.{value_at}
 use Rattle.mdc_ast.specs.Database.{is_null}
 use Rattle.row_groups.specs.declared.line.Line.{Line}
@@ -10,7 +11,8 @@ use Rattle.row_groups.specs.declared.line.Shown.{Shown}
 use Rattle.row_groups.specs.declared.line.Shown.TheVariants as shown
 use Rattle.row_groups.specs.declared.tally.Tally.{Tally}
 use Rattle.row_groups.specs.declared.tally.Tally.TheVariants as tally
-use Rattle.row_groups.specs.Lines.{plus}
+use Rattle.row_groups.specs.Lines.{line_of, plus}
+use Rattle.row_groups.specs.Shape.{Shape}
 use Rattle.row_groups.specs.Values.{greater, lesser}
 
 -- what a tally would show
@@ -28,17 +30,47 @@ added (out.Min column) (shown.Value best) row = if is_null (value_at row column)
 added (out.Max column) (shown.Value best) row = if is_null (value_at row column) then shown.Value best else shown.Value (greater best (value_at row column))
 added out shown row = shown
 
--- one more row in all places
-abbrev pub all_added : List BoundOut → List Shown → List Value → List Shown
-all_added [] shows row = shows
-all_added (out ∷ outs) [] row = []
-all_added (out ∷ outs) (shown ∷ shows) row = added out shown row ∷ all_added outs shows row
+-- a place of a line that begins with this row: columns show its values
+abbrev pub begun : BoundOut → Shown → List Value → Shown
+begun (out.Column column) was row = shown.Value (value_at row column)
+begun out was row = was
+
+-- the same in all places
+abbrev pub in_places : (BoundOut → Shown → List Value → Shown) → List BoundOut → List Shown → List Value → List Shown
+in_places change [] shows row = shows
+in_places change (out ∷ outs) [] row = []
+in_places change (out ∷ outs) (shown ∷ shows) row = change out shown row ∷ in_places change outs shows row
 
 -- one more row behind a line
 abbrev pub with_row : List BoundOut → Line → List Value → Line
-with_row outs line row = record line { shows = all_added outs line.shows row }
+with_row outs line row = record line { shows = in_places added outs line.shows row }
 
--- a sum of fewer than 2^63 numbers of 64 bits, and more: one more can be added
-abbrev pub HasRoom : Option ℤ → Type 0
-HasRoom None = Unit {0}
-HasRoom (Some total) = (neg_ℤ (pos 85070591730234615865843651857942052864) ≤ℤ total) × (total ≤ℤ pos 85070591730234615865843651857942052864)
+-- a line that begins with this row
+abbrev pub begun_with : Shape → Line → List Value → Line
+begun_with shape line row = record {
+  sorts = map (λ part. value_at row part.column) shape.order;
+  shows = in_places begun shape.outs line.shows row;
+}
+
+-- a line, and the number of its first row
+pub record Numbered : Type 0 where
+  pub number : ℕ
+  pub line : Line
+
+-- the lines
+abbrev pub lines_in : List Numbered → List Line
+lines_in numbered = map (λ (one : Numbered). one.line) numbered
+
+-- the line of one row
+abbrev pub line_of_row : Shape → Row → Numbered
+line_of_row shape row = record { number = row.number; line = line_of shape row.values (row.values ∷ []) }
+
+-- one more row behind a line, which begins with it where its number is lower
+abbrev pub joined : Shape → Numbered → Row → Numbered
+joined shape one row =
+    if nat_lt row.number one.number then record { number = row.number; line = begun_with shape (with_row shape.outs one.line row.values) row.values }
+    else record { number = one.number; line = with_row shape.outs one.line row.values }
+
+-- a line begins before another
+abbrev pub is_numbered_lower : Numbered → Numbered → Bool
+is_numbered_lower a b = nat_lt a.number b.number

@@ -1,31 +1,23 @@
 -- What a query answers.
 use Rattle.std.specs.Prelude.{◌≡◌, ℕ, List, [], ◌∷◌, ◌++◌, flat_map, length, take, if◌then◌else◌, Option, Some, None, slice_get}
 use Rattle.std.specs.List.{AllByRecursion}
-use Rattle.mdc_values.specs.declared.value.Value.{Value}
 use Rattle.mdc_values.specs.Fitting.{in_bigint}
 use Rattle.mdc_ast.specs.declared.bound.BoundOut.{BoundOut}
 use Rattle.mdc_ast.specs.declared.bound.BoundOut.TheVariants as out
+use Rattle.mdc_ast.specs.declared.row.Row.{Row}
 use Rattle.row_groups.specs.declared.fault.GroupFault.{GroupFault}
 use Rattle.row_groups.specs.declared.fault.GroupFault.TheVariants.{Overflow, Memory}
 use Rattle.row_groups.specs.declared.line.Line.{Line}
 use Rattle.row_groups.specs.declared.line.Shown.{Shown}
 use Rattle.row_groups.specs.declared.line.Shown.TheVariants as shown
 use Rattle.row_groups.specs.Lines.{made_lines}
+use Rattle.row_groups.specs.Numbers.{by_number, values_of}
 use Rattle.row_groups.specs.Ordering.{is_before, ordered}
 use Rattle.row_groups.specs.Shape.{Shape}
 
--- the column that a place is of, and 0 for COUNT(*), which is of none
-abbrev pub column_of : BoundOut → ℕ
-column_of (out.Column column) = column
-column_of out.CountAll = 0
-column_of (out.Count column) = column
-column_of (out.Sum column) = column
-column_of (out.Min column) = column
-column_of (out.Max column) = column
-
--- a whole sum outside BIGINT, by its column (Db2, "SUM": the sum must be within the range of its type)
+-- a whole sum outside BIGINT, by the column of its SUM (Db2, "SUM": the sum must be within the range of its type)
 abbrev pub outgrown : BoundOut → Shown → List ℕ
-outgrown out (shown.Sum (Some total)) = if in_bigint total then [] else (column_of out ∷ [])
+outgrown (out.Sum column) (shown.Sum (Some total)) = if in_bigint total then [] else (column ∷ [])
 outgrown out shown = []
 
 -- those of a line, in list order
@@ -53,14 +45,14 @@ pub record AnswersLines (shape : Shape) (lines answer : List Line) : Type 0 wher
   pub same : answer ≡ cut shape.first (ordered (is_before shape.order) lines)
 
 -- the answer to a query of this shape that found these rows
-abbrev pub IsAnswer : Shape → List (List Value) → List Line → Type 0
-IsAnswer shape rows answer = AnswersLines shape (made_lines shape rows) answer
+abbrev pub IsAnswer : Shape → List Row → List Line → Type 0
+IsAnswer shape rows answer = AnswersLines shape (made_lines shape (values_of (by_number rows))) answer
 
 -- Overflow names the first of these columns
 abbrev pub IsOutgrown : List ℕ → GroupFault → Type 0
 IsOutgrown columns (Overflow column) = slice_get columns 0 ≡ Some column
 IsOutgrown columns Memory = Unit {0}
 
--- Overflow names the first sum outside BIGINT, also of a line that would be cut
-abbrev pub IsFault : Shape → List (List Value) → GroupFault → Type 0
-IsFault shape rows fault = IsOutgrown (outgrown_sums shape.outs (made_lines shape rows)) fault
+-- Overflow names the column of the first SUM that is outside BIGINT, also of a line that would be cut
+abbrev pub IsFault : Shape → List Row → GroupFault → Type 0
+IsFault shape rows fault = IsOutgrown (outgrown_sums shape.outs (made_lines shape (values_of (by_number rows)))) fault

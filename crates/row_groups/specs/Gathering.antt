@@ -1,42 +1,54 @@
 -- Groups as far as rows have come.
-use Rattle.std.specs.Prelude.{◌≡◌, ◌≤◌, ℕ, List, length, map, IsTrue}
+use Rattle.std.specs.Prelude.{◌≡◌, ◌≤◌, ℕ, List, [], ◌∷◌, length, map, filter, Bool, IsTrue, Option, Some, None}
+use Rattle.std.specs.BTreeMap.{BTreeMap}
 use Rattle.std.specs.Global.{Vec}
 use Rattle.std.specs.List.{AllByRecursion}
-use Rattle.mdc_values.specs.declared.value.Value.{Value}
-use Rattle.row_groups.specs.declared.grouping.Grouping.TheVariants.{AllRows, ByValues}
-use Rattle.row_groups.specs.declared.line.Line.{Line}
-use Rattle.row_groups.specs.Firsts.{firsts}
+use Rattle.std.specs.Map.{lookup}
+use Rattle.std.specs.Str.{bytes_eq}
+use Rattle.mdc_ast.specs.declared.row.Row.{Row}
+use Rattle.row_groups.specs.declared.grouping.Grouping.{Grouping}
+use Rattle.row_groups.specs.declared.grouping.Grouping.TheVariants.{EachRow, AllRows, ByValues}
+use Rattle.row_groups.specs.Adding.{Numbered, line_of_row, lines_in}
 use Rattle.row_groups.specs.Keys.{are_small, group_key}
-use Rattle.row_groups.specs.Lines.{are_grouped, group_lines, grouping_of, made_lines}
+use Rattle.row_groups.specs.Lines.{grouping_of, line_of}
+use Rattle.row_groups.specs.Numbers.{by_number, values_of}
 use Rattle.row_groups.specs.Shape.{Shape}
 
--- the shape of the query, the keys by which groups are found, and the lines so far
+-- the shape of the query, the lines that are found by keys, and the others
 pub record GroupsSoFar : Type 0 where
   pub shape : Shape
-  pub keys : List (List ℕ)
-  pub lines : List Line
+  pub found : List (List ℕ × Numbered)
+  pub lines : List Numbered
 
--- the keys of the groups of these rows, in the order of the groups
-pub record AreKeysOf (columns : List ℕ) (rows : List (List Value)) (keys : List (List ℕ)) : Type 0 where
-  pub small : AllByRecursion (λ row. IsTrue (are_small columns row)) rows
-  pub keys_are : keys ≡ map (group_key columns) (firsts (are_grouped columns) rows)
+-- a row has the values with this key
+abbrev pub has_key : List ℕ → List ℕ → Row → Bool
+has_key columns key row = bytes_eq key (group_key columns row.values)
+
+-- the line of a group of rows by rising number, and none of no rows
+abbrev pub line_of_group : Shape → List Row → Option Numbered
+line_of_group shape [] = None
+line_of_group shape (first ∷ rows) = Some (record { number = first.number; line = line_of shape first.values (values_of (first ∷ rows)) })
+
+-- the keys and lines that are kept, each key by its bytes
+abbrev pub entries_of : BTreeMap (Vec ℕ) Numbered → List (List ℕ × Numbered)
+entries_of found = map {B = List ℕ × Numbered} (λ (e : Vec ℕ × Numbered). (e.0.items, e.1)) found.entries
+
+-- at each key stands the line of the rows with it
+pub record AreFound (shape : Shape) (rows : List Row) (entries : List (List ℕ × Numbered)) : Type 0 where
+  pub small : AllByRecursion (λ row. IsTrue (are_small shape.group row.values)) rows
+  pub each : (key : List ℕ) → lookup (bytes_eq key) entries ≡ line_of_group shape (filter (has_key shape.group key) (by_number rows))
+
+-- the lines of these rows, by which rows share one
+abbrev pub AreGathered : Grouping → Shape → List Row → List (List ℕ × Numbered) → List Numbered → Type 0
+AreGathered EachRow shape rows found lines = (found ≡ []) × (lines ≡ map (line_of_row shape) rows)
+AreGathered AllRows shape rows found lines = (found ≡ []) × (lines_in lines ≡ line_of shape [] (values_of (by_number rows)) ∷ [])
+AreGathered ByValues shape rows found lines = (lines ≡ []) × AreFound shape rows found
 
 -- these are the groups that a query of this shape makes of these rows
-pub record AreGroupsOf (shape : Shape) (rows : List (List Value)) (groups : GroupsSoFar) : Type 0 where
+pub record AreGroupsOf (shape : Shape) (rows : List Row) (groups : GroupsSoFar) : Type 0 where
   pub shape_is : groups.shape ≡ shape
-  pub lines_are : groups.lines ≡ made_lines shape rows
-  pub found : grouping_of shape.outs shape.group ≡ ByValues → AreKeysOf shape.group rows groups.keys
+  pub gathered : AreGathered (grouping_of shape.outs shape.group) shape rows groups.found groups.lines
 
--- the keys as they are kept
-abbrev pub bytes_of : List (Vec ℕ) → List (List ℕ)
-bytes_of keys = map (λ (key : Vec ℕ). key.items) keys
-
--- the keys and the lines of the groups of these rows
-pub record AreGroups (shape : Shape) (rows : List (List Value)) (keys : List (List ℕ)) (lines : List Line) : Type 0 where
-  pub found : AreKeysOf shape.group rows keys
-  pub lines_are : lines ≡ group_lines shape rows
-
--- a key stands at the place of its line, and the one line of all rows is there
-pub record AreAtHand (shape : Shape) (keys : List (Vec ℕ)) (lines : List Line) : Type 0 where
-  pub placed : length keys ≤ length lines
-  pub whole : grouping_of shape.outs shape.group ≡ AllRows → 1 ≤ length lines
+-- the one line of all rows is there
+abbrev pub IsAtHand : Shape → List Numbered → Type 0
+IsAtHand shape lines = grouping_of shape.outs shape.group ≡ AllRows → 1 ≤ length lines

@@ -5,10 +5,12 @@ use Rattle.mdc_values.specs.declared.value.Value.{Value}
 use Rattle.mdc_values.specs.declared.value.Value.TheVariants.{Null, Int, Text}
 use Rattle.mdc_ast.specs.declared.bound.BoundOut.{BoundOut}
 use Rattle.mdc_ast.specs.declared.bound.BoundOut.TheVariants as out
+use Rattle.mdc_ast.specs.declared.row.Row.{Row}
 use Rattle.row_groups.specs.declared.line.Shown.{Shown}
 use Rattle.row_groups.specs.declared.line.Shown.TheVariants as show
 use Rattle.row_groups.specs.Answers.{cut, outgrown_sums}
 use Rattle.row_groups.specs.Lines.{made_lines}
+use Rattle.row_groups.specs.Numbers.{by_number, values_of}
 use Rattle.row_groups.specs.Ordering.{is_before, ordered}
 use Rattle.row_groups.specs.Shape.{Shape}
 
@@ -61,6 +63,10 @@ no_rows_no_groups = refl
 nulls_left_out : shown_lines of_all ((Null ∷ Null ∷ []) ∷ (Null ∷ number 7 ∷ []) ∷ (Null ∷ number 2 ∷ []) ∷ []) ≡ (count 3 ∷ count 2 ∷ sum 9 ∷ value (number 2) ∷ value (number 7) ∷ []) ∷ []
 nulls_left_out = refl
 
+-- of texts that differ in blanks at their ends MIN shows the shorter and MAX the longer, in whatever order they come
+blanks_at_the_end : shown_lines of_all ((Null ∷ text "a " ∷ []) ∷ (Null ∷ text "a" ∷ []) ∷ []) ≡ shown_lines of_all ((Null ∷ text "a" ∷ []) ∷ (Null ∷ text "a " ∷ []) ∷ [])
+blanks_at_the_end = refl
+
 -- groups by the order of their first rows; blanks at the end of a text say nothing, and a null is with a null
 groups_by_first_rows : shown_lines by_first ((text "W" ∷ number 1 ∷ []) ∷ (Null ∷ number 2 ∷ []) ∷ (text "W  " ∷ Null ∷ []) ∷ (text "E" ∷ Null ∷ []) ∷ (Null ∷ number 8 ∷ []) ∷ [])
     ≡ (value (text "W") ∷ count 2 ∷ count 1 ∷ sum 1 ∷ value (number 1) ∷ value (number 1) ∷ [])
@@ -100,3 +106,10 @@ two_sums = record { outs = out.Sum 2 ∷ out.Sum 1 ∷ []; group = 0 ∷ []; ord
 first_group_first : too_large two_sums
     ((number 2 ∷ number 9223372036854775807 ∷ number 0 ∷ []) ∷ (number 1 ∷ number 0 ∷ number 9223372036854775808 ∷ []) ∷ (number 2 ∷ number 1 ∷ number 0 ∷ []) ∷ []) ≡ 1 ∷ 2 ∷ []
 first_group_first = refl
+
+-- rows in whatever order they came, by rising number
+abbrev row : ℕ → Value → Row
+row n v = record { number = n; values = v ∷ [] }
+
+by_rising_number : values_of (by_number (row 7 (text "C") ∷ row 2 (text "A") ∷ row 5 (text "B") ∷ [])) ≡ (text "A" ∷ []) ∷ (text "B" ∷ []) ∷ (text "C" ∷ []) ∷ []
+by_rising_number = refl

@@ -1,6 +1,6 @@
 -- How groups, aggregates and ORDER BY look at values.
-use Rattle.std.specs.Prelude.{ℤ, pos, nat_lt, Bool, true, false, ◌||◌, ◌==◌, if◌then◌else◌}
-use Rattle.std.specs.Ordering.{int_eq, int_cmp, nat_cmp, is_lt, is_gt}
+use Rattle.std.specs.Prelude.{ℕ, ℤ, pos, nat_lt, length, Bool, true, false, ◌||◌, ◌==◌, if◌then◌else◌}
+use Rattle.std.specs.Ordering.{int_eq, int_cmp, nat_cmp, is_lt, is_gt, ordering_then}
 use Rattle.std.specs.Str.{bytes_eq}
 use Rattle.std.specs.declared.cmp.Ordering.{Ordering}
 use Rattle.std.specs.declared.cmp.Ordering.TheVariants as ordering
@@ -32,13 +32,22 @@ sql_order a Null = ordering.Less
 sql_order (Text a) b = ordering.Less
 sql_order (Day a) b = ordering.Greater
 
+-- the bytes of a text, and none of all else
+abbrev pub size_of : Value → ℕ
+size_of (Text text) = length text
+size_of value = 0
+
+-- SQL order, and the shorter text before one with more blanks at its end: no two values tie
+abbrev pub value_order : Value → Value → Ordering
+value_order a b = ordering_then (sql_order a b) (nat_cmp (size_of a) (size_of b))
+
 -- the lesser of the best so far and a value; a null is the best of none
 abbrev pub lesser : Value → Value → Value
-lesser best value = if is_null best || is_lt (sql_order value best) then value else best
+lesser best value = if is_null best || is_lt (value_order value best) then value else best
 
 -- the greater one
 abbrev pub greater : Value → Value → Value
-greater best value = if is_null best || is_gt (sql_order value best) then value else best
+greater best value = if is_null best || is_gt (value_order value best) then value else best
 
 -- the value as a number
 abbrev pub number_in : Value → ℤ

@@ -1,5 +1,6 @@
 // Lines whose rows are all there.
 ghost use Rattle.std.specs.Prelude.{◌≡◌, [], MatchResult};
+ghost use Rattle.row_groups.specs.Adding.{lines_in};
 ghost use Rattle.row_groups.specs.Answers.{AnswersLines, AreWide, IsOutgrown, outgrown_sums};
 ghost use Rattle.row_groups.specs.Shape.{shape_of};
 
@@ -17,7 +18,7 @@ pub(crate) fn answer_of(
     select: &BoundSelect,
     lines: Vec<LineSoFar>,
 ) -> Result<List<Line>, GroupFault>
-    ensures { AreWide select.now.outs lines.items → MatchResult result (AnswersLines (shape_of select.now) lines.items) (IsOutgrown (outgrown_sums select.now.outs lines.items)) }
+    ensures { AreWide select.now.outs (lines_in lines.items) → MatchResult result (AnswersLines (shape_of select.now) (lines_in lines.items)) (IsOutgrown (outgrown_sums select.now.outs (lines_in lines.items))) }
 {
     let mut closed = close_lines(alloc, select.outs.as_slice(), lines)?;
     sort_lines(select.order.as_slice(), &mut closed)?;
@@ -31,7 +32,7 @@ fn close_lines(
     outs: &[BoundOut],
     lines: Vec<LineSoFar>,
 ) -> Result<Vec<Line>, GroupFault>
-    ensures { AreWide outs.now lines.items → MatchResult result (λ closed. (closed.items ≡ lines.items) × (outgrown_sums outs.now lines.items ≡ [])) (IsOutgrown (outgrown_sums outs.now lines.items)) }
+    ensures { AreWide outs.now (lines_in lines.items) → MatchResult result (λ closed. (closed.items ≡ lines_in lines.items) × (outgrown_sums outs.now (lines_in lines.items) ≡ [])) (IsOutgrown (outgrown_sums outs.now (lines_in lines.items))) }
 {
     let mut closed = List::new(alloc);
     for line in lines {

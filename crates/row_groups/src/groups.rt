@@ -1,42 +1,43 @@
 // Groups that take rows one by one.
 ghost use Rattle.std.specs.Prelude.{◌++◌, ◌∷◌, [], List, IfOk, OnOk, MatchResult};
-ghost use Rattle.mdc_values.specs.declared.value.Value.{Value as Cell};
+ghost use Rattle.mdc_ast.specs.declared.row.Row.{Row};
 ghost use Rattle.row_groups.specs.Answers.{IsAnswer, IsFault};
 ghost use Rattle.row_groups.specs.Gathering.{AreGroupsOf};
+ghost use Rattle.row_groups.specs.Numbers.{DifferInNumber};
 ghost use Rattle.row_groups.specs.Shape.{Shape, shape_of};
 
 use crate::closing::answer_of;
 use crate::fault::GroupFault;
 use crate::grouping::{Grouping, grouping_of};
-use crate::joining::{add_line, add_to_group, add_to_whole, lines_of_none};
+use crate::joining::{add_line, add_to_group, add_to_whole, all_lines, lines_of_none};
 use crate::line::Line;
 use crate::line_so_far::LineSoFar;
-use indexmap::IndexSet;
 use mdc_ast::BoundSelect;
 use mdc_values::{List, Memory, Value};
 use std::alloc::Global;
+use std::collections::BTreeMap;
 use std::marker::Model;
 
-/// What a query makes of the rows that it was given so far: a line for each group, and no row. The lines stand in the order of
-/// the groups' first rows, each at the place of its key.
+/// What a query makes of the rows that it was given so far: a line for each group, and no row. With GROUP BY the lines are found
+/// by keys in an ordered map, which takes a step for each doubling of the groups, whatever the values are.
 #[derive(Drop)]
 pub struct Groups<'q> {
     select: &'q BoundSelect,
     /// The key of the row at hand.
     key: Vec<u8>,
-    keys: IndexSet<Vec<u8>>,
+    found: BTreeMap<Vec<u8>, LineSoFar>,
     lines: Vec<LineSoFar>,
 }
 
 impl<'q> Model for Groups<'q> {
-    ghost use Rattle.row_groups.specs.Gathering.{AreAtHand, GroupsSoFar, bytes_of};
+    ghost use Rattle.row_groups.specs.Gathering.{GroupsSoFar, IsAtHand, entries_of};
     ghost use Rattle.row_groups.specs.Shape.{shape_of};
 
     ghost Value = { GroupsSoFar };
 
-    ghost view = { λ groups. record { shape = shape_of groups.select.now; keys = bytes_of groups.keys.keys; lines = groups.lines.items } };
+    ghost view = { λ groups. record { shape = shape_of groups.select.now; found = entries_of groups.found; lines = groups.lines.items } };
 
-    ghost invariant = { λ groups. AreAtHand (shape_of groups.select.now) groups.keys.keys groups.lines.items };
+    ghost invariant = { λ groups. IsAtHand (shape_of groups.select.now) groups.lines.items };
 }
 
 impl<'q> Groups<'q> {
@@ -48,33 +49,34 @@ impl<'q> Groups<'q> {
         Ok(Groups {
             select,
             key: Vec::new(alloc),
-            keys: IndexSet::new(alloc),
+            found: BTreeMap::new(alloc),
             lines,
         })
     }
 
-    /// Adds a row with these values. After `Memory` the groups are done with.
-    pub fn add(&mut self, alloc: Global, values: &[Value]) -> Result<(), Memory>
-        ensures { (shape : Shape) → (rows : List (List Cell)) → AreGroupsOf shape rows self.old → OnOk result (AreGroupsOf shape (rows ++ values.now ∷ []) self.new) }
+    /// Adds a row with this number and these values. Rows come in any order. After `Memory` the groups are done with.
+    pub fn add(&mut self, alloc: Global, number: u64, values: &[Value]) -> Result<(), Memory>
+        ensures { (shape : Shape) → (rows : List Row) → AreGroupsOf shape rows self.old → OnOk result (AreGroupsOf shape (rows ++ record { number = number; values = values.now } ∷ []) self.new) }
     {
         match grouping_of(self.select) {
-            Grouping::EachRow => add_line(alloc, self.select, values, &mut self.lines),
+            Grouping::EachRow => add_line(alloc, self.select, number, values, &mut self.lines),
             Grouping::AllRows => add_to_whole(alloc, self.select, values, &mut self.lines),
             Grouping::ByValues => add_to_group(
                 alloc,
                 self.select,
+                number,
                 values,
                 &mut self.key,
-                &mut self.keys,
-                &mut self.lines,
+                &mut self.found,
             ),
         }
     }
 
-    /// The lines of all rows, in order and cut; or the first sum outside BIGINT.
+    /// The lines of all rows by rising number, in order and cut; or the first sum outside BIGINT.
     pub fn finish(self, alloc: Global) -> Result<List<Line>, GroupFault>
-        ensures { (shape : Shape) → (rows : List (List Cell)) → AreGroupsOf shape rows self.entry → MatchResult result (IsAnswer shape rows) (IsFault shape rows) }
+        ensures { (shape : Shape) → (rows : List Row) → AreGroupsOf shape rows self.entry → DifferInNumber rows → MatchResult result (IsAnswer shape rows) (IsFault shape rows) }
     {
-        answer_of(alloc, self.select, self.lines)
+        let lines = all_lines(self.lines, self.found)?;
+        answer_of(alloc, self.select, lines)
     }
 }

@@ -2,8 +2,8 @@
 //!
 //! It promises that the lines are those of plain lists: a group for each row with new values, aggregates over its rows,
 //! a stable order and the cut; and that a sum outside BIGINT is named by the first group and the first place. Rows come
-//! one by one and aren't kept: what is in memory is a line for each group. It stands on `mdc_ast` and `mdc_values`, and
-//! finds groups by `indexmap`. No program uses it yet.
+//! one by one, in any order, and count by rising number; they aren't kept: what is in memory is a line for each group, and
+//! with GROUP BY its key, in an ordered map. It stands on `mdc_ast` and `mdc_values`. No program uses it yet.
 #![tactic(auto)]
 
 mod closing;

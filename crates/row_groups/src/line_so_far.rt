@@ -1,6 +1,7 @@
 // Lines while rows are added.
-ghost use Rattle.std.specs.Prelude.{◌≡◌, ◌∷◌, [], length, IfOk, OnOk, MatchResult};
-ghost use Rattle.row_groups.specs.Adding.{with_row};
+ghost use Rattle.std.specs.Prelude.{◌≡◌, [], length, map, IfOk, OnOk, MatchResult};
+ghost use Rattle.mdc_ast.specs.Truth.{value_at};
+ghost use Rattle.row_groups.specs.Adding.{begun_with, joined, line_of_row, with_row};
 ghost use Rattle.row_groups.specs.Answers.{IsOutgrown, outgrown_in};
 ghost use Rattle.row_groups.specs.Lines.{line_of};
 ghost use Rattle.row_groups.specs.Shape.{shape_of};
@@ -14,21 +15,21 @@ use mdc_values::{List, Memory, Value};
 use std::alloc::Global;
 use std::marker::Model;
 
-/// A line of the rows so far. Contracts see it as the line that it would be.
+/// A line of the rows so far, with the lowest of their numbers. Contracts see it as the line that it would be.
 #[derive(Debug, Drop)]
 pub struct LineSoFar {
+    number: u64,
     sorts: List<Value>,
     tallies: Vec<Tally>,
 }
 
 impl Model for LineSoFar {
     ghost use Rattle.std.specs.Prelude.{map};
-    ghost use Rattle.row_groups.specs.declared.line.Line.{Line};
-    ghost use Rattle.row_groups.specs.Adding.{seen};
+    ghost use Rattle.row_groups.specs.Adding.{Numbered, seen};
 
-    ghost Value = { Line };
+    ghost Value = { Numbered };
 
-    ghost view = { λ line. record { sorts = line.sorts; shows = map seen line.tallies.items } };
+    ghost view = { λ one. record { number = one.number; line = record { sorts = one.sorts; shows = map seen one.tallies.items } } };
 }
 
 impl LineSoFar {
@@ -36,42 +37,62 @@ impl LineSoFar {
     pub(crate) fn begin(
         alloc: Global,
         select: &BoundSelect,
+        number: u64,
         first: &[Value],
     ) -> Result<LineSoFar, Memory>
-        ensures { IfOk result (λ line. line ≡ line_of (shape_of select.now) first.now []) }
+        ensures { IfOk result (λ one. one ≡ record { number = number; line = line_of (shape_of select.now) first.now [] }) }
     {
-        let mut sorts = List::new(alloc);
-        for part in select.order.as_slice() {
-            sorts.push(copy_at(alloc, first, part.column)?)?;
-        }
         let mut tallies = Vec::new(alloc);
         for out in select.outs.as_slice() {
             tallies.push(Tally::begin(alloc, *out, first)?)?;
         }
-        Ok(LineSoFar { sorts, tallies })
+        let sorts = sorts_of(alloc, select, first)?;
+        Ok(LineSoFar {
+            number,
+            sorts,
+            tallies,
+        })
     }
 
     /// A line of one row.
     pub(crate) fn of_row(
         alloc: Global,
         select: &BoundSelect,
+        number: u64,
         values: &[Value],
     ) -> Result<LineSoFar, Memory>
-        ensures { IfOk result (λ line. line ≡ line_of (shape_of select.now) values.now (values.now ∷ [])) }
+        ensures { IfOk result (λ one. one ≡ line_of_row (shape_of select.now) (record { number = number; values = values.now })) }
     {
-        let mut line = LineSoFar::begin(alloc, select, values)?;
-        line.add(alloc, select.outs.as_slice(), values)?;
+        let mut line = LineSoFar::begin(alloc, select, number, values)?;
+        line.add_values(alloc, select.outs.as_slice(), values)?;
         Ok(line)
     }
 
-    /// One more row. After `Memory` the line is done with.
+    /// One more row, with which the line begins where its number is lower. After `Memory` the line is done with.
     pub(crate) fn add(
+        &mut self,
+        alloc: Global,
+        select: &BoundSelect,
+        number: u64,
+        values: &[Value],
+    ) -> Result<(), Memory>
+        ensures { OnOk result (self.new ≡ joined (shape_of select.now) self.old (record { number = number; values = values.now })) }
+    {
+        self.add_values(alloc, select.outs.as_slice(), values)?;
+        if number < self.number {
+            return self.begin_with(alloc, select, number, values);
+        }
+        Ok(())
+    }
+
+    /// One more row behind the first. After `Memory` the line is done with.
+    pub(crate) fn add_values(
         &mut self,
         alloc: Global,
         outs: &[BoundOut],
         values: &[Value],
     ) -> Result<(), Memory>
-        ensures { OnOk result (self.new ≡ with_row outs.now self.old values.now) }
+        ensures { OnOk result (self.new ≡ record self.old { line = with_row outs.now self.old.line values.now }) }
     {
         for place in 0..outs.len().min(self.tallies.len()) {
             self.tallies[place].add(alloc, outs[place], values)?;
@@ -79,11 +100,30 @@ impl LineSoFar {
         Ok(())
     }
 
+    /// Another first row. After `Memory` the line is done with.
+    fn begin_with(
+        &mut self,
+        alloc: Global,
+        select: &BoundSelect,
+        number: u64,
+        values: &[Value],
+    ) -> Result<(), Memory>
+        ensures { OnOk result (self.new ≡ record { number = number; line = begun_with (shape_of select.now) self.old.line values.now }) }
+    {
+        let outs = select.outs.as_slice();
+        for place in 0..outs.len().min(self.tallies.len()) {
+            self.tallies[place].begin_with(alloc, outs[place], values)?;
+        }
+        self.sorts = sorts_of(alloc, select, values)?;
+        self.number = number;
+        Ok(())
+    }
+
     /// The line, or the first of its sums that is outside BIGINT.
     pub(crate) fn close(self, alloc: Global, outs: &[BoundOut]) -> Result<Line, GroupFault>
-        ensures { length self.shows ≡ length outs.now → MatchResult result (λ line. (line ≡ self) × (outgrown_in outs.now self.shows ≡ [])) (IsOutgrown (outgrown_in outs.now self.shows)) }
+        ensures { length self.line.shows ≡ length outs.now → MatchResult result (λ line. (line ≡ self.line) × (outgrown_in outs.now self.line.shows ≡ [])) (IsOutgrown (outgrown_in outs.now self.line.shows)) }
     {
-        let LineSoFar { sorts, tallies } = self;
+        let LineSoFar { sorts, tallies, .. } = self;
         let mut shows = List::new(alloc);
         let mut tallies = tallies.into_iter();
         for out in outs {
@@ -93,4 +133,22 @@ impl LineSoFar {
         }
         Ok(Line { sorts, shows })
     }
+
+    /// The lowest number of the rows.
+    pub(crate) fn number(&self) -> u64
+        ensures { result ≡ self.now.number }
+    {
+        self.number
+    }
+}
+
+/// The values of a row that a line is ordered by.
+fn sorts_of(alloc: Global, select: &BoundSelect, values: &[Value]) -> Result<List<Value>, Memory>
+    ensures { IfOk result (λ sorts. sorts ≡ map (λ part. value_at values.now part.column) select.now.order) }
+{
+    let mut sorts = List::new(alloc);
+    for part in select.order.as_slice() {
+        sorts.push(copy_at(alloc, values, part.column)?)?;
+    }
+    Ok(sorts)
 }

@@ -1,13 +1,23 @@
 // The order of lines.
 ghost use Rattle.std.specs.Prelude.{◌≡◌, OnOk};
+ghost use Rattle.row_groups.specs.Adding.{is_numbered_lower};
 ghost use Rattle.row_groups.specs.Answers.{cut};
-ghost use Rattle.row_groups.specs.Ordering.{IsOrdered, behind, front, parts_order, turned_order};
+ghost use Rattle.row_groups.specs.Ordering.{IsOrdered, behind, front, ordered, parts_order, turned_order};
 
 use crate::line::Line;
+use crate::line_so_far::LineSoFar;
 use crate::values::sql_order;
 use mdc_ast::KeyPart;
 use mdc_values::{Memory, Value};
 use std::cmp::Ordering;
+
+/// Brings lines into the order of their first rows.
+pub(crate) fn sort_by_number(lines: &mut Vec<LineSoFar>) -> Result<(), Memory>
+    ensures { OnOk result (lines.new.items ≡ ordered is_numbered_lower lines.old.items) }
+{
+    lines.sort_by(|a, b| a.number().cmp(&b.number()))?;
+    Ok(())
+}
 
 /// Brings lines into the order of these parts; those that tie keep theirs.
 pub(crate) fn sort_lines(parts: &[KeyPart], lines: &mut Vec<Line>) -> Result<(), Memory>
@@ -26,14 +36,19 @@ pub(crate) fn cut_lines(first: Option<u32>, lines: &mut Vec<Line>)
     }
 }
 
-/// The order of two lists of values, part by part.
-fn compare_parts(parts: &[KeyPart], a: &[Value], b: &[Value]) -> Ordering
+/// The order of two lists of values, part by part up to the first that differs.
+fn compare_parts(parts: &[KeyPart], mut a: &[Value], mut b: &[Value]) -> Ordering
     ensures { result ≡ parts_order parts.now a.now b.now }
 {
-    let [part, parts @ ..] = parts else {
-        return Ordering::Equal;
-    };
-    compare_front(part.descending, a, b).then(compare_parts(parts, behind(a), behind(b)))
+    for part in parts {
+        let order = compare_front(part.descending, a, b);
+        if order != Ordering::Equal {
+            return order;
+        }
+        a = behind(a);
+        b = behind(b);
+    }
+    Ordering::Equal
 }
 
 /// The order of the first values, the greater first where that is asked.

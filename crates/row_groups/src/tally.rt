@@ -1,7 +1,7 @@
 // What a place of a line has counted so far.
-ghost use Rattle.std.specs.Prelude.{◌≡◌, ◌+◌, ◌<◌, [], IfOk, IsOk, OnOk, MatchResult};
-ghost use Rattle.row_groups.specs.Adding.{HasRoom, added, seen};
-ghost use Rattle.row_groups.specs.Answers.{IsOutgrown, column_of, outgrown};
+ghost use Rattle.std.specs.Prelude.{◌≡◌, ◌+◌, [], IfOk, OnOk, MatchResult};
+ghost use Rattle.row_groups.specs.Adding.{added, begun, seen};
+ghost use Rattle.row_groups.specs.Answers.{IsOutgrown, outgrown};
 ghost use Rattle.row_groups.specs.Lines.{plus, shown_of};
 
 use crate::fault::GroupFault;
@@ -72,7 +72,22 @@ impl Tally {
         Ok(())
     }
 
-    /// What the place shows, where its sum is within BIGINT.
+    /// The place of a line that begins with this row. After `Memory` it is as it was.
+    pub(crate) fn begin_with(
+        &mut self,
+        alloc: Global,
+        out: BoundOut,
+        first: &[Value],
+    ) -> Result<(), Memory>
+        ensures { OnOk result (seen self.new ≡ begun out (seen self.old) first.now) }
+    {
+        if let BoundOut::Column(column) = out {
+            *self = Tally::Kept(copy_at(alloc, first, column)?);
+        }
+        Ok(())
+    }
+
+    /// What the place shows, where its sum is within BIGINT. Only a SUM has a sum, so that the last case never comes.
     pub(crate) fn close(self, out: BoundOut) -> Result<Shown, GroupFault>
         ensures { MatchResult result (λ shown. (shown ≡ seen self) × (outgrown out shown ≡ [])) (λ fault. IsOutgrown (outgrown out (seen self)) fault) }
     {
@@ -80,25 +95,24 @@ impl Tally {
             Tally::Kept(value) => Ok(Shown::Value(value)),
             Tally::Count(count) => Ok(Shown::Count(count)),
             Tally::Sum(None) => Ok(Shown::Sum(None)),
-            Tally::Sum(Some(total)) => match i64::try_from(total) {
-                Ok(total) => Ok(Shown::Sum(Some(total))),
-                Err(_) => Err(GroupFault::Overflow(column_of(out))),
+            Tally::Sum(Some(total)) => match (i64::try_from(total), out) {
+                (Ok(total), _) => Ok(Shown::Sum(Some(total))),
+                (Err(_), BoundOut::Sum(column)) => Err(GroupFault::Overflow(column)),
+                (Err(_), _) => Err(GroupFault::Memory),
             },
         }
     }
 }
 
 fn one_more(count: u64) -> Result<u64, Memory>
-    ensures more { IfOk result (λ more. more ≡ count + 1) }
-    ensures room { count < 18446744073709551615 → IsOk result }
+    ensures { IfOk result (λ more. more ≡ count + 1) }
 {
     count.checked_add(1).ok_or(Memory)
 }
 
 /// The sum with one more value.
 fn plus(total: Option<i128>, value: &Value) -> Result<i128, Memory>
-    ensures sum { IfOk result (λ sum. plus total value.now ≡ Some sum) }
-    ensures room { HasRoom total → IsOk result }
+    ensures { IfOk result (λ sum. plus total value.now ≡ Some sum) }
 {
     let number = match value {
         Value::Int(number) => i128::from(*number),
@@ -107,19 +121,5 @@ fn plus(total: Option<i128>, value: &Value) -> Result<i128, Memory>
     match total {
         None => Ok(number),
         Some(total) => total.checked_add(number).ok_or(Memory),
-    }
-}
-
-/// The column that a place is of, and 0 for COUNT(*).
-fn column_of(out: BoundOut) -> u8
-    ensures { result ≡ column_of out }
-{
-    match out {
-        BoundOut::CountAll => 0,
-        BoundOut::Column(column)
-        | BoundOut::Count(column)
-        | BoundOut::Sum(column)
-        | BoundOut::Min(column)
-        | BoundOut::Max(column) => column,
     }
 }

@@ -2,7 +2,7 @@
 ghost use Rattle.std.specs.Prelude.{◌≡◌, IfOk, MatchOption, false, if◌then◌else◌};
 ghost use Rattle.mdc_ast.specs.Truth.{value_at};
 ghost use Rattle.mdc_ast.specs.Database.{is_null};
-ghost use Rattle.row_groups.specs.Values.{greater, lesser, sql_order};
+ghost use Rattle.row_groups.specs.Values.{greater, lesser, size_of, sql_order, value_order};
 
 use mdc_values::{Memory, Value, place};
 use std::alloc::Global;
@@ -28,18 +28,35 @@ pub(crate) fn copy_at(alloc: Global, values: &[Value], column: u8) -> Result<Val
     }
 }
 
-/// Whether a value stands before the best so far, or is the first.
+/// Whether a value is less than the best so far, or is the first.
 pub(crate) fn is_lesser(best: &Value, value: &Value) -> bool
     ensures { (if result then value.now else best.now) ≡ lesser best.now value.now }
 {
-    matches!(best, Value::Null) || sql_order(value, best).is_lt()
+    matches!(best, Value::Null) || value_order(value, best).is_lt()
 }
 
-/// Whether a value stands behind the best so far, or is the first.
+/// Whether a value is greater than the best so far, or is the first.
 pub(crate) fn is_greater(best: &Value, value: &Value) -> bool
     ensures { (if result then value.now else best.now) ≡ greater best.now value.now }
 {
-    matches!(best, Value::Null) || sql_order(value, best).is_gt()
+    matches!(best, Value::Null) || value_order(value, best).is_gt()
+}
+
+/// SQL order, and the shorter text before one with more blanks at its end.
+fn value_order(a: &Value, b: &Value) -> Ordering
+    ensures { result ≡ value_order a.now b.now }
+{
+    sql_order(a, b).then(size_of(a).cmp(&size_of(b)))
+}
+
+/// The bytes of a text, and none of all else.
+fn size_of(value: &Value) -> usize
+    ensures { result ≡ size_of value.now }
+{
+    match value {
+        Value::Text(text) => text.bytes().len(),
+        _ => 0,
+    }
 }
 
 /// SQL order. Where the kinds differ numbers come first, then texts, then days, and a null stands above all.

@@ -1,6 +1,7 @@
 // The lines of rows that are all at hand.
-ghost use Rattle.std.specs.Prelude.{map, MatchResult};
+ghost use Rattle.std.specs.Prelude.{MatchResult};
 ghost use Rattle.row_groups.specs.Answers.{IsAnswer, IsFault};
+ghost use Rattle.row_groups.specs.Numbers.{DifferInNumber};
 ghost use Rattle.row_groups.specs.Shape.{shape_of};
 
 use crate::fault::GroupFault;
@@ -16,11 +17,11 @@ pub fn shown_lines(
     select: &BoundSelect,
     rows: &[Row],
 ) -> Result<List<Line>, GroupFault>
-    ensures { MatchResult result (IsAnswer (shape_of select.now) (map (λ row. row.values) rows.now)) (IsFault (shape_of select.now) (map (λ row. row.values) rows.now)) }
+    ensures { DifferInNumber rows.now → MatchResult result (IsAnswer (shape_of select.now) rows.now) (IsFault (shape_of select.now) rows.now) }
 {
     let mut groups = Groups::new(alloc, select)?;
     for row in rows {
-        groups.add(alloc, row.values.as_slice())?;
+        groups.add(alloc, row.number, row.values.as_slice())?;
     }
     groups.finish(alloc)
 }

@@ -43,11 +43,14 @@ fn values_of(alloc: Global, cells: &[Cell]) -> Result<List<Value>, Memory> {
     Ok(values)
 }
 
+/// Rows by rising number.
 fn rows_of(alloc: Global, rows: &[&[Cell]]) -> Result<List<Row>, Memory> {
     let mut found = List::new(alloc);
+    let mut number = 0;
     for cells in rows {
         let values = values_of(alloc, cells)?;
-        found.push(Row { number: 0, values })?;
+        found.push(Row { number, values })?;
+        number += 1;
     }
     Ok(found)
 }
@@ -427,7 +430,7 @@ fn a_line_that_is_cut_names_the_overflow(rt: HostRuntime) -> Result<(), Fail> {
 }
 
 /// The region of the sale with a number.
-fn region_of(number: i64) -> Cell {
+fn region_of(number: u32) -> Cell {
     match number % 4 {
         0 => Text(b"NORTH"),
         1 => Text(b"SOUTH"),
@@ -436,31 +439,44 @@ fn region_of(number: i64) -> Cell {
     }
 }
 
-/// The sums of 2,000 sales by region, without those of the first of twelve months.
+/// The sums of 2,000 sales by region, without those of the first of twelve months. They come from the last to the first.
 fn sums_of_sales(alloc: Global, query: &BoundSelect) -> Result<List<Line>, GroupFault> {
     let mut groups = Groups::new(alloc, query)?;
-    for number in 0..2000 {
+    for behind in 1..2001 {
+        let number = 2000 - behind;
         if number % 12 != 0 {
-            let values = values_of(alloc, &[region_of(number), Number(number)])?;
-            groups.add(alloc, values.as_slice())?;
+            let values = values_of(alloc, &[region_of(number), Number(i64::from(number))])?;
+            groups.add(alloc, u64::from(number), values.as_slice())?;
         }
     }
     groups.finish(alloc)
 }
 
-#[test]
-fn sales_are_summed_by_region(rt: HostRuntime) -> Result<(), Fail> {
+/// Tests the sums of sales by region, in this order.
+fn sells(rt: &impl Abort, alloc: Global, order: &[(u8, bool)], wanted: &str) -> Result<(), Fail> {
     let asked = Asked {
         outs: &[BoundOut::Column(0), BoundOut::CountAll, BoundOut::Sum(1)],
         group: &[0],
-        order: &[(0, false)],
+        order,
         first: None,
     };
-    let query = query_of(rt.alloc(), &asked)?;
-    let lines = sums_of_sales(rt.alloc(), &query)?;
-    let text = text_of(rt.alloc(), lines.as_slice())?;
-    let wanted =
-        b"'EAST'|500|sum 500000|/'NORTH'|333|sum 332668|/'SOUTH'|500|sum 499500|/'WEST'|500|sum 500500|/";
-    assert_eq!(rt; text.as_slice(), wanted.as_slice());
+    let query = query_of(alloc, &asked)?;
+    let lines = sums_of_sales(alloc, &query)?;
+    let text = text_of(alloc, lines.as_slice())?;
+    assert_eq!(rt; text.as_slice(), wanted.as_bytes());
     Ok(())
+}
+
+#[test]
+fn sales_are_summed_by_region(rt: HostRuntime) -> Result<(), Fail> {
+    let wanted =
+        "'EAST'|500|sum 500000|/'NORTH'|333|sum 332668|/'SOUTH'|500|sum 499500|/'WEST'|500|sum 500500|/";
+    sells(&rt, rt.alloc(), &[(0, false)], wanted)
+}
+
+#[test]
+fn groups_stand_by_the_numbers_of_their_first_rows(rt: HostRuntime) -> Result<(), Fail> {
+    let wanted =
+        "'SOUTH'|500|sum 499500|/'EAST'|500|sum 500000|/'WEST'|500|sum 500500|/'NORTH'|333|sum 332668|/";
+    sells(&rt, rt.alloc(), &[], wanted)
 }

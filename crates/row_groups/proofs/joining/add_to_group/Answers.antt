@@ -1,40 +1,35 @@
-use Rattle.std.proofs.Common.{◌≡◌, ◌++◌, List, ℕ, ap, sym, subst, ◌∙◌, arith, length-set}
+use Rattle.std.proofs.Common.{◌≡◌, ◌++◌, List, ℕ, ap, sym, subst, ◌∙◌}
 use Rattle.std.specs.Prelude.{IsTrue}
+use Rattle.std.specs.BTreeMap.{BTreeMap, get_by, insert_entry}
+use Rattle.std.specs.Cmp.Lexicographic.{slice_cmp}
+use Rattle.std.specs.Global.{Vec}
+use Rattle.std.specs.Ordering.{nat_cmp}
 use Rattle.std.proofs.lemmas.Result.{on_ok_weaker}
-use Rattle.mdc_ast.specs.declared.bound.BoundOut.{BoundOut}
-use Rattle.row_groups.specs.Adding.{with_row}
+use Rattle.row_groups.specs.Adding.{Numbered}
 use Rattle.row_groups.specs.Keys.{are_small, group_key}
 use Rattle.row_groups.specs.Shape.{shape_of}
-use Rattle.row_groups.proofs.JoiningLemmas.{begins_as, joins_as, placed_more}
+use Rattle.row_groups.proofs.MapLemmas.{found_after_insert, found_after_write}
 use Rattle.row_groups.proofs.joining.add_to_group.Goals as goal
 
-pub index_mut-requires : goal.index_mut-requires
-index_mut-requires c = omega (arith, c.in-Some.ensures.within, c.requires, c.args.lines.now.ok.0)
-
-pub returns-in-Some-clause-placed : goal.returns-in-Some-clause-placed
-returns-in-Some-clause-placed c = simp length-set c.requires
-
-pub returns-clause-placed : goal.returns-clause-placed
-returns-clause-placed c = placed_more _ _ _ _ _ _ _ c.in_ok-insert.ensures.keys c.in_ok-push.ensures.items c.requires
-
-pub returns-in-Some-clause-added : goal.returns-in-Some-clause-added
-returns-in-Some-clause-added c = λ rows are.
-    let is : c.as_slice-sought.result.now ≡ group_key c.args.select.now.group c.args.values.now
-    = c.as_slice-sought.ensures.value ∙ c.in_ok-append_key.ensures.key ∙ ap (λ (front : List ℕ). front ++ group_key c.as_slice.result.now c.args.values.now) c.clear.ensures.items
+pub returns-in-Some : goal.returns-in-Some
+returns-in-Some c = λ rows are.
+    let is : c.as_slice-2.result.now ≡ group_key c.args.select.now.group c.args.values.now
+    = c.as_slice-2.ensures.value ∙ c.in_ok-append_key.ensures.key ∙ ap (λ (front : List ℕ). front ++ group_key c.as_slice.result.now c.args.values.now) c.clear.ensures.items
     ∙ ap (λ (columns : List ℕ). group_key columns c.args.values.now) c.as_slice.ensures in
     let small : IsTrue (are_small c.args.select.now.group c.args.values.now) = subst (λ (columns : List ℕ). IsTrue (are_small columns c.args.values.now)) c.as_slice.ensures c.in_ok-append_key.ensures.small in
     on_ok_weaker c.add.result
-    (λ made. joins_as (shape_of c.args.select.now) rows c.args.values.now c.args.keys.now.keys c.args.lines.now.items c.as_slice-sought.result.now are small is
-    c.in-Some.place c.index_mut.result.now c.add.new.self c.in-Some.ensures.index c.index_mut.ensures.value
-    (made ∙ ap (λ (outs : List BoundOut). with_row outs c.index_mut.result.now c.args.values.now) c.as_slice-in-Some.ensures))
+    (λ made. found_after_write (shape_of c.args.select.now) rows (record { number = c.args.number; values = c.args.values.now }) c.as_slice-2.result.now c.args.found.now (c.get_mut.follows.lender c.add.new.self) c.in-Some.line.now c.add.new.self
+    are small is c.in-Some.ensures.value (c.get_mut.follows.holds c.add.new.self).0 made)
     c.add.ensures
 
-pub returns-clause-added : goal.returns-clause-added
-returns-clause-added c = λ rows are.
-    let is : c.as_slice-sought.result.now ≡ group_key c.args.select.now.group c.args.values.now
-    = c.as_slice-sought.ensures.value ∙ c.in_ok-append_key.ensures.key ∙ ap (λ (front : List ℕ). front ++ group_key c.as_slice.result.now c.args.values.now) c.clear.ensures.items
+pub returns : goal.returns
+returns c = λ rows are.
+    let is : c.as_slice-2.result.now ≡ group_key c.args.select.now.group c.args.values.now
+    = c.as_slice-2.ensures.value ∙ c.in_ok-append_key.ensures.key ∙ ap (λ (front : List ℕ). front ++ group_key c.as_slice.result.now c.args.values.now) c.clear.ensures.items
     ∙ ap (λ (columns : List ℕ). group_key columns c.args.values.now) c.as_slice.ensures in
     let small : IsTrue (are_small c.args.select.now.group c.args.values.now) = subst (λ (columns : List ℕ). IsTrue (are_small columns c.args.values.now)) c.as_slice.ensures c.in_ok-append_key.ensures.small in
-    begins_as (shape_of c.args.select.now) rows c.args.values.now c.args.keys.now.keys c.args.lines.now.items c.as_slice-sought.result.now are small is
-    c.in_ok-from_slice.field-0 c.in_ok-of_row.field-0 c.insert.new.self.keys c.push.new.self.items c.in_ok-from_slice.ensures.items c.in_ok-of_row.ensures
-    (sym c.in_default.is ∙ c.get_index_of.ensures.index) c.in_ok-insert.ensures.keys c.in_ok-push.ensures.items
+    let copied : c.in_ok-from_slice.field-0.items ≡ c.as_slice-2.result.now = c.in_ok-from_slice.ensures.items ∙ c.as_slice-3.ensures.value ∙ sym c.as_slice-2.ensures.value in
+    found_after_insert (shape_of c.args.select.now) rows (record { number = c.args.number; values = c.args.values.now }) c.in_ok-from_slice.field-0 c.args.found.now c.insert.new.self c.in_ok-line.line are small
+    (copied ∙ is)
+    (c.in_default.ensures.value ∙ ap (λ (key : List ℕ). get_by {K = Vec ℕ} (λ (kept : Vec ℕ). slice_cmp nat_cmp key kept.items) c.args.found.now) (sym copied))
+    (c.in_ok-insert.ensures.entries ∙ ap (λ (m : BTreeMap (Vec ℕ) Numbered). insert_entry (λ (a b : Vec ℕ). slice_cmp nat_cmp a.items b.items) m.entries c.in_ok-from_slice.field-0 c.in_ok-line.line) c.get_mut.follows.holds-at-none) c.in_ok-line.ensures

@@ -1,7 +1,7 @@
-use Rattle.std.proofs.Common.{map, take}
+use Rattle.std.proofs.Common.{take}
 use Rattle.row_groups.specs.Gathering.{AreGroupsOf}
 use Rattle.row_groups.specs.Shape.{shape_of}
 use Rattle.row_groups.proofs.whole.shown_lines.Given as goal
 
 abbrev pub invariant-loop-row : goal.invariant-loop-row
-invariant-loop-row l = AreGroupsOf (shape_of l.select) (map (λ row. row.values) (take l.row-index l.rows)) l.groups
+invariant-loop-row l = AreGroupsOf (shape_of l.select) (take l.row-index l.rows) l.groups

@@ -5,4 +5,4 @@ use Rattle.row_groups.proofs.SumLemmas.{ClosesSo}
 use Rattle.row_groups.proofs.line_so_far.LineSoFar.close.Given as goal
 
 abbrev pub invariant-loop-out : goal.invariant-loop-out
-invariant-loop-out l = length l.fn.self.shows ≡ length l.outs → ClosesSo l.outs l.fn.self.shows l.shows (drop l.out-index l.outs) (map seen (into_iter_items l.tallies))
+invariant-loop-out l = length l.fn.self.line.shows ≡ length l.outs → ClosesSo l.outs l.fn.self.line.shows l.shows (drop l.out-index l.outs) (map seen (into_iter_items l.tallies))

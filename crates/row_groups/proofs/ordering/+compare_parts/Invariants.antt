@@ -1,5 +1,0 @@
-use Rattle.std.proofs.Common.{length}
-use Rattle.row_groups.proofs.ordering.+compare_parts.Given as goal
-
-abbrev pub decreases-compare_parts : goal.decreases-compare_parts
-decreases-compare_parts l = length l.parts.now
