@@ -128,21 +128,21 @@ numbers_differ key_at (e ∷ es) differ all = (apart es differ.0 all.1, numbers_
 
 module _ (shape : Shape) where
   -- two rows are of one group
-  abbrev grouped : Row → Row → Bool
+  abbrev pub grouped : Row → Row → Bool
   grouped a b = are_grouped shape.group a.values b.values
 
   grouped_itself : (row : Row) → grouped row row ≡ true
   grouped_itself row = grouped-refl shape.group row.values
 
   -- the line of the group that a row begins
-  abbrev line_from : List Row → Row → Numbered
+  abbrev pub line_from : List Row → Row → Numbered
   line_from rows first = record { number = first.number; line = line_of shape first.values (values_of (filter (grouped first) rows)) }
 
   -- the lines of all groups
-  abbrev lines_from : List Row → List Numbered
+  abbrev pub lines_from : List Row → List Numbered
   lines_from rows = map (line_from rows) (firsts grouped rows)
 
-  lines_are : (rows : List Row) → lines_in (lines_from rows) ≡ group_lines shape (values_of rows)
+  pub lines_are : (rows : List Row) → lines_in (lines_from rows) ≡ group_lines shape (values_of rows)
   lines_are rows = all (firsts grouped rows) ∙ ap (map (λ row. line_of shape row (group_of (are_grouped shape.group) (values_of rows) row))) (sym (firsts_shown (λ (row : Row). row.values) (are_grouped shape.group) [] rows))
     where
       all : (xs : List Row) → lines_in (map (line_from rows) xs) ≡ map (λ row. line_of shape row (group_of (are_grouped shape.group) (values_of rows) row)) (values_of xs)

@@ -4,6 +4,7 @@ pub mod GroupLemmas
 pub mod KeyLemmas
 pub mod LineLemmas
 pub mod MapLemmas
+pub mod NamingLemmas
 pub mod NumberLemmas
 pub mod OneOrderLemmas
 pub mod OrderLemmas

@@ -4,6 +4,7 @@ pub mod Firsts
 pub mod Gathering
 pub mod Keys
 pub mod Lines
+pub mod Naming
 pub mod Numbers
 pub mod Ordering
 pub mod Rows

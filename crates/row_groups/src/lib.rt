@@ -22,6 +22,6 @@ mod whole;
 
 pub use fault::GroupFault;
 pub use groups::Groups;
-pub use laws::order_is_one;
+pub use laws::{named_columns_decide, order_is_one};
 pub use line::{Line, Shown};
 pub use whole::shown_lines;
