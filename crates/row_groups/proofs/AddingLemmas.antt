@@ -53,6 +53,17 @@ module _ {X : Type 0} (wins : X → X → Bool) (o : IsStrictWeakOrder wins) (ex
       at false true e f = let g = second w v f e in rw (e, f, g) refl
       at false false e f = rw (e, f, e) refl
 
+  better-again : (a v : X) → better (better a v) v ≡ better a v
+  better-again a v = at (wins v a) refl
+    where
+      itself : (b : Bool) → cond b v v ≡ v
+      itself true = refl
+      itself false = refl
+
+      at : (b : Bool) → wins v a ≡ b → cond (wins v (cond (wins v a) v a)) v (cond (wins v a) v a) ≡ cond (wins v a) v a
+      at true e = rw e (itself (wins v v))
+      at false e = rw (e, e) refl
+
 value_ranks : IsStrictWeakOrder (λ a b. is_lt (value_order a b))
 value_ranks = ranks_by value_total (λ (value : Value). value)
 
@@ -106,6 +117,10 @@ lesser-swap best v w =
     lesser_is (lesser best v) w ∙ ap (λ b. least b w) (lesser_is best v) ∙ better-swap (λ a b. is_lt (value_order a b)) value_ranks lt_exact best v w
     ∙ sym (ap (λ b. least b v) (lesser_is best w)) ∙ sym (lesser_is (lesser best w) v)
 
+pub lesser-again : (best v : Value) → lesser (lesser best v) v ≡ lesser best v
+lesser-again best v =
+    lesser_is (lesser best v) v ∙ ap (λ b. least b v) (lesser_is best v) ∙ better-again (λ a b. is_lt (value_order a b)) value_ranks lt_exact best v ∙ sym (lesser_is best v)
+
 known_greater : (best value : Value) → is_null best ≡ false → is_null value ≡ false → is_null (greatest best value) ≡ false
 known_greater best value e f = at (is_lt (value_order best value))
   where
@@ -130,6 +145,23 @@ greater-swap best v w e f = at (is_null best) refl
         ap (λ b. greater b w) (gt best v n) ∙ gt (greatest best v) w (known_greater best v n e)
         ∙ better-swap (λ a b. is_lt (value_order b a)) (IsStrictWeakOrder-flip (λ a b. is_lt (value_order a b)) value_ranks) (λ a b e f. lt_exact a b f e) best v w
         ∙ sym (gt (greatest best w) v (known_greater best w n f)) ∙ sym (ap (λ b. greater b v) (gt best w n))
+
+pub greater-again : (best v : Value) → is_null v ≡ false → greater (greater best v) v ≡ greater best v
+greater-again best v e = at (is_null best) refl
+  where
+    again : (w : Value) → is_null w ≡ false → greatest (greatest w v) v ≡ greatest w v
+    again w n = better-again (λ a b. is_lt (value_order b a)) (IsStrictWeakOrder-flip (λ a b. is_lt (value_order a b)) value_ranks) (λ a b e f. lt_exact a b f e) w v
+
+    itself : (b : Bool) → cond b v v ≡ v
+    itself true = refl
+    itself false = refl
+
+    at : (b : Bool) → is_null best ≡ b → greater (greater best v) v ≡ greater best v
+    at true n =
+        let alone : greater best v ≡ v = rw n refl in
+        ap (λ b. greater b v) alone ∙ greater_of_known v v e ∙ itself (is_lt (value_order v v)) ∙ sym alone
+    at false n =
+        ap (λ b. greater b v) (greater_of_known best v n) ∙ greater_of_known (greatest best v) v (known_greater best v n e) ∙ again best n ∙ sym (greater_of_known best v n)
 
 -- two rows in a place, in either order
 pub added-swap : (out : BoundOut) (was : Shown) (a b : List Value) → added out (added out was a) b ≡ added out (added out was b) a

@@ -22,17 +22,13 @@ use Rattle.row_groups.proofs.GroupLemmas.{all_first, filter_same, first_in, firs
 use Rattle.row_groups.proofs.KeyLemmas.{grouped-refl, keys_same}
 use Rattle.row_groups.proofs.NumberLemmas.{IsIn, RisesStrictly, all_in, all_ordered, from_map, filter_placed, from_ordered, in_map, ordered_more, rises_ordered, strictly_ordered, strictly_same, to_ordered}
 
-abbrev number_of : Row → ℕ
+abbrev pub number_of : Row → ℕ
 number_of row = row.number
 
-abbrev AreSmall : Shape → List Row → Type 0
+abbrev pub AreSmall : Shape → List Row → Type 0
 AreSmall shape rows = AllByRecursion (λ row. IsTrue (are_small shape.group row.values)) rows
 
 -- ---- one more row
-
-small_more : (shape : Shape) (rows : List Row) (row : Row) → AreSmall shape rows → IsTrue (are_small shape.group row.values) → AreSmall shape (rows ++ row ∷ [])
-small_more shape [] row small one = (one, tt)
-small_more shape (r ∷ rows) row small one = (small.0, small_more shape rows row small.1 one)
 
 -- the line with one more row, or of it alone
 abbrev pub joined_to : Shape → Option Numbered → Row → Numbered
@@ -43,7 +39,7 @@ group_more : (shape : Shape) (row : Row) (rows : List Row) → line_of_group sha
 group_more shape row [] = refl
 group_more shape row (first ∷ rows) = group_joined shape row first rows
 
-at_key : (shape : Shape) (rows : List Row) (row : Row) (key : List ℕ)
+pub at_key : (shape : Shape) (rows : List Row) (row : Row) (key : List ℕ)
     → line_of_group shape (filter (has_key shape.group key) (by_number (rows ++ row ∷ [])))
     ≡ cond (bytes_eq key (group_key shape.group row.values)) (Some (joined_to shape (line_of_group shape (filter (has_key shape.group key) (by_number rows))) row)) (line_of_group shape (filter (has_key shape.group key) (by_number rows)))
 at_key shape rows row key =
@@ -55,25 +51,6 @@ at_key shape rows row key =
         ≡ cond b (Some (joined_to shape (line_of_group shape (filter (has_key shape.group key) (by_number rows))) row)) (line_of_group shape (filter (has_key shape.group key) (by_number rows)))
     at true = group_more shape row (filter (has_key shape.group key) (by_number rows))
     at false = refl
-
--- one entry changes
-pub found_more : (shape : Shape) (rows : List Row) (row : Row) (key : List ℕ) (entries entries' : List (List ℕ × Numbered)) (new : Numbered) → AreFound shape rows entries → IsTrue (are_small shape.group row.values)
-    → key ≡ group_key shape.group row.values → new ≡ joined_to shape (lookup (bytes_eq key) entries) row
-    → ((q : List ℕ) → lookup (bytes_eq q) entries' ≡ cond (bytes_eq key q) (Some new) (lookup (bytes_eq q) entries)) → AreFound shape (rows ++ row ∷ []) entries'
-found_more shape rows row key entries entries' new are one is made changed = record {
-  small = small_more shape rows row are.small one;
-  each = λ q. changed q ∙ here q (bytes_eq key q) refl ∙ sym (at_key shape rows row q);
-}
-  where
-    here : (q : List ℕ) (b : Bool) → bytes_eq key q ≡ b → cond (bytes_eq key q) (Some new) (lookup (bytes_eq q) entries)
-        ≡ cond (bytes_eq q (group_key shape.group row.values)) (Some (joined_to shape (line_of_group shape (filter (has_key shape.group q) (by_number rows))) row)) (line_of_group shape (filter (has_key shape.group q) (by_number rows)))
-    here q true e =
-        let same : key ≡ q = (bytes_decides key q).0 e in
-        let mine : bytes_eq q (group_key shape.group row.values) ≡ true = ap (bytes_eq q) (sym is) ∙ nat_list_eq_equiv.symm q key ∙ e in
-        rw (e, mine) (ap Some (made ∙ ap (λ k. joined_to shape (lookup (bytes_eq k) entries) row) same ∙ ap (λ old. joined_to shape old row) (are.each q)))
-    here q false e =
-        let other : bytes_eq q (group_key shape.group row.values) ≡ false = ap (bytes_eq q) (sym is) ∙ nat_list_eq_equiv.symm q key ∙ e in
-        rw (e, other) (are.each q)
 
 -- ---- entries with keys that differ
 

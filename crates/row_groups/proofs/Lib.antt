@@ -1,8 +1,10 @@
 pub mod AddingLemmas
+pub mod AlikeLemmas
 pub mod FoundLemmas
 pub mod GroupLemmas
 pub mod KeyLemmas
 pub mod LineLemmas
+pub mod ManyLemmas
 pub mod MapLemmas
 pub mod NamingLemmas
 pub mod NumberLemmas

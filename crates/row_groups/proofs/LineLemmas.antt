@@ -1,6 +1,6 @@
 -- The lines of one more row, by which rows share a line, and of all.
 use Rattle.std.proofs.Common.{◌≡◌, ℕ, ◌≤◌, List, [], ◌∷◌, ◌++◌, map, length, get_or, take, ◌+◌, ◌<◌, Result, Bool, true, false, cond, refl, sym, ap, ◌∙◌, subst, arith}
-use Rattle.std.specs.Prelude.{MatchResult, slice_set}
+use Rattle.std.specs.Prelude.{IsTrue, MatchResult, slice_set}
 use Rattle.std.specs.Cmp.{IsStrictWeakOrder}
 use Rattle.std.specs.List.{IsDistinct}
 use Rattle.std.specs.Map as entries
@@ -13,17 +13,17 @@ use Rattle.mdc_ast.specs.declared.row.Row.{Row}
 use Rattle.row_groups.specs.declared.grouping.Grouping.{Grouping}
 use Rattle.row_groups.specs.declared.grouping.Grouping.TheVariants.{EachRow, AllRows, ByValues}
 use Rattle.row_groups.specs.declared.line.Line.{Line}
-use Rattle.row_groups.specs.Adding.{Numbered, is_numbered_lower, line_of_row, lines_in, with_row}
+use Rattle.row_groups.specs.Adding.{Numbered, is_numbered_lower, line_of_row, lines_in, with_rows}
 use Rattle.row_groups.specs.Answers.{AnswersLines, AreWide, cut, outgrown_sums}
 use Rattle.row_groups.specs.Firsts.{firsts, group_of}
 use Rattle.row_groups.specs.Gathering.{AreFound, AreGathered, AreGroupsOf, GroupsSoFar}
-use Rattle.row_groups.specs.Lines.{are_grouped, grouping_of, line_of, lines_by, made_lines}
+use Rattle.row_groups.specs.Lines.{are_grouped, are_shared, grouping_of, line_of, lines_by, made_lines}
+use Rattle.row_groups.specs.Naming.{AgreeInNamed, AreAlike}
 use Rattle.row_groups.specs.Numbers.{DifferInNumber, by_number, is_lower, values_of}
 use Rattle.row_groups.specs.Ordering.{IsOrdered, ordered, placed}
 use Rattle.row_groups.specs.Shape.{Shape}
-use Rattle.row_groups.proofs.AddingLemmas.{line_placed, no_higher}
+use Rattle.row_groups.proofs.AlikeLemmas.{whole_more}
 use Rattle.row_groups.proofs.FoundLemmas.{found_lines}
-use Rattle.row_groups.proofs.NumberLemmas.{ordered_more}
 use Rattle.row_groups.proofs.OneOrderLemmas.{sorted_is_ordered}
 
 pub numbers_rank : IsStrictWeakOrder is_numbered_lower
@@ -59,18 +59,17 @@ each_grows shape rows row groups new are is kept same added =
 pub whole_line : (shape : Shape) (rows : List Row) (groups : GroupsSoFar) → AreGroupsOf shape rows groups → grouping_of groups.shape.outs groups.shape.group ≡ AllRows → lines_in groups.lines ≡ line_of shape [] (values_of (by_number rows)) ∷ []
 whole_line shape rows groups are is = (gathered_as shape rows groups.found groups.lines AllRows (grouping_is shape groups AllRows are.shape_is is) are.gathered).1
 
--- a row of the one line
-pub whole_grows : (shape : Shape) (rows : List Row) (row : Row) (groups new : GroupsSoFar) → AreGroupsOf shape rows groups → grouping_of groups.shape.outs groups.shape.group ≡ AllRows
-    → new.shape ≡ groups.shape → new.found ≡ groups.found → lines_in new.lines ≡ with_row groups.shape.outs (line_of shape [] (values_of (by_number rows))) row.values ∷ [] → AreGroupsOf shape (rows ++ row ∷ []) new
-whole_grows shape rows row groups new are is kept same added =
+-- rows of the one line
+pub whole_grows : (shape : Shape) (rows : List Row) (row : Row) (more : List Row) (lowest count : ℕ) (values : List Value) (groups new : GroupsSoFar) → AreGroupsOf shape rows groups → AreAlike shape lowest count values row more
+    → grouping_of groups.shape.outs groups.shape.group ≡ AllRows → new.shape ≡ groups.shape → new.found ≡ groups.found
+    → lines_in new.lines ≡ with_rows count groups.shape.outs (line_of shape [] (values_of (by_number rows))) values ∷ [] → AreGroupsOf shape (rows ++ row ∷ more) new
+whole_grows shape rows row more lowest count values groups new are alike is kept same added =
     let here = grouping_is shape groups AllRows are.shape_is is in
     let before = gathered_as shape rows groups.found groups.lines AllRows here are.gathered in
-    let more : line_of shape [] (values_of (by_number (rows ++ row ∷ []))) ≡ with_row shape.outs (line_of shape [] (values_of (by_number rows))) row.values
-    = ap (λ (rs : List Row). line_of shape [] (values_of rs)) (ordered_more (λ (r : Row). r.number) rows row) ∙ line_placed no_higher shape [] row (by_number rows) in
     record {
       shape_is = kept ∙ are.shape_is;
-      gathered = gathered_from shape (rows ++ row ∷ []) new.found new.lines AllRows here
-          (same ∙ before.0, added ∙ ap (λ (s : Shape). with_row s.outs (line_of shape [] (values_of (by_number rows))) row.values ∷ []) are.shape_is ∙ ap (λ line. line ∷ []) (sym more));
+      gathered = gathered_from shape (rows ++ row ∷ more) new.found new.lines AllRows here
+          (same ∙ before.0, added ∙ ap (λ (s : Shape). with_rows count s.outs (line_of shape [] (values_of (by_number rows))) values ∷ []) are.shape_is ∙ ap (λ line. line ∷ []) (sym (whole_more shape rows row more lowest count values alike)));
     }
 
 -- a row of a group
@@ -212,3 +211,18 @@ pub rows_more : (rows : List Row) (i : ℕ) (row : Row) (values : List Value) �
     → take i rows ++ record { number = row.number; values = values } ∷ [] ≡ take (i + 1) rows
 rows_more rows i row values within at is =
     ap (λ (vs : List Value). take i rows ++ record { number = row.number; values = vs } ∷ []) is ∙ ap (λ r. take i rows ++ r ∷ []) at ∙ sym (take_more rows i row within)
+
+-- ---- which rows share a line
+
+pub each_apart : (shape : Shape) → are_shared (grouping_of shape.outs shape.group) ≡ false → grouping_of shape.outs shape.group ≡ EachRow
+each_apart shape e = at (grouping_of shape.outs shape.group) e
+  where
+    at : (grouping : Grouping) → are_shared grouping ≡ false → grouping ≡ EachRow
+    at EachRow e = refl
+    at AllRows e = cc
+    at ByValues e = cc
+
+pub by_values_else : (grouping : Grouping) → IsTrue (are_shared grouping) → (grouping ≡ AllRows → ⊥) → grouping ≡ ByValues
+by_values_else EachRow shared other = cc
+by_values_else AllRows shared other = absurd (other refl)
+by_values_else ByValues shared other = refl

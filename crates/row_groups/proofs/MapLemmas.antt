@@ -14,12 +14,14 @@ use Rattle.std.proofs.lemmas.Bool.Decides.{nat_tests}
 use Rattle.std.proofs.lemmas.Cmp.{nat_list_eq_equiv}
 use Rattle.std.proofs.lemmas.Map.{lookup-set_value}
 use Rattle.std.proofs.lemmas.Map.Lookups.{exact_bytes}
+use Rattle.mdc_values.specs.declared.value.Value.{Value}
 use Rattle.mdc_ast.specs.declared.row.Row.{Row}
-use Rattle.row_groups.specs.Adding.{Numbered, joined, line_of_row}
+use Rattle.row_groups.specs.Adding.{Numbered, joined_many, line_of_many}
 use Rattle.row_groups.specs.Gathering.{AreFound, entries_of}
 use Rattle.row_groups.specs.Keys.{are_small, group_key}
+use Rattle.row_groups.specs.Naming.{AreAlike}
 use Rattle.row_groups.specs.Shape.{Shape}
-use Rattle.row_groups.proofs.FoundLemmas.{found_more, joined_to}
+use Rattle.row_groups.proofs.AlikeLemmas.{all_joined, found_more}
 
 -- the order of bytes is equal where the bytes are
 eq_is : (a b : List ℕ) → is_eq (slice_cmp nat_cmp a b) ≡ bytes_eq a b
@@ -96,21 +98,23 @@ lookup_insert key q (e ∷ es) new = at (slice_cmp nat_cmp key e.0) refl (bytes_
 
 -- ---- one more row
 
-pub found_after_write : (shape : Shape) (rows : List Row) (row : Row) (key : List ℕ) (found found' : BTreeMap (Vec ℕ) Numbered) (old new : Numbered) → AreFound shape rows (entries_of found) → IsTrue (are_small shape.group row.values)
-    → key ≡ group_key shape.group row.values → Some old ≡ get_by (order_to key) found → found'.entries ≡ set_value (is_at (order_to key)) found.entries new
-    → new ≡ joined shape old row → AreFound shape (rows ++ row ∷ []) (entries_of found')
-found_after_write shape rows row key found found' old new are small is there changed made =
+pub found_after_write : (shape : Shape) (rows : List Row) (row : Row) (more : List Row) (lowest count : ℕ) (values : List Value) (key : List ℕ) (found found' : BTreeMap (Vec ℕ) Numbered) (old new : Numbered)
+    → AreFound shape rows (entries_of found) → AreAlike shape lowest count values row more → IsTrue (are_small shape.group values)
+    → key ≡ group_key shape.group values → Some old ≡ get_by (order_to key) found → found'.entries ≡ set_value (is_at (order_to key)) found.entries new
+    → new ≡ joined_many shape count old (record { number = lowest; values = values }) → AreFound shape (rows ++ row ∷ more) (entries_of found')
+found_after_write shape rows row more lowest count values key found found' old new are alike small is there changed made =
     let at : lookup (bytes_eq key) (entries_of found) ≡ Some old = sym (lookup_read key found.entries) ∙ sym there in
-    found_more shape rows row key (entries_of found) (entries_of found') new are small is (made ∙ ap (λ o. joined_to shape o row) (sym at))
+    found_more shape rows row more lowest count values key (entries_of found) (entries_of found') new are alike small is (made ∙ ap (λ o. all_joined shape count o (record { number = lowest; values = values })) (sym at))
     (λ q. ap (λ (es : List (Vec ℕ × Numbered)). lookup (bytes_eq q) (read_all es)) changed ∙ ap (lookup (bytes_eq q)) (set_read key found.entries new)
     ∙ lookup-set_value nat_list_eq_equiv (bytes_eq key) (λ x y e. nat_list_eq_equiv.congr key x y e) q new (entries_of found) (subst IsSome (sym at) refl))
 
-pub found_after_insert : (shape : Shape) (rows : List Row) (row : Row) (key : Vec ℕ) (found found' : BTreeMap (Vec ℕ) Numbered) (new : Numbered) → AreFound shape rows (entries_of found) → IsTrue (are_small shape.group row.values)
-    → key.items ≡ group_key shape.group row.values → None ≡ get_by (order_to key.items) found → found'.entries ≡ insert_entry (λ (a b : Vec ℕ). slice_cmp nat_cmp a.items b.items) found.entries key new
-    → new ≡ line_of_row shape row → AreFound shape (rows ++ row ∷ []) (entries_of found')
-found_after_insert shape rows row key found found' new are small is none changed made =
+pub found_after_insert : (shape : Shape) (rows : List Row) (row : Row) (more : List Row) (lowest count : ℕ) (values : List Value) (key : Vec ℕ) (found found' : BTreeMap (Vec ℕ) Numbered) (new : Numbered)
+    → AreFound shape rows (entries_of found) → AreAlike shape lowest count values row more → IsTrue (are_small shape.group values)
+    → key.items ≡ group_key shape.group values → None ≡ get_by (order_to key.items) found → found'.entries ≡ insert_entry (λ (a b : Vec ℕ). slice_cmp nat_cmp a.items b.items) found.entries key new
+    → new ≡ line_of_many shape count (record { number = lowest; values = values }) → AreFound shape (rows ++ row ∷ more) (entries_of found')
+found_after_insert shape rows row more lowest count values key found found' new are alike small is none changed made =
     let at : lookup (bytes_eq key.items) (entries_of found) ≡ None = sym (lookup_read key.items found.entries) ∙ sym none in
-    found_more shape rows row key.items (entries_of found) (entries_of found') new are small is (made ∙ ap (λ o. joined_to shape o row) (sym at))
+    found_more shape rows row more lowest count values key.items (entries_of found) (entries_of found') new are alike small is (made ∙ ap (λ o. all_joined shape count o (record { number = lowest; values = values })) (sym at))
     (λ q. ap (λ (es : List (Vec ℕ × Numbered)). lookup (bytes_eq q) (read_all es)) changed ∙ ap (lookup (bytes_eq q)) (insert_read key found.entries new) ∙ lookup_insert key.items q (entries_of found) new)
 
 -- ---- all entries

@@ -33,7 +33,7 @@ zip_wider P Q wide (x ∷ xs) (y ∷ ys) all = (wide x y all.0, zip_wider P Q wi
 
 -- ---- a line
 
-abbrev AgreeShown : List BoundOut → List Value → List Value → Type 0
+abbrev pub AgreeShown : List BoundOut → List Value → List Value → Type 0
 AgreeShown outs a b = AllByRecursion (λ out. AgreeIn (columns_of out) a b) outs
 
 column_same : (column : ℕ) (rows rows' : List Row) → AllZip (λ (x y : Row). value_at x.values column ≡ value_at y.values column) rows rows'
@@ -70,17 +70,25 @@ shows_same (out ∷ outs) a b rows rows' first all =
     let rest = shows_same outs a b rows rows' first.1 (zip_wider (λ (x y : Row). AgreeShown (out ∷ outs) x.values y.values) (λ (x y : Row). AgreeShown outs x.values y.values) (λ x y both. both.1) rows rows' all) in
     cc
 
-sorts_same : (parts : List KeyPart) (a b : List Value) → AllByRecursion (λ part. value_at a part.column ≡ value_at b part.column) parts → map (λ part. value_at a part.column) parts ≡ map (λ part. value_at b part.column) parts
+pub sorts_same : (parts : List KeyPart) (a b : List Value) → AllByRecursion (λ part. value_at a part.column ≡ value_at b part.column) parts → map (λ part. value_at a part.column) parts ≡ map (λ part. value_at b part.column) parts
 sorts_same [] a b all = refl
 sorts_same (part ∷ parts) a b all = let here = all.0 in let rest = sorts_same parts a b all.1 in cc
 
+itself_in : (columns : List ℕ) (a : List Value) → AgreeIn columns a a
+itself_in [] a = tt
+itself_in (column ∷ columns) a = (refl, itself_in columns a)
+
 itself_shown : (outs : List BoundOut) (a : List Value) → AgreeShown outs a a
 itself_shown [] a = tt
-itself_shown (out ∷ outs) a = (each (columns_of out), itself_shown outs a)
-  where
-    each : (columns : List ℕ) → AgreeIn columns a a
-    each [] = tt
-    each (column ∷ columns) = (refl, each columns)
+itself_shown (out ∷ outs) a = (itself_in (columns_of out) a, itself_shown outs a)
+
+itself_sorted : (parts : List KeyPart) (a : List Value) → AllByRecursion (λ part. value_at a part.column ≡ value_at a part.column) parts
+itself_sorted [] a = tt
+itself_sorted (part ∷ parts) a = (refl, itself_sorted parts a)
+
+-- a row agrees with itself
+pub itself_agrees : (shape : Shape) (row : Row) → AgreeInNamed shape row row
+itself_agrees shape row = record { number = refl; shown = itself_shown shape.outs row.values; grouped = itself_in shape.group row.values; sorted = itself_sorted shape.order row.values }
 
 grouped_same : (columns : List ℕ) (a a' b b' : List Value) → AgreeIn columns a a' → AgreeIn columns b b' → are_grouped columns a b ≡ are_grouped columns a' b'
 grouped_same [] a a' b b' p q = refl
@@ -92,7 +100,7 @@ module _ (shape : Shape) where
   abbrev pub AgreeAll : List Row → List Row → Type 0
   AgreeAll rows rows' = AllZip (AgreeInNamed shape) rows rows'
 
-  line_same : (a b : List Value) (rows rows' : List Row) → AgreeShown shape.outs a b → map (λ part. value_at a part.column) shape.order ≡ map (λ part. value_at b part.column) shape.order → AgreeAll rows rows'
+  pub line_same : (a b : List Value) (rows rows' : List Row) → AgreeShown shape.outs a b → map (λ part. value_at a part.column) shape.order ≡ map (λ part. value_at b part.column) shape.order → AgreeAll rows rows'
       → line_of shape a (values_of rows) ≡ line_of shape b (values_of rows')
   line_same a b rows rows' first sorts all =
       let shows = shows_same shape.outs a b rows rows' first (zip_wider (AgreeInNamed shape) (λ (x y : Row). AgreeShown shape.outs x.values y.values) (λ x y agree. agree.shown) rows rows' all) in

@@ -15,7 +15,7 @@ use Rattle.mdc_ast.specs.Database.{is_null}
 use Rattle.row_groups.specs.declared.line.Shown.{Shown}
 use Rattle.row_groups.specs.declared.line.Shown.TheVariants as shown
 use Rattle.row_groups.specs.declared.tally.Tally.{Tally}
-use Rattle.row_groups.specs.Adding.{Numbered, added, begun_with, in_places, joined, seen, with_row}
+use Rattle.row_groups.specs.Adding.{Numbered, added, begun_with, in_places, joined_many, seen, with_row, with_rows}
 use Rattle.row_groups.specs.Lines.{known, line_of, plus, shown_of, sum_of}
 use Rattle.row_groups.specs.Shape.{Shape}
 use Rattle.row_groups.specs.Values.{greater, lesser}
@@ -135,17 +135,17 @@ pub numbered_is : {n n' : ℕ} {sorts sorts' : List Value} {shows shows' : List 
     → (let one : Numbered = record { number = n; line = record { sorts = sorts; shows = shows } } in one) ≡ record { number = n'; line = record { sorts = sorts'; shows = shows' } }
 numbered_is p q r = cc
 
--- a row that isn't the first of its line
-pub joined_behind : (shape : Shape) (one new : Numbered) (row : Row) (n : ℕ) → new ≡ record { number = one.number; line = with_row shape.outs one.line row.values } → n ≡ new.number → n ≤ row.number → new ≡ joined shape one row
-joined_behind shape one new row n is same le =
+-- rows that aren't the first of their line
+pub joined_behind : (shape : Shape) (count : ℕ) (one new : Numbered) (row : Row) (n : ℕ) → new ≡ record { number = one.number; line = with_rows count shape.outs one.line row.values } → n ≡ new.number → n ≤ row.number → new ≡ joined_many shape count one row
+joined_behind shape count one new row n is same le =
     let number : new.number ≡ one.number = ap (λ (o : Numbered). o.number) is in
     let e : nat_lt row.number one.number ≡ false = grind (arith, nat_tests) in
     rw e is
 
--- a row with which its line begins
-pub joined_before : (shape : Shape) (one with_it new : Numbered) (row : Row) (n : ℕ) → with_it ≡ record { number = one.number; line = with_row shape.outs one.line row.values } → n ≡ with_it.number → row.number < n
-    → new ≡ record { number = row.number; line = begun_with shape with_it.line row.values } → new ≡ joined shape one row
-joined_before shape one with_it new row n is same lt begins =
-    let number : with_it.number ≡ one.number = ap (λ (o : Numbered). o.number) is in
+-- rows with which their line begins
+pub joined_before : (shape : Shape) (count : ℕ) (one with_them new : Numbered) (row : Row) (n : ℕ) → with_them ≡ record { number = one.number; line = with_rows count shape.outs one.line row.values } → n ≡ with_them.number → row.number < n
+    → new ≡ record { number = row.number; line = begun_with shape with_them.line row.values } → new ≡ joined_many shape count one row
+joined_before shape count one with_them new row n is same lt begins =
+    let number : with_them.number ≡ one.number = ap (λ (o : Numbered). o.number) is in
     let e : nat_lt row.number one.number ≡ true = grind (arith, nat_tests) in
     rw e (begins ∙ ap (λ (o : Numbered). record { number = row.number; line = begun_with shape o.line row.values }) is)

@@ -1,5 +1,5 @@
 -- One more row behind a line, as a body adds it: the line of the rows with that one.
-use Rattle.std.specs.Prelude.{ℕ, nat_lt, ◌+◌, Bool, List, [], ◌∷◌, map, if◌then◌else◌}
+use Rattle.std.specs.Prelude.{ℕ, ℤ, pos, ◌+ℤ◌, ◌*ℤ◌, Option, Some, None, nat_lt, ◌+◌, Bool, List, [], ◌∷◌, map, if◌then◌else◌}
 use Rattle.mdc_values.specs.declared.value.Value.{Value}
 use Rattle.mdc_ast.specs.declared.bound.BoundOut.{BoundOut}
 use Rattle.mdc_ast.specs.declared.bound.BoundOut.TheVariants as out
@@ -13,7 +13,7 @@ use Rattle.row_groups.specs.declared.tally.Tally.{Tally}
 use Rattle.row_groups.specs.declared.tally.Tally.TheVariants as tally
 use Rattle.row_groups.specs.Lines.{line_of, plus}
 use Rattle.row_groups.specs.Shape.{Shape}
-use Rattle.row_groups.specs.Values.{greater, lesser}
+use Rattle.row_groups.specs.Values.{greater, lesser, number_in}
 
 -- what a tally would show
 abbrev pub seen : Tally → Shown
@@ -74,3 +74,33 @@ joined shape one row =
 -- a line begins before another
 abbrev pub is_numbered_lower : Numbered → Numbered → Bool
 is_numbered_lower a b = nat_lt a.number b.number
+
+-- ---- many rows with the same values
+
+-- a value n times in a sum
+abbrev pub plus_many : Option ℤ → ℕ → Value → Option ℤ
+plus_many None n value = Some (number_in value *ℤ pos n)
+plus_many (Some total) n value = Some (total +ℤ number_in value *ℤ pos n)
+
+-- n rows in a place
+abbrev pub many_added : ℕ → BoundOut → Shown → List Value → Shown
+many_added n out.CountAll (shown.Count m) row = shown.Count (m + n)
+many_added n (out.Count column) (shown.Count m) row = if is_null (value_at row column) then shown.Count m else shown.Count (m + n)
+many_added n (out.Sum column) (shown.Sum total) row = if is_null (value_at row column) then shown.Sum total else shown.Sum (plus_many total n (value_at row column))
+many_added n (out.Min column) (shown.Value best) row = if is_null (value_at row column) then shown.Value best else shown.Value (lesser best (value_at row column))
+many_added n (out.Max column) (shown.Value best) row = if is_null (value_at row column) then shown.Value best else shown.Value (greater best (value_at row column))
+many_added n out shown row = shown
+
+-- n rows behind a line
+abbrev pub with_rows : ℕ → List BoundOut → Line → List Value → Line
+with_rows n outs line row = record line { shows = in_places (many_added n) outs line.shows row }
+
+-- the line of n rows, of which this is the first
+abbrev pub line_of_many : Shape → ℕ → Row → Numbered
+line_of_many shape n row = record { number = row.number; line = with_rows n shape.outs (line_of shape row.values []) row.values }
+
+-- n rows behind a line, which begins with this one where its number is lower
+abbrev pub joined_many : Shape → ℕ → Numbered → Row → Numbered
+joined_many shape n one row =
+    if nat_lt row.number one.number then record { number = row.number; line = begun_with shape (with_rows n shape.outs one.line row.values) row.values }
+    else record { number = one.number; line = with_rows n shape.outs one.line row.values }

@@ -29,6 +29,15 @@ abbrev pub grouping_of : List BoundOut → List ℕ → Grouping
 grouping_of outs [] = if list_any is_aggregate outs then AllRows else EachRow
 grouping_of outs (column ∷ columns) = ByValues
 
+-- rows share lines
+abbrev pub are_shared : Grouping → Bool
+are_shared EachRow = false
+are_shared grouping = true
+
+-- the same of a query
+abbrev pub shares_lines : Shape → Bool
+shares_lines shape = are_shared (grouping_of shape.outs shape.group)
+
 -- two rows have the same values in the columns of GROUP BY
 abbrev pub are_grouped : List ℕ → List Value → List Value → Bool
 are_grouped columns a b = list_all (λ column. belong_together (value_at a column) (value_at b column)) columns

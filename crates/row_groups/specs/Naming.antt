@@ -1,5 +1,5 @@
 -- The columns that a query names.
-use Rattle.std.specs.Prelude.{◌≡◌, ℕ, List, [], ◌∷◌}
+use Rattle.std.specs.Prelude.{◌≡◌, ℕ, nat_lt, List, [], ◌∷◌, length, if◌then◌else◌}
 use Rattle.std.specs.List.{AllByRecursion}
 use Rattle.mdc_values.specs.declared.value.Value.{Value}
 use Rattle.mdc_ast.specs.declared.bound.BoundOut.{BoundOut}
@@ -27,3 +27,14 @@ pub record AgreeInNamed (shape : Shape) (a b : Row) : Type 0 where
   pub shown : AllByRecursion (λ out. AgreeIn (columns_of out) a.values b.values) shape.outs
   pub grouped : AgreeIn shape.group a.values b.values
   pub sorted : AllByRecursion (λ part. value_at a.values part.column ≡ value_at b.values part.column) shape.order
+
+-- the lowest number of some rows
+abbrev pub lowest_of : Row → List Row → ℕ
+lowest_of row [] = row.number
+lowest_of row (next ∷ rows) = if nat_lt (lowest_of next rows) row.number then lowest_of next rows else row.number
+
+-- one row and others, as many as are counted, of which the lowest has this number, and which have the values in the columns that are named
+pub record AreAlike (shape : Shape) (lowest count : ℕ) (values : List Value) (row : Row) (rows : List Row) : Type 0 where
+  pub many : length (row ∷ rows) ≡ count
+  pub first : lowest_of row rows ≡ lowest
+  pub agree : AllByRecursion (λ (one : Row). AgreeInNamed shape one (record { number = one.number; values = values })) (row ∷ rows)

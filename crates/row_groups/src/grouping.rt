@@ -2,7 +2,8 @@
 ghost use Rattle.std.specs.Prelude.{◌≡◌};
 ghost use Rattle.std.specs.List.{list_any};
 ghost use Rattle.row_groups.specs.Lines as spec;
-ghost use Rattle.row_groups.specs.Lines.{is_aggregate};
+ghost use Rattle.row_groups.specs.Lines.{is_aggregate, shares_lines};
+ghost use Rattle.row_groups.specs.Shape.{shape_of};
 
 use mdc_ast::{BoundOut, BoundSelect};
 
@@ -23,6 +24,13 @@ pub(crate) fn grouping_of(select: &BoundSelect) -> Grouping
         [] => Grouping::EachRow,
         _ => Grouping::ByValues,
     }
+}
+
+/// Whether rows share lines, as under GROUP BY and with aggregates.
+pub fn shares_lines(select: &BoundSelect) -> bool
+    ensures { result ≡ shares_lines (shape_of select.now) }
+{
+    !matches!(grouping_of(select), Grouping::EachRow)
 }
 
 fn has_aggregate(outs: &[BoundOut]) -> bool

@@ -1,14 +1,16 @@
 // Groups that take rows one by one.
-ghost use Rattle.std.specs.Prelude.{◌++◌, ◌∷◌, [], List, IfOk, OnOk, MatchResult};
+ghost use Rattle.std.specs.Prelude.{◌≡◌, ◌++◌, ◌∷◌, [], List, IsTrue, IfOk, OnOk, MatchResult};
 ghost use Rattle.mdc_ast.specs.declared.row.Row.{Row};
 ghost use Rattle.row_groups.specs.Answers.{IsAnswer, IsFault};
 ghost use Rattle.row_groups.specs.Gathering.{AreGroupsOf};
+ghost use Rattle.row_groups.specs.Lines.{shares_lines};
+ghost use Rattle.row_groups.specs.Naming.{AreAlike};
 ghost use Rattle.row_groups.specs.Numbers.{DifferInNumber};
 ghost use Rattle.row_groups.specs.Shape.{Shape, shape_of};
 
 use crate::closing::answer_of;
 use crate::fault::GroupFault;
-use crate::grouping::{Grouping, grouping_of};
+use crate::grouping::{Grouping, grouping_of, shares_lines};
 use crate::joining::{add_line, add_to_group, add_to_whole, all_lines, lines_of_none};
 use crate::line::Line;
 use crate::line_so_far::LineSoFar;
@@ -43,7 +45,8 @@ impl<'q> Model for Groups<'q> {
 impl<'q> Groups<'q> {
     /// The groups of no rows.
     pub fn new(alloc: Global, select: &'q BoundSelect) -> Result<Groups<'q>, Memory>
-        ensures { IfOk result (AreGroupsOf (shape_of select.now) []) }
+        ensures groups { IfOk result (AreGroupsOf (shape_of select.now) []) }
+        ensures shape { IfOk result (λ groups. groups.shape ≡ shape_of select.now) }
     {
         let lines = lines_of_none(alloc, select)?;
         Ok(Groups {
@@ -56,20 +59,40 @@ impl<'q> Groups<'q> {
 
     /// Adds a row with this number and these values. Rows come in any order. After `Memory` the groups are done with.
     pub fn add(&mut self, alloc: Global, number: u64, values: &[Value]) -> Result<(), Memory>
-        ensures { (shape : Shape) → (rows : List Row) → AreGroupsOf shape rows self.old → OnOk result (AreGroupsOf shape (rows ++ record { number = number; values = values.now } ∷ []) self.new) }
+        ensures shape { self.new.shape ≡ self.old.shape }
+        ensures groups { (shape : Shape) → (rows : List Row) → AreGroupsOf shape rows self.old → OnOk result (AreGroupsOf shape (rows ++ record { number = number; values = values.now } ∷ []) self.new) }
     {
-        match grouping_of(self.select) {
-            Grouping::EachRow => add_line(alloc, self.select, number, values, &mut self.lines),
-            Grouping::AllRows => add_to_whole(alloc, self.select, values, &mut self.lines),
-            Grouping::ByValues => add_to_group(
-                alloc,
-                self.select,
-                number,
-                values,
-                &mut self.key,
-                &mut self.found,
-            ),
+        if !shares_lines(self.select) {
+            return add_line(alloc, self.select, number, values, &mut self.lines);
         }
+        self.add_alike(alloc, number, 1, values)
+    }
+
+    /// Adds so many rows at once, of which the lowest has this number, and which have these values in the columns that the query
+    /// names. Another column may be left null. After `Memory` the groups are done with.
+    pub fn add_alike(
+        &mut self,
+        alloc: Global,
+        lowest: u64,
+        count: u64,
+        values: &[Value],
+    ) -> Result<(), Memory>
+        requires { IsTrue (shares_lines self.old.shape) }
+        ensures shape { self.new.shape ≡ self.old.shape }
+        ensures groups { (shape : Shape) → (rows more : List Row) → (row : Row) → AreGroupsOf shape rows self.old → AreAlike shape lowest count values.now row more → OnOk result (AreGroupsOf shape (rows ++ row ∷ more) self.new) }
+    {
+        if let Grouping::AllRows = grouping_of(self.select) {
+            return add_to_whole(alloc, self.select, count, values, &mut self.lines);
+        }
+        add_to_group(
+            alloc,
+            self.select,
+            lowest,
+            count,
+            values,
+            &mut self.key,
+            &mut self.found,
+        )
     }
 
     /// The lines of all rows by rising number, in order and cut; or the first sum outside BIGINT.

@@ -5,9 +5,10 @@ ghost use Rattle.std.specs.Map.{keys_of, values_of};
 ghost use Rattle.std.specs.Str.{bytes_eq};
 ghost use Rattle.mdc_ast.specs.declared.row.Row.{Row};
 ghost use Rattle.row_groups.specs.declared.line.Line.{Line};
-ghost use Rattle.row_groups.specs.Adding.{is_numbered_lower, line_of_row, lines_in, with_row};
+ghost use Rattle.row_groups.specs.Adding.{is_numbered_lower, line_of_row, lines_in, with_rows};
 ghost use Rattle.row_groups.specs.Gathering.{AreFound, entries_of};
 ghost use Rattle.row_groups.specs.Lines.{made_lines};
+ghost use Rattle.row_groups.specs.Naming.{AreAlike};
 ghost use Rattle.row_groups.specs.Ordering.{ordered};
 ghost use Rattle.row_groups.specs.Shape.{shape_of};
 
@@ -44,41 +45,43 @@ pub(crate) fn add_line(
     ensures added { OnOk result (lines.new.items ≡ lines.old.items ++ line_of_row (shape_of select.now) (record { number = number; values = values.now }) ∷ []) }
     ensures longer { length lines.old.items ≤ length lines.new.items }
 {
-    lines.push(LineSoFar::of_row(alloc, select, number, values)?)?;
+    lines.push(LineSoFar::of_rows(alloc, select, number, 1, values)?)?;
     Ok(())
 }
 
-/// A row of the one line of all rows.
+/// So many rows of the one line of all rows.
 pub(crate) fn add_to_whole(
     alloc: Global,
     select: &BoundSelect,
+    count: u64,
     values: &[Value],
     lines: &mut Vec<LineSoFar>,
 ) -> Result<(), Memory>
     requires { 1 ≤ length lines.old.items }
-    ensures added { (line : Line) → lines_in lines.old.items ≡ line ∷ [] → OnOk result (lines_in lines.new.items ≡ with_row select.now.outs line values.now ∷ []) }
+    ensures added { (line : Line) → lines_in lines.old.items ≡ line ∷ [] → OnOk result (lines_in lines.new.items ≡ with_rows count select.now.outs line values.now ∷ []) }
     ensures longer { length lines.old.items ≤ length lines.new.items }
 {
-    lines[0].add_values(alloc, select.outs.as_slice(), values)
+    lines[0].add_values(alloc, select.outs.as_slice(), count, values)
 }
 
-/// A row of the group with its values, or of a new one. After `Memory` key and lines are done with.
+/// So many rows of the group with these values, or of a new one. After `Memory` key and lines are done with.
 pub(crate) fn add_to_group(
     alloc: Global,
     select: &BoundSelect,
     number: u64,
+    count: u64,
     values: &[Value],
     key: &mut Vec<u8>,
     found: &mut BTreeMap<Vec<u8>, LineSoFar>,
 ) -> Result<(), Memory>
-    ensures { (rows : List Row) → AreFound (shape_of select.now) rows (entries_of found.old) → OnOk result (AreFound (shape_of select.now) (rows ++ record { number = number; values = values.now } ∷ []) (entries_of found.new)) }
+    ensures { (rows more : List Row) → (row : Row) → AreFound (shape_of select.now) rows (entries_of found.old) → AreAlike (shape_of select.now) number count values.now row more → OnOk result (AreFound (shape_of select.now) (rows ++ row ∷ more) (entries_of found.new)) }
 {
     key.clear();
     append_key(select.group.as_slice(), values, key)?;
     if let Some(line) = found.get_mut(key.as_slice()) {
-        return line.add(alloc, select, number, values);
+        return line.add(alloc, select, number, count, values);
     }
-    let line = LineSoFar::of_row(alloc, select, number, values)?;
+    let line = LineSoFar::of_rows(alloc, select, number, count, values)?;
     found.insert(Vec::from_slice(alloc, key.as_slice())?, line)?;
     Ok(())
 }

@@ -15,7 +15,8 @@ pub fn order_is_one(_parts: &[KeyPart], _lines: &[Line], _sorted: &[Line], _othe
     ensures { IsOrdered _parts.now _lines.now _sorted.now → IsOrdered _parts.now _lines.now _other.now → _sorted.now ≡ _other.now }
 {}
 
-/// Rows that agree in the columns that the list, GROUP BY and ORDER BY name give the same lines, so that the other values may be left out.
+/// Rows that agree in the columns that the list, GROUP BY and ORDER BY name give the same lines, so that the other values may be
+/// left out.
 pub fn named_columns_decide(_select: &BoundSelect, _rows: &[Row], _others: &[Row])
     ensures { AllZip (AgreeInNamed (shape_of _select.now)) _rows.now _others.now → made_lines (shape_of _select.now) (values_of (by_number _rows.now)) ≡ made_lines (shape_of _select.now) (values_of (by_number _others.now)) }
 {}

@@ -2,8 +2,9 @@
 //!
 //! It promises that the lines are those of plain lists: a group for each row with new values, aggregates over its rows,
 //! a stable order and the cut; and that a sum outside BIGINT is named by the first group and the first place. Rows come
-//! one by one, in any order, and count by rising number; they aren't kept: what is in memory is a line for each group, and
-//! with GROUP BY its key, in an ordered map. It stands on `mdc_ast` and `mdc_values`. No program uses it yet.
+//! one by one in any order, or many with the same values at once, and count by rising number. They aren't kept: what is
+//! in memory is a line for each group, and with GROUP BY its key, in an ordered map. It stands on `mdc_ast` and
+//! `mdc_values`. No program uses it yet.
 #![tactic(auto)]
 
 mod closing;
@@ -21,6 +22,7 @@ mod values;
 mod whole;
 
 pub use fault::GroupFault;
+pub use grouping::shares_lines;
 pub use groups::Groups;
 pub use laws::{named_columns_decide, order_is_one};
 pub use line::{Line, Shown};

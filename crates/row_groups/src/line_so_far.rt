@@ -1,7 +1,7 @@
 // Lines while rows are added.
 ghost use Rattle.std.specs.Prelude.{◌≡◌, [], length, map, IfOk, OnOk, MatchResult};
 ghost use Rattle.mdc_ast.specs.Truth.{value_at};
-ghost use Rattle.row_groups.specs.Adding.{begun_with, joined, line_of_row, with_row};
+ghost use Rattle.row_groups.specs.Adding.{begun_with, joined_many, line_of_many, with_rows};
 ghost use Rattle.row_groups.specs.Answers.{IsOutgrown, outgrown_in};
 ghost use Rattle.row_groups.specs.Lines.{line_of};
 ghost use Rattle.row_groups.specs.Shape.{shape_of};
@@ -54,48 +54,52 @@ impl LineSoFar {
         })
     }
 
-    /// A line of one row.
-    pub(crate) fn of_row(
+    /// A line of so many rows with these values, of which the first has this number.
+    pub(crate) fn of_rows(
         alloc: Global,
         select: &BoundSelect,
         number: u64,
+        count: u64,
         values: &[Value],
     ) -> Result<LineSoFar, Memory>
-        ensures { IfOk result (λ one. one ≡ line_of_row (shape_of select.now) (record { number = number; values = values.now })) }
+        ensures { IfOk result (λ one. one ≡ line_of_many (shape_of select.now) count (record { number = number; values = values.now })) }
     {
         let mut line = LineSoFar::begin(alloc, select, number, values)?;
-        line.add_values(alloc, select.outs.as_slice(), values)?;
+        line.add_values(alloc, select.outs.as_slice(), count, values)?;
         Ok(line)
     }
 
-    /// One more row, with which the line begins where its number is lower. After `Memory` the line is done with.
+    /// So many rows more with these values. The line begins with the first of them where its number is lower. After `Memory` the
+    /// line is done with.
     pub(crate) fn add(
         &mut self,
         alloc: Global,
         select: &BoundSelect,
         number: u64,
+        count: u64,
         values: &[Value],
     ) -> Result<(), Memory>
-        ensures { OnOk result (self.new ≡ joined (shape_of select.now) self.old (record { number = number; values = values.now })) }
+        ensures { OnOk result (self.new ≡ joined_many (shape_of select.now) count self.old (record { number = number; values = values.now })) }
     {
-        self.add_values(alloc, select.outs.as_slice(), values)?;
+        self.add_values(alloc, select.outs.as_slice(), count, values)?;
         if number < self.number {
             return self.begin_with(alloc, select, number, values);
         }
         Ok(())
     }
 
-    /// One more row behind the first. After `Memory` the line is done with.
+    /// So many rows more behind the first. After `Memory` the line is done with.
     pub(crate) fn add_values(
         &mut self,
         alloc: Global,
         outs: &[BoundOut],
+        count: u64,
         values: &[Value],
     ) -> Result<(), Memory>
-        ensures { OnOk result (self.new ≡ record self.old { line = with_row outs.now self.old.line values.now }) }
+        ensures { OnOk result (self.new ≡ record self.old { line = with_rows count outs.now self.old.line values.now }) }
     {
         for place in 0..outs.len().min(self.tallies.len()) {
-            self.tallies[place].add(alloc, outs[place], values)?;
+            self.tallies[place].add(alloc, outs[place], count, values)?;
         }
         Ok(())
     }

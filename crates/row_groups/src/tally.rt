@@ -1,8 +1,8 @@
 // What a place of a line has counted so far.
 ghost use Rattle.std.specs.Prelude.{◌≡◌, ◌+◌, [], IfOk, OnOk, MatchResult};
-ghost use Rattle.row_groups.specs.Adding.{added, begun, seen};
+ghost use Rattle.row_groups.specs.Adding.{begun, many_added, plus_many, seen};
 ghost use Rattle.row_groups.specs.Answers.{IsOutgrown, outgrown};
-ghost use Rattle.row_groups.specs.Lines.{plus, shown_of};
+ghost use Rattle.row_groups.specs.Lines.{shown_of};
 
 use crate::fault::GroupFault;
 use crate::line::Shown;
@@ -32,25 +32,26 @@ impl Tally {
         }
     }
 
-    /// One more row. What more than 2^64 - 1 rows would come to, which no table has, is answered as want of memory.
+    /// So many rows more. What more than 2^64 - 1 rows would come to, which no table has, is answered as want of memory.
     pub(crate) fn add(
         &mut self,
         alloc: Global,
         out: BoundOut,
+        count: u64,
         values: &[Value],
     ) -> Result<(), Memory>
-        ensures { OnOk result (seen self.new ≡ added out (seen self.old) values.now) }
+        ensures { OnOk result (seen self.new ≡ many_added count out (seen self.old) values.now) }
     {
         match (out, self) {
-            (BoundOut::CountAll, Tally::Count(count)) => *count = one_more(*count)?,
-            (BoundOut::Count(column), Tally::Count(count)) => {
+            (BoundOut::CountAll, Tally::Count(total)) => *total = more(*total, count)?,
+            (BoundOut::Count(column), Tally::Count(total)) => {
                 if known_at(values, column).is_some() {
-                    *count = one_more(*count)?;
+                    *total = more(*total, count)?;
                 }
             }
             (BoundOut::Sum(column), Tally::Sum(total)) => {
                 if let Some(value) = known_at(values, column) {
-                    *total = Some(plus(*total, value)?);
+                    *total = Some(plus(*total, count, value)?);
                 }
             }
             (BoundOut::Min(column), Tally::Kept(best)) => {
@@ -104,22 +105,25 @@ impl Tally {
     }
 }
 
-fn one_more(count: u64) -> Result<u64, Memory>
-    ensures { IfOk result (λ more. more ≡ count + 1) }
+fn more(total: u64, count: u64) -> Result<u64, Memory>
+    ensures { IfOk result (λ more. more ≡ total + count) }
 {
-    count.checked_add(1).ok_or(Memory)
+    total.checked_add(count).ok_or(Memory)
 }
 
-/// The sum with one more value.
-fn plus(total: Option<i128>, value: &Value) -> Result<i128, Memory>
-    ensures { IfOk result (λ sum. plus total value.now ≡ Some sum) }
+/// The sum with so many times a value.
+fn plus(total: Option<i128>, count: u64, value: &Value) -> Result<i128, Memory>
+    ensures { IfOk result (λ sum. plus_many total count value.now ≡ Some sum) }
 {
     let number = match value {
         Value::Int(number) => i128::from(*number),
         _ => 0,
     };
+    let Some(part) = number.checked_mul(i128::from(count)) else {
+        return Err(Memory);
+    };
     match total {
-        None => Ok(number),
-        Some(total) => total.checked_add(number).ok_or(Memory),
+        None => Ok(part),
+        Some(total) => total.checked_add(part).ok_or(Memory),
     }
 }

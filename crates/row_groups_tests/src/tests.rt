@@ -1,7 +1,7 @@
 // Lines written by hand.
 use mdc_ast::{BoundOut, BoundSelect, KeyPart, Row};
 use mdc_values::{Chars, List, Memory, Value, print};
-use row_groups::{GroupFault, Groups, Line, Shown, shown_lines};
+use row_groups::{GroupFault, Groups, Line, Shown, shares_lines, shown_lines};
 use std::alloc::{AllocError, Global};
 use std::process::Abort;
 use std::test::Fail;
@@ -46,11 +46,10 @@ fn values_of(alloc: Global, cells: &[Cell]) -> Result<List<Value>, Memory> {
 /// Rows by rising number.
 fn rows_of(alloc: Global, rows: &[&[Cell]]) -> Result<List<Row>, Memory> {
     let mut found = List::new(alloc);
-    let mut number = 0;
     for cells in rows {
+        let number = found.as_slice().len() as u64;
         let values = values_of(alloc, cells)?;
         found.push(Row { number, values })?;
-        number += 1;
     }
     Ok(found)
 }
@@ -479,4 +478,29 @@ fn groups_stand_by_the_numbers_of_their_first_rows(rt: HostRuntime) -> Result<()
     let wanted =
         "'SOUTH'|500|sum 499500|/'EAST'|500|sum 500000|/'WEST'|500|sum 500500|/'NORTH'|333|sum 332668|/";
     sells(&rt, rt.alloc(), &[], wanted)
+}
+
+/// The counts of three blocks of rows.
+fn counts_of_blocks(alloc: Global, query: &BoundSelect) -> Result<List<Line>, GroupFault> {
+    let mut groups = Groups::new(alloc, query)?;
+    if shares_lines(query) {
+        let west = values_of(alloc, &[Text(b"WEST"), Number(7)])?;
+        let east = values_of(alloc, &[Text(b"EAST"), Number(-1)])?;
+        groups.add_alike(alloc, 40, 3, west.as_slice())?;
+        groups.add_alike(alloc, 10, 2, east.as_slice())?;
+        groups.add_alike(alloc, 5, 4, west.as_slice())?;
+    }
+    groups.finish(alloc)
+}
+
+#[test]
+fn blocks_are_counted_at_once(rt: HostRuntime) -> Result<(), Fail> {
+    let query = query_of(rt.alloc(), &BY_FIRST)?;
+    let lines = counts_of_blocks(rt.alloc(), &query)?;
+    let text = text_of(rt.alloc(), lines.as_slice())?;
+    assert_eq!(rt;
+        text.as_slice(),
+        b"'WEST'|7|sum 49|/'EAST'|2|sum -2|/".as_slice()
+    );
+    Ok(())
 }

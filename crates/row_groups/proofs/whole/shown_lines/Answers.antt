@@ -20,7 +20,7 @@ pub loop-row-preserved : goal.loop-row-preserved
 loop-row-preserved c =
     subst (λ (rows : List Row). AreGroupsOf (shape_of c.args.select.now) rows c.add.new.self)
     (rows_more c.args.rows.now c.loop-row.row-index c.row-item.result c.as_slice.result.now c.loop-row-test.true c.row-item.is c.as_slice.ensures)
-    (c.in_ok-add.ensures (shape_of c.args.select.now) (take c.loop-row.row-index c.args.rows.now) c.loop-row.invariant)
+    (c.in_ok-add.ensures.groups (shape_of c.args.select.now) (take c.loop-row.row-index c.args.rows.now) c.loop-row.invariant)
 
 pub returns : goal.returns
 returns c =

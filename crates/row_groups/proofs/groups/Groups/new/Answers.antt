@@ -9,6 +9,6 @@ use Rattle.row_groups.proofs.groups.Groups.new.Goals as goal
 pub invariant_of-result : goal.invariant_of-result
 invariant_of-result c = whole_is_there (shape_of c.args.select.now) c.in_ok-lines.lines.items c.in_ok-lines.ensures
 
-pub returns : goal.returns
-returns c =
+pub returns-clause-groups : goal.returns-clause-groups
+returns-clause-groups c =
     groups_of_none (shape_of c.args.select.now) (entries_of c.new-2.result) c.in_ok-lines.lines.items (ap (λ (es : List (Vec ℕ × Numbered)). map {B = List ℕ × Numbered} (λ (e : Vec ℕ × Numbered). (e.0.items, e.1)) es) c.new-2.ensures.empty) c.in_ok-lines.ensures
