@@ -17,7 +17,7 @@ use Rattle.entry_tree.specs.Entries.{AreOfWidth}
 use Rattle.entry_tree.specs.EntryBounds.{Bound, Climbs, IsEntryOf, Rises}
 use Rattle.entry_tree.specs.Reading.{entries_from}
 use Rattle.entry_tree.proofs.EntryBoundsLemmas.{below_trans}
-use Rattle.block_index.specs.PartRanges.{blocks_in_range, ends_walk, entries_until, has_part_in, named_block, start_of_walk}
+use Rattle.block_index.specs.PartRanges.{blocks_in_range, ends_walk, entries_until, has_part_in, last_block, start_of_walk}
 use Rattle.block_index.specs.Reading.{entries_left}
 use Rattle.block_index.specs.declared.part_range.PartRange.{PartRange}
 
@@ -276,20 +276,20 @@ starts_at_zeros range width out other room =
 
 -- ---- the blocks of a leaf
 
-blocks_in_range-push : (range : PartRange) (xs : List Entry) (x : Entry) → blocks_in_range range (xs ++ x ∷ []) ≡ blocks_in_range range xs ++ cond (has_part_in range x) (named_block x ∷ []) []
+blocks_in_range-push : (range : PartRange) (xs : List Entry) (x : Entry) → blocks_in_range range (xs ++ x ∷ []) ≡ blocks_in_range range xs ++ cond (has_part_in range x) (last_block x ∷ []) []
 blocks_in_range-push range [] x = go (has_part_in range x)
   where
-    go : (b : Bool) → map named_block (cond b (x ∷ []) []) ≡ cond b (named_block x ∷ []) []
+    go : (b : Bool) → map last_block (cond b (x ∷ []) []) ≡ cond b (last_block x ∷ []) []
     go true = refl
     go false = refl
 blocks_in_range-push range (y ∷ xs) x = go (has_part_in range y) (blocks_in_range-push range xs x)
   where
     last : List ℕ
-    last = cond (has_part_in range x) (named_block x ∷ []) []
+    last = cond (has_part_in range x) (last_block x ∷ []) []
 
     go : (b : Bool) → blocks_in_range range (xs ++ x ∷ []) ≡ blocks_in_range range xs ++ last
-        → map named_block (cond b (y ∷ filter (has_part_in range) (xs ++ x ∷ [])) (filter (has_part_in range) (xs ++ x ∷ []))) ≡ map named_block (cond b (y ∷ filter (has_part_in range) xs) (filter (has_part_in range) xs)) ++ last
-    go true e = ap (λ r. named_block y ∷ r) e
+        → map last_block (cond b (y ∷ filter (has_part_in range) (xs ++ x ∷ [])) (filter (has_part_in range) (xs ++ x ∷ []))) ≡ map last_block (cond b (y ∷ filter (has_part_in range) xs) (filter (has_part_in range) xs)) ++ last
+    go true e = ap (λ r. last_block y ∷ r) e
     go false e = e
 
 -- the first i entries of a leaf were gone over, and no walk ends at one of them
@@ -309,10 +309,10 @@ module _ (range : PartRange) (leaf : List Entry) (i : ℕ) (old blocks : List �
     one_more : take (i + 1) leaf ≡ take i leaf ++ x ∷ []
     one_more = rw (add-one i) (take-suc leaf i [] within ∙ ap (λ y. take i leaf ++ y ∷ []) (sym here))
 
-    pub taking_next : (blocks_now : List ℕ) → ends_walk range x ≡ false → blocks_now ≡ blocks ++ cond (has_part_in range x) (named_block x ∷ []) [] → IsTaking range leaf (i + 1) old blocks_now before (count + 1)
+    pub taking_next : (blocks_now : List ℕ) → ends_walk range x ≡ false → blocks_now ≡ blocks ++ cond (has_part_in range x) (last_block x ∷ []) [] → IsTaking range leaf (i + 1) old blocks_now before (count + 1)
     taking_next blocks_now goes_on now = record {
       blocks_are =
-          let last = cond (has_part_in range x) (named_block x ∷ []) [] in
+          let last = cond (has_part_in range x) (last_block x ∷ []) [] in
           now ∙ (ap (λ b. b ++ last) so.blocks_are ∙ (append_assoc old (blocks_in_range range (take i leaf)) last
           ∙ ap (λ b. old ++ b) (sym (blocks_in_range-push range (take i leaf) x) ∙ ap (blocks_in_range range) (sym one_more))));
       count_is = omega (arith, so.count_is);
@@ -365,8 +365,8 @@ blocks_in_range-append range [] ys = refl
 blocks_in_range-append range (x ∷ xs) ys = go (has_part_in range x) (blocks_in_range-append range xs ys)
   where
     go : (b : Bool) → blocks_in_range range (xs ++ ys) ≡ blocks_in_range range xs ++ blocks_in_range range ys
-        → map named_block (cond b (x ∷ filter (has_part_in range) (xs ++ ys)) (filter (has_part_in range) (xs ++ ys))) ≡ map named_block (cond b (x ∷ filter (has_part_in range) xs) (filter (has_part_in range) xs)) ++ blocks_in_range range ys
-    go true e = ap (λ r. named_block x ∷ r) e
+        → map last_block (cond b (x ∷ filter (has_part_in range) (xs ++ ys)) (filter (has_part_in range) (xs ++ ys))) ≡ map last_block (cond b (x ∷ filter (has_part_in range) xs) (filter (has_part_in range) xs)) ++ blocks_in_range range ys
+    go true e = ap (λ r. last_block x ∷ r) e
     go false e = e
 
 -- ---- one leaf of a walk

@@ -23,7 +23,7 @@ use Rattle.entry_tree.specs.EntryBounds.{IsEntryOf, Rises}
 use Rattle.table_trees.specs.TableTrees.{TreePlace, dimension_place, dimension_places, place_of_dimension, rising_parts}
 use Rattle.table_trees.proofs.TableTreesLemmas.{AreColumns, narrow_enough}
 use Rattle.block_index.specs.Cells.{FitPlaces, entry_under, key_of_values}
-use Rattle.block_index.specs.PartRanges.{blocks_in_range, has_part_in, named_block, offset_of}
+use Rattle.block_index.specs.PartRanges.{blocks_in_range, has_part_in, last_block, offset_of}
 use Rattle.block_index.specs.Reading.{AreBlocksInSpan, CountsEntries, IsFirstPlace, IsListed, TellsSpan, value_beside}
 use Rattle.block_index.specs.declared.part_range.PartRange.{PartRange}
 use Rattle.block_index.proofs.PartRangesLemmas.{at_cases, count_agree, from_filter, in_filter, length-filter_count, walk_meets, walk_of_first, walk_of_other, walk_within, walked}
@@ -179,23 +179,23 @@ range_of_column columns parts column span low high is range = subst (λ ps. IsRa
 
 -- ---- blocks that entries name
 
-pub named_under : (key : List ℕ) (block : ℕ) → block < 2 ^ 32 → named_block (entry_under key block) ≡ block
+pub named_under : (key : List ℕ) (block : ℕ) → block < 2 ^ 32 → last_block (entry_under key block) ≡ block
 named_under key block small =
     let long : length (entry_under key block) - 4 ≡ length key = omega (arith, length-append key (big_bytes 4 block)) in
     ap (λ n. big_number 4 (drop n (entry_under key block))) long
     ∙ (ap (big_number 4) (drop-append_seam key (big_bytes 4 block)) ∙ (ap (big_number 4) (sym (append-nil (big_bytes 4 block))) ∙ big_number-reads_back 4 block [] small))
 
 -- a block of a list of entries is named by one of them
-named_by : (entries : List Entry) (block : ℕ) → Contains (map named_block entries) block → (x : Entry) × IsEntryOf x entries × (named_block x ≡ block)
+named_by : (entries : List Entry) (block : ℕ) → Contains (map last_block entries) block → (x : Entry) × IsEntryOf x entries × (last_block x ≡ block)
 named_by [] block (k, l, e) = absurd (omega (arith, l))
-named_by (x ∷ entries) block has = elim (contains_cases block (named_block x) (map named_block entries) has) [
+named_by (x ∷ entries) block has = elim (contains_cases block (last_block x) (map last_block entries) has) [
   | inl here ↦ (x, inl refl, here)
   | inr more ↦ (let r = named_by entries block more in (r.0, inr r.1, r.2))
 ]
 
-names_it : (entries : List Entry) (x : Entry) → IsEntryOf x entries → Contains (map named_block entries) (named_block x)
+names_it : (entries : List Entry) (x : Entry) → IsEntryOf x entries → Contains (map last_block entries) (last_block x)
 names_it [] x i = absurd i
-names_it (y ∷ entries) x (inl same) = (0, omega arith, ap named_block (sym same))
+names_it (y ∷ entries) x (inl same) = (0, omega arith, ap last_block (sym same))
 names_it (y ∷ entries) x (inr i) = let r = names_it entries x i in (suc r.0, omega (arith, r.1), r.2)
 
 -- ---- what a range tells
@@ -222,7 +222,7 @@ module _ (columns : List ColumnDef) (places : List ℕ) (column : ℕ) (span : S
           let r = named_by (filter (has_part_in range) (walked width range all)) block (subst (λ ns. Contains ns block) numbers_are ((same block).0 has)) in
           let met = from_filter (has_part_in range) r.0 (walked width range all) r.1 in
           let k = keyed r.0 (walk_within width range all within wide rises r.0 met.0) in
-          let block_is : k.block ≡ block = sym (named_under (key_of_values columns places k.values) k.block k.listed.small) ∙ (ap named_block (sym k.entry_is) ∙ r.2) in (
+          let block_is : k.block ≡ block = sym (named_under (key_of_values columns places k.values) k.block k.listed.small) ∙ (ap last_block (sym k.entry_is) ∙ r.2) in (
             k.values,
             subst (IsListed columns places all k.values) block_is k.listed,
             sym (part_tells k.values k.block k.listed) ∙ (ap (has_part_in range) (sym k.entry_is) ∙ met.1),

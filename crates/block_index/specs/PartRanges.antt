@@ -30,9 +30,9 @@ entries_until range [] = []
 entries_until range (entry ∷ entries) = if ends_walk range entry then [] else entry ∷ entries_until range entries
 
 -- the block that an entry names: its last four bytes
-abbrev pub named_block : Entry → ℕ
-named_block entry = big_number 4 (drop (length entry - 4) entry)
+abbrev pub last_block : Entry → ℕ
+last_block entry = big_number 4 (drop (length entry - 4) entry)
 
 -- the blocks that are named by the entries with the part in the range
 abbrev pub blocks_in_range : PartRange → List Entry → List ℕ
-blocks_in_range range entries = map named_block (filter (has_part_in range) entries)
+blocks_in_range range entries = map last_block (filter (has_part_in range) entries)

@@ -14,22 +14,22 @@
 //! It stands on `table_page`, `table_trees` and `key_codec`, and on `mdc_steps` for how many entries a search goes over.
 #![tactic(auto)]
 
+mod entering;
 mod entries;
 mod in_span;
 mod keys;
 mod leaves;
+mod leaving;
 mod listed_cells;
-mod listing;
 mod one_cell;
 mod part_range;
 mod under_key;
-mod unlisting;
 
+pub use entering::list_block;
 pub use in_span::blocks_in;
 pub use keys::cell_key;
 pub use leaves::{is_below, lowest_bound, out_of_order, read_leaf};
+pub use leaving::unlist_block;
 pub use listed_cells::{CellBlock, cells};
-pub use listing::list_block;
 pub use one_cell::are_of_one_cell;
 pub use under_key::{blocks_of, first_block_from};
-pub use unlisting::unlist_block;

@@ -5,7 +5,7 @@ ghost use Rattle.mdc_words.specs.ByteOrder.{Entry};
 ghost use Rattle.key_codec.specs.Keys.{ArePartsOf, type_of_column, width_of_parts};
 ghost use Rattle.key_codec.specs.Spans.{IsRangeOf, span_has_kind_of};
 ghost use Rattle.table_trees.specs.TableTrees.{rising_parts};
-ghost use Rattle.block_index.specs.PartRanges.{blocks_in_range, ends_walk, entries_until, has_part_in, named_block, offset_of, start_of_walk};
+ghost use Rattle.block_index.specs.PartRanges.{blocks_in_range, ends_walk, entries_until, has_part_in, last_block, offset_of, start_of_walk};
 
 use crate::leaves::is_below;
 use byteorder::{BigEndian, ByteOrder};
@@ -102,7 +102,7 @@ impl PartRange {
             }
             entries.tick();
             if self.holds(entry) {
-                blocks.push(named_block(entry))?;
+                blocks.push(last_block(entry))?;
             }
         }
         Ok(false)
@@ -155,9 +155,9 @@ fn part_offset(columns: &List<ColumnDef>, places: &List<u8>, column: u8) -> usiz
 }
 
 /// The block that an entry names: its last four bytes.
-fn named_block(entry: &[u8]) -> u32
+fn last_block(entry: &[u8]) -> u32
     requires { 4 ≤ length entry.now }
-    ensures { result ≡ named_block entry.now }
+    ensures { result ≡ last_block entry.now }
 {
     BigEndian::read_u32(&entry[entry.len() - 4..])
 }

@@ -11,10 +11,10 @@
 //! It stands on `entry_tree` for the tree. It takes no memory of its own but for a list that it answers and one leaf.
 #![tactic(auto)]
 
+mod by_state;
 mod changing;
 mod counting;
 mod entering;
-mod listing;
 mod looking;
 mod map;
 mod row;

@@ -282,7 +282,7 @@ impl Changes {
     }
 
     /// Gives away the pages of a commit. All are then as at the last commit.
-    pub fn settle(&mut self) -> Vec<(u32, Box<Page>)>
+    pub fn take_pages(&mut self) -> Vec<(u32, Box<Page>)>
         ensures given { unboxed result.items ≡ self.old.pages }
         ensures settled { self.new ≡ nothing (length self.old.now) }
     {

@@ -20,7 +20,7 @@ use Rattle.entry_tree.specs.Forest.{Fits, Forest, IsTree, IsTrimTree, leaf_entri
 use Rattle.entry_tree.specs.Forest.Forest.{Leaf, Nil}
 use Rattle.entry_tree.specs.HeldTrees.{nodes_in, HoldsTree}
 use Rattle.entry_tree.specs.LeafSpots.{IsItemSpot, IsParent}
-use Rattle.entry_tree.specs.Pruning.{BreaksDrop, BreaksTreeOrReturn, DropsLeaf, IsDropLook, IsDropPage, IsDroppableLeaf, IsDropping, IsLeafFrom, IsPruned, IsTreeOrMapPage, RemovesEntry, without_pages}
+use Rattle.entry_tree.specs.Pruning.{BreaksDrop, BreaksTreeOrReturn, DropsLeaf, IsDropLook, IsDropPage, IsDroppableLeaf, IsDropping, HasLeafEntry, IsPruned, IsTreeOrMapPage, RemovesEntry, without_pages}
 use Rattle.entry_tree.specs.Standing.{StandsTree}
 use Rattle.entry_tree.specs.TreeChanges.{IsPut, times_among}
 use Rattle.entry_tree.specs.TreePlaces.{AreMatched, Frame, entries_before, entries_behind, high_of, low_of, plug}
@@ -208,7 +208,7 @@ spot_to_drop {S} {g} {ext} {s} {m} {tree} {owners} {t} {leaf} {place} {page} {at
       };
     }
 
-pub item_leaf : {nodes : ℕ → Node} {t : Forest} {page at : ℕ} {parent : Option (ℕ × ℕ)} → IsItemSpot nodes t page at parent → IsLeafFrom (nodes page) at
+pub item_leaf : {nodes : ℕ → Node} {t : Forest} {page at : ℕ} {parent : Option (ℕ × ℕ)} → IsItemSpot nodes t page at parent → HasLeafEntry (nodes page) at
 item_leaf sp = record { items = sp.items; leaf = sp.leaf; within = sp.within }
 
 -- what isn't met where the tree stands
@@ -292,5 +292,5 @@ same_item {nodes} {t} {page} {at} {parent} {S} {g} {before} {after} {new} {tree}
     let same : sp.items ≡ items = cc in
     subst (λ (l : List Entry). RemovesEntry g before after new tree (get_or l at []) owners t) same r
 
-pub leaf_as : {one other : Node} {at : ℕ} → one ≡ other → IsLeafFrom other at → IsLeafFrom one at
+pub leaf_as : {one other : Node} {at : ℕ} → one ≡ other → HasLeafEntry other at → HasLeafEntry one at
 leaf_as same l = record { items = l.items; leaf = same ∙ l.leaf; within = l.within }

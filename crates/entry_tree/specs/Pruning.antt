@@ -30,7 +30,7 @@ pub record IsPruned (new : ℕ → Node) (root : ℕ) (t : Forest) (above : List
   pub counts : (n : ℕ) → times n after + times_among n gone ≡ times n t
 
 -- a leaf with an entry at a place
-pub record IsLeafFrom (node : Node) (at : ℕ) : Type 0 where
+pub record HasLeafEntry (node : Node) (at : ℕ) : Type 0 where
   pub items : List Entry
   pub leaf : node ≡ LeafNode items
   pub within : at < length items

@@ -8,7 +8,7 @@ ghost use Rattle.store_api.specs.Causes.{fault_of};
 ghost use Rattle.store_api.specs.Frame.{NoPage, OnlyPage};
 ghost use Rattle.store_api.specs.RunsOverPages.{RunsOverPages};
 ghost use Rattle.entry_tree.specs.HeldTrees.{nodes_in};
-ghost use Rattle.entry_tree.specs.Pruning.{IsLeafFrom};
+ghost use Rattle.entry_tree.specs.Pruning.{HasLeafEntry};
 ghost use Rattle.entry_tree.specs.Sweeping.{named_of};
 ghost use Rattle.entry_tree.specs.TreeChanges.{IsPut};
 ghost use Rattle.entry_tree.specs.Writing.{BreaksWhere};
@@ -67,7 +67,7 @@ pub(crate) fn sweep_page<P: Pages>(
     ensures swept { OnOk result ((items : List Entry) → nodes_in tree.now.width (P.state pages.old) page ≡ LeafNode items → from < length items
         → IsPut (nodes_in tree.now.width (P.state pages.old)) (nodes_in tree.now.width (P.state pages.new)) page (LeafNode (without_blocks blocks.now at from items))) }
     ensures count { length (P.state pages.new).work ≡ length (P.state pages.old).work }
-    ensures runs { RunsOverPages P.Pages (OnlyPage page) (OnlyPage page) (BreaksWhere tree.now (IsLeafFrom (nodes_in tree.now.width (P.state pages.old) page) from)) pages.old pages.new (fault_of result) }
+    ensures runs { RunsOverPages P.Pages (OnlyPage page) (OnlyPage page) (BreaksWhere tree.now (HasLeafEntry (nodes_in tree.now.width (P.state pages.old) page) from)) pages.old pages.new (fault_of result) }
 {
     if !sweep_items(pages.edit(page)?, tree.width, from, at, blocks) {
         return Err(tree.damaged());

@@ -11,7 +11,7 @@ ghost use Rattle.store_api.specs.RunsOverPages.{RunsOverPages};
 ghost use Rattle.entry_tree.specs.HeldTrees.{nodes_in};
 ghost use Rattle.entry_tree.specs.TreeChanges.{IsPut};
 ghost use Rattle.entry_tree.specs.Writing.{BreaksWhere};
-ghost use Rattle.entry_tree.specs.Pruning.{IsLeafFrom, IsInnerFrom, IsSomeNode, HasBeside};
+ghost use Rattle.entry_tree.specs.Pruning.{HasLeafEntry, IsInnerFrom, IsSomeNode, HasBeside};
 
 use crate::Tree;
 use node_page::{NodeView, take_entry, take_fork};
@@ -29,7 +29,7 @@ pub(crate) fn take_from_leaf<P: Pages>(
     ensures taken { OnOk result ((items : List Entry) → nodes_in tree.now.width (P.state pages.old) page ≡ LeafNode items → at < length items
         → IsPut (nodes_in tree.now.width (P.state pages.old)) (nodes_in tree.now.width (P.state pages.new)) page (LeafNode (remove items at))) }
     ensures count { length (P.state pages.new).work ≡ length (P.state pages.old).work }
-    ensures runs { RunsOverPages P.Pages (OnlyPage page) (OnlyPage page) (BreaksWhere tree.now (IsLeafFrom (nodes_in tree.now.width (P.state pages.old) page) at)) pages.old pages.new (fault_of result) }
+    ensures runs { RunsOverPages P.Pages (OnlyPage page) (OnlyPage page) (BreaksWhere tree.now (HasLeafEntry (nodes_in tree.now.width (P.state pages.old) page) at)) pages.old pages.new (fault_of result) }
 {
     if !take_item(pages.edit(page)?, tree.width, at) {
         return Err(tree.damaged());

@@ -28,7 +28,7 @@ use Rattle.mdc_sound.specs.SpaceRules.{AreBlockMapsSound, DatabaseView, IsBlockM
 use Rattle.mdc_sound.specs.TablePages.{DefinesTable}
 use Rattle.mdc_sound.specs.TableViews.{TableView}
 use Rattle.mdc_sound.proofs.BlockRulesLemmas.{each_of}
-use Rattle.mdc_sound.proofs.ElementsLemmas.{each_line, from_map, in_map, named_block}
+use Rattle.mdc_sound.proofs.ElementsLemmas.{each_line, from_map, in_map, contains_block}
 use Rattle.mdc_sound.proofs.SpaceRulesLemmas.{there_at}
 use Rattle.mdc_sound.proofs.StandsForLemmas.{one_tree_at}
 use Rattle.file_check.specs.Judging.{BreaksAny, Judges, JudgesEach, JudgesRule}
@@ -66,7 +66,7 @@ module _ (ext : Extents) (kinds : List Kind) (def : TableDef) (t : Forest) where
       record {
         entries = lists.named.written;
         lines = each_line (IsMapLineSound ext kinds def) (leaf_entries t) (λ x at.
-            let block = each_of (IsBlockOf kinds def.number) lists.blocks (map_line x).block lists.are.each (subst (λ bs. Contains bs (map_line x).block) (sym same) (named_block (leaf_entries t) x at)) in
+            let block = each_of (IsBlockOf kinds def.number) lists.blocks (map_line x).block lists.are.each (subst (λ bs. Contains bs (map_line x).block) (sym same) (contains_block (leaf_entries t) x at)) in
             record { state = states_of_form (leaf_entries t) lists.named.states x at; within = omega (arith, block.0, many); owned = block.1 });
         once_each = subst (AllPairs (λ a b. a ≢ b)) same (rise_apart 0 lists.blocks lists.named.rise);
         all_named = λ e low owned. subst (λ bs. Contains bs e) same (lists.are.all e (omega (arith, low, many), owned));

@@ -156,7 +156,7 @@ fn has_no_others(entries: &Entries, index: &TableIndex, noted: &EntrySet, spare:
         if noted.has(entry) {
             continue;
         }
-        if !has_block(spare, block_named_by(index, entry)) {
+        if !has_block(spare, block_in_entry(index, entry)) {
             return false;
         }
     }
@@ -164,7 +164,7 @@ fn has_no_others(entries: &Entries, index: &TableIndex, noted: &EntrySet, spare:
 }
 
 /// The block that an entry of an index names behind its key.
-fn block_named_by(index: &TableIndex, entry: &[u8]) -> u32
+fn block_in_entry(index: &TableIndex, entry: &[u8]) -> u32
     requires width { length entry.now ≡ index.now.tree.width }
     requires wide { bytes_behind_key index.now.kind ≤ index.now.tree.width }
     ensures { result ≡ number_within (index.now.tree.width - bytes_behind_key index.now.kind) 4 entry.now }

@@ -9,7 +9,7 @@ use Rattle.extent_map.specs.declared.extents.Extents.{Extents}
 use Rattle.table_trees.specs.ToldPages.{PageList}
 use Rattle.mdc_sound.specs.Breaks.{IsFirstBreak}
 use Rattle.page_store.specs.Opening.{IsDamagedFile, Refuses}
-use Rattle.page_store.specs.Standing.{pages_of}
+use Rattle.page_store.specs.Standing.{pages_in}
 use Rattle.page_store.specs.declared.fault.OpenFault.{OpenFault}
 use Rattle.page_store.specs.declared.fault.OpenFault.TheVariants as opening
 use Rattle.script_engine.specs.Opening.{KeepsPages}
@@ -52,7 +52,7 @@ module _ {S : Type 0} (g : Ghosts S) where
 
   -- the file of a store that was closed
   pub breaks_closed : (now ext : Extents) (items : List Item) (old new : S) (damage : Damage) (bytes : List ℕ) → IsSameShape now ext → IsTrue (g.state old).is_told → IsTrue (g.state new).is_told
-      → (g.state old).base ≡ (g.state old).work → pages_of bytes ≡ (g.state new).base → BreaksOnStore g now items old new damage → BreaksInFile ext items damage bytes
+      → (g.state old).base ≡ (g.state old).work → pages_in bytes ≡ (g.state new).base → BreaksOnStore g now items old new damage → BreaksInFile ext items damage bytes
   breaks_closed now ext items old new damage bytes along told still committed base breaks = record {
     pages = (g.state new).work;
     first = first_break_along now ext (g.state new).work damage.rule damage.page along (breaks.first told);

@@ -12,7 +12,7 @@ use Rattle.table_trees.specs.ToldPages.{PageList}
 use Rattle.page_file.specs.Bound.{LeavesOf}
 use Rattle.page_store.specs.Bound.{OpensOf}
 use Rattle.page_store.specs.Opened.{CouldBeLeft, LeavesBaseSince, StandsSince}
-use Rattle.page_store.specs.Standing.{IsFormed, pages_of}
+use Rattle.page_store.specs.Standing.{IsFormed, pages_in}
 use Rattle.script_engine.specs.Held.{HeldPages}
 use Rattle.script_session.specs.Going.{GoesOnPages}
 use Rattle.script_session.specs.Leaving.{AreServedPages, LeftByServing}
@@ -53,7 +53,7 @@ module _ {D : Type 0} (d : disk.Ghosts D) where
     pub run : RunsItems ext pages said script left (d.beside new).tape result
     pub leaves : LeavesSince d before said (LeftByRun ext run.held run.states run.outcomes run.in_hand said) old new
 
-  on_file : (before : File) (said : List ℕ) (script left : Option (List ℕ)) (old new : D) (result : Result Served FileStop) → RunsFrom (pages_of before.bytes) before said script left old new result
+  on_file : (before : File) (said : List ℕ) (script left : Option (List ℕ)) (old new : D) (result : Result Served FileStop) → RunsFrom (pages_in before.bytes) before said script left old new result
       → RunsOnFile d before said script left old new result
   on_file before said script left old new result runs = record { ext = runs.ext; states_extents = runs.states_extents; run = runs.run; leaves = runs.leaves }
 
@@ -61,18 +61,18 @@ module _ {D : Type 0} (d : disk.Ghosts D) where
 
   -- an image that the run left, or the store left it, and for the pages of the file the run leaves it
   left_opened : {S : Type 0} (g : pages.Ghosts S) (store : S) (ext : Extents) (held : HeldPages) (run_states : List HeldPages) (outcomes : List Outcome) (in_hand : List Item) (bytes said : List ℕ) (t : ℕ) (image heard : List ℕ)
-      → AreServedPages ext (g.state store).base → held.base ≡ (g.state store).base → (g.state store).base ≡ pages_of bytes
+      → AreServedPages ext (g.state store).base → held.base ≡ (g.state store).base → (g.state store).base ≡ pages_in bytes
       → IsLeftSince (λ pages heard. LeftByServing ext held run_states outcomes in_hand said (Some pages) heard) ext (g.left store t) image heard
       → LeftByRun ext held run_states outcomes in_hand said image heard ⊎ IsLeftByStore g store bytes said (LeftByRun ext held run_states outcomes in_hand said) t image heard
   left_opened g store ext held run_states outcomes in_hand bytes said t image heard served held_base base left =
       split_left left
       (λ formed states was. inr (record {
-        pages = Some (pages_of image);
+        pages = Some (pages_in image);
         left = was;
         kind = λ is same. record {
           formed = formed;
           states_extents = states;
-          left = left_first ext held run_states outcomes in_hand said (g.state store).base (Some (pages_of image)) heard served held_base (is ∙ ap Some (sym base)) same;
+          left = left_first ext held run_states outcomes in_hand said (g.state store).base (Some (pages_in image)) heard served held_base (is ∙ ap Some (sym base)) same;
         };
       }))
       (λ formed states within. inl (record { formed = formed; states_extents = states; left = within }))
@@ -80,7 +80,7 @@ module _ {D : Type 0} (d : disk.Ghosts D) where
 
   -- a run on the store that was opened on a file is one on the file
   pub run_on_file : {S : Type 0} (g : pages.Ghosts S) (store : S) (before : File) (said : List ℕ) (script left : Option (List ℕ)) (old opened new : D) (ext : Extents) (result : Result Served FileStop)
-      → StatesExtents before.bytes ext → ServesStore g d ext said script left store new result → (g.state store).base ≡ pages_of before.bytes
+      → StatesExtents before.bytes ext → ServesStore g d ext said script left store new result → (g.state store).base ≡ pages_in before.bytes
       → TellsNow d old → d.file old ≡ Some before → (d.beside old).tape ≡ Some said → (origin : D) × StandsSince d.clock d.moment before said old origin opened → g.clock store ≡ d.clock opened → d.clock opened ≤ d.clock new
       → ((t : ℕ) (left : Option PageList) (heard : List ℕ) → g.left store t left heard → (image : List ℕ) × d.moment opened t image heard)
       → LeavesBaseSince (d.moment opened) (g.left store) before.bytes said → RunsOnFile d before said script left old new result
@@ -100,7 +100,7 @@ module _ {D : Type 0} (d : disk.Ghosts D) where
 
   -- a crash within an opening that was refused leaves the pages of the file
   leaves_refused : (before : File) (said : List ℕ) (ext : Extents) (held : HeldPages) (run_states : List HeldPages) (outcomes : List Outcome) (in_hand : List Item) (old new : D) (First : Type 0) → IsFormed before.bytes
-      → StatesExtents before.bytes ext → AreServedPages ext (pages_of before.bytes) → held.base ≡ pages_of before.bytes → TellsNow d old → d.file old ≡ Some before → (d.beside old).tape ≡ Some said
+      → StatesExtents before.bytes ext → AreServedPages ext (pages_in before.bytes) → held.base ≡ pages_in before.bytes → TellsNow d old → d.file old ≡ Some before → (d.beside old).tape ≡ Some said
       → OpensOf d old new ⊎ (First × LeavesOf d CouldBeLeft old new) → LeavesSince d before said (LeftByRun ext held run_states outcomes in_hand said) old new
   leaves_refused before said ext held run_states outcomes in_hand old new First formed states served base now_old is told leaves =
       let Left : List ℕ → List ℕ → Type 0 = LeftByRun ext held run_states outcomes in_hand said in
@@ -109,8 +109,8 @@ module _ {D : Type 0} (d : disk.Ghosts D) where
       let stands = stand.1 formed in
       record {
         formed = stands.formed;
-        states_extents = states_standing before.bytes image (pages_of before.bytes) ext stands states;
-        left = left_first ext held run_states outcomes in_hand said (pages_of before.bytes) (Some (pages_of image)) heard served base (ap Some stands.pages) same;
+        states_extents = states_standing before.bytes image (pages_in before.bytes) ext stands states;
+        left = left_first ext held run_states outcomes in_hand said (pages_in before.bytes) (Some (pages_in image)) heard served base (ap Some stands.pages) same;
       }) (λ first. first) is told leaves)
 
   -- a run that stopped before any item, on a well file
@@ -118,10 +118,10 @@ module _ {D : Type 0} (d : disk.Ghosts D) where
       → (end_ ≡ session.Device) ⊎ (end_ ≡ session.Memory) → stop ≡ stop_of_session end_ → TellsNow d old → d.file old ≡ Some before → (d.beside old).tape ≡ Some said
       → OpensOf d old new ⊎ (First × LeavesOf d CouldBeLeft old new) → RunsOnFile d before said script script old new (Err stop)
   refused_on_file laws before said script old new First stop end_ well is_one stop_is now_old is told leaves =
-      let held : HeldPages = record { base = pages_of before.bytes; work = pages_of before.bytes; defs = well.served.defs; open_ = false } in
+      let held : HeldPages = record { base = pages_in before.bytes; work = pages_in before.bytes; defs = well.served.defs; open_ = false } in
       let tape : (d.beside new).tape ≡ Some (said ++ []) = ap (λ b. b.tape) (kept_beside d old new First leaves) ∙ (told ∙ ap Some (sym (append-nil said))) in
-      let run : RunsItems well.ext (pages_of before.bytes) said script script (d.beside new).tape (Err stop) =
-      items_on_lists laws well.ext (pages_of before.bytes) said script script (d.beside new).tape (Err stop) held well.served (record { base = refl; work = refl; defs = well.served.stored; closed = refl })
+      let run : RunsItems well.ext (pages_in before.bytes) said script script (d.beside new).tape (Err stop) =
+      items_on_lists laws well.ext (pages_in before.bytes) said script script (d.beside new).tape (Err stop) held well.served (record { base = refl; work = refl; defs = well.served.stored; closed = refl })
       [] [] [] [] GoesOnPages.nothing [] tape (Err end_) (λ damage ends. no_damage end_ (Err end_) is_one refl damage ends) (ap Err stop_is)
       (ends_first script end_ (λ e. elim is_one [ inl f ↦ cc | inr f ↦ cc ]) (λ e. elim is_one [ inl f ↦ cc | inr f ↦ cc ])) in
       record {

@@ -13,7 +13,7 @@ use Rattle.page_store.specs.FileStore.{IsLeft}
 use Rattle.page_store.specs.Opened.{CouldBeLeft, LeavesBaseSince, StandsSince}
 use Rattle.page_store.specs.Opening.{StandsAs}
 use Rattle.page_store.specs.Shape.{extents_in, extent_pages_in}
-use Rattle.page_store.specs.Standing.{IsFormed, pages_of}
+use Rattle.page_store.specs.Standing.{IsFormed, pages_in}
 use Rattle.page_store.specs.declared.shape.Shape.{Shape}
 use Rattle.script_session.specs.Leaving.{ReopensAlways}
 use Rattle.file_verdict.specs.Resting.{LeavesSince, StaysFormed}
@@ -40,11 +40,11 @@ module _ {D : Type 0} (d : disk.Ghosts D) where
       → ((t : ℕ) (left : Option PageList) (heard : List ℕ) → g.left store t left heard → (image : List ℕ) × d.moment opened t image heard)
       → LeavesBaseSince (d.moment opened) (g.left store) before.bytes said → LeavesSince d before said (λ image tape. StaysFormed before.bytes image) old new
   formed_on_file g store before after said old opened new formed same leaves crash same_clock later by_host rests =
-      let first = formed_standing before.bytes after.bytes (pages_of before.bytes) (same.1 formed) in
+      let first = formed_standing before.bytes after.bytes (pages_in before.bytes) (same.1 formed) in
       inl (rests_on_file d g store before said (λ image tape. StaysFormed before.bytes image) old opened new
       (λ t image heard early now. elim (leaves.since t early image heard now) [
         | inl is ↦ inl (formed_along before.bytes after.bytes image first is)
-        | inr none ↦ inr (record { pages = None; left = none; kind = λ is told. absurd (never_none heard (pages_of before.bytes, is)) })
+        | inr none ↦ inr (record { pages = None; left = none; kind = λ is told. absurd (never_none heard (pages_in before.bytes, is)) })
       ]) crash same_clock later by_host rests)
 
   -- where its opening was refused
@@ -52,7 +52,7 @@ module _ {D : Type 0} (d : disk.Ghosts D) where
       → OpensOf d old new ⊎ (First × LeavesOf d CouldBeLeft old new) → LeavesSince d before said (λ image tape. StaysFormed before.bytes image) old new
   formed_refused before said old new First formed is told leaves =
       leaves_since d before said (λ image tape. StaysFormed before.bytes image) old new
-      (rests_refused d before said (λ image tape. StaysFormed before.bytes image) old new First First (λ image heard stands same. formed_standing before.bytes image (pages_of before.bytes) (stands.1 formed)) (λ first. first) is told leaves)
+      (rests_refused d before said (λ image tape. StaysFormed before.bytes image) old new First First (λ image heard stands same. formed_standing before.bytes image (pages_in before.bytes) (stands.1 formed)) (λ first. first) is told leaves)
 
   -- after a run each image is formed, where each was before
   pub formed_after : (before after : File) (said heard : List ℕ) (old new : D) → TellsNow d old → TellsNow d new → ReachesBack d.clock d.moment new → d.file old ≡ Some before → (d.beside old).tape ≡ Some said

@@ -15,7 +15,7 @@ use Rattle.mdc_sound.specs.SoundDatabase.{IsSoundDatabase}
 use Rattle.mdc_sound.specs.StandsForDatabase.{PagesStandFor}
 use Rattle.page_store.specs.FileStore.{IsLeft}
 use Rattle.page_store.specs.declared.shape.Shape.{Shape}
-use Rattle.page_store.specs.Standing.{pages_of}
+use Rattle.page_store.specs.Standing.{pages_in}
 use Rattle.script_engine.specs.Held.{HeldPages, StandsForSession}
 use Rattle.script_session.specs.Going.{GoesOnPages}
 use Rattle.script_session.specs.Leaving.{AreServedPages, LeftByServing}
@@ -77,7 +77,7 @@ items_on_lists laws ext pages said script left tape result held served opened it
 left_since : {S : Type 0} (clock : S → ℕ) (left : S → ℕ → Option PageList → List ℕ → Type 0) (Run : Option PageList → List ℕ → Type 0) (ext : Extents) (old last : S) (t : ℕ) (image heard : List ℕ)
     → OverTime clock left Run old last → t ≤ clock old → (Run None heard → ⊥)
     → IsLeftSince (λ pages heard. ⊥) ext (left last t) image heard → IsLeftSince (λ pages heard. Run (Some pages) heard) ext (left old t) image heard
-left_since clock left Run ext old last t image heard time early never (inl (formed, states, inl is)) = inl (formed, states, time.only t (Some (pages_of image)) heard early is)
+left_since clock left Run ext old last t image heard time early never (inl (formed, states, inl is)) = inl (formed, states, time.only t (Some (pages_in image)) heard early is)
 left_since clock left Run ext old last t image heard time early never (inl (formed, states, inr is)) = absurd is
 left_since clock left Run ext old last t image heard time early never (inr none) = elim (time.only t None heard early none) [ inl was ↦ inr was | inr within ↦ absurd (never within) ]
 

@@ -11,7 +11,7 @@ use Rattle.page_file.specs.Layout.{file_page}
 use Rattle.page_store.specs.Empty.{IsEmptyDatabase}
 use Rattle.page_store.specs.Fresh.{HoldsFresh, fresh_file}
 use Rattle.page_store.specs.Shape.{extent_pages_in, extents_in}
-use Rattle.page_store.specs.Standing.{pages_of}
+use Rattle.page_store.specs.Standing.{pages_in}
 use Rattle.page_store.proofs.FreshDatabase.{fresh_birth, fresh_is_empty, is_birth}
 use Rattle.page_store.proofs.Roots.{limits_of}
 use Rattle.made_database.specs.MadePages.{made_pages}
@@ -44,7 +44,7 @@ made_empty extents extent_pages file shape is =
 
 -- its pages are those that are made of so many extents
 made_pages_in : (extents extent_pages : ℕ) (file : List ℕ) (ext : Extents) → IsTrue (is_shape extents extent_pages) → file ≡ fresh_file extents extent_pages → ext.cap ≡ extents
-    → pages_of file ≡ made_pages ext.cap
+    → pages_in file ≡ made_pages ext.cap
 made_pages_in extents extent_pages file ext shape is cap = (made_empty extents extent_pages file shape is).pages ∙ ap made_pages (sym cap)
 
 -- a file that was made is well, where its pages may be served
@@ -61,7 +61,7 @@ made_well extents extent_pages file ext shape is cap size served =
 
 -- it stands for what its pages do
 pub made_stands : (extents extent_pages : ℕ) (file : List ℕ) (ext : Extents) → IsTrue (is_shape extents extent_pages) → file ≡ fresh_file extents extent_pages → StatesExtents file ext
-    → PagesStandFor ext (made_pages ext.cap) empty_database → PagesStandFor ext (pages_of file) empty_database
+    → PagesStandFor ext (made_pages ext.cap) empty_database → PagesStandFor ext (pages_in file) empty_database
 made_stands extents extent_pages file ext shape is states stands =
     let cap : ext.cap ≡ extents = sym states.extents ∙ (made_states extents extent_pages file shape is).0 in
     subst (λ (pages : PageList). PagesStandFor ext pages empty_database) (sym (made_pages_in extents extent_pages file ext shape is cap)) stands

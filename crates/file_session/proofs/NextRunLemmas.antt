@@ -8,7 +8,7 @@ use Rattle.extent_map.specs.declared.extents.Extents.{Extents}
 use Rattle.table_trees.specs.ToldPages.{PageList}
 use Rattle.mdc_sound.specs.StandsForDatabase.{PagesStandFor}
 use Rattle.stored_catalog.specs.StoredDefinitions.{AreStored}
-use Rattle.page_store.specs.Standing.{pages_of}
+use Rattle.page_store.specs.Standing.{pages_in}
 use Rattle.script_engine.specs.Held.{HeldPages}
 use Rattle.script_engine.proofs.ShapeLemmas.{stands_for_along}
 use Rattle.script_session.specs.Lists.{IsKeptDatabase}
@@ -32,24 +32,24 @@ stored_opened pages held opened = subst (λ (p : PageList). AreStored p held.def
 pub next_database : ((ext : Extents) (pages : PageList) (a b : Database) → PagesStandFor ext pages a → PagesStandFor ext pages b → a ≡ b)
     → (ext now : Extents) (pages : PageList) (said said_next : List ℕ) (script left tape script_next left_next tape_next : Option (List ℕ)) (result result_next : Result Served FileStop)
     (run : RunsItems ext pages said script left tape result) (image told : List ℕ) (crash : LeftByRun ext run.held run.states run.outcomes run.in_hand said image told)
-    → StatesExtents image now → (next : RunsItems now (pages_of image) said_next script_next left_next tape_next result_next)
+    → StatesExtents image now → (next : RunsItems now (pages_in image) said_next script_next left_next tape_next result_next)
     → IsKeptDatabase ext.cap (session_on run.db) run.sessions run.in_hand crash.left.items next.db
 next_database one ext now pages said said_next script left tape script_next left_next tape_next result result_next run image told crash states next =
     let kept = kept_stand run.goes (stored_opened pages run.held run.opened) run.lists crash.left.kept in
     let shape = stated_shape crash.states_extents states in
     let same = pages_left ext run.held run.states run.outcomes run.in_hand said image told crash in
-    let stands : PagesStandFor now (pages_of image) kept.db =
+    let stands : PagesStandFor now (pages_in image) kept.db =
     subst (λ (p : PageList). PagesStandFor now p kept.db) (sym same) (stands_for_along ext now crash.left.pages kept.db shape kept.stand) in
-    subst (IsKeptDatabase ext.cap (session_on run.db) run.sessions run.in_hand crash.left.items) (one now (pages_of image) kept.db next.db stands next.stands) kept.kept
+    subst (IsKeptDatabase ext.cap (session_on run.db) run.sessions run.in_hand crash.left.items) (one now (pages_in image) kept.db next.db stands next.stands) kept.kept
 
 -- a run on what a crash leaves of a file that is all on the disk, before any run on it came to its origin, has the same database
 pub same_database : ((ext : Extents) (pages : PageList) (a b : Database) → PagesStandFor ext pages a → PagesStandFor ext pages b → a ≡ b)
     → (before : File) (ext now : Extents) (said said_next : List ℕ) (script left tape script_next left_next tape_next : Option (List ℕ)) (result result_next : Result Served FileStop)
-    → before.since ≡ all_synced before.bytes → StatesExtents before.bytes ext → (run : RunsItems ext (pages_of before.bytes) said script left tape result)
-    → (image : List ℕ) → IsImage before.since image → StatesExtents image now → (next : RunsItems now (pages_of image) said_next script_next left_next tape_next result_next) → next.db ≡ run.db
+    → before.since ≡ all_synced before.bytes → StatesExtents before.bytes ext → (run : RunsItems ext (pages_in before.bytes) said script left tape result)
+    → (image : List ℕ) → IsImage before.since image → StatesExtents image now → (next : RunsItems now (pages_in image) said_next script_next left_next tape_next result_next) → next.db ≡ run.db
 same_database one before ext now said said_next script left tape script_next left_next tape_next result result_next synced states run image could states_now next =
     let same : image ≡ before.bytes = synced_image before image synced could in
     let shape = stated_shape (subst (λ (bytes : List ℕ). StatesExtents bytes ext) (sym same) states) states_now in
-    let stands : PagesStandFor now (pages_of image) run.db =
-    subst (λ (bytes : List ℕ). PagesStandFor now (pages_of bytes) run.db) (sym same) (stands_for_along ext now (pages_of before.bytes) run.db shape run.stands) in
-    one now (pages_of image) next.db run.db next.stands stands
+    let stands : PagesStandFor now (pages_in image) run.db =
+    subst (λ (bytes : List ℕ). PagesStandFor now (pages_in bytes) run.db) (sym same) (stands_for_along ext now (pages_in before.bytes) run.db shape run.stands) in
+    one now (pages_in image) next.db run.db next.stands stands

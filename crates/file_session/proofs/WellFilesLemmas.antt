@@ -11,7 +11,7 @@ use Rattle.stored_catalog.specs.StoredDefinitions.{AreStored}
 use Rattle.page_store.proofs.Crashes.{only_itself}
 use Rattle.page_store.specs.Opened.{IsJustOpened}
 use Rattle.page_store.specs.Opening.{IsServed, Refuses}
-use Rattle.page_store.specs.Standing.{pages_of}
+use Rattle.page_store.specs.Standing.{pages_in}
 use Rattle.page_store.specs.declared.fault.OpenFault.{OpenFault}
 use Rattle.script_engine.specs.Held.{HeldPages}
 use Rattle.script_engine.specs.Opening.{IsSoundStore}
@@ -46,9 +46,9 @@ stop_of_well fault stop bytes served refuses stops = elim (refused_served fault 
 
 -- a store that was just opened on a well file tells sound pages
 pub sound_opened : {S : Type 0} (g : Ghosts S) (s : S) (bytes : List ℕ) (is_told : Bool) (tape : Option (List ℕ)) (attaches : Option (List (List ℕ × Bool))) (well : IsWell bytes) → is_told ≡ true → IsJustOpened is_told tape attaches (g.state s)
-    → (g.state s).base ≡ pages_of bytes → IsSoundStore g well.ext s
+    → (g.state s).base ≡ pages_in bytes → IsSoundStore g well.ext s
 sound_opened g s bytes is_told tape attaches well tells just base =
-    let work : (g.state s).work ≡ pages_of bytes = ap (λ state. state.work) just ∙ base in
+    let work : (g.state s).work ≡ pages_in bytes = ap (λ state. state.work) just ∙ base in
     record {
       told = ap (λ state. state.is_told) just ∙ tells;
       sound = (well.served.sound.0, subst (λ (pages : PageList). KeepAllRules well.ext pages well.served.sound.0) (sym work) well.served.sound.1);
@@ -62,8 +62,8 @@ sound_opened g s bytes is_told tape attaches well tells just base =
 
 -- the pages of an image that a crash within a run leaves are those that the run left
 pub pages_left : (ext : Extents) (held : HeldPages) (states : List HeldPages) (outcomes : List Outcome) (in_hand : List Item) (said image heard : List ℕ) → (run : LeftByRun ext held states outcomes in_hand said image heard)
-    → pages_of image ≡ run.left.pages
-pages_left ext held states outcomes in_hand said image heard run = let both : Some (pages_of image) ≡ Some run.left.pages = run.left.reopens in cc
+    → pages_in image ≡ run.left.pages
+pages_left ext held states outcomes in_hand said image heard run = let both : Some (pages_in image) ≡ Some run.left.pages = run.left.reopens in cc
 
 -- what a crash within a run leaves is well
 pub well_left : (ext : Extents) (held : HeldPages) (states : List HeldPages) (outcomes : List Outcome) (in_hand : List Item) (said image heard : List ℕ) → LeftByRun ext held states outcomes in_hand said image heard → IsWell image

@@ -8,7 +8,7 @@ use Rattle.extent_map.specs.declared.extents.Extents.{Extents}
 use Rattle.table_trees.specs.ToldPages.{PageList}
 use Rattle.mdc_sound.specs.Breaks.{IsFirstBreak}
 use Rattle.page_store.specs.Opening.{IsDamagedFile}
-use Rattle.page_store.specs.Standing.{pages_of}
+use Rattle.page_store.specs.Standing.{pages_in}
 use Rattle.script_engine.specs.Committing.{IsUncounted}
 use Rattle.script_session.specs.Damaged.{opened_behind}
 use Rattle.script_session.specs.Replying.{RepliesTo}
@@ -32,7 +32,7 @@ pub record BreaksOnStore {S : Type 0} (g : Ghosts S) (ext : Extents) (items : Li
 pub record BreaksInFile (ext : Extents) (items : List Item) (damage : Damage) (file : List ℕ) : Type 0 where
   pub pages : PageList
   pub first : IsFirstBreak ext pages damage.rule damage.page
-  pub theirs : opened_behind items false ≡ false → (pages ≡ pages_of file) ⊎ IsUncounted pages
+  pub theirs : opened_behind items false ≡ false → (pages ≡ pages_in file) ⊎ IsUncounted pages
 
 -- The run's replies are those to some items of the script, and the damage is that of the pages that were held behind these items, in
 -- the file as it is at the end.

@@ -4,7 +4,7 @@ use Rattle.mdc_ast.specs.declared.reply.Outcome.{Outcome}
 use Rattle.mdc_ast.specs.Reading.{Item}
 use Rattle.mdc_outside.specs.Disk.{File, IsImage}
 use Rattle.extent_map.specs.declared.extents.Extents.{Extents}
-use Rattle.page_store.specs.Standing.{IsFormed, pages_of}
+use Rattle.page_store.specs.Standing.{IsFormed, pages_in}
 use Rattle.file_verdict.specs.SoundFile.{StatesExtents}
 use Rattle.script_engine.specs.Held.{HeldPages}
 use Rattle.script_session.specs.Leaving.{LeftByServing}
@@ -14,7 +14,7 @@ use Rattle.script_session.specs.Leaving.{LeftByServing}
 pub record LeftByRun (ext : Extents) (held : HeldPages) (states : List HeldPages) (outcomes : List Outcome) (in_hand : List Item) (said image tape : List ℕ) : Type 0 where
   pub formed : IsFormed image
   pub states_extents : StatesExtents image ext
-  pub left : LeftByServing ext held states outcomes in_hand said (Some (pages_of image)) tape
+  pub left : LeftByServing ext held states outcomes in_hand said (Some (pages_in image)) tape
 
 -- each image that a crash may leave of a file is formed
 abbrev pub AreFormed : File → Type 0

@@ -9,7 +9,7 @@ use Rattle.store_api.specs.declared.fault.Damage.{Damage}
 use Rattle.store_api.specs.declared.pages.Pages as pages
 use Rattle.extent_map.specs.Owners.{IsSameShape}
 use Rattle.extent_map.specs.declared.extents.Extents.{Extents}
-use Rattle.page_store.specs.Standing.{IsFormed, pages_of}
+use Rattle.page_store.specs.Standing.{IsFormed, pages_in}
 use Rattle.script_engine.specs.Held.{HeldPages}
 use Rattle.script_session.specs.Going.{GoesOnPages}
 use Rattle.script_session.specs.Leaving.{AreServedPages, LeftByServing}
@@ -46,7 +46,7 @@ pub record RunsOnStore {S : Type 0} (g : pages.Ghosts S) (stated : Extents) (scr
 -- the store left the pages that it stands for at its opening, or the run leaves them. Or the store left a file that doesn't reopen.
 abbrev pub IsLeftSince : (List (List ℕ) → List ℕ → Type 0) → Extents → (Option (List (List ℕ)) → List ℕ → Type 0) → List ℕ → List ℕ → Type 0
 IsLeftSince Run ext left image heard =
-    (IsFormed image × StatesExtents image ext × (left (Some (pages_of image)) heard ⊎ Run (pages_of image) heard)) ⊎ left None heard
+    (IsFormed image × StatesExtents image ext × (left (Some (pages_in image)) heard ⊎ Run (pages_in image) heard)) ⊎ left None heard
 
 -- Such a run over the lists of rows that the pages stand for, as the host has it to which the store was closed.
 pub record ServesStore {S D : Type 0} (g : pages.Ghosts S) (d : disk.Ghosts D) (stated : Extents) (said : List ℕ) (script left : Option (List ℕ)) (old : S) (new : D) (result : Result Served FileStop) : Type 0 where

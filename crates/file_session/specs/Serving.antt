@@ -11,7 +11,7 @@ use Rattle.extent_map.specs.declared.extents.Extents.{Extents}
 use Rattle.table_trees.specs.ToldPages.{PageList}
 use Rattle.mdc_sound.specs.StandsForDatabase.{PagesStandFor}
 use Rattle.stored_catalog.specs.StoredDefinitions.{AreStored}
-use Rattle.page_store.specs.Standing.{pages_of}
+use Rattle.page_store.specs.Standing.{pages_in}
 use Rattle.script_engine.specs.Held.{HeldPages}
 use Rattle.script_session.specs.Going.{GoesOnPages}
 use Rattle.script_session.specs.Lists.{GoesOnLists}
@@ -69,5 +69,5 @@ RepliesBySession script left old new result =
 pub record RunsOnFile {D : Type 0} (g : Ghosts D) (before : File) (said : List ℕ) (script left : Option (List ℕ)) (old new : D) (result : Result Served FileStop) : Type 0 where
   pub ext : Extents
   pub states_extents : StatesExtents before.bytes ext
-  pub run : RunsItems ext (pages_of before.bytes) said script left (g.beside new).tape result
+  pub run : RunsItems ext (pages_in before.bytes) said script left (g.beside new).tape result
   pub leaves : LeavesSince g before said (LeftByRun ext run.held run.states run.outcomes run.in_hand said) old new

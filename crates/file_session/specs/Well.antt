@@ -1,7 +1,7 @@
 -- Which files are well: each bit of what they stand for is as it should be (docs/FORMAT.md).
 use Rattle.std.specs.Prelude.{ℕ, List}
 use Rattle.mdc_outside.specs.Disk.{File, IsImage}
-use Rattle.page_store.specs.Standing.{IsFormed, pages_of}
+use Rattle.page_store.specs.Standing.{IsFormed, pages_in}
 use Rattle.extent_map.specs.declared.extents.Extents.{Extents}
 use Rattle.file_verdict.specs.SoundFile.{StatesExtents}
 use Rattle.script_session.specs.Leaving.{AreServedPages}
@@ -12,7 +12,7 @@ pub record IsWell (file : List ℕ) : Type 0 where
   pub formed : IsFormed file
   pub ext : Extents
   pub states : StatesExtents file ext
-  pub served : AreServedPages ext (pages_of file)
+  pub served : AreServedPages ext (pages_in file)
 
 -- each image that a crash may leave of a file is well
 abbrev pub AreWell : File → Type 0

@@ -10,7 +10,7 @@ ghost use Rattle.extent_map.specs.declared.extents.Extents.{Extents};
 ghost use Rattle.table_trees.specs.ToldPages.{PageList};
 ghost use Rattle.mdc_sound.specs.StandsForDatabase.{PagesStandFor};
 ghost use Rattle.page_store.specs.Fresh.{HoldsFresh, fresh_file};
-ghost use Rattle.page_store.specs.Standing.{pages_of};
+ghost use Rattle.page_store.specs.Standing.{pages_in};
 ghost use Rattle.script_engine.specs.Held.{HeldPages};
 ghost use Rattle.script_session.specs.Lists.{IsKeptDatabase};
 ghost use Rattle.script_session.specs.declared.stop.Served.{Served};
@@ -30,7 +30,7 @@ pub fn made_is_well()
     ensures well { (extents extent_pages : ℕ) (file : List ℕ) → IsTrue (is_shape extents extent_pages) → file ≡ fresh_file extents extent_pages → IsWell file }
     ensures each { (extents extent_pages : ℕ) (file : File) → IsTrue (is_shape extents extent_pages) → HoldsFresh extents extent_pages file → AreWell file }
     ensures stands { (extents extent_pages : ℕ) (file : List ℕ) → IsTrue (is_shape extents extent_pages) → file ≡ fresh_file extents extent_pages
-        → (ext : Extents) → StatesExtents file ext → PagesStandFor ext (pages_of file) empty_database }
+        → (ext : Extents) → StatesExtents file ext → PagesStandFor ext (pages_in file) empty_database }
 {
     made_database_is_sound();
 }
@@ -48,11 +48,11 @@ pub fn left_by_run_is_well()
 pub fn next_run_goes_on()
     ensures kept { (ext now : Extents) (pages : PageList) (said said_next : List ℕ) (script left tape script_next left_next tape_next : Option (List ℕ)) (result result_next : Result Served FileStop)
         → (run : RunsItems ext pages said script left tape result) (image told : List ℕ) (crash : LeftByRun ext run.held run.states run.outcomes run.in_hand said image told)
-        → StatesExtents image now → (next : RunsItems now (pages_of image) said_next script_next left_next tape_next result_next)
+        → StatesExtents image now → (next : RunsItems now (pages_in image) said_next script_next left_next tape_next result_next)
         → IsKeptDatabase ext.cap (session_on run.db) run.sessions run.in_hand crash.left.items next.db }
     ensures same { (before : File) (ext now : Extents) (said said_next : List ℕ) (script left tape script_next left_next tape_next : Option (List ℕ)) (result result_next : Result Served FileStop)
-        → before.since ≡ all_synced before.bytes → StatesExtents before.bytes ext → (run : RunsItems ext (pages_of before.bytes) said script left tape result)
-        → (image : List ℕ) → IsImage before.since image → StatesExtents image now → (next : RunsItems now (pages_of image) said_next script_next left_next tape_next result_next)
+        → before.since ≡ all_synced before.bytes → StatesExtents before.bytes ext → (run : RunsItems ext (pages_in before.bytes) said script left tape result)
+        → (image : List ℕ) → IsImage before.since image → StatesExtents image now → (next : RunsItems now (pages_in image) said_next script_next left_next tape_next result_next)
         → next.db ≡ run.db }
 {
     // Pages stand for one database.

@@ -20,7 +20,7 @@ use Rattle.page_store.proofs.Judged.{served_formed}
 use Rattle.page_store.specs.FileStore.{IsLeft}
 use Rattle.page_store.specs.Opening.{IsServed}
 use Rattle.page_store.specs.Shape.{extents_in, extent_pages_in}
-use Rattle.page_store.specs.Standing.{IsStoreImage, Stands, pages_of}
+use Rattle.page_store.specs.Standing.{IsStoreImage, Stands, pages_in}
 use Rattle.page_store.specs.declared.shape.Shape.{Shape}
 use Rattle.file_check.specs.Verdicts.{IsVerdictOf}
 use Rattle.file_check.specs.declared.verdict.Verdict.{Verdict}
@@ -63,7 +63,7 @@ found_counted found verdict before now last is same counts =
     other_way (Err page.Memory) e = absurd (cc)
 
 -- the verdict on the pages of a file that can be served is that on the file
-pub verdict_on_file : (bytes : List ℕ) (ext : Extents) (verdict : Result Verdict Unjudged) → IsServed bytes → StatesExtents bytes ext → IsVerdictOnPages ext (pages_of bytes) verdict → IsVerdictOn bytes verdict
+pub verdict_on_file : (bytes : List ℕ) (ext : Extents) (verdict : Result Verdict Unjudged) → IsServed bytes → StatesExtents bytes ext → IsVerdictOnPages ext (pages_in bytes) verdict → IsVerdictOn bytes verdict
 verdict_on_file bytes ext (Ok Sound) served states is = record { formed = served_formed bytes served; ext = ext; states = states; sound = is.sound }
 verdict_on_file bytes ext (Ok (Broken damage)) served states is = inr (record { served = served; ext = ext; states = states; first = is })
 verdict_on_file bytes ext (Err Device) served states is = tt
@@ -78,11 +78,11 @@ stated_alike bytes first second one other = record { cap = sym other.extents ∙
 
 -- pages of a sound file have no verdict but that they are sound
 pub answer_on_sound : ((ext : Extents) (pages : PageList) (rule page : ℕ) → IsSoundDatabase ext pages → BreaksRule ext pages rule page → ⊥) → (bytes : List ℕ) (ext : Extents) (verdict : Result Verdict Unjudged)
-    → StatesExtents bytes ext → IsVerdictOnPages ext (pages_of bytes) verdict → IsSoundFile bytes → IsAnswerOnSound verdict
+    → StatesExtents bytes ext → IsVerdictOnPages ext (pages_in bytes) verdict → IsSoundFile bytes → IsAnswerOnSound verdict
 answer_on_sound unbroken bytes ext (Ok Sound) states is sound = tt
 answer_on_sound unbroken bytes ext (Ok (Broken damage)) states is sound =
-    let first = first_break_along ext sound.ext (pages_of bytes) damage.rule damage.page (stated_alike bytes ext sound.ext states sound.states) is in
-    unbroken sound.ext (pages_of bytes) damage.rule damage.page sound.sound first.breaks
+    let first = first_break_along ext sound.ext (pages_in bytes) damage.rule damage.page (stated_alike bytes ext sound.ext states sound.states) is in
+    unbroken sound.ext (pages_in bytes) damage.rule damage.page sound.sound first.breaks
 answer_on_sound unbroken bytes ext (Err Device) states is sound = tt
 answer_on_sound unbroken bytes ext (Err Memory) states is sound = tt
 answer_on_sound unbroken bytes ext (Err Unmade) states is sound = is
@@ -113,10 +113,10 @@ formed_left shape file at_end image extents extent_pages is = record { formed = 
 pub left_base : {S : Type 0} (g : pages.Ghosts S) (shape : Shape) (file at_end said : List ℕ) (old last : S) (t : ℕ) (image heard : List ℕ)
     → Steady g old last → t ≤ g.clock old → (g.state old).told ≡ Some said → shape.extents ≡ extents_in (file_page file 1) → shape.extent_pages ≡ extent_pages_in (file_page file 1)
     → IsLeft shape at_end (g.left last t) image heard
-    → (StaysFormed file image × (g.left old t (Some (pages_of image)) heard ⊎ ((pages_of image ≡ (g.state old).base) × (heard ≡ said)))) ⊎ g.left old t None heard
+    → (StaysFormed file image × (g.left old t (Some (pages_in image)) heard ⊎ ((pages_in image ≡ (g.state old).base) × (heard ≡ said)))) ⊎ g.left old t None heard
 left_base g shape file at_end said old last t image heard steady early told extents extent_pages (inl (is, was)) = inl (
   formed_left shape file at_end image extents extent_pages is,
-  elim (steady.time.only t (Some (pages_of image)) heard early was) [
+  elim (steady.time.only t (Some (pages_in image)) heard early was) [
     | inl before ↦ inl before
     | inr within ↦ inr ((let same = within.0 in cc), subst (λ (o : Option (List ℕ)). IfSome o (λ bytes. heard ≡ bytes)) told within.1)
   ],
@@ -127,17 +127,17 @@ left_base g shape file at_end said old last t image heard steady early told exte
 ]
 
 -- what stands for the pages of what an opening made of a file stands for the file as before
-as_before : (before after image : List ℕ) → Stands before (pages_of before) after → StaysFormed after image → pages_of image ≡ pages_of before → StandsAsBefore before image
-as_before before after image stands is same = record { stays = formed_along before after image (formed_standing before after (pages_of before) stands) is; pages = same }
+as_before : (before after image : List ℕ) → Stands before (pages_in before) after → StaysFormed after image → pages_in image ≡ pages_in before → StandsAsBefore before image
+as_before before after image stands is same = record { stays = formed_along before after image (formed_standing before after (pages_in before) stands) is; pages = same }
 
 -- so does all that is left of a host whose file was opened and judged
-pub judged_left : {S D : Type 0} (g : pages.Ghosts S) (d : disk.Ghosts D) (store : S) (new : D) (before after said : List ℕ) → Stands before (pages_of before) after → (g.state store).base ≡ pages_of before
+pub judged_left : {S D : Type 0} (g : pages.Ghosts S) (d : disk.Ghosts D) (store : S) (new : D) (before after said : List ℕ) → Stands before (pages_in before) after → (g.state store).base ≡ pages_in before
     → LeavesBase g d after said store new → (t : ℕ) (image heard : List ℕ) → t ≤ g.clock store → d.moment new t image heard
     → (StandsAsBefore before image × (heard ≡ said)) ⊎ IsLeftByStore g store before said (λ image heard. StandsAsBefore before image × (heard ≡ said)) t image heard
 judged_left g d store new before after said stands base leaves t image heard early now = elim (leaves.since t early image heard now) [
   | inl formed ↦ elim formed.1 [
     | inl was ↦ inr (record {
-      pages = Some (pages_of image);
+      pages = Some (pages_in image);
       left = was;
       kind = λ same tape. (as_before before after image stands formed.0 (let pages = same in cc), tape);
     })

@@ -12,7 +12,7 @@ use Rattle.page_file.specs.Leaving.{LeavesImage}
 use Rattle.page_store.specs.Bound.{OpensOf}
 use Rattle.page_store.specs.Opened.{CouldBeLeft, LeavesBaseSince, StandsSince}
 use Rattle.page_store.specs.Opening.{StandsAs}
-use Rattle.page_store.specs.Standing.{pages_of}
+use Rattle.page_store.specs.Standing.{pages_in}
 use Rattle.file_verdict.specs.Resting.{ComesToRest, LeavesSince, WasTold}
 
 -- A store left pages since a time, with this tape. Where they are those of the file, and the tape is as it was said, an image is of the
@@ -20,7 +20,7 @@ use Rattle.file_verdict.specs.Resting.{ComesToRest, LeavesSince, WasTold}
 pub record IsLeftByStore {S : Type 0} (g : pages.Ghosts S) (store : S) (file said : List ℕ) (Kind : List ℕ → List ℕ → Type 0) (t : ℕ) (image heard : List ℕ) : Type 0 where
   pub pages : Option PageList
   pub left : g.left store t pages heard
-  pub kind : pages ≡ Some (pages_of file) → heard ≡ said → Kind image heard
+  pub kind : pages ≡ Some (pages_in file) → heard ≡ said → Kind image heard
 
 module _ {D : Type 0} (d : disk.Ghosts D) where
   -- a host tells that of its file and its tape what a crash now leaves

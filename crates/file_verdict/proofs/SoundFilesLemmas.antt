@@ -12,7 +12,7 @@ use Rattle.page_file.specs.Layout.{file_page, page_start}
 use Rattle.page_store.proofs.FreshBytes.{length-zero_page}
 use Rattle.page_store.specs.Opening.{IsServed, Refuses}
 use Rattle.page_store.specs.Shape.{extent_pages_in, extents_in}
-use Rattle.page_store.specs.Standing.{Stands, count_of, page_of, pages_of}
+use Rattle.page_store.specs.Standing.{Stands, count_of, page_of, pages_in}
 use Rattle.page_store.specs.declared.fault.OpenFault.{OpenFault}
 use Rattle.page_store.specs.declared.fault.OpenFault.TheVariants as opening
 use Rattle.file_verdict.specs.Resting.{StandsAsBefore, StaysFormed}
@@ -31,7 +31,7 @@ root_version : (count : ℕ) (page : List ℕ) → page ≡ stated_root count �
 root_version count page is = ap version_of_page is
 
 -- page 0 of a sound file is a sound root page
-root_of_sound : (bytes : List ℕ) → IsSoundFile bytes → page_of bytes 0 ≡ stated_root (length (pages_of bytes))
+root_of_sound : (bytes : List ℕ) → IsSoundFile bytes → page_of bytes 0 ≡ stated_root (length (pages_in bytes))
 root_of_sound bytes file =
     let root = file.sound.1.first.rule1 in
     let some : 0 < count_of bytes = omega (arith, root.count.count, length-listed (count_of bytes) (page_of bytes)) in
@@ -50,9 +50,9 @@ sound_is_served bytes file =
     ∙ ap (λ n. first_count (extents_in (file_page bytes 1)) + count.extents * n) (sym file.states.extent_pages))) in (
       (long, formed.made),
       formed.birth,
-      record { journal = formed.journal; root = record { size = root_size (length (pages_of bytes)) (page_of bytes 0) page; begins = ap (take 4) page; counts = (count.extents, within, counts) } },
+      record { journal = formed.journal; root = record { size = root_size (length (pages_in bytes)) (page_of bytes 0) page; begins = ap (take 4) page; counts = (count.extents, within, counts) } },
       formed.whole,
-      root_version (length (pages_of bytes)) (page_of bytes 0) page,
+      root_version (length (pages_in bytes)) (page_of bytes 0) page,
     )
 
 -- the opening of a file that can be served is refused for a fault of the disk or for want of memory alone
@@ -86,8 +86,8 @@ pub formed_along : (file middle image : List ℕ) → StaysFormed file middle �
 formed_along file middle image first then = record { formed = then.formed; extents = then.extents ∙ first.extents; extent_pages = then.extent_pages ∙ first.extent_pages }
 
 -- what a file stands for stands for it as before
-pub stands_before : (file image : List ℕ) → Stands file (pages_of file) image → StandsAsBefore file image
-stands_before file image stands = record { stays = formed_standing file image (pages_of file) stands; pages = stands.pages }
+pub stands_before : (file image : List ℕ) → Stands file (pages_in file) image → StandsAsBefore file image
+stands_before file image stands = record { stays = formed_standing file image (pages_in file) stands; pages = stands.pages }
 
 -- what stands for the pages of a file states its extents
 pub states_as_before : (file image : List ℕ) (ext : Extents) → StandsAsBefore file image → StatesExtents file ext → StatesExtents image ext

@@ -8,7 +8,7 @@ use Rattle.page_file.specs.Layout.{file_page}
 use Rattle.page_file.specs.Leaving.{LeavesImage}
 use Rattle.page_store.specs.Opened.{CouldBeLeft}
 use Rattle.page_store.specs.Shape.{extents_in, extent_pages_in}
-use Rattle.page_store.specs.Standing.{IsFormed, pages_of}
+use Rattle.page_store.specs.Standing.{IsFormed, pages_in}
 
 -- these bytes were said as the run began, or could be left on the tape before
 abbrev pub WasTold : {D : Type 0} → disk.Ghosts D → ℕ → List ℕ → D → List ℕ → Type 0
@@ -37,11 +37,11 @@ pub record StaysFormed (file image : List ℕ) : Type 0 where
 -- An image that stands for what the file stands for: it is formed, states the file's extents, and has the same pages.
 pub record StandsAsBefore (file image : List ℕ) : Type 0 where
   pub stays : StaysFormed file image
-  pub pages : pages_of image ≡ pages_of file
+  pub pages : pages_in image ≡ pages_in file
 
 -- What is left of the host to which a store was closed, by what the store left as it was opened: an image is formed and states what the
 -- file states, and the store left the pages that it stands for, or they are its base, with the tape as it was. Or the store left a file
 -- that doesn't reopen.
 pub record LeavesBase {S D : Type 0} (g : pages.Ghosts S) (d : disk.Ghosts D) (file said : List ℕ) (old : S) (new : D) : Type 0 where
   pub since : (t : ℕ) → t ≤ g.clock old → (image heard : List ℕ) → d.moment new t image heard
-      → (StaysFormed file image × (g.left old t (Some (pages_of image)) heard ⊎ ((pages_of image ≡ (g.state old).base) × (heard ≡ said)))) ⊎ g.left old t None heard
+      → (StaysFormed file image × (g.left old t (Some (pages_in image)) heard ⊎ ((pages_in image ≡ (g.state old).base) × (heard ≡ said)))) ⊎ g.left old t None heard

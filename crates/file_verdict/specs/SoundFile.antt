@@ -5,7 +5,7 @@ use Rattle.extent_map.specs.declared.extents.Extents.{Extents}
 use Rattle.mdc_sound.specs.SoundDatabase.{IsSoundDatabase}
 use Rattle.page_file.specs.Layout.{file_page}
 use Rattle.page_store.specs.Shape.{extents_in, extent_pages_in}
-use Rattle.page_store.specs.Standing.{IsFormed, pages_of}
+use Rattle.page_store.specs.Standing.{IsFormed, pages_in}
 
 -- the birth page of a file states the extents
 pub record StatesExtents (file : List ℕ) (ext : Extents) : Type 0 where
@@ -18,7 +18,7 @@ pub record IsSoundFile (file : List ℕ) : Type 0 where
   pub formed : IsFormed file
   pub ext : Extents
   pub states : StatesExtents file ext
-  pub sound : IsSoundDatabase ext (pages_of file)
+  pub sound : IsSoundDatabase ext (pages_in file)
 
 -- each image that a crash may leave of a file is sound
 abbrev pub AreSoundFiles : File → Type 0

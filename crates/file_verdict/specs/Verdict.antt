@@ -8,7 +8,7 @@ use Rattle.table_trees.specs.ToldPages.{PageList}
 use Rattle.mdc_sound.specs.Breaks.{IsFirstBreak}
 use Rattle.page_store.specs.Fresh.{IsUnmade}
 use Rattle.page_store.specs.Opening.{IsDamagedFile, IsOfVersion, IsOther, IsServed}
-use Rattle.page_store.specs.Standing.{pages_of}
+use Rattle.page_store.specs.Standing.{pages_in}
 use Rattle.file_check.specs.Verdicts.{IsVerdictOf}
 use Rattle.file_check.specs.declared.verdict.Verdict.{Verdict}
 use Rattle.file_check.specs.declared.verdict.Verdict.TheVariants.{Broken, Sound}
@@ -22,7 +22,7 @@ pub record BreaksFirst (damage : Damage) (file : List ℕ) : Type 0 where
   pub served : IsServed file
   pub ext : Extents
   pub states : StatesExtents file ext
-  pub first : IsFirstBreak ext (pages_of file) damage.rule damage.page
+  pub first : IsFirstBreak ext (pages_in file) damage.rule damage.page
 
 -- The file is sound; or it can't be opened for this damage, or it can and this is the first rule that its pages break; or it isn't
 -- made, is another program's, or is of this other version. A fault of the disk and a want of memory say nothing of it.

@@ -35,7 +35,7 @@ use Rattle.mdc_sound.specs.Placing.Spot.{FreeBlock, FreeExtent, IndexExtent, Oth
 use Rattle.mdc_sound.specs.StandingTable.{StandsTable, TableForests, pages_of, spots_of}
 use Rattle.mdc_sound.specs.TableRows.{PlacedRow, block_slots, rows_in_block, rows_in_table}
 use Rattle.mdc_sound.proofs.BlockRulesLemmas.{each_of, line_at, named_owned}
-use Rattle.mdc_sound.proofs.ElementsLemmas.{contains_flat, each_entry, entry_in, flat_contains, from_map, named_block}
+use Rattle.mdc_sound.proofs.ElementsLemmas.{contains_flat, each_entry, entry_in, flat_contains, from_map, contains_block}
 use Rattle.mdc_sound.proofs.MappedBlocksLemmas.{IsUsedLine, map_form, used_line, used_number}
 use Rattle.mdc_sound.proofs.SlotRowsLemmas.{IsPlaced, empty_slot, fewer_rows, length-block_slots, length-rows_from_slot, placed_in_slot, slot_of_placed}
 use Rattle.mdc_sound.proofs.StandingTableLemmas.{stands_same}
@@ -69,7 +69,7 @@ module _ {S : Type 0} {g : Ghosts S} (ext : Extents) (s : S) (def : TableDef) (o
   pub used_is_mapped : (block : ℕ) → Contains (used_blocks forests.map) block → FindsBlock forests.map block None → ⊥
   used_is_mapped block used none =
       let line = used_line forests.map block used in
-      none (st.map.entries, subst (Contains (mapped_blocks forests.map)) line.block_is (named_block (leaf_entries forests.map) line.entry line.there))
+      none (st.map.entries, subst (Contains (mapped_blocks forests.map)) line.block_is (contains_block (leaf_entries forests.map) line.entry line.there))
 
   -- its row is that of its entry
   row_of_line : (block : ℕ) (row : BlockRow) → Contains (used_blocks forests.map) block → row.block ≡ block → HasRow row forests.map → (line : IsUsedLine forests.map block) → row_entry row ≡ line.entry

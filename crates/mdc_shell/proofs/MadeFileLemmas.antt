@@ -15,7 +15,7 @@ use Rattle.mdc_sound.specs.StandsForDatabase.{PagesStandFor}
 use Rattle.stored_catalog.specs.StoredDefinitions.{AreStored}
 use Rattle.page_store.specs.Empty.{IsEmptyDatabase}
 use Rattle.page_store.specs.Fresh.{HoldsFresh}
-use Rattle.page_store.specs.Standing.{pages_of}
+use Rattle.page_store.specs.Standing.{pages_in}
 use Rattle.made_database.specs.MadePages.{made_pages}
 use Rattle.script_engine.specs.Held.{HeldPages, StandsForSession}
 use Rattle.script_session.specs.Going.{GoesOnPages}
@@ -77,7 +77,7 @@ over_nothing over ext pages said script left tape end_ stands run =
 
 -- a run on a scratch file that was just made
 pub made_file-runs : MadeLaws → OverLists → (file : File) (ext : Extents) (said : List ℕ) (script left tape : Option (List ℕ)) (end_ : Result Served FileStop) → HoldsFresh 4096 4 file
-    → IsEmptyDatabase 4096 file.bytes → StatesExtents file.bytes ext → RunsItems ext (pages_of file.bytes) said script left tape end_ → RunsScratch said script left tape (status_of end_)
+    → IsEmptyDatabase 4096 file.bytes → StatesExtents file.bytes ext → RunsItems ext (pages_in file.bytes) said script left tape end_ → RunsScratch said script left tape (status_of end_)
 made_file-runs laws over file ext said script left tape end_ fresh empty states run =
     let stated = made_states 4096 4 file.bytes refl fresh.bytes in
     let cap : ext.cap ≡ 4096 = sym states.extents ∙ stated.0 in

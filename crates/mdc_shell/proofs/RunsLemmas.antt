@@ -15,7 +15,7 @@ use Rattle.table_trees.specs.ToldPages.{PageList}
 use Rattle.page_file.specs.Leaving.{LeavesImage}
 use Rattle.page_file.proofs.LeavesLemmas.{nothing_said}
 use Rattle.page_store.specs.Opened.{CouldBeLeft, file_bytes}
-use Rattle.page_store.specs.Standing.{pages_of}
+use Rattle.page_store.specs.Standing.{pages_in}
 use Rattle.script_session.specs.Serving.{EndsScript, TakesScript}
 use Rattle.script_session.specs.declared.stop.Served.{Served}
 use Rattle.script_session.specs.declared.stop.Served.TheVariants.{AllDone, SomeRefused}
@@ -198,14 +198,14 @@ refuses_file-before g before said new_tape old new stop is_before same meanwhile
 }
 
 pub runs_path-before : {D : Type 0} (g : Ghosts D) (before : File) (said : List ℕ) (script : Option (List ℕ)) (old new : D) (stop : FileStop) (well : IsWell before.bytes)
-    → RunsItems well.ext (pages_of before.bytes) said script script (Some said) (Err stop) → (g.beside new).tape ≡ Some said
+    → RunsItems well.ext (pages_in before.bytes) said script script (Some said) (Err stop) → (g.beside new).tape ≡ Some said
     → OverTime g.clock g.moment (LeavesImage (CouldBeLeft before) said) old new → RunsPath g before said script script old new (status_of_stop stop)
 runs_path-before g before said script old new stop well items tape meanwhile = record {
   end_ = Err stop;
   run = record {
     ext = well.ext;
     states_extents = well.states;
-    run = subst (λ (t : Option (List ℕ)). RunsItems well.ext (pages_of before.bytes) said script script t (Err stop)) (sym tape) items;
+    run = subst (λ (t : Option (List ℕ)). RunsItems well.ext (pages_in before.bytes) said script script t (Err stop)) (sym tape) items;
     leaves = inr meanwhile;
   };
   status_is = refl;

@@ -10,7 +10,7 @@ use Rattle.mdc_outside.specs.declared.disk.Disk.{Ghosts}
 use Rattle.store_api.specs.declared.fault.Damage.{Damage}
 use Rattle.extent_map.specs.declared.extents.Extents.{Extents}
 use Rattle.mdc_sound.specs.StandsForDatabase.{PagesStandFor}
-use Rattle.page_store.specs.Standing.{pages_of}
+use Rattle.page_store.specs.Standing.{pages_in}
 use Rattle.made_database.specs.MadePages.{made_pages}
 use Rattle.script_session.specs.Ending.{script_limit}
 use Rattle.script_session.specs.Told.{TellsMore}
@@ -107,7 +107,7 @@ IsStopBefore stop = ⊥
 pub record StandsForNothing (file : List ℕ) : Type 0 where
   pub ext : Extents
   pub states : StatesExtents file ext
-  pub stands : PagesStandFor ext (pages_of file) empty_database
+  pub stands : PagesStandFor ext (pages_in file) empty_database
 
 -- a script within the limit is run to its end, unless memory is wanted
 abbrev pub IsComplete : ℕ → Type 0

@@ -41,10 +41,10 @@ contains_entry (y ∷ ys) x (inl e) = (0, omega arith, sym e)
 contains_entry (y ∷ ys) x (inr i) = contains_more x y ys (contains_entry ys x i)
 
 -- the block of an entry that is there is one of those that are named
-pub named_block : (xs : List Entry) (x : Entry) → IsEntryOf x xs → Contains (map (λ (line : MapLine). line.block) (map map_line xs)) (map_line x).block
-named_block [] x i = absurd i
-named_block (y ∷ ys) x (inl e) = (0, omega arith, ap (λ (v : Entry). (map_line v).block) (sym e))
-named_block (y ∷ ys) x (inr i) = contains_more (map_line x).block (map_line y).block (map (λ (line : MapLine). line.block) (map map_line ys)) (named_block ys x i)
+pub contains_block : (xs : List Entry) (x : Entry) → IsEntryOf x xs → Contains (map (λ (line : MapLine). line.block) (map map_line xs)) (map_line x).block
+contains_block [] x i = absurd i
+contains_block (y ∷ ys) x (inl e) = (0, omega arith, ap (λ (v : Entry). (map_line v).block) (sym e))
+contains_block (y ∷ ys) x (inr i) = contains_more (map_line x).block (map_line y).block (map (λ (line : MapLine). line.block) (map map_line ys)) (contains_block ys x i)
 
 -- ---- images, and lists of lists
 

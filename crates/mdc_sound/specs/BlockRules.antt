@@ -96,14 +96,14 @@ AreBlockIndexesSound ext pages view = EachTable view (AreTableBlockIndexesSound 
 abbrev pub entry_of_row : TableDef → IndexDef → PlacedRow → Entry
 entry_of_row def index placed = record_entry def.columns index.parts placed.row.values placed.rid
 
--- the block that an entry of a record index names
-abbrev pub block_named_by : TableDef → IndexDef → Entry → ℕ
-block_named_by def index entry = number_within (width_of_parts def.columns index.parts) 4 entry
+-- the block that an entry of an index with a key of these parts names: the number behind its key
+abbrev pub block_in_entry : TableDef → List KeyPart → Entry → ℕ
+block_in_entry def parts entry = number_within (width_of_parts def.columns parts) 4 entry
 
 -- the index has the entry of each row, and any other entry names a Pending block
 pub record IsSoundIndex (def : TableDef) (rows : List PlacedRow) (pending : List ℕ) (index : IndexDef) (tree : Forest) : Type 0 where
   pub has : AllByRecursion (λ placed. Contains (leaf_entries tree) (entry_of_row def index placed)) rows
-  pub only : AllByRecursion (λ entry. Contains (map (entry_of_row def index) rows) entry ⊎ Contains pending (block_named_by def index entry)) (leaf_entries tree)
+  pub only : AllByRecursion (λ entry. Contains (map (entry_of_row def index) rows) entry ⊎ Contains pending (block_in_entry def index.parts entry)) (leaf_entries tree)
 
 -- so is each record index of a table
 abbrev pub AreTableIndexesSound : Extents → PageList → TableView → Type 0

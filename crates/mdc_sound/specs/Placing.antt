@@ -129,15 +129,15 @@ pub data ChangesRow (def : TableDef) (n : ℕ) (old : List Spot) (rid : Rid) (ro
 -- ---- blocks as a whole
 
 -- a Used block with a row that is chosen; where all rows of a block are of one cell and whole cells are chosen, all are
-abbrev pub IsChosenBlock : (Row → Bool) → Spot → Type 0
-IsChosenBlock chosen (UsedBlock slots) = (row : Row) × Contains slots (Some row) × IsTrue (chosen row)
-IsChosenBlock chosen spot = ⊥
+abbrev pub HasChosenRow : (Row → Bool) → Spot → Type 0
+HasChosenRow chosen (UsedBlock slots) = (row : Row) × Contains slots (Some row) × IsTrue (chosen row)
+HasChosenRow chosen spot = ⊥
 
 -- what rollout makes of a spot: a chosen block becomes what is said, which is Free, or Pending where entries of record indexes
 -- are left, and any other stays
 pub data RollsOutSpot (chosen : Row → Bool) (rolled : Spot) : Spot → Spot → Type 0 where
-  goes : {spot : Spot} → IsChosenBlock chosen spot → RollsOutSpot chosen rolled spot rolled
-  stays : {spot : Spot} → (IsChosenBlock chosen spot → ⊥) → RollsOutSpot chosen rolled spot spot
+  goes : {spot : Spot} → HasChosenRow chosen spot → RollsOutSpot chosen rolled spot rolled
+  stays : {spot : Spot} → (HasChosenRow chosen spot → ⊥) → RollsOutSpot chosen rolled spot spot
 
 -- what is left when the Free blocks of a table are given back, and no other
 abbrev pub reclaimed_spot : Spot → Spot

@@ -9,7 +9,7 @@ use Rattle.page_file.specs.Layout.{home_page, IsReady}
 use Rattle.redo_journal.specs.Layout.{is_open, journal_of, torn_journal, torn_home, HoldsJournal, HoldsHome}
 use Rattle.page_file.specs.Runs.{Runs, IsWithin}
 use Rattle.page_file.specs.Leaving.{Leaves}
-use Rattle.page_store.specs.Standing.{pages_of, IsFormed, Stands}
+use Rattle.page_store.specs.Standing.{pages_in, IsFormed, Stands}
 use Rattle.page_store.specs.Commit.{BothFiles, StandsStill, StandsEither, IsReadyFor, IsCounting, IsClosed, IsCommitted, IsJournaled, HomeStays, RestsWith, pages_with}
 use Rattle.page_file.proofs.LeavesLemmas.{runs_leave, leaves_then, one_file, told_before}
 use Rattle.page_store.proofs.Crashes.{while_home, while_closed}
@@ -33,7 +33,7 @@ pub stands_with : (images : Numbered) (before half : File) (image : List ℕ) �
     → Stands before.bytes (pages_with images before.bytes) image
 stands_with images before half image counts still =
     stands_through before.bytes half.bytes image (pages_with images before.bytes) counts.birth counts.front
-    (stands_same half.bytes image (pages_of half.bytes) (pages_with images before.bytes) counts.pages still)
+    (stands_same half.bytes image (pages_in half.bytes) (pages_with images before.bytes) counts.pages still)
 
 module _ {D : Type 0} {file : D → Option File} {aside : D → Beside} {attaches : D → Option (List (List ℕ × Bool))} {is_attached : D → Bool} {clock : D → ℕ} {moment : D → ℕ → List ℕ → List ℕ → Type 0} where
   -- the file that a run left is an image that the run allows
@@ -123,8 +123,8 @@ module _ {D : Type 0} {file : D → Option File} {aside : D → Beside} {attache
       let at_home = holds half is_half in
       let torn_gate : IsImage (torn GATE 1 (all_synced half.bytes)) image = subst (λ since. IsImage (torn GATE 1 since) image) at_home.settled left in
       let in_place : All (λ listed. home_page half.bytes listed.0 ≡ listed.1) (journal_of half.bytes) = subst (λ (xs : Numbered). All (λ listed. home_page half.bytes listed.0 ≡ listed.1) xs) (sym stands.1) at_home.home in
-      stands_through before.bytes half.bytes image (pages_of before.bytes) stands.2.birth stands.2.front
-      (stands_same half.bytes image (pages_of half.bytes) (pages_of before.bytes) stands.2.pages (while_closed half.bytes image stands.2.formed stands.0 in_place torn_gate))) in
+      stands_through before.bytes half.bytes image (pages_in before.bytes) stands.2.birth stands.2.front
+      (stands_same half.bytes image (pages_in half.bytes) (pages_in before.bytes) stands.2.pages (while_closed half.bytes image stands.2.formed stands.0 in_place torn_gate))) in
       leaves_then home gate (λ before image is stands. stands.2) (λ before half image is is_half stands closed. closed before is)
 
   -- a file that counts and is formed can have its gate closed

@@ -12,11 +12,11 @@ use Rattle.redo_journal.specs.Layout.{is_open}
 use Rattle.redo_journal.proofs.RisingLemmas.{All-rest}
 use Rattle.page_file.proofs.FrontLemmas.{front_stays_itself}
 use Rattle.mdc_words.specs.Listed.{listed}
-use Rattle.page_store.specs.Standing.{image_of, page_of, count_of, pages_of, IsFormed, Stands}
+use Rattle.page_store.specs.Standing.{image_of, page_of, count_of, pages_in, IsFormed, Stands}
 use Rattle.page_store.specs.Changes.{Overlay, laid_over, image_in, HoldsBelow}
 use Rattle.page_store.specs.Opening.{IsAtRest}
 use Rattle.page_store.specs.Shape.{extents_in, extent_pages_in}
-use Rattle.page_store.specs.Commit.{BothFiles, IsReadyFor, IsCommitted, StandsEither, count_with, pages_with}
+use Rattle.page_store.specs.Commit.{BothFiles, IsReadyFor, IsCommitted, StandsEither, count_with_images, pages_with}
 use Rattle.mdc_words.proofs.ListedLemmas.{length-listed, listed_same}
 use Rattle.page_store.proofs.Listed.{page_at-listed}
 use Rattle.page_store.proofs.LaidOver.{listed-laid_over}
@@ -63,7 +63,7 @@ both_none start images told none ready = record {
 pub stands_none : (start : ℕ) (images : Numbered) (file : File) (image : List ℕ) → IsReadyFor start images file → IsImage file.since image → StandsEither images file image
 stands_none start images file image ready left =
     let itself : image ≡ file.bytes = only_itself file.bytes image (subst (λ since. IsImage since image) ready.synced left) in
-    inl (subst (λ (bytes : List ℕ). Stands file.bytes (pages_of file.bytes) bytes) (sym itself) (record { formed = ready.formed; pages = refl; birth = refl; front = front_stays_itself file.bytes }))
+    inl (subst (λ (bytes : List ℕ). Stands file.bytes (pages_in file.bytes) bytes) (sym itself) (record { formed = ready.formed; pages = refl; birth = refl; front = front_stays_itself file.bytes }))
 
 -- what is there, or else the other
 some_or : (o : Option (List ℕ)) (page : List ℕ) → IsSome (option_or o (Some page))
@@ -77,13 +77,13 @@ grown_has_image base now p le =
     rw test (some_or (get_or now p None) zero_page)
 
 -- behind a closed gate the pages are the home pages
-pub pages_at_rest : (extents extent_pages base : ℕ) (file : File) → IsAtRest extents extent_pages base file → pages_of file.bytes ≡ listed base (home_page file.bytes)
+pub pages_at_rest : (extents extent_pages base : ℕ) (file : File) → IsAtRest extents extent_pages base file → pages_in file.bytes ≡ listed base (home_page file.bytes)
 pages_at_rest extents extent_pages base file rest =
     ap (λ n. listed n (page_of file.bytes)) rest.states_pages ∙ listed_same base (page_of file.bytes) (home_page file.bytes) (λ p lt. page_of-closed file.bytes p rest.closed)
 
 -- what the images of the changes make of home pages, which is their work
 pub record MakesWork (base : ℕ) (now : Overlay) (images : Numbered) (bytes : List ℕ) : Type 0 where
-  pub count : count_with images bytes ≡ length now
+  pub count : count_with_images images bytes ≡ length now
   pub pages : pages_with images bytes ≡ laid_over now (listed base (home_page bytes))
 
 -- each page with its image
@@ -103,7 +103,7 @@ made_by base now images bytes some holds counted =
     listed_same (length now) with_images (λ p. unwrap_or (image_of images p) (page_at (listed base (home_page bytes)) p)) (made_at base now images bytes holds)
     ∙ listed-laid_over base now (listed base (home_page bytes)) images (length-listed base (home_page bytes)) holds.found in
     let first : with_images 0 ≡ page_at (laid_over now (listed base (home_page bytes))) 0 = sym (page_at-listed (length now) with_images 0 some) ∙ ap (λ pages. page_at pages 0) laid in
-    let count : count_with images bytes ≡ length now = ap stated_in first ∙ counted in
+    let count : count_with_images images bytes ≡ length now = ap stated_in first ∙ counted in
     record { count = count; pages = ap (λ n. listed n with_images) count ∙ laid }
 
 -- the file is ready for images that make its work
@@ -125,12 +125,12 @@ ready_for extents extent_pages base now images file rest some more holds made = 
 pub rest_after : (extents extent_pages base : ℕ) (now : Overlay) (images : Numbered) (before after : File) → IsAtRest extents extent_pages base before
     → MakesWork base now images before.bytes → IsCommitted images before after → IsAtRest extents extent_pages (length now) after
 rest_after extents extent_pages base now images before after rest made committed =
-    let size : length (pages_of after.bytes) ≡ length (pages_with images before.bytes) = ap length committed.1.pages in
+    let size : length (pages_in after.bytes) ≡ length (pages_with images before.bytes) = ap length committed.1.pages in
     record {
       synced = committed.0.synced;
       closed = committed.0.closed;
       formed = committed.1.formed;
-      states_pages = omega (arith, size, length-listed (count_of after.bytes) (page_of after.bytes), length-listed (count_with images before.bytes) (λ p. unwrap_or (image_of images p) (home_page before.bytes p)), made.count);
+      states_pages = omega (arith, size, length-listed (count_of after.bytes) (page_of after.bytes), length-listed (count_with_images images before.bytes) (λ p. unwrap_or (image_of images p) (home_page before.bytes p)), made.count);
       states_extents = ap extents_in committed.1.birth ∙ rest.states_extents;
       states_extent_pages = ap extent_pages_in committed.1.birth ∙ rest.states_extent_pages;
     }
@@ -150,4 +150,4 @@ home_after extents extent_pages base now images before after rest made committed
     let pages : listed (length now) (home_page after.bytes) ≡ pages_with images before.bytes =
     work_after extents extent_pages base now images before after rest made committed ∙ sym made.pages in
     sym (page_at-listed (length now) (home_page after.bytes) p lt)
-    ∙ (ap (λ all. page_at all p) pages ∙ page_at-listed (count_with images before.bytes) (λ q. unwrap_or (image_of images q) (home_page before.bytes q)) p (omega (arith, made.count)))
+    ∙ (ap (λ all. page_at all p) pages ∙ page_at-listed (count_with_images images before.bytes) (λ q. unwrap_or (image_of images q) (home_page before.bytes q)) p (omega (arith, made.count)))

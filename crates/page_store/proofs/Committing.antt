@@ -9,8 +9,8 @@ use Rattle.page_file.specs.Layout.{FrontStays, file_page, home_page, home_start,
 use Rattle.redo_journal.specs.Layout.{is_open, start_of, journal_of, torn_journal, HoldsJournal}
 use Rattle.page_file.proofs.FrontLemmas.{front_stays_then}
 use Rattle.mdc_words.specs.Listed.{listed}
-use Rattle.page_store.specs.Standing.{image_of, count_of, pages_of, Stands}
-use Rattle.page_store.specs.Commit.{AreFitting, IsReadyFor, IsJournaled, HomeStays, count_with, pages_with}
+use Rattle.page_store.specs.Standing.{image_of, count_of, pages_in, Stands}
+use Rattle.page_store.specs.Commit.{AreFitting, IsReadyFor, IsJournaled, HomeStays, count_with_images, pages_with}
 use Rattle.mdc_words.proofs.ListedLemmas.{listed_same}
 use Rattle.page_file.proofs.BytesLemmas.{same_part}
 use Rattle.page_store.proofs.Kept.{journal_left, same_but_gate}
@@ -31,14 +31,14 @@ unwrap_or-some (Some page) x y some = refl
 
 -- where the home pages stay and each new page is among the images, the pages with the images stay
 pub with_stays : (images : Numbered) (file image : List ℕ) → 0 < count_of file → HomeStays file image
-    → ((p : ℕ) → count_of file ≤ p → p < count_with images file → IsSome (image_of images p))
-    → (count_with images image ≡ count_with images file) × (pages_with images image ≡ pages_with images file)
+    → ((p : ℕ) → count_of file ≤ p → p < count_with_images images file → IsSome (image_of images p))
+    → (count_with_images images image ≡ count_with_images images file) × (pages_with images image ≡ pages_with images file)
 with_stays images file image some stays grown =
     let zero_page : home_page image 0 ≡ home_page file 0 = stays 0 some in
-    let count : count_with images image ≡ count_with images file = ap (λ page. stated_in (unwrap_or (image_of images 0) page)) zero_page in (
+    let count : count_with_images images image ≡ count_with_images images file = ap (λ page. stated_in (unwrap_or (image_of images 0) page)) zero_page in (
       count,
       ap (λ n. listed n (λ p. unwrap_or (image_of images p) (home_page image p))) count
-          ∙ listed_same (count_with images file) (λ p. unwrap_or (image_of images p) (home_page image p)) (λ p. unwrap_or (image_of images p) (home_page file p))
+          ∙ listed_same (count_with_images images file) (λ p. unwrap_or (image_of images p) (home_page image p)) (λ p. unwrap_or (image_of images p) (home_page file p))
           (λ p lt. elim (cases_lt p (count_of file)) [
             | inl before ↦ ap (λ page. unwrap_or (image_of images p) page) (stays p before)
             | inr behind ↦ unwrap_or-some (image_of images p) (home_page image p) (home_page file p) (grown p behind lt)
@@ -56,7 +56,7 @@ stands_same file image all same is stands = record { formed = stands.formed; pag
 -- while the journal is written
 pub journaled_written : (start n : ℕ) (images : Numbered) (before : File) (image : List ℕ) → IsReadyFor start images before
     → IsImage (torn_journal start n before.since) image
-    → IsFalse (is_open image) × Stands before.bytes (pages_of before.bytes) image × IsJournaled images before.bytes image
+    → IsFalse (is_open image) × Stands before.bytes (pages_in before.bytes) image × IsJournaled images before.bytes image
 journaled_written start n images before image ready left =
     let torn_bytes : IsImage (torn_journal start n (all_synced before.bytes)) image = subst (λ since. IsImage (torn_journal start n since) image) ready.synced left in
     let written = while_written before.bytes image start n ready.formed ready.closed ready.some ready.behind_old torn_bytes in
@@ -64,15 +64,15 @@ journaled_written start n images before image ready left =
 
 -- while its gate is opened
 pub journaled_opened : (start : ℕ) (images : Numbered) (before half : File) (image : List ℕ) → AreRising images → IsReadyFor start images before
-    → IsFalse (is_open half.bytes) → IsJournaled images before.bytes half.bytes → Stands before.bytes (pages_of before.bytes) half.bytes
+    → IsFalse (is_open half.bytes) → IsJournaled images before.bytes half.bytes → Stands before.bytes (pages_in before.bytes) half.bytes
     → HoldsJournal start images half → IsImage (torn GATE 1 half.since) image
     → IsJournaled images before.bytes image
     × (IsTrue (is_open image) → (journal_of image ≡ images) × Stands before.bytes (pages_with images before.bytes) image)
 journaled_opened start images before half image rising ready closed journaled stands holds left =
     let torn_gate : IsImage (torn GATE 1 (all_synced half.bytes)) image = subst (λ since. IsImage (torn GATE 1 since) image) holds.settled left in
     let with_images = with_stays images before.bytes half.bytes ready.some journaled.stays ready.grown in
-    let named : All (λ image. image.0 < count_with images half.bytes) images = subst (λ n. All (λ (image : ℕ × List ℕ). image.0 < n) images) (sym with_images.0) ready.named in
-    let behind : 66 + count_with images half.bytes ≤ start = subst (λ n. 66 + n ≤ start) (sym with_images.0) ready.behind_new in
+    let named : All (λ image. image.0 < count_with_images images half.bytes) images = subst (λ n. All (λ (image : ℕ × List ℕ). image.0 < n) images) (sym with_images.0) ready.named in
+    let behind : 66 + count_with_images images half.bytes ≤ start = subst (λ n. 66 + n ≤ start) (sym with_images.0) ready.behind_new in
     let fitting : AreFitting start images half.bytes = record { behind = behind; within = holds.within; rising = rising; named = named } in
     let long : page_start 2 ≤ length half.bytes = omega (arith, stands.formed.whole) in
     let far : 66 ≤ start_of half.bytes = omega (arith, holds.starts, behind) in
@@ -81,7 +81,7 @@ journaled_opened start images before half image rising ready closed journaled st
     elim (while_opened half.bytes image start images stands.formed closed holds.starts holds.images fitting torn_gate) [
       | inl shut ↦ (
         record {
-          stands = inl (stands_through before.bytes half.bytes image (pages_of before.bytes) stands.birth stands.front (stands_same half.bytes image (pages_of half.bytes) (pages_of before.bytes) stands.pages shut.1));
+          stands = inl (stands_through before.bytes half.bytes image (pages_in before.bytes) stands.birth stands.front (stands_same half.bytes image (pages_in half.bytes) (pages_in before.bytes) stands.pages shut.1));
           stays = stays;
         },
         λ opened. absurd (both_ways (is_open image) shut.0 opened),

@@ -9,8 +9,8 @@ use Rattle.redo_journal.specs.Images.{Numbered}
 use Rattle.page_file.specs.Layout.{FrontStays, file_page, home_page, home_start, page_start}
 use Rattle.redo_journal.specs.Layout.{is_open, start_of, number_of, journal_of, index_pages, torn_journal, torn_home}
 use Rattle.redo_journal.proofs.TornLemmas.{front_torn_journal, front_torn_home}
-use Rattle.page_store.specs.Standing.{image_of, page_of, count_of, pages_of, is_made, IsFormed, Stands}
-use Rattle.page_store.specs.Commit.{AreFitting, count_with, pages_with}
+use Rattle.page_store.specs.Standing.{image_of, page_of, count_of, pages_in, is_made, IsFormed, Stands}
+use Rattle.page_store.specs.Commit.{AreFitting, count_with_images, pages_with}
 use Rattle.page_file.proofs.BytesLemmas.{same_part, same_behind, same_number}
 use Rattle.page_store.proofs.Kept.{same_journal, length-journal_of, home_left, journal_left, outside_home, IsSameButGate, same_but_gate}
 use Rattle.page_store.proofs.Pages.{page_of-closed, page_of-open, unwrap_or-same, image_of-none, image_of-home, fits, formed_again, pages_again}
@@ -24,7 +24,7 @@ only_itself bytes image left =
 -- while a journal is written behind all pages
 pub while_written : (bytes image : List ℕ) (start n : ℕ) → IsFormed bytes → IsFalse (is_open bytes) → 0 < count_of bytes → 66 + count_of bytes ≤ start
     → IsImage (torn_journal start n (all_synced bytes)) image
-    → IsFalse (is_open image) × Stands bytes (pages_of bytes) image
+    → IsFalse (is_open image) × Stands bytes (pages_in bytes) image
 while_written bytes image start n formed closed some behind left =
     let kept = journal_left bytes image start n left in
     let whole : home_start (count_of bytes) ≤ length bytes = formed.whole in
@@ -49,7 +49,7 @@ while_written bytes image start n formed closed some behind left =
 
 -- an image that is the same but for the gate, which neither has open
 stays_closed : (bytes image : List ℕ) → IsFormed bytes → IsSameButGate bytes image → IsFalse (is_open bytes) → IsFalse (is_open image)
-    → Stands bytes (pages_of bytes) image
+    → Stands bytes (pages_in bytes) image
 stays_closed bytes image formed same closed shut =
     let home : (p : ℕ) → page_of image p ≡ page_of bytes p = λ p. page_of-closed image p shut ∙ (same.home p ∙ sym (page_of-closed bytes p closed)) in
     let count : count_of image ≡ count_of bytes = ap stated_in (home 0) in
@@ -70,13 +70,13 @@ stands_open bytes image start images formed same opened starts journal fitting =
     let home : (p : ℕ) → page_of image p ≡ unwrap_or (image_of images p) (home_page bytes p) = λ p.
     page_of-open image p opened
     ∙ (ap (λ xs. unwrap_or (image_of xs p) (home_page image p)) listed_so ∙ ap (λ page. unwrap_or (image_of images p) page) (same.home p)) in
-    let count : count_of image ≡ count_with images bytes = ap stated_in (home 0) in
+    let count : count_of image ≡ count_with_images images bytes = ap stated_in (home 0) in
     let number : number_of image ≡ length images = sym (length-journal_of image) ∙ ap length listed_so in
     let within : 4096 * (start + index_pages (length images) + length images) ≤ length image = omega (arith, fitting.within, same.size) in
-    let whole : (home_start (count_with images bytes)) ≤ length image = omega (arith, fitting.behind, within) in
+    let whole : (home_start (count_with_images images bytes)) ≤ length image = omega (arith, fitting.behind, within) in
     record {
       formed = formed_again bytes image (λ p. unwrap_or (image_of images p) (home_page bytes p)) formed same.made same.birth count whole
-          (λ gate. fits image start (length images) (count_with images bytes) images (same.starts ∙ starts) number listed_so count fitting.behind within fitting.rising fitting.named);
+          (λ gate. fits image start (length images) (count_with_images images bytes) images (same.starts ∙ starts) number listed_so count fitting.behind within fitting.rising fitting.named);
       pages = pages_again image (λ p. unwrap_or (image_of images p) (home_page bytes p)) count (λ p lt. home p);
       birth = same.birth;
       front = same.front;
@@ -86,7 +86,7 @@ stands_open bytes image start images formed same opened starts journal fitting =
 pub while_opened : (bytes image : List ℕ) (start : ℕ) (images : Numbered) → IsFormed bytes → IsFalse (is_open bytes)
     → start_of bytes ≡ start → journal_of bytes ≡ images → AreFitting start images bytes
     → IsImage (torn GATE 1 (all_synced bytes)) image
-    → (IsFalse (is_open image) × Stands bytes (pages_of bytes) image)
+    → (IsFalse (is_open image) × Stands bytes (pages_in bytes) image)
     ⊎ (IsTrue (is_open image) × (journal_of image ≡ images) × Stands bytes (pages_with images bytes) image)
 while_opened bytes image start images formed closed starts journal fitting left =
     let long : page_start 2 ≤ length bytes = omega (arith, formed.whole) in
@@ -100,7 +100,7 @@ while_opened bytes image start images formed closed starts journal fitting left 
 -- an image of one length that has the same journal and the same pages
 stands_again : (bytes image : List ℕ) → IsFormed bytes → is_made image ≡ is_made bytes → file_page image 1 ≡ file_page bytes 1 → length image ≡ length bytes → FrontStays bytes image
     → start_of image ≡ start_of bytes → number_of image ≡ number_of bytes → journal_of image ≡ journal_of bytes
-    → ((p : ℕ) → page_of image p ≡ page_of bytes p) → IsTrue (is_open bytes) → Stands bytes (pages_of bytes) image
+    → ((p : ℕ) → page_of image p ≡ page_of bytes p) → IsTrue (is_open bytes) → Stands bytes (pages_in bytes) image
 stands_again bytes image formed made birth size front starts numbers journal home gate =
     let fit = formed.journal gate in
     let count : count_of image ≡ count_of bytes = ap stated_in (home 0) in
@@ -117,7 +117,7 @@ stands_again bytes image formed made birth size front starts numbers journal hom
 -- while its images are written home
 pub while_home : (bytes image : List ℕ) → IsFormed bytes → IsTrue (is_open bytes)
     → IsImage (torn_home (journal_of bytes) (all_synced bytes)) image
-    → IsTrue (is_open image) × (journal_of image ≡ journal_of bytes) × Stands bytes (pages_of bytes) image
+    → IsTrue (is_open image) × (journal_of image ≡ journal_of bytes) × Stands bytes (pages_in bytes) image
 while_home bytes image formed gate left =
     let fit = formed.journal gate in
     let whole : home_start (count_of bytes) ≤ length bytes = formed.whole in
@@ -159,7 +159,7 @@ same_pages bytes image same gate home p = elim (cases_Bool (is_open image)) [
 pub while_closed : (bytes image : List ℕ) → IsFormed bytes → IsTrue (is_open bytes)
     → All (λ listed. home_page bytes listed.0 ≡ listed.1) (journal_of bytes)
     → IsImage (torn GATE 1 (all_synced bytes)) image
-    → Stands bytes (pages_of bytes) image
+    → Stands bytes (pages_in bytes) image
 while_closed bytes image formed gate home left =
     let fit = formed.journal gate in
     let long : page_start 2 ≤ length bytes = omega (arith, formed.whole) in

@@ -13,7 +13,7 @@ use Rattle.page_store.specs.declared.write_through.Halt.{Halt}
 use Rattle.page_store.specs.declared.write_through.Halt.TheVariants.{BeforeHome, BehindGate}
 use Rattle.page_file.specs.Leaving.{Leaves}
 use Rattle.mdc_words.specs.Listed.{listed}
-use Rattle.page_store.specs.Standing.{pages_of, IsFormedAs, Stands}
+use Rattle.page_store.specs.Standing.{pages_in, IsFormedAs, Stands}
 use Rattle.page_store.specs.Shape.{extents_in, extent_pages_in}
 use Rattle.page_store.specs.Changes.{nothing, Changed, HoldsBelow, image_in, laid_over, unchanged}
 use Rattle.page_store.specs.Cached.{renewed}
@@ -122,7 +122,7 @@ module _ (desk : Desk) (told : Option File) (images : Numbered) (kept : IsKept d
   work_is file = ap (laid_over desk.changes.now) (base_is file)
 
   -- the file stands for the base
-  stands_base : (file : File) → told ≡ Some file → pages_of file.bytes ≡ base_of (Some file) desk
+  stands_base : (file : File) → told ≡ Some file → pages_in file.bytes ≡ base_of (Some file) desk
   stands_base file is = pages_at_rest desk.shape.extents desk.shape.extent_pages desk.base file (kept.at_rest file is) ∙ sym (base_is file)
 
   -- with the images it stands for the work

@@ -14,7 +14,7 @@ use Rattle.redo_journal.specs.Layout.{is_open, journal_of}
 use Rattle.store_api.specs.Extents.{is_shape, map_pages, first_count}
 use Rattle.page_store.specs.Shape.{IsBirth, birth_page, extents_in, extent_pages_in}
 use Rattle.page_store.specs.Fresh.{zero_pages, gates, root_page, front_with, fresh_file, fresh_len}
-use Rattle.page_store.specs.Standing.{image_of, page_of, count_of, pages_of}
+use Rattle.page_store.specs.Standing.{image_of, page_of, count_of, pages_in}
 use Rattle.page_store.specs.Opening.{version_of}
 use Rattle.page_store.specs.Empty.{IsEmptyDatabase}
 use Rattle.page_store.proofs.FreshBytes.{zero_page_is, length-gates, length-birth_page, length-root_page, length-front_with, length-up_to_root, length-file_with, up_to_root}
@@ -132,7 +132,7 @@ fresh_is_empty extents extent_pages first second shape =
     let birth = is_birth extents extent_pages (file_page (fresh_file extents extent_pages) 1) first second shape (fresh_birth extents extent_pages) in
     let whole : home_start (count_of (fresh_file extents extent_pages)) ≤ length (fresh_file extents extent_pages) = omega arith in
     let version : version_of (fresh_file extents extent_pages) ≡ 1 = ap (λ page. big_number 4 (drop 4 page)) root ∙ big_number-reads_back 4 1 (big_bytes 4 (first_count extents) ++ drop 12 zero_page) (lit< tt) in
-    let pages : pages_of (fresh_file extents extent_pages) ≡ root_page extents ∷ replicate (16 + map_pages extents) zero_page = fresh_pages extents extent_pages (count_of (fresh_file extents extent_pages)) count in
+    let pages : pages_in (fresh_file extents extent_pages) ≡ root_page extents ∷ replicate (16 + map_pages extents) zero_page = fresh_pages extents extent_pages (count_of (fresh_file extents extent_pages)) count in
     record {
       formed = record { made = refl; birth = birth.0; journal = λ opened. absurd (cc); whole = whole };
       served = (

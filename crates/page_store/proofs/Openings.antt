@@ -14,7 +14,7 @@ use Rattle.page_file.specs.Leaving.{Leaves}
 use Rattle.page_store.specs.FileStore.{left_of}
 use Rattle.page_store.specs.Shape.{extents_in, extent_pages_in}
 use Rattle.mdc_words.specs.Listed.{listed}
-use Rattle.page_store.specs.Standing.{pages_of, Stands, IsFormedAs, Reopens}
+use Rattle.page_store.specs.Standing.{pages_in, Stands, IsFormedAs, Reopens}
 use Rattle.page_store.specs.Desk.{IsKept, base_of, base_in, work_of, state_of}
 use Rattle.page_store.specs.Opening.{IsServed, IsAtRest, StandsAs}
 use Rattle.page_store.specs.Opened.{CouldBeLeft, Opens, LeavesBaseSince, IsEmptyDesk, IsJustOpened, file_bytes}
@@ -95,7 +95,7 @@ module _ {D : Type 0} {file : D → Option File} {aside : D → Beside} {attache
   -- the file that was served stands for what it rests with
   pub served_base : {old new : D} (desk : Desk) → Opens file aside attaches is_attached clock moment old new
       → ForSome (file new) (IsAtRest desk.shape.extents desk.shape.extent_pages desk.base) → desk.halt ≡ None
-      → (before : File) → file old ≡ Some before → IsServed before.bytes → base_of (file new) desk ≡ pages_of before.bytes
+      → (before : File) → file old ≡ Some before → IsServed before.bytes → base_of (file new) desk ≡ pages_in before.bytes
   served_base desk opened rests going before is served =
       let after = opened.told before is in
       let stands = after.2.1 (served_formed before.bytes served) in
@@ -161,8 +161,8 @@ states_shape told desk before after is kept served stands =
     }
 
 -- what stands as a file of the store's shape reopens to its pages, also once the file is another that does
-pub stands_reopens : (shape : Shape) (file half image : List ℕ) (pages : Option (List (List ℕ))) → IsFormedAs shape file → Stands file (pages_of file) half → Stands file (pages_of file) image
-    → Reopens shape half image pages → pages ≡ Some (pages_of file)
+pub stands_reopens : (shape : Shape) (file half image : List ℕ) (pages : Option (List (List ℕ))) → IsFormedAs shape file → Stands file (pages_in file) half → Stands file (pages_in file) image
+    → Reopens shape half image pages → pages ≡ Some (pages_in file)
 stands_reopens shape file half image None formed now stands none =
     absurd (none (record {
       formed = record { formed = stands.formed; extents = ap extents_in stands.birth ∙ formed.extents; extent_pages = ap extent_pages_in stands.birth ∙ formed.extent_pages };

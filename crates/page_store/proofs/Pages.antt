@@ -8,7 +8,7 @@ use Rattle.redo_journal.specs.Images.{Numbered, AreRising}
 use Rattle.page_file.specs.Layout.{file_page, home_page, home_start}
 use Rattle.redo_journal.specs.Layout.{is_open, start_of, number_of, journal_of, index_pages}
 use Rattle.mdc_words.specs.Listed.{listed}
-use Rattle.page_store.specs.Standing.{image_of, page_of, count_of, pages_of, is_made, IsFitting, IsFormed}
+use Rattle.page_store.specs.Standing.{image_of, page_of, count_of, pages_in, is_made, IsFitting, IsFormed}
 use Rattle.mdc_words.proofs.ListedLemmas.{listed_same}
 
 -- where the gate isn't open, a page is its home page
@@ -65,5 +65,5 @@ formed_again bytes image f formed made birth count whole fitting = record {
 
 -- the pages of a file are those that f gives, which agree below their number
 pub pages_again : (image : List ℕ) (f : ℕ → List ℕ) → count_of image ≡ stated_in (f 0) → ((p : ℕ) → p < stated_in (f 0) → page_of image p ≡ f p)
-    → pages_of image ≡ listed (stated_in (f 0)) f
+    → pages_in image ≡ listed (stated_in (f 0)) f
 pages_again image f count same = ap (λ n. listed n (page_of image)) count ∙ listed_same (stated_in (f 0)) (page_of image) f same

@@ -9,7 +9,7 @@ use Rattle.mdc_outside.specs.Disk.{File, IsImage}
 use Rattle.mdc_outside.specs.Moments.{Beside, IsMoment, WhereTold}
 use Rattle.page_store.specs.declared.desk.Desk.{Desk}
 use Rattle.mdc_words.specs.Listed.{listed}
-use Rattle.page_store.specs.Standing.{pages_of, page_of, FrontAgrees, IsStoreImage, Reopens}
+use Rattle.page_store.specs.Standing.{pages_in, page_of, FrontAgrees, IsStoreImage, Reopens}
 use Rattle.page_file.specs.Layout.{home_page}
 use Rattle.page_file.specs.Leaving.{Leaves}
 use Rattle.page_store.specs.Desk.{IsKept, StandsForEither, CommitLeaves, RestsEither, state_of, base_of, base_in, work_of}
@@ -33,12 +33,12 @@ pub kept_reopens : (told : Option File) (desk : Desk) (file : File) (image : Lis
 kept_reopens told desk file image pages kept going is left reopens =
     let rest = kept.at_rest file is in
     let itself : image ≡ file.bytes = only_itself file.bytes image (subst (λ since. IsImage since image) rest.synced left) in
-    let base : pages_of file.bytes ≡ base_of told desk =
+    let base : pages_in file.bytes ≡ base_of told desk =
     ap (λ n. listed n (page_of file.bytes)) rest.states_pages
     ∙ (listed_same desk.base (page_of file.bytes) (home_page file.bytes) (λ p lt. page_of-closed file.bytes p rest.closed)
     ∙ (ap (λ halt. base_in halt desk.base file.bytes) (sym going) ∙ ap (λ t. base_of t desk) (sym is))) in
     go pages (subst (λ xs. Reopens desk.shape file.bytes xs pages) itself reopens) base (record { formed = record { formed = rest.formed; extents = rest.states_extents; extent_pages = rest.states_extent_pages }; front = front_agrees_itself file.bytes }) where
-      go : (pages : Option (List (List ℕ))) → Reopens desk.shape file.bytes file.bytes pages → pages_of file.bytes ≡ base_of told desk → IsStoreImage desk.shape file.bytes file.bytes → pages ≡ Some (base_of told desk)
+      go : (pages : Option (List (List ℕ))) → Reopens desk.shape file.bytes file.bytes pages → pages_in file.bytes ≡ base_of told desk → IsStoreImage desk.shape file.bytes file.bytes → pages ≡ Some (base_of told desk)
       go None none base formed = absurd (none formed)
       go (Some all) some base formed = ap (λ ps. Some ps) (some.1 ∙ base)
 

@@ -12,7 +12,7 @@ use Rattle.page_store.specs.Commit.{IsClosed, StandsStill}
 use Rattle.page_store.specs.Opening.{IsAtRest, StandsAs}
 use Rattle.page_store.specs.Shape.{extents_in, extent_pages_in}
 use Rattle.page_file.proofs.FrontLemmas.{front_stays_itself, front_stays_then}
-use Rattle.page_store.specs.Standing.{count_of, page_of, pages_of}
+use Rattle.page_store.specs.Standing.{count_of, page_of, pages_in}
 use Rattle.page_file.proofs.LeavesLemmas.{one_file}
 use Rattle.page_store.proofs.Crashes.{only_itself}
 use Rattle.page_file.proofs.LeavesLemmas.{runs_leave, leaves_then, leaves_as}
@@ -22,7 +22,7 @@ left_whole : (bytes : List ℕ) → IsImage (all_synced bytes) bytes
 left_whole bytes = record { no_shorter = omega arith; no_longer = omega arith; kept = λ i lt none. refl }
 
 -- the same pages are as many
-count_by_pages : (a b : List ℕ) → pages_of a ≡ pages_of b → count_of a ≡ count_of b
+count_by_pages : (a b : List ℕ) → pages_in a ≡ pages_in b → count_of a ≡ count_of b
 count_by_pages a b same = sym (length-map-range_with_len (page_of a) 0 (count_of a)) ∙ (ap length same ∙ length-map-range_with_len (page_of b) 0 (count_of b))
 
 -- an image of a file that is all on the disk stands as that file

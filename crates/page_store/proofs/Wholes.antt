@@ -8,7 +8,7 @@ use Rattle.page_store.specs.declared.desk.Desk.{Desk}
 use Rattle.page_store.specs.Changes.{Overlay}
 use Rattle.page_store.specs.Desk.{IsKept, work_of, base_of, base_in}
 use Rattle.page_store.specs.FileStore.{HeldStore, FitsFile}
-use Rattle.page_store.specs.Standing.{IsFormed, pages_of}
+use Rattle.page_store.specs.Standing.{IsFormed, pages_in}
 use Rattle.page_store.proofs.Commits.{pages_at_rest}
 use Rattle.page_store.proofs.Desks.{length-base_in}
 use Rattle.page_store.proofs.LaidOver.{length-laid_over}
@@ -51,7 +51,7 @@ counted_there {H} file host desk held is counted f told =
     here (ap is_some told) ∙ length-work_of (file host) desk desk.changes.now
 
 -- the file of a store in which no commit has failed holds its base
-pub holds_base : (told : Option File) (desk : Desk) → IsKept desk told → desk.halt ≡ None → ForSome told (λ f. IsFormed f.bytes × (pages_of f.bytes ≡ base_of told desk))
+pub holds_base : (told : Option File) (desk : Desk) → IsKept desk told → desk.halt ≡ None → ForSome told (λ f. IsFormed f.bytes × (pages_in f.bytes ≡ base_of told desk))
 holds_base told desk kept going = λ f is.
     let rest = kept.at_rest f is in
     (rest.formed, pages_at_rest desk.shape.extents desk.shape.extent_pages desk.base f rest ∙ (ap (λ halt. base_in halt desk.base f.bytes) (sym going) ∙ ap (λ t. base_of t desk) (sym is)))

@@ -7,23 +7,23 @@ use Rattle.redo_journal.specs.Images.{Numbered, AreRising}
 use Rattle.page_file.specs.Layout.{home_page, page_start}
 use Rattle.redo_journal.specs.Layout.{is_open, journal_of, index_pages}
 use Rattle.mdc_words.specs.Listed.{listed}
-use Rattle.page_store.specs.Standing.{image_of, count_of, pages_of, IsFormed, Stands}
+use Rattle.page_store.specs.Standing.{image_of, count_of, pages_in, IsFormed, Stands}
 use Rattle.page_file.specs.declared.layout.TheConstants.{FIRST_PAGE}
 
 -- how many pages there are with these images, as page 0 then states it
-abbrev pub count_with : Numbered → List ℕ → ℕ
-count_with images file = stated_in (unwrap_or (image_of images 0) (home_page file 0))
+abbrev pub count_with_images : Numbered → List ℕ → ℕ
+count_with_images images file = stated_in (unwrap_or (image_of images 0) (home_page file 0))
 
 -- the home pages with these images in place of some
 abbrev pub pages_with : Numbered → List ℕ → List (List ℕ)
-pages_with images file = listed (count_with images file) (λ p. unwrap_or (image_of images p) (home_page file p))
+pages_with images file = listed (count_with_images images file) (λ p. unwrap_or (image_of images p) (home_page file p))
 
 -- the journal of these images lies behind all pages and within the file, and they name pages
 pub record AreFitting (start : ℕ) (images : Numbered) (file : List ℕ) : Type 0 where
-  pub behind : FIRST_PAGE + count_with images file ≤ start
+  pub behind : FIRST_PAGE + count_with_images images file ≤ start
   pub within : page_start (start + index_pages (length images) + length images) ≤ length file
   pub rising : AreRising images
-  pub named : All (λ image. image.0 < count_with images file) images
+  pub named : All (λ image. image.0 < count_with_images images file) images
 
 -- The file can take a commit of these images: all is on the disk, the gate is closed, a journal that starts there lies
 -- behind all pages, old and new, and each new page is among the images.
@@ -33,9 +33,9 @@ pub record IsReadyFor (start : ℕ) (images : Numbered) (file : File) : Type 0 w
   pub closed : IsFalse (is_open file.bytes)
   pub some : 0 < count_of file.bytes
   pub behind_old : FIRST_PAGE + count_of file.bytes ≤ start
-  pub behind_new : FIRST_PAGE + count_with images file.bytes ≤ start
-  pub named : All (λ image. image.0 < count_with images file.bytes) images
-  pub grown : (p : ℕ) → count_of file.bytes ≤ p → p < count_with images file.bytes → IsSome (image_of images p)
+  pub behind_new : FIRST_PAGE + count_with_images images file.bytes ≤ start
+  pub named : All (λ image. image.0 < count_with_images images file.bytes) images
+  pub grown : (p : ℕ) → count_of file.bytes ≤ p → p < count_with_images images file.bytes → IsSome (image_of images p)
 
 -- the journal counts: all is on the disk, the gate is open, and these are the images
 pub record IsCounting (images : Numbered) (file : File) : Type 0 where
@@ -54,16 +54,16 @@ HomeStays file image = (p : ℕ) → p < count_of file → home_page image p ≡
 
 -- while images go into the journal: it doesn't count yet, or it does; the home pages are as they were
 pub record IsJournaled (images : Numbered) (file image : List ℕ) : Type 0 where
-  pub stands : Stands file (pages_of file) image ⊎ Stands file (pages_with images file) image
+  pub stands : Stands file (pages_in file) image ⊎ Stands file (pages_with images file) image
   pub stays : HomeStays file image
 
 -- the file stands for what it stood for
 abbrev pub StandsStill : File → List ℕ → Type 0
-StandsStill before image = Stands before.bytes (pages_of before.bytes) image
+StandsStill before image = Stands before.bytes (pages_in before.bytes) image
 
 -- the file stands for its pages or for those with the images
 abbrev pub StandsEither : Numbered → File → List ℕ → Type 0
-StandsEither images before image = Stands before.bytes (pages_of before.bytes) image ⊎ Stands before.bytes (pages_with images before.bytes) image
+StandsEither images before image = Stands before.bytes (pages_in before.bytes) image ⊎ Stands before.bytes (pages_with images before.bytes) image
 
 -- an image is no longer than the file
 abbrev pub NoLonger : File → List ℕ → Type 0

@@ -11,7 +11,7 @@ use Rattle.page_store.specs.declared.desk.Hand.TheVariants.{Changed, Clean}
 use Rattle.page_store.specs.declared.write_through.Halt.{Halt}
 use Rattle.page_store.specs.declared.write_through.Halt.TheVariants.{BeforeHome, BehindGate}
 use Rattle.mdc_words.specs.Listed.{listed}
-use Rattle.page_store.specs.Standing.{pages_of, IsFormedAs}
+use Rattle.page_store.specs.Standing.{pages_in, IsFormedAs}
 use Rattle.page_store.specs.Changes.{Overlay, laid_over, image_in, HoldsBelow}
 use Rattle.page_store.specs.Cached.{AreHome}
 use Rattle.page_store.specs.Opening.{IsAtRest}
@@ -20,7 +20,7 @@ use Rattle.page_store.specs.Opening.{IsAtRest}
 abbrev pub base_in : Option Halt → ℕ → List ℕ → List (List ℕ)
 base_in None count file = listed count (home_page file)
 base_in (Some BeforeHome) count file = listed count (home_page file)
-base_in (Some BehindGate) count file = pages_of file
+base_in (Some BehindGate) count file = pages_in file
 
 -- the base, where the file is told, and else how many pages it has
 abbrev pub base_of : Option File → Desk → List (List ℕ)
@@ -85,7 +85,7 @@ IsPlaced p desk (Some hand) =
 -- an image that is formed, states the shape and stands for the base or for the work
 abbrev pub StandsForEither : Desk → File → List ℕ → Type 0
 StandsForEither desk file image =
-    IsFormedAs desk.shape image × ((pages_of image ≡ base_of (Some file) desk) ⊎ (pages_of image ≡ work_of (Some file) desk desk.changes.now))
+    IsFormedAs desk.shape image × ((pages_in image ≡ base_of (Some file) desk) ⊎ (pages_in image ≡ work_of (Some file) desk desk.changes.now))
 
 -- such an image, with all that isn't the store's as it is in the file
 abbrev pub CommitLeaves : Desk → File → List ℕ → Type 0

@@ -5,7 +5,7 @@ use Rattle.store_api.specs.Moments.{Outcomes}
 use Rattle.mdc_outside.specs.Disk.{File}
 use Rattle.page_store.specs.declared.desk.Desk.{Desk}
 use Rattle.page_store.specs.declared.shape.Shape.{Shape}
-use Rattle.page_store.specs.Standing.{Reopens, IsStoreImage, pages_of}
+use Rattle.page_store.specs.Standing.{Reopens, IsStoreImage, pages_in}
 use Rattle.page_store.specs.Desk.{IsKept}
 
 -- a host, and what the store has in memory beside it
@@ -38,4 +38,4 @@ left_of-earlier shape told tape moment now back s t pages heard first then left 
 -- An image and a tape of a crash, by what a store leaves: it is an image of the store's file, and stands for pages that the
 -- store leaves with that tape. Or the store leaves a file that doesn't reopen.
 abbrev pub IsLeft : Shape → List ℕ → Outcomes → List ℕ → List ℕ → Type 0
-IsLeft shape file left image heard = (IsStoreImage shape file image × left (Some (pages_of image)) heard) ⊎ left None heard
+IsLeft shape file left image heard = (IsStoreImage shape file image × left (Some (pages_in image)) heard) ⊎ left None heard

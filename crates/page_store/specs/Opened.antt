@@ -10,7 +10,7 @@ use Rattle.page_store.specs.declared.desk.Desk.{Desk}
 use Rattle.page_store.specs.Changes.{nothing}
 use Rattle.page_file.specs.Leaving.{LeavesImage}
 use Rattle.page_store.specs.Opening.{StandsAs}
-use Rattle.page_store.specs.Standing.{pages_of}
+use Rattle.page_store.specs.Standing.{pages_in}
 
 -- the bytes that a read gives, where the file is told
 abbrev pub file_bytes : Option File → Option (List ℕ)
@@ -47,7 +47,7 @@ pub record Opens {D : Type 0} (file : D → Option File) (aside : D → Beside) 
 abbrev pub LeavesBaseSince : (ℕ → List ℕ → List ℕ → Type 0) → (ℕ → Outcomes) → List ℕ → List ℕ → Type 0
 LeavesBaseSince moment left file said =
     (t : ℕ) → ((image tape : List ℕ) → moment t image tape → StandsAs file image × (tape ≡ said))
-    → (pages : Option (List (List ℕ))) (told : List ℕ) → left t pages told → (pages ≡ Some (pages_of file)) × (told ≡ said)
+    → (pages : Option (List (List ℕ))) (told : List ℕ) → left t pages told → (pages ≡ Some (pages_in file)) × (told ≡ said)
 
 -- a desk with nothing on it
 pub record IsEmptyDesk (desk : Desk) : Type 0 where

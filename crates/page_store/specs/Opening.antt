@@ -10,7 +10,7 @@ use Rattle.page_store.specs.declared.fault.OpenFault.{OpenFault}
 use Rattle.page_store.specs.declared.fault.OpenFault.TheVariants.{Exists, Unmade, NotMdc, Version, Device, Damaged, Memory}
 use Rattle.store_api.specs.Extents.{first_count}
 use Rattle.page_store.specs.Shape.{IsBirth, extents_in, extent_pages_in}
-use Rattle.page_store.specs.Standing.{IsFitting, IsFormed, Stands, page_of, count_of, pages_of, is_made}
+use Rattle.page_store.specs.Standing.{IsFitting, IsFormed, Stands, page_of, count_of, pages_in, is_made}
 use Rattle.page_store.specs.Fresh.{IsUnmade}
 use Rattle.page_file.specs.declared.layout.TheConstants.{FIRST_PAGE, PAGE_BYTES}
 
@@ -63,7 +63,7 @@ IsServed file = IsMade file × IsBirth (file_page file 1) × IsRead file × IsWh
 -- An image that has all that isn't the store's as it is in that file. Where the file is formed, the image is too, stands
 -- for the same pages and has the file's birth page.
 abbrev pub StandsAs : List ℕ → List ℕ → Type 0
-StandsAs file image = FrontStays file image × (IsFormed file → Stands file (pages_of file) image)
+StandsAs file image = FrontStays file image × (IsFormed file → Stands file (pages_in file) image)
 
 -- All is on the disk, the gate is closed, and the file is formed and has so many pages, of a database of this size.
 pub record IsAtRest (extents extent_pages pages : ℕ) (file : File) : Type 0 where

@@ -28,8 +28,8 @@ abbrev pub count_of : List ℕ → ℕ
 count_of file = stated_in (page_of file 0)
 
 -- the pages that a file stands for
-abbrev pub pages_of : List ℕ → List (List ℕ)
-pages_of file = listed (count_of file) (page_of file)
+abbrev pub pages_in : List ℕ → List (List ℕ)
+pages_in file = listed (count_of file) (page_of file)
 
 -- the made byte is open
 abbrev pub is_made : List ℕ → Bool
@@ -51,7 +51,7 @@ pub record IsFormed (file : List ℕ) : Type 0 where
 -- the image is formed, stands for these pages, and has the file's birth page and all else of the file that isn't the store's
 pub record Stands (file : List ℕ) (all : List (List ℕ)) (image : List ℕ) : Type 0 where
   pub formed : IsFormed image
-  pub pages : pages_of image ≡ all
+  pub pages : pages_in image ≡ all
   pub birth : file_page image 1 ≡ file_page file 1
   pub front : FrontStays file image
 
@@ -74,4 +74,4 @@ pub record IsStoreImage (shape : Shape) (file image : List ℕ) : Type 0 where
 -- nothing
 abbrev pub Reopens : Shape → List ℕ → List ℕ → Option (List (List ℕ)) → Type 0
 Reopens shape file image None = ¬ IsStoreImage shape file image
-Reopens shape file image (Some pages) = IsStoreImage shape file image × (pages ≡ pages_of image)
+Reopens shape file image (Some pages) = IsStoreImage shape file image × (pages ≡ pages_in image)

@@ -318,7 +318,7 @@ impl Desk {
             return Err(DeviceFault);
         }
         self.base = count;
-        let mut pages = self.changes.settle();
+        let mut pages = self.changes.take_pages();
         self.cache.renew(&mut pages);
         self.changes.reuse(pages);
         Ok(())

@@ -15,7 +15,7 @@ ghost use Rattle.page_store.specs.Opened.{CouldBeLeft, LeavesBaseSince, IsEmptyD
 ghost use Rattle.page_store.specs.Opening.{IsAtRest, IsServed, Refuses};
 ghost use Rattle.store_api.specs.Extents.{is_shape};
 ghost use Rattle.page_store.specs.Shape.{extents_in, extent_pages_in};
-ghost use Rattle.page_store.specs.Standing.{IsFormed, pages_of};
+ghost use Rattle.page_store.specs.Standing.{IsFormed, pages_in};
 ghost use Rattle.store_api.specs.declared.pages.TheConstants.{MAX_PAGES};
 
 use crate::desk::Desk;
@@ -50,7 +50,7 @@ impl<H: Host> FileStore<H> {
         requires attached { IsTrue (H.is_attached host) }
         requires cache { 8 ≤ cache }
         ensures served { IfOk result (λ store. ForSome (H.file host) (λ file. IsServed file.bytes
-            × ((⟦<FileStore<H> as Pages>⟧.state store).base ≡ pages_of file.bytes))) }
+            × ((⟦<FileStore<H> as Pages>⟧.state store).base ≡ pages_in file.bytes))) }
         // It tells the shape of its file, and the attaches that the host told.
         ensures just_opened { IfOk result (λ store. IsJustOpened (is_some (H.file host)) (H.tape host) (attached_of store.desk.shape (H.attaches host))
             (⟦<FileStore<H> as Pages>⟧.state store)) }
@@ -102,7 +102,7 @@ impl<H: Host> FileStore<H> {
     pub fn close(self) -> H
         ensures same { result ≡ self.host }
         ensures base { (⟦<FileStore<H> as Pages>⟧.state self).ended ≡ false → ForSome (H.file result) (λ file. IsFormed file.bytes
-            × (pages_of file.bytes ≡ (⟦<FileStore<H> as Pages>⟧.state self).base)) }
+            × (pages_in file.bytes ≡ (⟦<FileStore<H> as Pages>⟧.state self).base)) }
         ensures disk_count { H.disk_faults result ≡ ⟦<FileStore<H> as Pages>⟧.disk_faults self }
         ensures say_count { H.say_faults result ≡ ⟦<FileStore<H> as Pages>⟧.say_faults self }
         ensures told { H.tape result ≡ (⟦<FileStore<H> as Pages>⟧.state self).told }
@@ -120,7 +120,7 @@ impl<H: Host> FileStore<H> {
 fn lay_out<D: Disk>(alloc: Global, disk: &mut D, cache: usize) -> Result<Desk, OpenFault>
     requires attached { IsTrue (D.is_attached disk.old) }
     requires cache { 8 ≤ cache }
-    ensures served { IfOk result (λ desk. ForSome (D.file disk.old) (λ file. IsServed file.bytes × (base_of (D.file disk.new) desk ≡ pages_of file.bytes))) }
+    ensures served { IfOk result (λ desk. ForSome (D.file disk.old) (λ file. IsServed file.bytes × (base_of (D.file disk.new) desk ≡ pages_in file.bytes))) }
     ensures empty { IfOk result IsEmptyDesk }
     ensures kept { IfOk result (λ desk. IsKept desk (D.file disk.new)) }
     ensures refused { IfErr result (λ fault. ForSome (D.file disk.old) (λ file. Refuses fault file.bytes)) }

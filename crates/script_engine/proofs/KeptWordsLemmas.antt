@@ -11,21 +11,21 @@ use Rattle.mdc_ast.proofs.TestsLemmas.{and_true}
 use Rattle.mdc_ast.specs.TableLimits.{is_kept_word}
 
 -- a token's word is kept so
-abbrev pub IsKept : Kind → Type 0
-IsKept (Word word) = IsTrue (is_kept_word word)
-IsKept (Number n) = Unit {0}
-IsKept (Text text) = Unit {0}
-IsKept (Symbol bytes) = Unit {0}
-IsKept Stray = Unit {0}
+abbrev pub IsKeptWord : Kind → Type 0
+IsKeptWord (Word word) = IsTrue (is_kept_word word)
+IsKeptWord (Number n) = Unit {0}
+IsKeptWord (Text text) = Unit {0}
+IsKeptWord (Symbol bytes) = Unit {0}
+IsKeptWord Stray = Unit {0}
 
 -- each of the tokens' words is
 abbrev pub AreKept : List Token → Type 0
 AreKept [] = Unit {0}
-AreKept (t ∷ tokens) = IsKept t.kind × AreKept tokens
+AreKept (t ∷ tokens) = IsKeptWord t.kind × AreKept tokens
 
-abbrev IsKeptIn : Option Kind → Type 0
-IsKeptIn None = Unit {0}
-IsKeptIn (Some kind) = IsKept kind
+abbrev IsKeptWordIn : Option Kind → Type 0
+IsKeptWordIn None = Unit {0}
+IsKeptWordIn (Some kind) = IsKeptWord kind
 
 -- ---- a byte in upper case
 
@@ -79,7 +79,7 @@ kept_word b more letter passes =
 
 -- ---- tokens
 
-front_kept : (bytes : List ℕ) (found : Option Kind) (rest : List ℕ) → Front bytes found rest → IsKeptIn found
+front_kept : (bytes : List ℕ) (found : Option Kind) (rest : List ℕ) → Front bytes found rest → IsKeptWordIn found
 front_kept bytes found rest (tokens.Front.blank h) = tt
 front_kept bytes found rest (tokens.Front.comment inside r h g lacks e) = tt
 front_kept bytes found rest (tokens.Front.open_comment h g lacks) = tt

@@ -22,7 +22,7 @@ use Rattle.mdc_sound.specs.TableRows.{block_slots}
 use Rattle.mdc_sound.proofs.BlockRulesLemmas.{line_at}
 use Rattle.mdc_sound.proofs.TableRowsLemmas.{KeepsBlockPages, block_slots-kept}
 use Rattle.cell_change.proofs.ChangedSpaceLemmas.{shows_spots}
-use Rattle.statement_rows.specs.OtherTables.{KeepsBlocks, own_spot}
+use Rattle.statement_rows.specs.OtherTables.{KeepsTableBlocks, own_spot}
 use Rattle.statement_rows.proofs.ShownSpotsLemmas.{shown_spots}
 
 -- ---- one extent
@@ -76,7 +76,7 @@ module _ (before ext : Extents) (old new : PageList) (def : TableDef) (owners ow
 
 pub stands_keeps : (before ext : Extents) (old new : PageList) (def : TableDef) (owners owners_now : List Kind) (forests forests_now : TableForests) → IsSameShape before ext
     → StandsTable told_pages before old def owners forests → StandsTable told_pages ext new def owners_now forests_now → forests_now.map ≡ forests.map
-    → ((e : ℕ) → e < before.cap → owner_of owners e ≡ Block def.number → KeepsBlockPages before ext old new e) → KeepsBlocks before ext old new def
+    → ((e : ℕ) → e < before.cap → owner_of owners e ≡ Block def.number → KeepsBlockPages before ext old new e) → KeepsTableBlocks before ext old new def
 stands_keeps before ext old new def owners owners_now forests forests_now shape st st_now same kept was shows =
     let map_now : IsBlockMapSound ext owners_now def forests.map = subst (IsBlockMapSound ext owners_now def) same st_now.map in (
       table_spots ext new def owners_now forests_now.map,

@@ -16,7 +16,7 @@ use Rattle.free_space.specs.RoomNotes.{no_note}
 use Rattle.cell_change.proofs.ChangedSpaceLemmas.{shows_spots}
 use Rattle.stored_catalog.specs.StoredDefinitions.{AreStored}
 use Rattle.stored_catalog.proofs.LeftDefinitionsLemmas.{stored_at}
-use Rattle.statement_rows.specs.OtherTables.{KeepsBlocks, own_spot}
+use Rattle.statement_rows.specs.OtherTables.{KeepsTableBlocks, own_spot}
 use Rattle.statement_rows.proofs.ShownSpotsLemmas.{shown_spots}
 use Rattle.script_engine.specs.NotedRooms.{KeepsOtherRooms, rooms_at}
 use Rattle.script_engine.specs.Ready.{AreServed, IsReady}
@@ -68,7 +68,7 @@ rooms_kept def room_of was is same right =
 -- ready, since their blocks and what is noted of them stayed.
 module _ {S : Type 0} (g : Ghosts S) (old new : S) (before now : Tables) (view : DatabaseView) (served : AreServed before.catalog) (ready : IsReady g old before) (told : IsTrue (g.state new).is_told)
     (sound : KeepAllRules now.ext (pages_of g new) view) (stored : AreStored (pages_of g new) now.catalog) (notes : AreRightNotes now.ext view.owners) where
-  table_beside : (t : ℕ) (def : TableDef) → def_at before.catalog t ≡ Some def → def_at now.catalog t ≡ Some def → KeepsBlocks before.ext now.ext (pages_of g old) (pages_of g new) def
+  table_beside : (t : ℕ) (def : TableDef) → def_at before.catalog t ≡ Some def → def_at now.catalog t ≡ Some def → KeepsTableBlocks before.ext now.ext (pages_of g old) (pages_of g new) def
       → rooms_at now.rooms t ≡ rooms_at before.rooms t → (forests : TableForests) × IsReadyTable g now.ext (rooms_at now.rooms t) new def view.owners forests
   table_beside t def was_at at keeps same =
       let was = ready.rooms t def was_at in
@@ -87,7 +87,7 @@ module _ {S : Type 0} (g : Ghosts S) (old new : S) (before now : Tables) (view :
       )
 
   pub ready_beside : (place : ℕ) → ((t : ℕ) → t ≢ place → def_at now.catalog t ≡ def_at before.catalog t)
-      → ((t : ℕ) (other : TableDef) → t ≢ place → def_at before.catalog t ≡ Some other → KeepsBlocks before.ext now.ext (pages_of g old) (pages_of g new) other)
+      → ((t : ℕ) (other : TableDef) → t ≢ place → def_at before.catalog t ≡ Some other → KeepsTableBlocks before.ext now.ext (pages_of g old) (pages_of g new) other)
       → KeepsOtherRooms before.rooms now.rooms place
       → ((def : TableDef) → def_at now.catalog place ≡ Some def → (forests : TableForests) × IsReadyTable g now.ext (rooms_at now.rooms place) new def view.owners forests)
       → IsReady g new now

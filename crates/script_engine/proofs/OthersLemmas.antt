@@ -32,7 +32,7 @@ use Rattle.mdc_sound.specs.TableViews.{TableView}
 use Rattle.mdc_sound.proofs.SoundDatabaseLemmas.{length-with_table_page, page_at-with_table_page, without_table_page}
 use Rattle.mdc_sound.proofs.SpaceRulesLemmas.{range_length}
 use Rattle.mdc_sound.proofs.StandingTableLemmas.{block_kept, forests_of, map_of_rules, stands_of_rules, stands_still}
-use Rattle.statement_rows.specs.OtherTables.{KeepsBlocks, KeepsOtherTables}
+use Rattle.statement_rows.specs.OtherTables.{KeepsTableBlocks, KeepsOtherTables}
 use Rattle.stored_catalog.specs.AroundTable.{view_with}
 use Rattle.stored_catalog.specs.StoredDefinitions.{AreStored}
 use Rattle.stored_catalog.specs.TreeRuns.{IsAddingPage, IsDroppingPage}
@@ -90,7 +90,7 @@ others_along before ext old new defs now place shape keeps =
 -- ---- one change after another
 
 -- what two changes one after the other keep
-pub keeps_then : (before mid ext : Extents) (old middle new : PageList) (def : TableDef) → KeepsBlocks before mid old middle def → KeepsBlocks mid ext middle new def → KeepsBlocks before ext old new def
+pub keeps_then : (before mid ext : Extents) (old middle new : PageList) (def : TableDef) → KeepsTableBlocks before mid old middle def → KeepsTableBlocks mid ext middle new def → KeepsTableBlocks before ext old new def
 keeps_then before mid ext old middle new def first second was shows =
     let is = first was shows in
     let after = second is.0 is.1 in
@@ -113,7 +113,7 @@ module _ (ext : Extents) (written : TableDef) (pages : PageList) (view : Databas
       (λ p of only. omega (arith, of.page.behind, only, low))
 
   -- and no block lies on a table page
-  pub written_keeps : KeepsBlocks ext ext pages (with_table_page written pages) table.def
+  pub written_keeps : KeepsTableBlocks ext ext pages (with_table_page written pages) table.def
   written_keeps =
       stands_keeps ext ext pages (with_table_page written pages) table.def view.owners view.owners (forests_of table) (forests_of table) (shape_none ext) stood stands_now refl
       (λ e within own. record { each = λ j inside. page_at-with_table_page written pages (first_page_of ext.cap ext.extent_pages e + j) (λ is. omega (arith, is, low)) })
@@ -126,7 +126,7 @@ elsewhere defs now place t def is apart = ap (λ all. def_at all t) is ∙ ap (o
 
 module _ {S : Type 0} (g : Ghosts S) (old mid : S) (before now : Tables) (place number : ℕ) (same : number ≡ place) (served : AreServed before.catalog) (ready : IsReady g old before)
     (others : KeepsOtherTables before.ext now.ext (pages_of g old) (pages_of g mid) number) where
-  others_kept : (t : ℕ) (other : TableDef) → t ≢ place → def_at before.catalog t ≡ Some other → KeepsBlocks before.ext now.ext (pages_of g old) (pages_of g mid) other
+  others_kept : (t : ℕ) (other : TableDef) → t ≢ place → def_at before.catalog t ≡ Some other → KeepsTableBlocks before.ext now.ext (pages_of g old) (pages_of g mid) other
   others_kept t other apart at =
       others.each t other (served_below before.catalog t other served at) (λ is. apart (is ∙ same)) (stored_at (pages_of g old) before.catalog t other ready.stored at)
 
@@ -141,13 +141,13 @@ module _ {S : Type 0} (g : Ghosts S) (old mid : S) (before now : Tables) (place 
   -- the page of the table was written besides
   pub kept_written : (new : S) (written : TableDef) (view : DatabaseView) → written.number ≡ place → place < 16 → KeepAllRules now.ext (pages_of g new) view → AreStored (pages_of g new) now.catalog
       → pages_of g new ≡ with_table_page written (pages_of g mid) → (t : ℕ) (other : TableDef) → t ≢ place → def_at before.catalog t ≡ Some other → def_at now.catalog t ≡ Some other
-      → KeepsBlocks before.ext now.ext (pages_of g old) (pages_of g new) other
+      → KeepsTableBlocks before.ext now.ext (pages_of g old) (pages_of g new) other
   kept_written new written view its_number low sound stored is t other apart at at_now =
       let found = defined_there now.ext (pages_of g new) view t other sound (served_below before.catalog t other served at) (stored_at (pages_of g new) now.catalog t other stored at_now) in
-      let stays : KeepsBlocks now.ext now.ext (pages_of g mid) (with_table_page written (pages_of g mid)) other =
-      subst (λ def. KeepsBlocks now.ext now.ext (pages_of g mid) (with_table_page written (pages_of g mid)) def) found.same
+      let stays : KeepsTableBlocks now.ext now.ext (pages_of g mid) (with_table_page written (pages_of g mid)) other =
+      subst (λ def. KeepsTableBlocks now.ext now.ext (pages_of g mid) (with_table_page written (pages_of g mid)) def) found.same
       (written_keeps now.ext written (pages_of g mid) view (subst (λ (pages : PageList). KeepAllRules now.ext pages view) is sound) (omega (arith, its_number, low)) t found.table found.there) in
-      subst (λ (pages : PageList). KeepsBlocks before.ext now.ext (pages_of g old) pages other) (sym is)
+      subst (λ (pages : PageList). KeepsTableBlocks before.ext now.ext (pages_of g old) pages other) (sym is)
       (keeps_then before.ext now.ext now.ext (pages_of g old) (pages_of g mid) (with_table_page written (pages_of g mid)) other (others_kept t other apart at) stays)
 
   pub others_written : (new : S) (written : TableDef) → written.number ≡ place → IsReady g new now → pages_of g new ≡ with_table_page written (pages_of g mid) → (def : TableDef) → def_at before.catalog place ≡ Some def
@@ -192,13 +192,13 @@ off_space ext owners t p of (inr idle) = idle_no_block ext owners p t idle of.bl
 module _ {S : Type 0} (g : Ghosts S) (old new : S) (before now : Tables) (place : ℕ) (changed : Option TableView) (owners_now : List Kind) (ready : IsReady g old before)
     (sound : KeepAllRules now.ext (pages_of g new) (view_with ready.view owners_now place changed)) (shape : IsSameShape before.ext now.ext) (served : AreServed before.catalog)
     (Mine : ℕ → Type 0) (touches : Touches g Mine old new) (off : (t p : ℕ) → IsBlockPageOf before.ext ready.view.owners t p → Mine p → ⊥) where
-  others_stay : (t : ℕ) (other : TableDef) → t ≢ place → def_at before.catalog t ≡ Some other → KeepsBlocks before.ext now.ext (pages_of g old) (pages_of g new) other
+  others_stay : (t : ℕ) (other : TableDef) → t ≢ place → def_at before.catalog t ≡ Some other → KeepsTableBlocks before.ext now.ext (pages_of g old) (pages_of g new) other
   others_stay t other apart at =
       let found = defined_there before.ext (pages_of g old) ready.view t other ready.sound (served_below before.catalog t other served at) (stored_at (pages_of g old) before.catalog t other ready.stored at) in
       let table = found.table in
       let map = map_of_rules before.ext (pages_of g old) ready.view ready.sound.first in
       let there_now : slice_get (slice_set ready.view.places place changed) t ≡ Some (Some table) = slice_get-set_other ready.view.places place changed t apart ∙ found.there in
-      subst (λ def. KeepsBlocks before.ext now.ext (pages_of g old) (pages_of g new) def) found.same
+      subst (λ def. KeepsTableBlocks before.ext now.ext (pages_of g old) (pages_of g new) def) found.same
       (stands_keeps before.ext now.ext (pages_of g old) (pages_of g new) table.def ready.view.owners owners_now (forests_of table) (forests_of table) shape
       (stands_of_rules before.ext (pages_of g old) ready.view ready.sound.first t table found.there)
       (stands_of_rules now.ext (pages_of g new) (view_with ready.view owners_now place changed) sound.first t table there_now) refl

@@ -12,7 +12,7 @@ use Rattle.mdc_ast.specs.Phrases.{Both, Closed, Either, Listed, Many, Map, Nothi
 use Rattle.mdc_ast.specs.Rules.{Rule, Spelled, behind, choice, closed, forked, listed, nothing, pair, perhaps, seen, separated, stated, token}
 use Rattle.mdc_ast.specs.Tokens.{Kind, Number, Stray, Symbol, Text, Token, Word}
 use Rattle.mdc_ast.specs.TableLimits.{is_kept_word}
-use Rattle.script_engine.proofs.KeptWordsLemmas.{AreKept, IsKept}
+use Rattle.script_engine.proofs.KeptWordsLemmas.{AreKept, IsKeptWord}
 
 -- ---- what a phrase says
 
@@ -27,7 +27,7 @@ Anything x = Unit {0}
 says_nothing : {X : Type 0} (P : X → Type 0) (x : X) → P x → Says (Nothing x) P
 says_nothing P x holds tokens rest y h kept = (subst P h.0 holds, subst AreKept h.1 kept)
 
-says_one : {X : Type 0} (P : X → Type 0) (c : Class) (f : Token → X) → ((t : Token) → IsTrue (fits c t.kind) → IsKept t.kind → P (f t)) → Says (One c f) P
+says_one : {X : Type 0} (P : X → Type 0) (c : Class) (f : Token → X) → ((t : Token) → IsTrue (fits c t.kind) → IsKeptWord t.kind → P (f t)) → Says (One c f) P
 says_one P c f each tokens rest x h kept =
     let here : AreKept (h.0 ∷ rest) = subst AreKept h.3 kept in
     (subst P h.2 (each h.0 h.1 here.0), here.1)
@@ -104,7 +104,7 @@ keeps (stated s m g) = keeps g
 abbrev pub IsGivenWord : Name → Type 0
 IsGivenWord name = IsTrue (is_kept_word name.0) × IsTrue (is_name name.0)
 
-given : (kind : Kind) → IsTrue (fits AnyName kind) → IsKept kind → IsGivenWord (name_in (record { kind = kind; left = 0 }))
+given : (kind : Kind) → IsTrue (fits AnyName kind) → IsKeptWord kind → IsGivenWord (name_in (record { kind = kind; left = 0 }))
 given (Word word) fit kept = (kept, fit)
 given (Number n) fit kept = cc
 given (Text text) fit kept = cc

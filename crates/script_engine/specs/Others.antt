@@ -15,7 +15,7 @@ use Rattle.table_trees.specs.ToldPages.{PageList, told_pages}
 use Rattle.mdc_sound.specs.Placing.{Spot}
 use Rattle.mdc_sound.specs.Placing.Spot.{OtherBlock}
 use Rattle.mdc_sound.specs.RunningFull.{ShowsTableSpots, creating_changes}
-use Rattle.statement_rows.specs.OtherTables.{KeepsBlocks, own_spot}
+use Rattle.statement_rows.specs.OtherTables.{KeepsTableBlocks, own_spot}
 
 -- the place of the table that a bound statement drops, or whose rows it changes
 abbrev pub touched_place : Bound → Option ℕ
@@ -48,6 +48,6 @@ pub record FreesBlocks (before ext : Extents) (old new : PageList) (t : ℕ) : T
 -- slots. One that comes has no block, for the space that its trees ask for, and the blocks of one that goes are free.
 pub record KeepsOthers (before ext : Extents) (old new : PageList) (defs now : Definitions) (place : Option ℕ) : Type 0 where
   pub each : (t : ℕ) (other : TableDef) → (place ≡ Some t → ⊥) → def_at defs t ≡ Some other
-      → (def_at now t ≡ Some other) × KeepsBlocks before ext old new other
+      → (def_at now t ≡ Some other) × KeepsTableBlocks before ext old new other
   pub made : (t : ℕ) (def : TableDef) → def_at defs t ≡ None → def_at now t ≡ Some def → ComesEmpty before ext old new def
   pub gone : (t : ℕ) (def : TableDef) → def_at defs t ≡ Some def → def_at now t ≡ None → FreesBlocks before ext old new t

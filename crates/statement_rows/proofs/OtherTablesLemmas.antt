@@ -37,7 +37,7 @@ use Rattle.mdc_sound.proofs.SpaceRulesLemmas.{range_at, range_length}
 use Rattle.mdc_sound.proofs.StandingTableLemmas.{block_below, block_kept, forests_of, number_of_place, stands_of_rules, stands_of_sound, stands_still}
 use Rattle.mdc_sound.proofs.TableRowsLemmas.{KeepsBlockPages, block_slots-kept}
 use Rattle.cell_change.proofs.ChangedSpaceLemmas.{shows_spots}
-use Rattle.statement_rows.specs.OtherTables.{KeepsBlocks, KeepsOtherTables, own_spot}
+use Rattle.statement_rows.specs.OtherTables.{KeepsTableBlocks, KeepsOtherTables, own_spot}
 use Rattle.statement_rows.specs.RowsOfStatement.{KeepsTablePages}
 use Rattle.statement_rows.proofs.ShownSpotsLemmas.{shown_spots}
 
@@ -100,7 +100,7 @@ module _ (before ext : Extents) (old new : PageList) (def : TableDef) (map_tree 
 pub blocks_kept : (before ext : Extents) (old new : PageList) (def : TableDef) (owners owners_now : List Kind) (forests : TableForests) → StandsTable told_pages before old def owners forests
     → StandsTable told_pages ext new def owners_now forests → IsSameShape before ext → ((e : ℕ) → owner_of owners e ≡ Block def.number → owner_of owners_now e ≡ Block def.number)
     → ((e : ℕ) → owner_of owners_now e ≡ Block def.number → owner_of owners e ≡ Block def.number) → ((e : ℕ) → owner_of owners e ≡ Block def.number → KeepsBlockPages before ext old new e)
-    → KeepsBlocks before ext old new def
+    → KeepsTableBlocks before ext old new def
 blocks_kept before ext old new def owners owners_now forests stood stands shape still back kept was shows = (
   table_spots ext new def owners_now forests.map,
   shows_spots told_pages ext new def owners_now forests stands,
@@ -147,7 +147,7 @@ module _ {S : Type 0} (g : Ghosts S) (before ext : Extents) (old new : S) (def :
       some_block none = let wrong : Some t ≡ None = sym (ap table_of_block of.block) ∙ none in absurd (cc)
 
   -- another table of the view has its blocks
-  keeps_table : (t : ℕ) (table : TableView) → t ≢ def.number → slice_get sound.view.places t ≡ Some (Some table) → KeepsBlocks before ext (pages_of g old) (pages_of g new) table.def
+  keeps_table : (t : ℕ) (table : TableView) → t ≢ def.number → slice_get sound.view.places t ≡ Some (Some table) → KeepsTableBlocks before ext (pages_of g old) (pages_of g new) table.def
   keeps_table t table apart at =
       let number : table.def.number ≡ t = (number_of_place before (with_table_page def (pages_of g old)) sound.view sound.first t table at).1 in
       let differs : table.def.number ≢ def.number = λ same. apart (sym number ∙ same) in
@@ -178,8 +178,8 @@ module _ {S : Type 0} (g : Ghosts S) (before ext : Extents) (old new : S) (def :
       page_as_it_was t apart = page_at-with_table_page def (pages_of g old) (1 + t) (λ same. apart (omega (arith, same)))
 
       at_place : (t : ℕ) (other : TableDef) → t ≢ def.number → DefinesTable (pages_of g old) t other → (place : Option TableView) → slice_get sound.view.places t ≡ Some place
-          → KeepsBlocks before ext (pages_of g old) (pages_of g new) other
+          → KeepsTableBlocks before ext (pages_of g old) (pages_of g new) other
       at_place t other apart defines None at = absurd (no_blank_table t other (subst (λ page. IsTablePageOf t other page) (sym (page_as_it_was t apart) ∙ place_at t None at) defines))
       at_place t other apart defines (Some table) at =
           let shown : DefinesTable (pages_of g old) t table.def = subst (λ page. IsTablePageOf t table.def page) (page_as_it_was t apart) (place_at t (Some table) at).0 in
-          subst (KeepsBlocks before ext (pages_of g old) (pages_of g new)) (one_definition t table.def other (table_page_at (pages_of g old) t) shown defines) (keeps_table t table apart at)
+          subst (KeepsTableBlocks before ext (pages_of g old) (pages_of g new)) (one_definition t table.def other (table_page_at (pages_of g old) t) shown defines) (keeps_table t table apart at)

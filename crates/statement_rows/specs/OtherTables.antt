@@ -15,10 +15,10 @@ own_spot IndexExtent = OtherBlock
 own_spot spot = spot
 
 -- The blocks of a table are those that it had, each in its state, and with its rows in their slots.
-abbrev pub KeepsBlocks : Extents → Extents → PageList → PageList → TableDef → Type 0
-KeepsBlocks before ext old new def =
+abbrev pub KeepsTableBlocks : Extents → Extents → PageList → PageList → TableDef → Type 0
+KeepsTableBlocks before ext old new def =
     (was : List Spot) → ShowsTableSpots before old def was → (is : List Spot) × ShowsTableSpots ext new def is × (map own_spot is ≡ map own_spot was)
 
 -- so it is of each table but the one of this number
 pub record KeepsOtherTables (before ext : Extents) (old new : PageList) (number : ℕ) : Type 0 where
-  pub each : (t : ℕ) (other : TableDef) → t < 16 → t ≢ number → DefinesTable old t other → KeepsBlocks before ext old new other
+  pub each : (t : ℕ) (other : TableDef) → t < 16 → t ≢ number → DefinesTable old t other → KeepsTableBlocks before ext old new other

@@ -5,7 +5,7 @@ use Rattle.mdc_ast.specs.Truth.{value_at}
 use Rattle.node_page.specs.Node.{number_within}
 use Rattle.key_codec.proofs.KeyLemmas.{length-key_bytes}
 use Rattle.block_index.specs.Cells.{HaveKeys, entry_under}
-use Rattle.block_index.specs.PartRanges.{named_block}
+use Rattle.block_index.specs.PartRanges.{last_block}
 use Rattle.block_index.proofs.CellsLemmas.{fit_row, key_of_values-row, length-key_of_values}
 use Rattle.block_index.proofs.SpansLemmas.{named_under}
 use Rattle.mdc_values.specs.declared.value.Value.{Value}
@@ -14,7 +14,7 @@ use Rattle.mdc_ast.specs.declared.definition.TableDef.{TableDef}
 use Rattle.mdc_ast.specs.Database.{fits_all}
 use Rattle.key_codec.specs.Keys.{ArePartsOf, key_bytes, width_of_parts}
 use Rattle.table_trees.specs.TableTrees.{AreIndexParts, block_entry, rising_parts}
-use Rattle.table_blocks.specs.AroundBlock.{block_in_entry}
+use Rattle.mdc_sound.specs.BlockRules.{block_in_entry}
 
 -- an entry under a key that is as wide as those of an index
 block_under_key : (def : TableDef) (parts : List KeyPart) (key : List ℕ) (block : ℕ) → length key ≡ width_of_parts def.columns parts → block < 2 ^ 32 → block_in_entry def parts (entry_under key block) ≡ block
@@ -38,4 +38,4 @@ block_in_keyed def places values block are keys small =
 
 -- entries of different blocks differ
 pub same_named : (key other : List ℕ) (a b : ℕ) → a < 2 ^ 32 → b < 2 ^ 32 → entry_under key a ≡ entry_under other b → a ≡ b
-same_named key other a b small_a small_b same = sym (named_under key a small_a) ∙ (ap named_block same ∙ named_under other b small_b)
+same_named key other a b small_a small_b same = sym (named_under key a small_a) ∙ (ap last_block same ∙ named_under other b small_b)

@@ -34,7 +34,7 @@ use Rattle.mdc_ast.specs.TableLimits.{IsTableDef}
 use Rattle.table_trees.specs.TableTrees.{block_entry, cell_parts, rising_parts}
 use Rattle.table_trees.specs.TreesBeside.{table_of_block}
 use Rattle.table_trees.specs.ToldPages.{PageList}
-use Rattle.mdc_sound.specs.BlockRules.{AreBlockRowsSound, IsBlockIndexSound, IsIdleCountSound, IsOfOneCell, IsUsedCountSound, entry_of_block}
+use Rattle.mdc_sound.specs.BlockRules.{AreBlockRowsSound, IsBlockIndexSound, IsIdleCountSound, IsOfOneCell, IsUsedCountSound, entry_of_block, block_in_entry}
 use Rattle.mdc_ast.specs.FittingRows.{RowFits}
 use Rattle.mdc_sound.specs.Placing.{Spot, spot_of_state}
 use Rattle.mdc_sound.specs.Placing.Spot.{OtherBlock, UsedBlock}
@@ -43,10 +43,10 @@ use Rattle.mdc_sound.specs.StandingTable.{ChangesTable, StandsTable, TableForest
 use Rattle.mdc_sound.specs.TableRows.{PlacedRow, block_slots, rows_in_block, rows_in_table}
 use Rattle.mdc_sound.proofs.TableSpotsLemmas.{length-spots, own_spot, spot_at, state_of_named, used_spot}
 use Rattle.mdc_sound.proofs.CellKeysLemmas.{cell_key-same, dimension_key-same}
-use Rattle.mdc_sound.proofs.ElementsLemmas.{contains_entry, contains_flat, each_in, each_line, entry_in, flat_contains, in_map, named_block, zip_of}
+use Rattle.mdc_sound.proofs.ElementsLemmas.{contains_entry, contains_flat, each_in, each_line, entry_in, flat_contains, in_map, contains_block, zip_of}
 use Rattle.mdc_sound.proofs.MappedBlocksLemmas.{entry_rows, small_block}
 use Rattle.mdc_sound.proofs.SlotRowsLemmas.{few_rows, length-rows_from_slot, placed_in_slot, slot_of_placed, some_row}
-use Rattle.table_blocks.specs.AroundBlock.{IsIndexAround, IsLineSound, StandsAround, block_in_entry}
+use Rattle.table_blocks.specs.AroundBlock.{IsIndexAround, IsLineSound, StandsAround}
 use Rattle.table_blocks.specs.BlockChanges.{ChangesAround, IsSpotChange, TurnsSpot, spot_in}
 use Rattle.table_blocks.specs.BlockNow.{IsListedIn, IsOwnBlock, IsReleasedNow, IsUnlistedIn, IsUsedNow, released_line, released_spot}
 
@@ -265,7 +265,7 @@ module _ {S : Type 0} {g : Ghosts S} (ext : Extents) (s : S) (def : TableDef) (o
             rows = λ used. subst (AreBlockRowsSound ext (pages_of g s) def) (sym same) rows_sound;
             cell = λ used. subst (IsOfOneCell ext (pages_of g s) def) (sym same) cell_sound;
           };
-      named = subst (Contains (mapped_blocks forests.map)) (row_block its_line (small_block ext block now.own.within)) (named_block (leaf_entries forests.map) (row_entry its_line) now.line);
+      named = subst (Contains (mapped_blocks forests.map)) (row_block its_line (small_block ext block now.own.within)) (contains_block (leaf_entries forests.map) (row_entry its_line) now.line);
       composite = listed_here ext (pages_of g s) def forests.map block values slots is_used now.rows.slots_are now.cell.some (cell_parts def) forests.composite
           (λ row there. cell_key-same def row.values values (now.cell.one_cell row there)) now.listed.composite;
       dims = dims_listed ext (pages_of g s) def forests.map block values slots is_used now.rows.slots_are now.cell.some def.dims forests.dims
@@ -299,7 +299,7 @@ module _ {S : Type 0} {g : Ghosts S} (ext : Extents) (s : S) (def : TableDef) (o
           };
       named =
           subst (Contains (mapped_blocks forests.map)) (row_block (released_line given block) (small_block ext block now.own.within))
-          (named_block (leaf_entries forests.map) (row_entry (released_line given block)) now.line);
+          (contains_block (leaf_entries forests.map) (row_entry (released_line given block)) now.line);
       composite = unlisted_here ext (pages_of g s) def forests.map block unused (cell_parts def) forests.composite now.unlisted.composite;
       dims = dims_unlisted ext (pages_of g s) def forests.map block unused def.dims forests.dims now.unlisted.dims;
     }

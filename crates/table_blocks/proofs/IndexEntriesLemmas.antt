@@ -17,9 +17,9 @@ use Rattle.table_trees.proofs.TableTreesLemmas.{places_in}
 use Rattle.table_trees.specs.ToldPages.{PageList}
 use Rattle.block_index.specs.Cells.{HaveKeys}
 use Rattle.block_index.specs.Listing.{GainsEntry, LosesEntry, MoveFirst}
-use Rattle.mdc_sound.specs.BlockRules.{entry_of_block}
+use Rattle.mdc_sound.specs.BlockRules.{entry_of_block, block_in_entry}
 use Rattle.mdc_sound.specs.TableRows.{PlacedRow}
-use Rattle.table_blocks.specs.AroundBlock.{IsIndexAround, IsOtherRow, block_in_entry}
+use Rattle.table_blocks.specs.AroundBlock.{IsIndexAround, IsOtherRow}
 use Rattle.table_blocks.specs.BlockNow.{IsListedIn, IsUnlistedIn}
 use Rattle.table_blocks.proofs.BlockEntriesLemmas.{same_named}
 use Rattle.table_blocks.proofs.WithEntryLemmas.{more_with, there_with, with_cases}

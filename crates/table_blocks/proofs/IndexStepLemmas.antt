@@ -19,9 +19,9 @@ use Rattle.block_index.specs.Listing.{BreaksListing, BreaksUnlisting, FillsListi
 use Rattle.table_trees.specs.RowCells.{IsCellOf}
 use Rattle.mdc_sound.specs.Placing.{AfterClaims, AfterReturns, Spot}
 use Rattle.mdc_sound.specs.StandingTable.{MeetsNoFree, TableForests, forests_in_order, NamesTablePart, pages_of, roots_in}
-use Rattle.table_blocks.specs.AroundBlock.{StandsAround, IsIndexAround, IsOtherRow, block_in_entry}
+use Rattle.table_blocks.specs.AroundBlock.{StandsAround, IsIndexAround, IsOtherRow}
 use Rattle.table_blocks.specs.BlockChanges.{BreaksAround, IsPlaceAround, IsSpaceAround, IsSpotChange}
-use Rattle.table_blocks.specs.BlockNow.{IsListed, IsOwnBlock, IsUnlisted, IsListedIn, IsUnlistedIn}
+use Rattle.table_blocks.specs.BlockNow.{IsListedInEach, IsOwnBlock, IsUnlisted, IsListedIn, IsUnlistedIn}
 use Rattle.table_blocks.specs.BlockSteps.{MovesEntries}
 use Rattle.std.specs.List.{AllByRecursion, AllZip}
 use Rattle.std.proofs.lemmas.Slice.Zip.{AllZip-long}
@@ -38,6 +38,7 @@ use Rattle.mdc_sound.specs.TableRows.{PlacedRow}
 use Rattle.entry_tree.specs.Standing.{StandsTree, with_pages}
 use Rattle.entry_tree.specs.declared.tree.Tree.{Tree}
 use Rattle.mdc_sound.proofs.StandingTableLemmas.{block_below, block_kept}
+use Rattle.mdc_sound.specs.BlockRules.{block_in_entry}
 use Rattle.table_blocks.proofs.BlockEntriesLemmas.{block_in_keyed}
 use Rattle.table_trees.proofs.SideBySideLemmas.{block_page_apart, part_changes, part_space, part_stands, part_trees_or_map, space_of_trees_or_map, tree_among}
 use Rattle.extent_map.proofs.DamagesLemmas.{breaks_space_never}
@@ -170,7 +171,7 @@ module _ (def : TableDef) (values : List Value) (block : ℕ) (small : block < 2
       let here = at_dimension (IsKeyedDimension def.columns values) (λ dim index. IsUnlistedIn def (rising_parts dim) block index) dimension_entry def.dims forests.dims n x t keyed none.dims entry there in
       here.2 x at (ap (block_in_entry def (rising_parts here.0)) here.3 ∙ names_dimension here.0 here.1)
 
-  listed_there : (forests : TableForests) (n : ℕ) (x : Entry) (t : Forest) → IsListed def forests values block → slice_get (forests.composite ∷ forests.dims) n ≡ Some t → slice_get (all_entries def values block) n ≡ Some x
+  listed_there : (forests : TableForests) (n : ℕ) (x : Entry) (t : Forest) → IsListedInEach def forests values block → slice_get (forests.composite ∷ forests.dims) n ≡ Some t → slice_get (all_entries def values block) n ≡ Some x
       → IsEntryOf x (leaf_entries t)
   listed_there forests zero x t listed there entry =
       let tree_is : forests.composite ≡ t = same_Some forests.composite t there in
@@ -278,7 +279,7 @@ module _ {S : Type 0} {g : Ghosts S} (def : TableDef) (cell : Cell) (values : Li
   pub lists_entries : (before ext : Extents) (old new : S) (owners : List Kind) (forests : TableForests) → StandsAround g before old def owners forests block → IsOwnBlock before owners def block
       → ListsBlock g before ext new def cell.values block owners (forests.composite ∷ forests.dims) → GrowsPages g before old new → IsSameShape before ext
       → Touches g (IsSpaceOfTrees g before old (block_index_places def)) old new → (g.state new).is_told ≡ (g.state old).is_told → length (g.state old).work ≤ length (g.state new).work
-      → (moves : MovesEntries g AfterClaims before ext old new def block owners forests) × (IsUnlisted def forests block → IsListed def moves.forests_now values block)
+      → (moves : MovesEntries g AfterClaims before ext old new def block owners forests) × (IsUnlisted def forests block → IsListedInEach def moves.forests_now values block)
   unfolding moves_entries
   lists_entries before ext old new owners forests st own lists grows shape touched told longer =
       let first : MoveFirst GainsEntry (length (all_entries def values block)) (all_entries def values block) (forests.composite ∷ forests.dims) lists.first.trees_now =
@@ -308,7 +309,7 @@ module _ {S : Type 0} {g : Ghosts S} (def : TableDef) (cell : Cell) (values : Li
   pub unlists_entries : (before ext : Extents) (old new : S) (owners : List Kind) (forests : TableForests) → StandsAround g before old def owners forests block → IsOwnBlock before owners def block
       → UnlistsBlock g before ext new def cell.values block owners (forests.composite ∷ forests.dims) → IsSameShape before ext
       → Touches g (IsTreesOrMapPage g before old (block_index_places def)) old new → (g.state new).is_told ≡ (g.state old).is_told → length (g.state new).work ≡ length (g.state old).work
-      → (moves : MovesEntries g AfterReturns before ext old new def block owners forests) × (IsListed def forests values block → IsUnlisted def moves.forests_now block)
+      → (moves : MovesEntries g AfterReturns before ext old new def block owners forests) × (IsListedInEach def forests values block → IsUnlisted def moves.forests_now block)
       × ((p : ℕ) → 0 < sum_by (times p) (forests_in_order moves.forests_now) → 0 < sum_by (times p) (forests_in_order forests))
   unfolding moves_entries
   unlists_entries before ext old new owners forests st own unlists shape touched told count =
@@ -393,7 +394,7 @@ module _ {S : Type 0} {g : Ghosts S} (def : TableDef) (cell : Cell) (values : Li
         ];
   }
 
-  pub breaks_unlisting : (ext : Extents) (s : S) (damage : Damage) → BreaksUnlisting g ext s def cell.values block damage → BreaksAround g ext s def block (λ owners forests. IsListed def forests values block) damage
+  pub breaks_unlisting : (ext : Extents) (s : S) (damage : Damage) → BreaksUnlisting g ext s def cell.values block damage → BreaksAround g ext s def block (λ owners forests. IsListedInEach def forests values block) damage
   breaks_unlisting ext s damage breaks = record {
     names = names_unlisting g def cell.values block ext s damage breaks;
     broken = λ owners forests st own listed.

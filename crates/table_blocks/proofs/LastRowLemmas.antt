@@ -44,7 +44,7 @@ use Rattle.mdc_sound.proofs.DefinitionTreesLemmas.{has_block_indexes}
 use Rattle.mdc_sound.proofs.StandingTableLemmas.{stands_same}
 use Rattle.table_blocks.specs.AroundBlock.{StandsAround}
 use Rattle.table_blocks.specs.BlockChanges.{BreaksAround, ChangesAround, IsPlaceAround, TurnsSpot}
-use Rattle.table_blocks.specs.BlockNow.{IsKeyedCell, IsListed, IsOwnBlock, IsUsedNow, MapsUsed}
+use Rattle.table_blocks.specs.BlockNow.{IsKeyedCell, IsListedInEach, IsOwnBlock, IsUsedNow, MapsUsed}
 use Rattle.table_blocks.specs.BlockSteps.{EmptiesSlot, ExpectsReleasing, HasFilledSlot, HasThisRow, ReleasesBlock}
 use Rattle.table_blocks.proofs.AroundLemmas.{around_then, breaks_of_table, own_still, rows_step, runs_place_then}
 use Rattle.table_blocks.proofs.BlockPagesLemmas.{place_of_block}
@@ -180,7 +180,7 @@ module _ {S : Type 0} {g : Ghosts S} (ext : Extents) (s : S) (def : TableDef) (d
           let run = so_far {Breaks = NoDamage} in
           rows_step returns_change ext s cleared def rid.block owners forests st own run.touches run.works.steady.is_told (count ∙ ap length as_was)
 
-      listed : (owners : List Kind) (forests : TableForests) → StandsTable g ext s def owners forests → HasThisRow g ext s def rid row owners forests → IsListed def forests row.values rid.block
+      listed : (owners : List Kind) (forests : TableForests) → StandsTable g ext s def owners forests → HasThisRow g ext s def rid row owners forests → IsListedInEach def forests row.values rid.block
       listed owners forests st has =
           let now = row_now row has.slots owners forests st has.lies in
           listed_in_cell def forests now.0 row.values rid.block (sym (now.1.cell.one_cell row (row_there has.slots rid.slot row has.lies.slot))) now.1.listed

@@ -12,7 +12,7 @@ use Rattle.block_index.specs.Cells.{dimension_entries, entry_under, key_of_value
 use Rattle.block_index.proofs.CellsLemmas.{dimension_entries-row, key_of_values-row}
 use Rattle.table_trees.specs.RowCells.{AreOfOneCell}
 use Rattle.mdc_sound.specs.StandingTable.{TableForests}
-use Rattle.table_blocks.specs.BlockNow.{IsListed, IsListedIn}
+use Rattle.table_blocks.specs.BlockNow.{IsListedInEach, IsListedIn}
 
 listed_under : (def : TableDef) (parts : List KeyPart) (a b : List Value) (block : ℕ) (index : Forest) → block_entry def.columns parts a block ≡ block_entry def.columns parts b block
     → IsListedIn def parts a block index → IsListedIn def parts b block index
@@ -32,7 +32,7 @@ listed_under_each def a b block (dim ∷ dims) (index ∷ indexes) same listed =
     let rest : map (λ d. block_entry def.columns (rising_parts d) a block) dims ≡ map (λ d. block_entry def.columns (rising_parts d) b block) dims = cc in
     (listed_under def (rising_parts dim) a b block index first listed.0, listed_under_each def a b block dims indexes rest listed.1)
 
-pub listed_in_cell : (def : TableDef) (forests : TableForests) (a b : List Value) (block : ℕ) → AreOfOneCell def a b → IsListed def forests a block → IsListed def forests b block
+pub listed_in_cell : (def : TableDef) (forests : TableForests) (a b : List Value) (block : ℕ) → AreOfOneCell def a b → IsListedInEach def forests a block → IsListedInEach def forests b block
 listed_in_cell def forests a b block same listed = record {
   composite =
       let key_is = sym (key_of_values-row def.columns (cell_places def) a) ∙ ap (key_of_values def.columns (cell_places def)) same ∙ key_of_values-row def.columns (cell_places def) b in
@@ -44,7 +44,7 @@ listed_in_cell def forests a b block same listed = record {
 
 -- where the indexes are as they were
 pub listed_still : (def : TableDef) (forests forests_now : TableForests) (values : List Value) (block : ℕ) → forests_now.composite ≡ forests.composite → forests_now.dims ≡ forests.dims
-    → IsListed def forests values block → IsListed def forests_now values block
+    → IsListedInEach def forests values block → IsListedInEach def forests_now values block
 listed_still def forests forests_now values block composite dims listed = record {
   composite = subst (λ (index : Forest). IsListedIn def (cell_parts def) values block index) (sym composite) listed.composite;
   dims = subst (λ (indexes : List Forest). AllZip (λ dim index. IsListedIn def (rising_parts dim) values block index) def.dims indexes) (sym dims) listed.dims;

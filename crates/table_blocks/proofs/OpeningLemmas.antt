@@ -25,7 +25,7 @@ use Rattle.block_map.specs.MapRows.{row_entry, state_number}
 use Rattle.block_map.specs.declared.row.BlockRow.{BlockRow}
 use Rattle.block_map.proofs.MapLinesLemmas.{in_state_named, named_in_state, row_block}
 use Rattle.table_trees.specs.TableTrees.{AreIndexParts, block_entry, cell_parts, rising_parts}
-use Rattle.mdc_sound.specs.BlockRules.{AreBlockRowsSound, IsBlockIndexSound, IsIdleCountSound, IsOfOneCell, IsUsedCountSound, entry_of_block}
+use Rattle.mdc_sound.specs.BlockRules.{AreBlockRowsSound, IsBlockIndexSound, IsIdleCountSound, IsOfOneCell, IsUsedCountSound, entry_of_block, block_in_entry}
 use Rattle.table_trees.specs.RowCells.{AreOfOneCell}
 use Rattle.table_trees.specs.ToldPages.{PageList}
 use Rattle.mdc_ast.specs.FittingRows.{RowFits}
@@ -41,8 +41,8 @@ use Rattle.mdc_sound.proofs.CellKeysLemmas.{cell_key-same, dimension_key-same}
 use Rattle.mdc_sound.proofs.ElementsLemmas.{contains_flat, each_entry, entry_in, flat_contains, from_map, zip_as}
 use Rattle.mdc_sound.proofs.MappedBlocksLemmas.{few_extents, map_form}
 use Rattle.mdc_sound.proofs.SlotRowsLemmas.{length-rows_from_slot, placed_in_slot, slot_of_placed}
-use Rattle.table_blocks.specs.AroundBlock.{IsIndexAround, IsLineSound, StandsAround, block_in_entry}
-use Rattle.table_blocks.specs.BlockNow.{AreOfCell, IsFreeNow, IsListed, IsListedIn, IsOwnBlock, IsUnlisted, IsUnlistedIn, IsUnnamed, IsUsedNow, free_line}
+use Rattle.table_blocks.specs.AroundBlock.{IsIndexAround, IsLineSound, StandsAround}
+use Rattle.table_blocks.specs.BlockNow.{AreOfCell, IsFreeNow, IsListedInEach, IsListedIn, IsOwnBlock, IsUnlisted, IsUnlistedIn, IsUnnamed, IsUsedNow, free_line}
 use Rattle.table_blocks.proofs.BlockEntriesLemmas.{block_in_entry-block_entry}
 
 -- ---- the block map
@@ -243,7 +243,7 @@ module _ {S : Type 0} {g : Ghosts S} (ext : Extents) (s : S) (def : TableDef) (o
       let r = one_of_rows def (rows_in_block ext (pages_of g s) def block) some (each_of (IsOfOneCell ext (pages_of g s) def) (used_blocks forests.map) block st.cells used) in
       record { placed = r.0; there = r.1; here = (slot_of_placed block 0 (block_slots ext (pages_of g s) def block) r.0 r.1).1; same = r.2 }
 
-  block_listed : (block : ℕ) → Contains (used_blocks forests.map) block → (one : IsOneRow block) → IsListed def forests one.placed.row.values block
+  block_listed : (block : ℕ) → Contains (used_blocks forests.map) block → (one : IsOneRow block) → IsListedInEach def forests one.placed.row.values block
   block_listed block used one =
       let of : IsRowOfUsed ext (pages_of g s) def forests.map one.placed = record {
         used = subst (Contains (used_blocks forests.map)) (sym one.here) used;

@@ -31,7 +31,7 @@ use Rattle.mdc_sound.specs.StandingTable.{StandsTable, TableForests, forests_in_
 use Rattle.mdc_sound.proofs.DefinitionTreesLemmas.{has_block_indexes}
 use Rattle.table_blocks.specs.AroundBlock.{StandsAround}
 use Rattle.table_blocks.specs.BlockChanges.{BreaksAround, IsPlaceAround}
-use Rattle.table_blocks.specs.BlockNow.{IsKeyedCell, IsListed, IsListedIn, IsListedUnder, IsOwnBlock, released_line}
+use Rattle.table_blocks.specs.BlockNow.{IsKeyedCell, IsListedInEach, IsListedIn, IsListedUnder, IsOwnBlock, released_line}
 use Rattle.table_blocks.specs.BlockSteps.{ExpectsReleasing, MovesLine, ReleasesBlock, TurnsReleased}
 use Rattle.table_blocks.proofs.AroundLemmas.{around_then, own_still, runs_place_then}
 use Rattle.table_blocks.proofs.ClosingLemmas.{spot_of_released, turns_released}
@@ -78,7 +78,7 @@ module _ {S : Type 0} {g : Ghosts S} where
           first.works.steady.is_told count
 
       listed_still : (owners : List Kind) (forests : TableForests) (moves : MovesLine g AfterReturns ext ext old mid def line.block (released_line given line.block) owners forests) (values : List Value)
-          → IsListed def forests values line.block → IsListed def moves.forests_now values line.block
+          → IsListedInEach def forests values line.block → IsListedInEach def moves.forests_now values line.block
       listed_still owners forests moves values listed = record {
         composite = subst (IsListedIn def (cell_parts def) values line.block) (sym moves.composite) listed.composite;
         dims = subst (AllZip (λ dim index. IsListedIn def (rising_parts dim) values line.block index) def.dims) (sym moves.dims) listed.dims;

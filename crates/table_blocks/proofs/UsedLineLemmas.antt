@@ -14,7 +14,7 @@ use Rattle.block_map.specs.declared.row.BlockRow.{BlockRow}
 use Rattle.block_map.specs.declared.state.BlockState.TheVariants as state
 use Rattle.block_map.proofs.MapFormLemmas.{form_one}
 use Rattle.block_map.proofs.MapLinesLemmas.{row_block, row_state}
-use Rattle.mdc_sound.proofs.ElementsLemmas.{named_block}
+use Rattle.mdc_sound.proofs.ElementsLemmas.{contains_block}
 use Rattle.mdc_sound.proofs.MappedBlocksLemmas.{used_number}
 use Rattle.table_blocks.specs.BlockNow.{MapsUsed}
 
@@ -27,7 +27,7 @@ module _ {S : Type 0} {g : Ghosts S} (s : S) (tree : Tree) (page : ℕ) (root : 
         rule = refl;
         broken = λ t held form maps.
             let line = used_row block maps.rows in
-            let named : Contains (mapped_blocks t) block = subst (Contains (mapped_blocks t)) (row_block line small) (named_block (leaf_entries t) (row_entry line) maps.line) in
+            let named : Contains (mapped_blocks t) block = subst (Contains (mapped_blocks t)) (row_block line small) (contains_block (leaf_entries t) (row_entry line) maps.line) in
             found t held (maps.entries, named);
       })
 

@@ -18,7 +18,7 @@ use Rattle.block_map.specs.MapLines.{AreMapEntries, MapLine, map_line, mapped_bl
 use Rattle.table_trees.specs.TableTrees.{cell_parts, rising_parts, tree_places}
 use Rattle.table_trees.specs.TreesBeside.{StandTrees}
 use Rattle.table_trees.specs.ToldPages.{PageList}
-use Rattle.mdc_sound.specs.BlockRules.{AreBlockRowsSound, IsIdleCountSound, IsOfOneCell, IsUsedCountSound, entry_of_block}
+use Rattle.mdc_sound.specs.BlockRules.{AreBlockRowsSound, IsIdleCountSound, IsOfOneCell, IsUsedCountSound, entry_of_block, block_in_entry}
 use Rattle.mdc_sound.specs.SpaceRules.{IsMapLineSound}
 use Rattle.mdc_sound.specs.StandingTable.{TableForests, forests_in_order, pages_of}
 use Rattle.mdc_sound.specs.TableRows.{PlacedRow, rows_in_block}
@@ -42,10 +42,6 @@ pub record IsMapAround (ext : Extents) (pages : PageList) (owners : List Kind) (
   pub all_named : (e : ℕ) → e ≢ block → e < ext.cap → owner_of owners e ≡ Block def.number → Contains (mapped_blocks map_tree) e
 
 -- ---- the block indexes
-
--- the block that an entry of a block index names
-abbrev pub block_in_entry : TableDef → List KeyPart → Entry → ℕ
-block_in_entry def parts entry = number_within (width_of_parts def.columns parts) 4 entry
 
 -- a row of another block that is Used
 pub record IsOtherRow (ext : Extents) (pages : PageList) (def : TableDef) (map_tree : Forest) (block : ℕ) (placed : PlacedRow) : Type 0 where

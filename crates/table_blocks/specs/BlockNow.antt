@@ -28,8 +28,8 @@ use Rattle.block_index.specs.Cells.{HaveKeys}
 use Rattle.mdc_ast.specs.FittingRows.{RowFits}
 use Rattle.mdc_sound.specs.Placing.{Spot, spot_of_state}
 use Rattle.mdc_sound.specs.StandingTable.{TableForests}
+use Rattle.mdc_sound.specs.BlockRules.{block_in_entry}
 use Rattle.block_rows.specs.HeldRows.{HoldsRows}
-use Rattle.table_blocks.specs.AroundBlock.{block_in_entry}
 
 -- the extent is a block of the table
 pub record IsOwnBlock (ext : Extents) (owners : List Kind) (def : TableDef) (block : ℕ) : Type 0 where
@@ -68,7 +68,7 @@ abbrev pub IsUnlistedIn : TableDef → List KeyPart → ℕ → Forest → Type 
 IsUnlistedIn def parts block index = (y : Entry) → IsEntryOf y (leaf_entries index) → block_in_entry def parts y ≢ block
 
 -- each block index has the block under the cell of these values
-pub record IsListed (def : TableDef) (forests : TableForests) (values : List Value) (block : ℕ) : Type 0 where
+pub record IsListedInEach (def : TableDef) (forests : TableForests) (values : List Value) (block : ℕ) : Type 0 where
   pub composite : IsListedIn def (cell_parts def) values block forests.composite
   pub dims : AllZip (λ dim index. IsListedIn def (rising_parts dim) values block index) def.dims forests.dims
 
@@ -81,7 +81,7 @@ pub record IsKeyedCell (def : TableDef) (cell : Cell) (values : List Value) : Ty
 pub record IsListedUnder (def : TableDef) (forests : TableForests) (cell : Cell) (block : ℕ) : Type 0 where
   pub values : List Value
   pub of_cell : IsKeyedCell def cell values
-  pub listed : IsListed def forests values block
+  pub listed : IsListedInEach def forests values block
 
 -- none names it
 pub record IsUnlisted (def : TableDef) (forests : TableForests) (block : ℕ) : Type 0 where
@@ -116,4 +116,4 @@ pub record IsUsedNow {S : Type 0} (g : Ghosts S) (ext : Extents) (s : S) (def : 
   pub line : HasRow (used_row block (count_rows slots)) forests.map
   pub rows : HoldsRows g ext s def block slots
   pub cell : AreOfCell def values slots
-  pub listed : IsListed def forests values block
+  pub listed : IsListedInEach def forests values block

@@ -29,7 +29,7 @@ use Rattle.mdc_sound.specs.StandingTable.{TableForests, pages_of, spots_of}
 use Rattle.block_rows.specs.HeldRows.{HoldsRows}
 use Rattle.table_blocks.specs.AroundBlock.{StandsAround}
 use Rattle.table_blocks.specs.BlockChanges.{ChangesAround, SameSpot, TurnsSpot, spot_in}
-use Rattle.table_blocks.specs.BlockNow.{IsListed, IsListedUnder, IsOwnBlock, IsUnlisted, IsUnnamed, released_line, released_spot}
+use Rattle.table_blocks.specs.BlockNow.{IsListedInEach, IsListedUnder, IsOwnBlock, IsUnlisted, IsUnnamed, released_line, released_spot}
 
 -- ---- a block that comes into use
 
@@ -40,7 +40,7 @@ pub record FillsBegun {S : Type 0} (g : Ghosts S) (before ext : Extents) (old ne
   pub changes : ChangesAround g AfterClaims before ext old new def block owners forests owners_now forests_now
   pub same_map : forests_now.map ≡ forests.map
   pub rows : HoldsRows g ext new def block (slice_set (replicate (block_slot_count before def) None) 0 (Some row))
-  pub listed : IsUnlisted def forests block → IsListed def forests_now row.values block
+  pub listed : IsUnlisted def forests block → IsListedInEach def forests_now row.values block
 
 -- A block of a table that stood is Used now, with one row in its lowest slot; after that trees may have taken free extents.
 pub record BeginsBlock {S : Type 0} (g : Ghosts S) (before ext : Extents) (old new : S) (def : TableDef) (block : ℕ) (row : Row) (owners : List Kind) (forests : TableForests) : Type 0 where
@@ -121,7 +121,7 @@ pub record ReleasesBlock {S : Type 0} (g : Ghosts S) (before ext : Extents) (old
   pub changes : ChangesAround g AfterReturns before ext old new def block owners forests owners_now forests_now
   pub line : HasRow (released_line given block) forests_now.map
   pub spot : spot_in g ext new def owners_now forests_now block ≡ released_spot given
-  pub unlisted : IsListed def forests values block → IsUnlisted def forests_now block
+  pub unlisted : IsListedInEach def forests values block → IsUnlisted def forests_now block
 
 -- A block of a table that stood was released, and the table stands; after that trees may have given extents back.
 pub record TurnsReleased {S : Type 0} (g : Ghosts S) (before ext : Extents) (old new : S) (def : TableDef) (block : ℕ) (given : BlockState) (owners : List Kind) (forests : TableForests) : Type 0 where

@@ -13,8 +13,8 @@ loop-i-preserved-then-has c =
     (omega (arith, c.loop-i-test.true, c.len-i-end.ensures)) (get_or_default c.args.entries.now c.loop-i.i c.at-entry.result.now [] (omega (arith, c.loop-i-test.true, c.len-i-end.ensures)) ∙ sym c.at-entry.ensures)
     c.loop-i.invariant (inl (c.has.ensures.0 c.if-has.true))
 
-pub block_named_by-requires-clause-width : goal.block_named_by-requires-clause-width
-block_named_by-requires-clause-width c =
+pub block_in_entry-requires-clause-width : goal.block_in_entry-requires-clause-width
+block_in_entry-requires-clause-width c =
     width_at c.args.entries.now c.loop-i.i c.args.index.now.tree.width c.at-entry.result.now (omega (arith, c.loop-i-test.true, c.len-i-end.ensures)) c.requires.width c.at-entry.ensures
 
 pub returns-then-not-has_block : goal.returns-then-not-has_block
@@ -24,7 +24,7 @@ returns-then-not-has_block c =
       λ no. absurd (cc (no)),
       λ all. elim (all c.at-entry.result.now there) [
         | inl noted ↦ absurd (cc (c.has.ensures.1 noted, c.if-has.false))
-        | inr spare ↦ absurd (cc (c.has_block.ensures.1 (subst (Contains c.args.spare.now) (sym c.block_named_by.ensures) spare), c.if-not-has_block.true))
+        | inr spare ↦ absurd (cc (c.has_block.ensures.1 (subst (Contains c.args.spare.now) (sym c.block_in_entry.ensures) spare), c.if-not-has_block.true))
       ],
     )
 
@@ -34,7 +34,7 @@ loop-i-preserved c =
     let low : c.loop-i.i < length c.args.entries.now = omega (arith, c.loop-i-test.true, c.len-i-end.ensures) in
     each_more (λ (entry : List ℕ). Contains (noted_entries c.args.noted.now) entry ⊎ Contains c.args.spare.now (number_within key 4 entry)) c.args.entries.now c.loop-i.i c.at-entry.result.now
     low (get_or_default c.args.entries.now c.loop-i.i c.at-entry.result.now [] low ∙ sym c.at-entry.ensures)
-    c.loop-i.invariant (inr (subst (Contains c.args.spare.now) c.block_named_by.ensures (c.has_block.ensures.0 c.if-not-has_block.false)))
+    c.loop-i.invariant (inr (subst (Contains c.args.spare.now) c.block_in_entry.ensures (c.has_block.ensures.0 c.if-not-has_block.false)))
 
 pub returns : goal.returns
 returns c = (

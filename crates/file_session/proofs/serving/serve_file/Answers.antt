@@ -5,7 +5,7 @@ use Rattle.page_file.proofs.LeavesLemmas.{sound_image}
 use Rattle.page_store.proofs.Judged.{served_formed}
 use Rattle.page_store.specs.Faults.{MayComeFirst}
 use Rattle.page_store.specs.FileStore.{attached_of}
-use Rattle.page_store.specs.Standing.{pages_of}
+use Rattle.page_store.specs.Standing.{pages_in}
 use Rattle.script_session.specs.Told.{TellsMore}
 use Rattle.script_session.proofs.ToldLemmas.{same-tells_more, told_behind}
 use Rattle.file_session.specs.Breaking.{BreaksAtEnd}
@@ -28,7 +28,7 @@ returns-in-Ok-clause-runs g c = λ before said is told well.
     let store = c.in-Ok.store in
     let after = opened.opens.told before is in
     let base = (opened.served before is).1 in
-    let states = states_standing before.bytes after.0.bytes (pages_of before.bytes) well.ext (after.2.1 well.formed) well.states in
+    let states = states_standing before.bytes after.0.bytes (pages_in before.bytes) well.ext (after.2.1 well.formed) well.states in
     let tells = test_by_told (g.H.Disk.file c.args.host) before is in
     let sound = sound_opened _ store before.bytes _ (g.H.Host.tape c.args.host) (attached_of store.desk.shape (g.H.Disk.attaches c.args.host)) well tells opened.just_opened base in
     let serves = c.serve_store.ensures.runs after.0 said after.1 (ap (λ b. b.tape) opened.opens.beside ∙ told) well.ext states sound in
@@ -61,7 +61,7 @@ returns-in-Ok-clause-cause g c = λ before is.
     let tells = test_by_told (g.H.Disk.file c.args.host) before is in
     let session = c.serve_store.ensures.takes in
     cause_of_session before.bytes session.0 c.serve_store.result.end (opened.served before is).0 session.1 (λ damage ends well.
-    c.serve_store.ensures.damaged damage ends after.0 after.1 well.ext (states_standing before.bytes after.0.bytes (pages_of before.bytes) well.ext (after.2.1 well.formed) well.states)
+    c.serve_store.ensures.damaged damage ends after.0 after.1 well.ext (states_standing before.bytes after.0.bytes (pages_in before.bytes) well.ext (after.2.1 well.formed) well.states)
     (sound_opened _ c.in-Ok.store before.bytes _ (g.H.Host.tape c.args.host) (attached_of c.in-Ok.store.desk.shape (g.H.Disk.attaches c.args.host)) well tells opened.just_opened (opened.served before is).1))
 
 pub returns-in-Ok-clause-unopened : goal.returns-in-Ok-clause-unopened
@@ -175,7 +175,7 @@ returns-in-Ok-clause-breaks g c = λ damage ends before is. inr (λ ext states.
     let From : Option (List ℕ) → Type 0 =
     λ tape. BreaksAtEnd ext (g.I.Source.left c.args.input.now) (g.I.Source.left c.serve_store.new.input) tape (g.H.Disk.beside c.serve_store.result.host).tape damage c.serve_store.result.end (g.H.Disk.file c.serve_store.result.host) in
     subst From (ap (λ b. b.tape) opened.opens.beside)
-    (c.serve_store.ensures.breaks damage ends (sym (ap (λ state. state.work) opened.just_opened)) after.0 after.1 ext (states_standing before.bytes after.0.bytes (pages_of before.bytes) ext (after.2.1 formed) states)))
+    (c.serve_store.ensures.breaks damage ends (sym (ap (λ state. state.work) opened.just_opened)) after.0 after.1 ext (states_standing before.bytes after.0.bytes (pages_in before.bytes) ext (after.2.1 formed) states)))
 
 pub returns-in-Err-clause-breaks : goal.returns-in-Err-clause-breaks
 returns-in-Err-clause-breaks g c = λ damage ends before is.

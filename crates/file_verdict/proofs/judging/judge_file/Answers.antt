@@ -6,7 +6,7 @@ use Rattle.extent_map.specs.declared.extents.Extents.{Extents}
 use Rattle.table_trees.specs.ToldPages.{PageList}
 use Rattle.page_store.proofs.Judged.{served_formed}
 use Rattle.page_store.specs.Faults.{MayComeFirst}
-use Rattle.page_store.specs.Standing.{pages_of}
+use Rattle.page_store.specs.Standing.{pages_in}
 use Rattle.file_verdict.specs.Resting.{ComesToRest, StandsAsBefore}
 use Rattle.file_verdict.specs.SoundFile.{StatesExtents}
 use Rattle.file_verdict.specs.Verdict.{IsNoVerdict, IsVerdictOnPages}
@@ -20,7 +20,7 @@ use Rattle.file_verdict.proofs.judging.judge_file.Goals as goal
 
 -- the verdict on the pages of the file
 pages_judged : (g : Over) (c : goal.After-judge_store g) (before : File) → g.H.Disk.file c.args.host ≡ Some before
-    → (ext : Extents) × StatesExtents before.bytes ext × IsVerdictOnPages ext (pages_of before.bytes) c.judge_store.result.verdict
+    → (ext : Extents) × StatesExtents before.bytes ext × IsVerdictOnPages ext (pages_in before.bytes) c.judge_store.result.verdict
 pages_judged g c before is =
     let opened = c.in-Ok.ensures in
     let after = opened.opens.told before is in
@@ -28,7 +28,7 @@ pages_judged g c before is =
     let judged = c.judge_store.ensures.judges after.0 after.1 in
     let work = ap (λ state. state.work) opened.just_opened ∙ served.1 in (
       judged.0,
-      states_stood before.bytes after.0.bytes (pages_of before.bytes) judged.0 (after.2.1 (served_formed before.bytes served.0)) judged.1,
+      states_stood before.bytes after.0.bytes (pages_in before.bytes) judged.0 (after.2.1 (served_formed before.bytes served.0)) judged.1,
       subst (λ (pages : PageList). IsVerdictOnPages judged.0 pages c.judge_store.result.verdict) work judged.2,
     )
 

@@ -31,14 +31,14 @@ returns-in-Err-clause-leaves g c =
 pub returns-clause-ok : goal.returns-clause-ok
 returns-clause-ok g c =
     subst (λ (new : Desk). Does Commits (g.D.Disk.file c.args.disk.now) c.args.self.now (g.D.Disk.file c.write_any.new.disk) new)
-    (settled_as c.new-images.result _ c.args.self.now c.count-count.result c.reuse.new.self c.renew.new.self c.count-count.ensures (c.reuse.ensures ∙ c.settle-pages.ensures.settled) c.renew.ensures (ap unboxed c.deref_mut.ensures.value ∙ (c.settle-pages.ensures.given ∙ sym (c.new-images.ensures ∙ c.pages.ensures.pages))))
+    (settled_as c.new-images.result _ c.args.self.now c.count-count.result c.reuse.new.self c.renew.new.self c.count-count.ensures (c.reuse.ensures ∙ c.take_pages-pages.ensures.settled) c.renew.ensures (ap unboxed c.deref_mut.ensures.value ∙ (c.take_pages-pages.ensures.given ∙ sym (c.new-images.ensures ∙ c.pages.ensures.pages))))
     (commits c.args.self.now _ c.new-images.result c.requires.kept c.requires.going c.requires.prepared (c.new-images.ensures ∙ c.pages.ensures.pages) _ (leaves_told c.write_any.ensures.leaves)
     c.in_default.ensures.committed)
 
 pub returns-clause-still_kept : goal.returns-clause-still_kept
 returns-clause-still_kept g c =
     subst (λ (new : Desk). IsKept new (g.D.Disk.file c.write_any.new.disk))
-    (settled_as c.new-images.result _ c.args.self.now c.count-count.result c.reuse.new.self c.renew.new.self c.count-count.ensures (c.reuse.ensures ∙ c.settle-pages.ensures.settled) c.renew.ensures (ap unboxed c.deref_mut.ensures.value ∙ (c.settle-pages.ensures.given ∙ sym (c.new-images.ensures ∙ c.pages.ensures.pages))))
+    (settled_as c.new-images.result _ c.args.self.now c.count-count.result c.reuse.new.self c.renew.new.self c.count-count.ensures (c.reuse.ensures ∙ c.take_pages-pages.ensures.settled) c.renew.ensures (ap unboxed c.deref_mut.ensures.value ∙ (c.take_pages-pages.ensures.given ∙ sym (c.new-images.ensures ∙ c.pages.ensures.pages))))
     (kept_after c.args.self.now _ c.new-images.result c.requires.kept c.requires.going c.requires.prepared (c.new-images.ensures ∙ c.pages.ensures.pages) _ (leaves_told c.write_any.ensures.leaves)
     c.in_default.ensures.committed)
 

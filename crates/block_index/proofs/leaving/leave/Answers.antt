@@ -5,7 +5,7 @@ use Rattle.store_api.proofs.RunsOverPagesLemmas.{runs_damage, runs_on}
 use Rattle.entry_tree.specs.Pruning.{IsTreeOrMapPage}
 use Rattle.block_index.specs.Listing.{BreaksLeaving}
 use Rattle.block_index.proofs.ListingLemmas.{if_false}
-use Rattle.block_index.proofs.unlisting.leave.Goals as goal
+use Rattle.block_index.proofs.leaving.leave.Goals as goal
 
 pub returns-then-not-was_there-clause-runs : goal.returns-then-not-was_there-clause-runs
 returns-then-not-was_there-clause-runs g c =

@@ -13,8 +13,8 @@ ghost use Rattle.table_trees.specs.TreesBeside.{IsTreesOrMapPage, StandTrees};
 ghost use Rattle.block_index.specs.Cells.{FitsCell, index_listings};
 ghost use Rattle.block_index.specs.Listing.{BreaksLeaving, BreaksUnlisting, UnlistsBlock};
 
+use crate::entering::misplaced;
 use crate::entries::cell_entries;
-use crate::listing::misplaced;
 use entry_tree::Tree;
 use extent_map::Extents;
 use mdc_ast::{Cell, TableDef};

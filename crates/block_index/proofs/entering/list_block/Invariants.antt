@@ -1,5 +1,5 @@
 use Rattle.block_index.proofs.ListingLemmas.{IsListing}
-use Rattle.block_index.proofs.listing.list_block.Given as goal
+use Rattle.block_index.proofs.entering.list_block.Given as goal
 
 abbrev pub invariant-loop-i : goal.invariant-loop-i
 invariant-loop-i g l = IsListing g.P.Pages l.fn.ext l.ext l.fn.pages l.pages l.def l.cell.values l.block l.i

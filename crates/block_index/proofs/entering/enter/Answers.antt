@@ -5,7 +5,7 @@ use Rattle.store_api.proofs.RunsOverPagesLemmas.{runs_damage, runs_on}
 use Rattle.entry_tree.specs.Standing.{IsTreeSpace}
 use Rattle.block_index.specs.Listing.{BreaksEntering}
 use Rattle.block_index.proofs.ListingLemmas.{if_false}
-use Rattle.block_index.proofs.listing.enter.Goals as goal
+use Rattle.block_index.proofs.entering.enter.Goals as goal
 
 pub returns-then-not-added-clause-runs : goal.returns-then-not-added-clause-runs
 returns-then-not-added-clause-runs g c =

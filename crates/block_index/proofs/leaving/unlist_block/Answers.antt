@@ -8,7 +8,7 @@ use Rattle.block_index.specs.Cells.{cell_entries}
 use Rattle.block_index.specs.Listing.{BreaksUnlisting}
 use Rattle.block_index.proofs.CellsLemmas.{entry_at, entry_width, length-dimension_entries}
 use Rattle.block_index.proofs.ListingLemmas.{all_unlisted, all_removed, leaves_next, leaving_runs, unlisting_none}
-use Rattle.block_index.proofs.unlisting.unlist_block.Goals as goal
+use Rattle.block_index.proofs.leaving.unlist_block.Goals as goal
 
 pub returns-in_err-entries-clause-runs : goal.returns-in_err-entries-clause-runs
 returns-in_err-entries-clause-runs g c =

@@ -10,7 +10,7 @@ use Rattle.block_index.specs.Cells.{cell_entries}
 use Rattle.block_index.specs.Listing.{BreaksListing}
 use Rattle.block_index.proofs.CellsLemmas.{entry_at, entry_width, length-dimension_entries}
 use Rattle.block_index.proofs.ListingLemmas.{all_listed, all_added, entering_runs, enters_next, fills_there, listing_none, runs_full_there}
-use Rattle.block_index.proofs.listing.list_block.Goals as goal
+use Rattle.block_index.proofs.entering.list_block.Goals as goal
 
 pub returns-in_err-entries-clause-runs : goal.returns-in_err-entries-clause-runs
 returns-in_err-entries-clause-runs g c =

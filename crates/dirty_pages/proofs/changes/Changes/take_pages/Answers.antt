@@ -3,7 +3,7 @@ use Rattle.dirty_pages.specs.Changes.{nothing}
 use Rattle.dirty_pages.specs.ChangesView.{or_grown, written_over}
 use Rattle.mdc_words.proofs.ListedLemmas.{length-listed}
 use Rattle.dirty_pages.proofs.Written.{fits_none, new_view}
-use Rattle.dirty_pages.proofs.changes.Changes.settle.Goals as goal
+use Rattle.dirty_pages.proofs.changes.Changes.take_pages.Goals as goal
 
 pub invariant_of-self : goal.invariant_of-self
 invariant_of-self c = record { counts = fits_none c.self.inside.count c.take-pages.new.self c.take-pages.ensures.left; mark = λ mark is. absurd (cc) }
