@@ -9,7 +9,7 @@ use Rattle.mdc_values.specs.declared.value.ColType.TheVariants.{Integer, Bigint,
 use Rattle.mdc_values.specs.declared.value.Value.{Value}
 use Rattle.mdc_values.specs.declared.value.Value.TheVariants.{Null, Int, Text, Day}
 use Rattle.mdc_values.specs.Calendar.{day_named}
-use Rattle.mdc_values.specs.Value.{IsText, trimmed}
+use Rattle.mdc_values.specs.Value.{IsText, are_bytes, trimmed}
 
 -- the number that a sign and a magnitude write
 abbrev pub signed : Bool → ℕ → ℤ
@@ -37,13 +37,17 @@ day_if (Some day) = Ok (Day day)
 abbrev pub text_within : ℕ → List ℕ → Result Value ValueFault
 text_within n text = if nat_le (length text) n then Ok (Text text) else Err TooLong
 
+-- a text of at most n bytes once the blanks at its end are gone; one that isn't of bytes, as no program has, fits none
+abbrev pub text_fit : ℕ → List ℕ → Result Value ValueFault
+text_fit n text = if are_bytes text then text_within n (trimmed text) else Err WrongType
+
 -- what a literal is in a column of that type: NULL fits every column, a number INTEGER and BIGINT, a text CHAR without
 -- the blanks at its end, a text and a DATE text DATE
 abbrev pub fit_of : ColType → Literal → Result Value ValueFault
 fit_of ty literal.Null = Ok Null
 fit_of Integer (literal.Number negative size) = number_if (in_integer (signed negative size)) (signed negative size)
 fit_of Bigint (literal.Number negative size) = number_if (in_bigint (signed negative size)) (signed negative size)
-fit_of (Char n) (literal.Text text) = text_within n (trimmed text)
+fit_of (Char n) (literal.Text text) = text_fit n text
 fit_of Date (literal.Text text) = day_if (day_named text)
 fit_of Date (literal.Date text) = day_if (day_named text)
 fit_of ty literal = Err WrongType

@@ -1,3 +1,4 @@
+pub mod ByteTexts
 pub mod Calendar
 pub mod Fitting
 pub mod Order

@@ -1,5 +1,6 @@
 -- Values (docs/SQL.md, "Values").
-use Rattle.std.specs.Prelude.{ℕ, List, [], ◌∷◌, ◌==◌, if◌then◌else◌}
+use Rattle.std.specs.Prelude.{ℕ, List, [], ◌∷◌, Bool, nat_lt, ◌==◌, if◌then◌else◌}
+use Rattle.std.specs.List.{list_all}
 use Rattle.mdc_values.specs.declared.value.Value.{Value}
 use Rattle.mdc_values.specs.declared.value.Value.TheVariants.{Text}
 
@@ -17,3 +18,7 @@ before_text byte (next ∷ text) = byte ∷ next ∷ text
 abbrev pub trimmed : List ℕ → List ℕ
 trimmed [] = []
 trimmed (byte ∷ text) = before_text byte (trimmed text)
+
+-- each number of a text is a byte
+abbrev pub are_bytes : List ℕ → Bool
+are_bytes text = list_all (λ b. nat_lt b 256) text

@@ -1,6 +1,6 @@
 // Which literal fits which column.
 ghost use Rattle.std.specs.Prelude.{◌≡◌};
-ghost use Rattle.mdc_values.specs.Fitting.{AnswersFit, fit_of, in_bigint, in_integer, number_if, signed, text_within};
+ghost use Rattle.mdc_values.specs.Fitting.{AnswersFit, fit_of, in_bigint, in_integer, number_if, signed, text_fit};
 ghost use Rattle.mdc_values.specs.Value.{trimmed};
 
 use crate::calendar::read_day;
@@ -67,7 +67,7 @@ fn fit_bigint(negative: bool, size: u64) -> Result<Value, ValueFault>
 }
 
 fn fit_text(alloc: Global, limit: u8, text: &[u8]) -> Result<Value, ValueFault>
-    ensures { AnswersFit (text_within limit (trimmed text.now)) result }
+    ensures { AnswersFit (text_fit limit text.now) result }
 {
     let text = trim(text);
     if text.len() > limit as usize {
