@@ -8,7 +8,7 @@ use Rattle.mdc_values.specs.declared.value.Value.{Value}
 use Rattle.mdc_values.specs.declared.value.Value.TheVariants.{Null, Int, Text, Day}
 use Rattle.mdc_values.specs.Calendar.{is_date}
 use Rattle.mdc_values.specs.Fitting.{in_bigint, in_integer}
-use Rattle.mdc_values.specs.Value.{trimmed}
+use Rattle.mdc_values.specs.Value.{are_bytes, trimmed}
 use Rattle.mdc_ast.specs.declared.definition.ColumnDef.{ColumnDef}
 use Rattle.mdc_ast.specs.declared.definition.TableDef.{TableDef}
 use Rattle.mdc_ast.specs.declared.row.Row.{Row}
@@ -69,21 +69,22 @@ is_trimmed text = bytes_eq (trimmed text) text
 abbrev pub is_day_number : ℕ → Bool
 is_day_number day = is_date (pos (day / 10000)) (pos (day / 100 % 100)) (pos (day % 100))
 
--- a value is within the type of a column
+-- a value is within the type of a column: a number within its range, a text of so many bytes with no blank at its end,
+-- a day that the calendar has, or a null
 abbrev pub is_of_type : ColType → Value → Bool
 is_of_type column.Integer (Int n) = in_integer n
 is_of_type column.Bigint (Int n) = in_bigint n
-is_of_type (column.Char n) (Text text) = nat_le (length text) n && is_trimmed text
+is_of_type (column.Char n) (Text text) = nat_le (length text) n && is_trimmed text && are_bytes text
 is_of_type column.Date (Day day) = is_day_number day
 is_of_type ty Null = true
 is_of_type ty value = false
 
--- a null, which a NOT NULL column doesn't hold
+-- the value is a null, of whatever type its column is
 abbrev pub is_null : Value → Bool
 is_null Null = true
 is_null value = false
 
--- a value fits a column
+-- a value fits a column: it is within the column's type, and no null where the column is NOT NULL
 abbrev pub fits : ColumnDef → Value → Bool
 fits column value = is_of_type column.ty value && not (column.not_null && is_null value)
 

@@ -1,4 +1,5 @@
--- The definitions that CREATE TABLE and CREATE INDEX can make, whatever their roots and their next row number (docs/SQL.md).
+-- The definitions that CREATE TABLE and CREATE INDEX can make, whatever roots of four bytes and whatever next row number of
+-- eight bytes they have (docs/SQL.md).
 use Rattle.std.specs.Prelude.{◌≡◌, ◌≤◌, ◌<◌, ℕ, ℤ, pos, int_le, Bool, true, false, not, ◌&&◌, nat_le, nat_lt, IsTrue, List, [], ◌∷◌, length, map, flat_map, Option, Some, None, is_none, slice_get}
 use Rattle.std.specs.List.{AllByRecursion, list_all}
 use Rattle.mdc_values.specs.Fitting.{in_bigint}
@@ -35,11 +36,11 @@ abbrev pub is_day_type : ColType → Bool
 is_day_type column.Date = true
 is_day_type ty = false
 
--- no number is needed, and it is 0
+-- the number of an expression that is written without one is kept as 0
 abbrev pub is_no_number : ℤ → Bool
 is_no_number k = int_le (pos 0) k && int_le k (pos 0)
 
--- `INTEGER(d)/k`, `YEAR(d)` and `MONTH(d)` have a DATE as base, and `c/k` and `c+k` a number; what divides is at least 1
+-- `INTEGER(d)/k`, `YEAR(d)` and `MONTH(d)` have a DATE as base, and `c/k` and `c+k` a number; where k divides it is at least 1
 abbrev pub accepts_base : GenKind → ColType → ℤ → Bool
 accepts_base IntegerOver ty k = is_day_type ty && int_le (pos 1) k
 accepts_base Year ty k = is_day_type ty && is_no_number k
@@ -109,7 +110,7 @@ pub record AreTableIndexes (columns : List ColumnDef) (indexes : List IndexDef) 
   pub good : AllByRecursion (IsGoodIndex columns) indexes
   pub differ : AllNamesDiffer (map (λ index. index.name) indexes)
 
--- a definition of table t that statements can make
+-- a definition of the table in place t that statements can make
 pub record IsTableDef (t : ℕ) (def : TableDef) : Type 0 where
   pub stands : def.number ≡ t
   pub name : IsTrue (is_given_name def.name)

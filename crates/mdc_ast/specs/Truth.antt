@@ -7,6 +7,7 @@ use Rattle.mdc_values.specs.declared.truth.Truth.TheVariants.{True, False, Unkno
 use Rattle.mdc_values.specs.declared.value.Value.{Value}
 use Rattle.mdc_values.specs.declared.value.Value.TheVariants as value
 use Rattle.mdc_values.specs.Order.{are_alike, compared, told}
+use Rattle.mdc_ast.specs.Database.{is_null}
 use Rattle.mdc_ast.specs.declared.predicate.Atom.{Atom}
 use Rattle.mdc_ast.specs.declared.predicate.Right.{Right}
 use Rattle.mdc_ast.specs.declared.predicate.Right.TheVariants as right
@@ -69,11 +70,6 @@ value_at values column = unwrap_or (slice_get values column) value.Null
 abbrev pub value_of : List Value → Right → Value
 value_of values (right.Value value) = value
 value_of values (right.Column column) = value_at values column
-
--- a null, of whatever type the column is
-abbrev pub is_null : Value → Bool
-is_null value.Null = true
-is_null value = false
 
 -- BETWEEN is two comparisons joined by AND, IN is equalities joined by OR, and IS NULL is never unknown
 abbrev pub test_truth : List Value → Value → Test → Truth

@@ -15,7 +15,9 @@ use Rattle.mdc_ast.specs.Truth.{value_at}
 
 -- ---- definitions
 
--- a definition at a place, within the limits
+-- what statements keep of the definition in a place: its number is that of the place, its names are short and its columns'
+-- names differ, its types are good, its columns, dimensions, keys and indexes are within the limits, what it generates has a
+-- base, and its next row number has eight bytes; nothing is said of its roots
 pub record IsValidDef (place : ℕ) (def : TableDef) : Type 0 where
   pub stands : def.number ≡ place
   pub short : IsShort def.name

@@ -104,7 +104,8 @@ pub struct Select {
     pub first: Option<u64>,
 }
 
-/// When a DELETE gives blocks back at once.
+/// How a DELETE takes out the rows of blocks in which all of them qualify: row by row, whole blocks at once, or whole blocks
+/// at once that stay Pending until their entries in record indexes are cleaned out.
 #[derive(Clone, Copy, Debug, PartialEq, Eq)]
 pub enum RolloutMode {
     None,

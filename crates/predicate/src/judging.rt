@@ -2,7 +2,8 @@
 ghost use Rattle.std.specs.Prelude.{◌≡◌, ◌<◌, map, IsTrue};
 ghost use Rattle.std.specs.List.{list_all};
 ghost use Rattle.mdc_ast.specs.Truth as spec;
-ghost use Rattle.mdc_ast.specs.Truth.{any_of, atom_truth, is_null, may_judge, may_test, may_test_atom, test_truth};
+ghost use Rattle.mdc_ast.specs.Database.{is_null};
+ghost use Rattle.mdc_ast.specs.Truth.{any_of, atom_truth, may_judge, may_test, may_test_atom, test_truth};
 ghost use Rattle.mdc_values.specs.Order.{are_alike, compared, told};
 ghost use Rattle.mdc_values.specs.declared.truth.Op.TheVariants.{Equal};
 
