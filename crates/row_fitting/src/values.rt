@@ -1,6 +1,7 @@
 // Whether values fit columns.
 ghost use Rattle.std.specs.Prelude.{◌≡◌, ◌&&◌, length, nat_le};
 ghost use Rattle.mdc_values.specs.declared.value.Value.TheVariants.{Int};
+ghost use Rattle.mdc_values.specs.Value.{are_bytes};
 ghost use Rattle.mdc_ast.specs.Database.{fits, fits_all, is_day_number, is_null, is_of_type, is_trimmed};
 
 use mdc_ast::ColumnDef;
@@ -49,7 +50,7 @@ fn is_of_type(ty: ColType, value: &Value) -> bool
 
 // Whether a text has at most so many bytes, and no blank at its end.
 fn is_text_within(limit: u8, text: &[u8]) -> bool
-    ensures { result ≡ (nat_le (length text.now) limit && is_trimmed text.now) }
+    ensures { result ≡ (nat_le (length text.now) limit && is_trimmed text.now && are_bytes text.now) }
 {
     text.len() <= usize::from(limit) && is_trimmed(text)
 }
