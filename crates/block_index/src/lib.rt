@@ -11,7 +11,7 @@
 //! order of the index. `read_leaf` is the step of a walk over the entries of any tree, a leaf at a time, from `lowest_bound` on.
 //! `are_of_one_cell` tells whether two rows have the same values in all dimensions.
 //!
-//! It stands on `table_page`, `table_trees` and `key_codec`, and on `mdc_steps` for how many entries a search goes over.
+//! It stands on `table_trees` and `key_codec`, and on the steps of `mdc_words` for how many entries a search goes over.
 #![tactic(auto)]
 
 mod entering;

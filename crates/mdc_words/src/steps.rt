@@ -1,15 +1,11 @@
-//! Steps that are counted by contracts alone.
-//!
-//! A `Steps` is a number that only `tick` raises, by one. It takes no bytes and does nothing when the program runs: by it a
-//! contract says how often a call did something. It stands on nothing.
-#![tactic(auto)]
-
+// Steps that are counted by contracts alone.
 ghost use Rattle.std.specs.Prelude.{◌≡◌, ◌+◌, ◌<◌};
 
 use std::marker::Model;
 use std::sync::ledger::{Blank, Book, Ledger, Share};
 
-/// How many steps were taken, over any ledger.
+/// How many steps were taken, over any ledger: a number that only `tick` raises, by one. It takes no bytes and does nothing when
+/// the program runs. By it a contract says how often a call did something.
 #[derive(Drop)]
 pub struct Steps<L: Ledger> {
     book: Book<L>,
