@@ -1,7 +1,7 @@
 -- What a store in memory is seen as.
 use Rattle.std.specs.Prelude.{ℕ, ◌+◌, ◌-◌, min, true, false, List, [], length, take, Some, None}
 use Rattle.store_api.specs.declared.mem_store.MemStore.{MemStore}
-use Rattle.store_api.specs.StoreState.{StoreState}
+use Rattle.store_api.specs.StoreState.{StoreState, nothing_beside}
 use Rattle.store_api.specs.History.{undone, marked_pages, hand_page}
 
 -- all but the counts and the time
@@ -16,7 +16,7 @@ mem_state_of s = record {
   ended = false;
   told = Some s.told.items;
   fetched = Some s.fetched.items;
-  attached = None;
+  beside = nothing_beside;
 }
 
 -- a page for each change and each page that was added, and no more than there are
@@ -35,5 +35,5 @@ fresh_store pages = record {
   ended = false;
   told = Some [];
   fetched = Some [];
-  attached = None;
+  beside = nothing_beside;
 }

@@ -1,7 +1,15 @@
 -- What a store of pages is seen as. A page is the list of its bytes.
-use Rattle.std.specs.Prelude.{ℕ, ◌+◌, Bool, true, false, if◌then◌else◌, List, [], ◌∷◌, ◌++◌, length, take, drop, replicate, slice_index_or, Option}
+use Rattle.std.specs.Prelude.{ℕ, ◌+◌, Bool, true, false, if◌then◌else◌, List, [], ◌∷◌, ◌++◌, length, take, drop, replicate, slice_index_or, Option, None}
 use Rattle.std.specs.Int.{from_be_bytes, w32}
 use Rattle.std.specs.Str.{bytes_eq}
+use Rattle.store_api.specs.declared.shape.Shape.{Shape}
+
+-- what lies beside the pages of a store, which no call changes: how large its database may grow, and what was attached
+pub record Beside : Type 0 where
+  -- how many extents of how many pages its database may have, where the store has a file that says so
+  pub shape : Option Shape
+  -- the attaches of the host beneath, each a path and whether it may make the file, where they are told
+  pub attaches : Option (List (List ℕ × Bool))
 
 -- all that the calls of a store speak of, but for the counts of faults, the clock and the count of pages written
 pub record StoreState : Type 0 where
@@ -23,8 +31,12 @@ pub record StoreState : Type 0 where
   pub told : Option (List ℕ)
   -- the numbers of the pages that were brought to hand, in order, where they are told
   pub fetched : Option (List ℕ)
-  -- the attaches of the host beneath, each a path and whether it may make the file, where they are told
-  pub attached : Option (List (List ℕ × Bool))
+  -- what lies beside the pages
+  pub beside : Beside
+
+-- a store in memory has no file, and tells no attaches
+abbrev pub nothing_beside : Beside
+nothing_beside = record { shape = None; attaches = None }
 
 -- Pages as a store shows them to contracts: one that doesn't tell what they hold shows how many there are.
 abbrev pub seen : Bool → List (List ℕ) → List (List ℕ)

@@ -1,4 +1,5 @@
 // Why a call of a store failed.
+use mdc_values::Memory;
 use std::alloc::{AllocError, AllocFailed};
 
 /// A rule of the format that a page breaks.
@@ -78,6 +79,17 @@ impl<T: Drop> From<AllocFailed<T>> for StoreFault {
     ghost from_gives = { λ _ e. e ≡ Memory };
 
     fn from(_: AllocFailed<T>) -> Self {
+        StoreFault::Memory
+    }
+}
+
+impl From<Memory> for StoreFault {
+    ghost use Rattle.std.specs.Prelude.{◌≡◌};
+    ghost use Rattle.store_api.specs.declared.fault.StoreFault.TheVariants.{Memory};
+
+    ghost from_gives = { λ _ e. e ≡ Memory };
+
+    fn from(_: Memory) -> Self {
         StoreFault::Memory
     }
 }
