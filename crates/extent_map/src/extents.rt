@@ -1,6 +1,6 @@
 // The extents of a database, and who owns each.
 ghost use Rattle.std.specs.Prelude.{◌≡◌, ◌+◌, ◌<◌, ◌≤◌, ◌↔◌, ◌≢◌, ℕ, List, length, false, max, IsTrue, IsFalse, MatchOption, IfOk, IfErr, IfSome, OnOk, OnErr};
-ghost use Rattle.store_api.specs.Extents.{is_shape, is_extent_size, first_count, first_page_of};
+ghost use Rattle.store_api.specs.Extents.{is_shape, first_count, first_page_of};
 ghost use Rattle.store_api.specs.Frame.{OnlyPage, NoPage, IsCounted};
 ghost use Rattle.store_api.specs.Causes.{fault_of, store_fault_in};
 ghost use Rattle.store_api.specs.RunsOverPages.{RunsOverPages};
@@ -9,9 +9,10 @@ use crate::changing::{bring_map_page, set_kind};
 use crate::claiming::{claim_extent, take_page};
 use crate::finding::{Wanted, find};
 use crate::kind::{is_block_kind, is_owned, is_used_place, kind_in, without_place};
-use crate::layout::{FIRST_MAP_PAGE, PAGE_EXTENTS, unused_page, wrong_entry};
+use crate::layout::{unused_page, wrong_entry};
 use crate::{Kind, SpaceFault};
-use store_api::{MAX_PAGES, Pages, StoreFault};
+use store_api::layout::{FIRST_MAP_PAGE, MAP_PAGE_EXTENTS};
+use store_api::{MAX_PAGES, Pages, StoreFault, is_shape};
 
 /// How many extents a database may have, how many pages each has, and two notes that make a claim cheap: from which extent
 /// on one may be free, and from which on one may have an index page that isn't used.
@@ -240,7 +241,7 @@ impl Extents {
     fn begin(&self) -> u32
         ensures { result ≡ first_count self.now.cap }
     {
-        FIRST_MAP_PAGE + (self.cap + PAGE_EXTENTS - 1) / PAGE_EXTENTS
+        FIRST_MAP_PAGE + (self.cap + MAP_PAGE_EXTENTS - 1) / MAP_PAGE_EXTENTS
     }
 
     // How many extents so many pages have whole.
@@ -269,21 +270,4 @@ impl Extents {
     {
         (p - self.begin()) % self.extent_pages
     }
-}
-
-// Whether a database may have so many extents of so many pages.
-fn is_shape(extents: u32, extent_pages: u32) -> bool
-    ensures { result ≡ is_shape extents extent_pages }
-{
-    extents >= 4
-        && extents <= 65536
-        && is_extent_size(extent_pages)
-        && u64::from(extents) * u64::from(extent_pages) <= 262_144
-}
-
-// Whether an extent may have so many pages.
-fn is_extent_size(pages: u32) -> bool
-    ensures { result ≡ is_extent_size pages }
-{
-    pages == 2 || pages == 4 || pages == 8 || pages == 16 || pages == 32
 }

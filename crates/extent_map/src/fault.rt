@@ -1,4 +1,5 @@
 // Why a claim failed.
+use mdc_values::Memory;
 use std::alloc::{AllocError, AllocFailed};
 use store_api::{PageFault, StoreFault};
 
@@ -31,6 +32,18 @@ impl From<PageFault> for SpaceFault {
 
     fn from(fault: PageFault) -> Self {
         SpaceFault::Store(StoreFault::from(fault))
+    }
+}
+
+impl From<Memory> for SpaceFault {
+    ghost use Rattle.std.specs.Prelude.{◌≡◌};
+    ghost use Rattle.store_api.specs.declared.fault.StoreFault.TheVariants.{Memory};
+    ghost use Rattle.extent_map.specs.declared.fault.SpaceFault.TheVariants.{Store};
+
+    ghost from_gives = { λ _ e. e ≡ Store Memory };
+
+    fn from(_: Memory) -> Self {
+        SpaceFault::Store(StoreFault::Memory)
     }
 }
 

@@ -11,7 +11,8 @@ ghost use Rattle.extent_map.specs.declared.kind.Kind.{Kind};
 use crate::Extents;
 use crate::changing::bring_map_page;
 use crate::kind::{Kind, kind_in, lowest_unused_place};
-use crate::layout::{PAGE_EXTENTS, wrong_entry};
+use crate::layout::wrong_entry;
+use store_api::layout::MAP_PAGE_EXTENTS;
 use store_api::{Page, Pages, StoreFault};
 
 /// What a search looks for.
@@ -42,7 +43,7 @@ pub(crate) fn find<P: Pages>(
 {
     let mut next = from;
     while next < to {
-        let end = to.min((next / PAGE_EXTENTS + 1) * PAGE_EXTENTS);
+        let end = to.min((next / MAP_PAGE_EXTENTS + 1) * MAP_PAGE_EXTENTS);
         let found = find_on_page(ext, pages, wanted, next, end)?;
         if found.is_some() {
             return Ok(found);

@@ -4,8 +4,9 @@ ghost use Rattle.extent_map.specs.Kinds.{kind_bytes, kind_stated, free_stated, b
 ghost use Rattle.extent_map.specs.Map.{entry_of};
 ghost use Rattle.extent_map.specs.declared.kind.Kind.{Kind};
 
-use crate::layout::{ENTRY_BYTES, entry_place};
+use crate::layout::entry_place;
 use store_api::Page;
+use store_api::layout::EXTENT_ENTRY_BYTES;
 
 /// What an extent is.
 #[derive(Clone, Copy, Debug, PartialEq, Eq)]
@@ -20,11 +21,11 @@ pub enum Kind {
 
 /// The bytes of an extent in the map.
 #[tactic(auto, unfolding(crate::specs::Kinds::kind_bytes))]
-pub(crate) fn kind_bytes(kind: Kind) -> [u8; ENTRY_BYTES]
+pub(crate) fn kind_bytes(kind: Kind) -> [u8; EXTENT_ENTRY_BYTES]
     ensures { result ≡ kind_bytes kind }
 {
     match kind {
-        Kind::Free => [0; ENTRY_BYTES],
+        Kind::Free => [0; EXTENT_ENTRY_BYTES],
         Kind::Block(table) => [1, table, 0, 0, 0, 0, 0, 0],
         Kind::Index(used) => {
             let bits = used.to_be_bytes();
@@ -40,7 +41,7 @@ pub(crate) fn kind_in(page: &Page, e: u32, extent_pages: u32) -> Option<Kind>
     ensures form { IfSome result (IsKindOf extent_pages) }
 {
     let at = entry_place(e);
-    stated_kind(&page[at..at + ENTRY_BYTES], extent_pages)
+    stated_kind(&page[at..at + EXTENT_ENTRY_BYTES], extent_pages)
 }
 
 /// What an extent is by its eight bytes, or nothing where they have a wrong form.

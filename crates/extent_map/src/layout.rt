@@ -3,15 +3,8 @@ ghost use Rattle.std.specs.Prelude.{◌≡◌};
 ghost use Rattle.extent_map.specs.Map.{map_page_of, entry_place};
 
 use store_api::Damage;
-
-/// How many bytes an extent has in the map.
-pub(crate) const ENTRY_BYTES: usize = 8;
-
-/// How many extents stand on a page of the map.
-pub(crate) const PAGE_EXTENTS: u32 = 512;
-
-/// The first page of the map, behind the root page and the table pages.
-pub(crate) const FIRST_MAP_PAGE: u32 = 17;
+use store_api::layout::{EXTENT_ENTRY_BYTES, FIRST_MAP_PAGE, MAP_PAGE_EXTENTS, ROOT_PAGE};
+use store_api::rules::{EXTENTS_RULE, ROOT_PAGE_RULE, TREE_PAGES_RULE};
 
 /// The place of the page count on page 0.
 pub(crate) const COUNT_PLACE: usize = 8;
@@ -20,21 +13,24 @@ pub(crate) const COUNT_PLACE: usize = 8;
 pub(crate) fn map_page_of(e: u32) -> u32
     ensures { result ≡ map_page_of e }
 {
-    FIRST_MAP_PAGE + e / PAGE_EXTENTS
+    FIRST_MAP_PAGE + e / MAP_PAGE_EXTENTS
 }
 
 /// The place of the bytes of an extent on its page of the map.
 pub(crate) fn entry_place(e: u32) -> usize
     ensures { result ≡ entry_place e }
 {
-    ENTRY_BYTES * (e % PAGE_EXTENTS) as usize
+    EXTENT_ENTRY_BYTES * (e % MAP_PAGE_EXTENTS) as usize
 }
 
 /// There aren't as many pages as whole extents make.
 pub(crate) fn wrong_count() -> Damage
     ensures { (result.page ≡ 0) × (result.rule ≡ 1) }
 {
-    Damage { page: 0, rule: 1 }
+    Damage {
+        page: ROOT_PAGE,
+        rule: ROOT_PAGE_RULE,
+    }
 }
 
 /// What the map says of an extent has a wrong form.
@@ -43,7 +39,7 @@ pub(crate) fn wrong_entry(e: u32) -> Damage
 {
     Damage {
         page: map_page_of(e),
-        rule: 2,
+        rule: EXTENTS_RULE,
     }
 }
 
@@ -51,5 +47,8 @@ pub(crate) fn wrong_entry(e: u32) -> Damage
 pub fn unused_page(p: u32) -> Damage
     ensures { (result.page ≡ p) × (result.rule ≡ 5) }
 {
-    Damage { page: p, rule: 5 }
+    Damage {
+        page: p,
+        rule: TREE_PAGES_RULE,
+    }
 }
