@@ -1,5 +1,5 @@
 // A value as a part of a key.
-ghost use Rattle.std.specs.Prelude.{true, false, ◌∷◌, ◌-◌, ◌≡◌, ◌+◌, ◌≤◌, ◌<◌, ◌++◌, IsTrue, length, drop};
+ghost use Rattle.std.specs.Prelude.{true, false, ◌∷◌, ◌-◌, ◌≡◌, ◌+◌, ◌≤◌, ◌<◌, ◌++◌, IsTrue, OnOk, length, drop};
 ghost use Rattle.mdc_values.specs.Order.{padded};
 ghost use Rattle.mdc_ast.specs.Definitions.{width};
 ghost use Rattle.key_codec.specs.Keys.{AreBytes, HasByteText, has_key, part_bytes, sort_bytes, turned};
@@ -7,7 +7,7 @@ ghost use Rattle.key_codec.specs.Keys as spec;
 
 use crate::width::part_width;
 use byteorder::{BigEndian, ByteOrder};
-use mdc_values::{ColType, Value};
+use mdc_values::{ColType, Memory, Value};
 
 /// The byte before a value that is there, and before a null.
 pub(crate) const PRESENT: u8 = 0;
@@ -34,6 +34,23 @@ pub fn put_part(out: &mut [u8], ty: ColType, descending: bool, value: &Value)
     if descending {
         turn(part);
     }
+}
+
+/// Puts a value as a part of a key last.
+pub fn push_key_part(
+    key: &mut Vec<u8>,
+    ty: ColType,
+    descending: bool,
+    value: &Value,
+) -> Result<(), Memory>
+    requires { IsTrue (has_key ty value.now) }
+    ensures part { OnOk result (key.new.items ≡ key.old.items ++ part_bytes ty descending value.now) }
+    ensures texts { OnOk result (HasByteText value.now) }
+{
+    let at = key.len();
+    key.resize(at + usize::from(part_width(ty)), 0)?;
+    put_part(&mut key[at..], ty, descending, value);
+    Ok(())
 }
 
 /// Writes the byte for null and the bytes of a value, which fill `part`.

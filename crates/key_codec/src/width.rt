@@ -6,6 +6,9 @@ ghost use Rattle.key_codec.specs.Keys as spec;
 use mdc_ast::{ColumnDef, KeyPart};
 use mdc_values::{ColType, List};
 
+/// How many bytes a key has at most.
+pub const KEY_LIMIT: usize = 128;
+
 /// How many bytes each key of these parts has. They are parts of a definition within the limits.
 pub fn key_width(columns: &List<ColumnDef>, parts: &List<KeyPart>) -> u16
     requires { spec.ArePartsOf columns.now parts.now }
