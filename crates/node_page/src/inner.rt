@@ -7,9 +7,10 @@ ghost use Rattle.node_page.specs.Node.Node.{InnerNode};
 ghost use Rattle.node_page.specs.Looked.{fork_width};
 
 use crate::slots::{
-    HEAD_BYTES, INNER_MARK, PAGE_BYTES, fork_step, head_of, insert_fork, lay_down, number_at,
-    remove_bytes, set_count, short_at, slot_at,
+    HEAD_BYTES, INNER_MARK, fork_step, head_of, insert_fork, lay_down, number_at, remove_bytes,
+    set_count, short_at, slot_at,
 };
+use store_api::layout::PAGE_BYTES;
 use store_api::{Page, put};
 
 /// How many separators of a width, each with a child, have room in an inner node.

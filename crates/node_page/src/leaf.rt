@@ -6,9 +6,10 @@ ghost use Rattle.node_page.specs.Node.{node_of, stated_entries, leaf_room};
 ghost use Rattle.node_page.specs.Node.Node.{LeafNode};
 
 use crate::slots::{
-    HEAD_BYTES, LEAF_MARK, PAGE_BYTES, head_of, insert_bytes, lay_down, remove_bytes, set_count,
-    short_at, slot_at,
+    HEAD_BYTES, LEAF_MARK, head_of, insert_bytes, lay_down, remove_bytes, set_count, short_at,
+    slot_at,
 };
+use store_api::layout::PAGE_BYTES;
 use store_api::{Page, put};
 
 /// How many entries of a width have room in a leaf.

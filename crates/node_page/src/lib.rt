@@ -18,6 +18,7 @@ mod view;
 
 pub use inner::{inner_room, make_inner, put_fork, set_separator, take_fork};
 pub use leaf::{leaf_room, make_leaf, put_entry, set_entry, take_entry};
+pub use slots::HEAD_BYTES;
 pub use splits::{split_inner, split_leaf};
 pub use sweep::{count_named, drop_blocks};
 pub use view::NodeView;

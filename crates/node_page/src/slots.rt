@@ -8,8 +8,7 @@ ghost use Rattle.node_page.specs.Slots.{blanked, closed_up, with_count, opened_u
 
 use store_api::{Page, blank_page, put};
 
-pub const PAGE_BYTES: usize = 4096;
-
+/// How many bytes lie before the entries of a node.
 pub const HEAD_BYTES: usize = 16;
 
 pub const CHILD_BYTES: usize = 4;

@@ -5,11 +5,10 @@ ghost use Rattle.node_page.specs.Node.{node_of, stated_entries, is_full};
 ghost use Rattle.node_page.specs.Node.Node.{LeafNode, InnerNode};
 ghost use Rattle.node_page.specs.Looked.{looked, seen_node, entries_in, children_in, is_leaf_node, fork_width, item_width};
 
-use crate::slots::{
-    HEAD_BYTES, INNER_MARK, LEAF_MARK, PAGE_BYTES, fork_step, number_at, short_at, slot_at,
-};
+use crate::slots::{HEAD_BYTES, INNER_MARK, LEAF_MARK, fork_step, number_at, short_at, slot_at};
 use std::marker::Model;
 use store_api::Page;
+use store_api::layout::PAGE_BYTES;
 
 /// A node in a page, lent. What it shows is what the page's fields say.
 #[derive(Debug, Drop)]
