@@ -1,24 +1,17 @@
--- What values that fit their columns may be compared with.
-use Rattle.std.proofs.Common.{◌≡◌, ℤ, ℕ, zero, suc, ◌+◌, ◌≤◌, List, [], ◌∷◌, length, Bool, true, false, cond, refl, ap, subst, ◌∙◌, arith}
-use Rattle.std.specs.Prelude.{IsTrue, IfSome, not, ◌&&◌, ◌==◌, nat_le, pos, int_le, ◌*◌, ◌/◌, ◌%◌, if◌then◌else◌, Option, Some, None, Ok, Err, slice_get}
+-- What values that fit their columns are.
+use Rattle.std.proofs.Common.{◌≡◌, ℕ, zero, suc, ◌≤◌, List, [], ◌∷◌, length, true, refl, ap, subst, arith}
+use Rattle.std.specs.Prelude.{IsTrue, not, ◌&&◌, ◌==◌, nat_le, Some, slice_get}
 use Rattle.std.specs.Str.{bytes_eq}
 use Rattle.std.proofs.lemmas.Bool.Decides.{nat_tests}
-use Rattle.mdc_values.specs.declared.literal.Literal.{Literal}
-use Rattle.mdc_values.specs.declared.literal.Literal.TheVariants as literal
-use Rattle.mdc_values.specs.declared.value.ColType.{ColType}
-use Rattle.mdc_values.specs.declared.value.ColType.TheVariants.{Integer, Bigint, Char, Date}
+use Rattle.std.proofs.lemmas.Slice.Eq.{bytes_eq-Decides}
+use Rattle.mdc_values.specs.declared.value.ColType.TheVariants.{Char}
 use Rattle.mdc_values.specs.declared.value.Value.{Value}
-use Rattle.mdc_values.specs.declared.value.Value.TheVariants.{Null, Int, Text, Day}
-use Rattle.mdc_values.specs.Calendar.{day_named, day_of, is_date, is_day_text, two_digits_at}
-use Rattle.mdc_values.specs.Value.{before_text, trimmed}
-use Rattle.mdc_values.specs.declared.fitting.ValueFault.TheVariants.{TooLong}
-use Rattle.mdc_values.specs.Fitting.{day_if, in_bigint, in_integer, fit_of, number_if, signed}
-use Rattle.mdc_values.specs.Order.{are_alike}
+use Rattle.mdc_values.specs.declared.value.Value.TheVariants.{Text}
+use Rattle.mdc_values.specs.Value.{are_bytes, trimmed}
 use Rattle.mdc_ast.specs.declared.definition.ColumnDef.{ColumnDef}
 use Rattle.mdc_ast.specs.Truth.{value_at}
-use Rattle.mdc_ast.specs.Database.{is_day_number, is_of_type, is_null, fits, fits_all}
-use Rattle.mdc_ast.specs.Kinds.{Kind, Numbers, Texts, Days, kind_of, same_kind}
-use Rattle.mdc_ast.proofs.TestsLemmas.{both, some_is}
+use Rattle.mdc_ast.specs.Database.{is_of_type, is_null, is_trimmed, fits, fits_all}
+use Rattle.mdc_ast.proofs.TestsLemmas.{and_true, both, some_is}
 
 -- there is one value for each column
 pub length-fits_all : (columns : List ColumnDef) (values : List Value) → IsTrue (fits_all columns values) → length values ≡ length columns
@@ -41,3 +34,23 @@ bytes_eq-refl (x ∷ xs) = rw (eqb-refl x) (bytes_eq-refl xs)
   where
     eqb-refl : (x : ℕ) → (x == x) ≡ true
     eqb-refl x = grind (arith, nat_tests)
+
+-- ---- texts
+
+-- a text is one of CHAR(n): no longer, with no blank at its end, and of bytes
+pub record IsTextOf (n : ℕ) (text : List ℕ) : Type 0 where
+  pub short : length text ≤ n
+  pub ends : trimmed text ≡ text
+  pub bytes : IsTrue (are_bytes text)
+
+pub text_of_type : (n : ℕ) (text : List ℕ) → IsTrue (is_of_type (Char n) (Text text)) → IsTextOf n text
+text_of_type n text h =
+    let ends = both (nat_le (length text) n && is_trimmed text) (are_bytes text) h in
+    let front = both (nat_le (length text) n) (is_trimmed text) ends.0 in
+    record { short = grind (arith, nat_tests, front.0); ends = (bytes_eq-Decides (trimmed text) text).0 front.1; bytes = ends.1 }
+
+pub is_of_type-text : (n : ℕ) (text : List ℕ) → IsTextOf n text → IsTrue (is_of_type (Char n) (Text text))
+is_of_type-text n text is =
+    let short : IsTrue (nat_le (length text) n) = grind (arith, nat_tests, is.short) in
+    let ends : IsTrue (is_trimmed text) = (bytes_eq-Decides (trimmed text) text).1 is.ends in
+    and_true (nat_le (length text) n && is_trimmed text) (are_bytes text) (and_true (nat_le (length text) n) (is_trimmed text) short ends) is.bytes

@@ -1,24 +1,13 @@
 -- The kinds of values that fit their columns.
-use Rattle.std.proofs.Common.{◌≡◌, ℤ, ℕ, zero, suc, ◌+◌, ◌≤◌, List, [], ◌∷◌, length, Bool, true, false, cond, refl, ap, subst, ◌∙◌, arith}
-use Rattle.std.specs.Prelude.{IsTrue, IfSome, not, ◌&&◌, ◌==◌, nat_le, pos, int_le, ◌*◌, ◌/◌, ◌%◌, if◌then◌else◌, Option, Some, None, Ok, Err, slice_get}
-use Rattle.std.specs.Str.{bytes_eq}
-use Rattle.std.proofs.lemmas.Bool.Decides.{nat_tests}
-use Rattle.mdc_values.specs.declared.literal.Literal.{Literal}
-use Rattle.mdc_values.specs.declared.literal.Literal.TheVariants as literal
+use Rattle.std.proofs.Common.{Bool, true, false, refl}
+use Rattle.std.specs.Prelude.{IsTrue}
 use Rattle.mdc_values.specs.declared.value.ColType.{ColType}
 use Rattle.mdc_values.specs.declared.value.ColType.TheVariants.{Integer, Bigint, Char, Date}
 use Rattle.mdc_values.specs.declared.value.Value.{Value}
 use Rattle.mdc_values.specs.declared.value.Value.TheVariants.{Null, Int, Text, Day}
-use Rattle.mdc_values.specs.Calendar.{day_named, day_of, is_date, is_day_text, two_digits_at}
-use Rattle.mdc_values.specs.Value.{before_text, trimmed}
-use Rattle.mdc_values.specs.declared.fitting.ValueFault.TheVariants.{TooLong}
-use Rattle.mdc_values.specs.Fitting.{day_if, in_bigint, in_integer, fit_of, number_if, signed}
 use Rattle.mdc_values.specs.Order.{are_alike}
-use Rattle.mdc_ast.specs.declared.definition.ColumnDef.{ColumnDef}
-use Rattle.mdc_ast.specs.Truth.{value_at}
-use Rattle.mdc_ast.specs.Database.{is_day_number, is_of_type, is_null, fits, fits_all}
+use Rattle.mdc_ast.specs.Database.{is_of_type}
 use Rattle.mdc_ast.specs.Kinds.{Kind, Numbers, Texts, Days, kind_of, same_kind}
-use Rattle.mdc_ast.proofs.TestsLemmas.{both, some_is}
 
 -- a value of a kind, or a null
 abbrev pub is_of_kind : Value → Kind → Bool

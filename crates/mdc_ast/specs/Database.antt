@@ -1,6 +1,5 @@
 -- The plain database: 16 places, each empty or with a table of plain rows (docs/SQL.md, "Meaning").
-use Rattle.std.specs.Prelude.{◌++◌, ◌≤◌, ℕ, zero, suc, ◌+◌, ◌/◌, ◌%◌, pos, List, [], ◌∷◌, length, map, Bool, true, false, not, ◌&&◌, nat_le, Option, Some, None, option_map, option_and_then, slice_get, slice_set, replicate, IsTrue}
-use Rattle.std.specs.List.{AllByRecursion}
+use Rattle.std.specs.Prelude.{◌++◌, ℕ, zero, suc, ◌+◌, ◌/◌, ◌%◌, pos, List, [], ◌∷◌, length, map, Bool, true, false, not, ◌&&◌, nat_le, Option, None, option_map, option_and_then, slice_get, slice_set, replicate}
 use Rattle.std.specs.Str.{bytes_eq}
 use Rattle.mdc_values.specs.declared.value.ColType.{ColType}
 use Rattle.mdc_values.specs.declared.value.ColType.TheVariants as column

@@ -1,6 +1,6 @@
 -- The definitions of a database's tables: 16 places, each empty or with a definition (docs/SQL.md, "Meaning").
-use Rattle.std.specs.Prelude.{map, ◌≡◌, ◌≤◌, ◌<◌, ℕ, ◌+◌, List, [], ◌∷◌, length, flat_map, ◌==◌, Bool, true, false, Option, Some, None, is_none, option_and_then, slice_get, slice_set, replicate, IsTrue, nat_lt, nat_le, ◌&&◌}
-use Rattle.std.specs.List.{position_from, list_all, list_any, AllByRecursion}
+use Rattle.std.specs.Prelude.{map, ◌≡◌, ◌≤◌, ℕ, ◌+◌, List, [], ◌∷◌, length, flat_map, ◌==◌, Bool, true, false, Option, Some, None, is_none, option_and_then, slice_get, slice_set, replicate, nat_lt, nat_le, ◌&&◌}
+use Rattle.std.specs.List.{position_from, list_all, list_any}
 use Rattle.std.specs.Str.{bytes_eq}
 use Rattle.mdc_values.specs.declared.value.ColType.{ColType}
 use Rattle.mdc_values.specs.declared.value.ColType.TheVariants as column

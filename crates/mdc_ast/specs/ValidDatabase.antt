@@ -1,5 +1,5 @@
 -- What holds of every plain database: its definitions are ones that statements can make, and its rows keep them (docs/SQL.md, "Meaning").
-use Rattle.std.specs.Prelude.{◌≡◌, ◌≤◌, ◌<◌, ℕ, ◌+◌, List, [], ◌∷◌, AllPairs, length, map, flat_map, Bool, true, false, Option, Some, None, IsTrue}
+use Rattle.std.specs.Prelude.{◌≡◌, ◌≤◌, ◌<◌, ℕ, ◌+◌, List, [], ◌∷◌, AllPairs, length, map, flat_map, false, Option, Some, None, IsTrue}
 use Rattle.std.specs.List.{list_all, list_any, AllByRecursion}
 use Rattle.mdc_values.specs.declared.value.Value.{Value}
 use Rattle.mdc_ast.specs.declared.definition.IndexDef.{IndexDef}
