@@ -1,7 +1,6 @@
 // Whether a row fits a definition.
 ghost use Rattle.std.specs.Prelude.{◌≡◌, ◌↔◌, length, IsTrue, IfSome, MatchOption};
 ghost use Rattle.std.specs.List.{AllByRecursion};
-ghost use Rattle.mdc_ast.specs.TableLimits.{IsTableDef};
 ghost use Rattle.mdc_ast.specs.FittingRows.{AreMadeFrom, IsMadeFrom, RowFits, generated_value};
 ghost use Rattle.mdc_ast.specs.Divisors.{HasDivisor};
 
@@ -12,7 +11,7 @@ use mdc_values::Value;
 /// Whether a row has a value for each column, within its type and not null where it may not be, and whether each generated value is
 /// the one of its base.
 pub fn does_row_fit(def: &TableDef, row: &Row) -> bool
-    requires defined { IsTableDef def.now.number def.now }
+    requires divisors { AllByRecursion (λ column. IfSome column.made HasDivisor) def.now.columns }
     ensures { IsTrue result ↔ RowFits def.now row.now }
 {
     let columns = def.columns.as_slice();

@@ -3,7 +3,6 @@ use Rattle.std.specs.List.{AllByRecursion}
 use Rattle.mdc_ast.specs.declared.definition.ColumnDef.{ColumnDef}
 use Rattle.mdc_ast.proofs.FitsLemmas.{length-fits_all}
 use Rattle.mdc_ast.specs.Divisors.{HasDivisor}
-use Rattle.row_fitting.proofs.MadeValuesLemmas.{defined_divisors}
 use Rattle.row_fitting.proofs.rows.does_row_fit.Goals as goal
 
 pub are_made_from-requires-clause-one_each : goal.are_made_from-requires-clause-one_each
@@ -12,4 +11,4 @@ are_made_from-requires-clause-one_each c =
 
 pub are_made_from-requires-clause-divisors : goal.are_made_from-requires-clause-divisors
 are_made_from-requires-clause-divisors c =
-    subst (λ (columns : List ColumnDef). AllByRecursion (λ column. IfSome column.made HasDivisor) columns) (sym c.as_slice-columns.ensures) (defined_divisors c.args.def.now c.requires.defined)
+    subst (λ (columns : List ColumnDef). AllByRecursion (λ column. IfSome column.made HasDivisor) columns) (sym c.as_slice-columns.ensures) c.requires.divisors
