@@ -1,13 +1,12 @@
 -- A value as the bytes of a column, written and read.
 use Rattle.std.proofs.Common.{◌≡◌, ◌≤◌, ◌<◌, ◌+◌, ◌-◌, ◌/◌, ◌^◌, ℕ, zero, suc, ℤ, pos, Bool, true, false, cond, IsTrue, List, [], ◌∷◌, ◌++◌, length, replicate, get_or, refl, ap, sym, ◌∙◌, arith, length-append, append-nil}
-use Rattle.std.specs.Prelude.{◌&&◌, ◌==◌, int_le, nat_le}
+use Rattle.std.specs.Prelude.{◌&&◌, ◌==◌, int_le}
 use Rattle.std.specs.Int.{cast_signed, cast_unsigned, w32, w64}
 use Rattle.std.specs.Int.RustNames.{FitsSigned}
 use Rattle.std.proofs.lemmas.Bool.Decides.{nat_tests}
 use Rattle.std.proofs.lemmas.Int.{ints, to_z-of_z, of_z-to_z}
 use Rattle.std.proofs.lemmas.List.{length-replicate}
 use Rattle.std.proofs.lemmas.Nat.{be_bytes_4, be_bytes_8}
-use Rattle.std.proofs.lemmas.Slice.Eq.{bytes_eq-Decides}
 use Rattle.byteorder.specs.Endian.{big_bytes, big_number}
 use Rattle.byteorder.specs.Numbers.{big_from-lt, big_number-reads_back}
 use Rattle.mdc_values.specs.declared.value.ColType.{ColType}
@@ -18,15 +17,12 @@ use Rattle.mdc_values.specs.Fitting.{in_bigint, in_integer}
 use Rattle.mdc_values.specs.Value.{before_text, trimmed}
 use Rattle.mdc_ast.specs.Database.{is_day_number, is_null, is_of_type}
 use Rattle.mdc_ast.specs.Definitions.{width}
+use Rattle.mdc_ast.proofs.FitsLemmas.{text_of_type}
 use Rattle.row_page.specs.Row.{column_bytes, column_value}
 
 -- each byte is below 256
 abbrev pub AreBytes : List ℕ → Type 0
 AreBytes bytes = (i : ℕ) → get_or bytes i 0 < 256
-
-both : (a b : Bool) → IsTrue (a && b) → IsTrue a × IsTrue b
-both true b h = (refl, h)
-both false b h = cc
 
 -- ---- texts
 
@@ -83,7 +79,7 @@ unfolding column_bytes
 length-column_bytes Integer (Int n) h = refl
 length-column_bytes Bigint (Int n) h = refl
 length-column_bytes (Char n) (Text text) h =
-    let le : length text ≤ n = let fit : IsTrue (nat_le (length text) n) = (both _ _ h).0 in grind (arith, nat_tests) in
+    let le = (text_of_type n text h).short in
     length-append text (replicate (n - length text) 32) ∙ (ap (λ k. length text + k) (length-replicate (n - length text) 32) ∙ padded n (length text) le)
 length-column_bytes Date (Day d) h = refl
 length-column_bytes Integer Null h = refl
@@ -141,8 +137,7 @@ column_value-column_bytes Bigint (Int z) h ne =
     let fits = fits_bigint z h in
     ap (λ x. Int (cast_signed w64 x)) (number_8 (cast_unsigned w64 z) (unsigned_lt_8 z fits)) ∙ ap Int (to_z-of_z w64 z fits)
 column_value-column_bytes (Char n) (Text text) h ne =
-    let same : trimmed text ≡ text = (bytes_eq-Decides (trimmed text) text).0 (both _ _ h).1 in
-    ap Text (trimmed-append text (n - length text) ∙ same)
+    ap Text (trimmed-append text (n - length text) ∙ (text_of_type n text h).ends)
 column_value-column_bytes Date (Day d) h ne = ap Day (number_4 d (day_lt d h))
 column_value-column_bytes ty Null h ne = cc
 column_value-column_bytes Integer (Text t) h ne = cc
