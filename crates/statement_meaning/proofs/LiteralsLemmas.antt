@@ -1,27 +1,22 @@
 -- What literals are, once they are judged: of the kind and of the type of their column.
-use Rattle.std.proofs.Common.{◌≡◌, ℤ, ℕ, zero, suc, ◌+◌, ◌≤◌, List, [], ◌∷◌, length, Bool, true, false, cond, refl, ap, subst, ◌∙◌, arith}
-use Rattle.std.specs.Prelude.{IsTrue, IfSome, not, ◌&&◌, ◌==◌, nat_le, pos, int_le, ◌*◌, ◌/◌, ◌%◌, if◌then◌else◌, Option, Some, None, Ok, Err, slice_get}
-use Rattle.std.specs.Str.{bytes_eq}
+use Rattle.std.proofs.Common.{◌≡◌, ℤ, ℕ, ◌+◌, ◌≤◌, List, [], ◌∷◌, length, Bool, true, false, cond, refl, ◌∙◌, arith}
+use Rattle.std.specs.Prelude.{IsTrue, IfSome, ◌&&◌, ◌==◌, nat_le, pos, int_le, ◌*◌, ◌/◌, ◌%◌, if◌then◌else◌, Option, Some, None, Ok, Err}
 use Rattle.std.proofs.lemmas.Bool.Decides.{nat_tests}
 use Rattle.mdc_values.specs.declared.literal.Literal.{Literal}
 use Rattle.mdc_values.specs.declared.literal.Literal.TheVariants as literal
 use Rattle.mdc_values.specs.declared.value.ColType.{ColType}
 use Rattle.mdc_values.specs.declared.value.ColType.TheVariants.{Integer, Bigint, Char, Date}
-use Rattle.mdc_values.specs.declared.value.Value.{Value}
-use Rattle.mdc_values.specs.declared.value.Value.TheVariants.{Null, Int, Text, Day}
+use Rattle.mdc_values.specs.declared.value.Value.TheVariants.{Null, Int, Text}
 use Rattle.mdc_values.specs.Calendar.{day_named, day_of, is_date, is_day_text, two_digits_at}
-use Rattle.mdc_values.specs.Value.{before_text, trimmed}
-use Rattle.mdc_values.specs.declared.fitting.ValueFault.TheVariants.{TooLong}
+use Rattle.mdc_values.specs.Value.{are_bytes, before_text, trimmed}
+use Rattle.mdc_values.proofs.ValueLemmas.{are_bytes-trimmed}
+use Rattle.mdc_values.specs.declared.fitting.ValueFault.TheVariants.{TooLong, WrongType}
 use Rattle.mdc_values.specs.Fitting.{day_if, in_bigint, in_integer, fit_of, number_if, signed}
-use Rattle.mdc_values.specs.Order.{are_alike}
-use Rattle.mdc_ast.specs.declared.definition.ColumnDef.{ColumnDef}
-use Rattle.mdc_ast.specs.Truth.{value_at}
-use Rattle.mdc_ast.specs.Database.{is_day_number, is_of_type, is_null, fits, fits_all}
-use Rattle.mdc_ast.specs.Kinds.{Kind, Numbers, Texts, Days, kind_of, same_kind}
+use Rattle.mdc_ast.specs.Database.{is_day_number, is_of_type}
+use Rattle.mdc_ast.specs.Kinds.{Numbers, Days, kind_of}
 use Rattle.statement_meaning.specs.Judging.{fit_compared, judged_value}
-use Rattle.mdc_ast.proofs.FitsLemmas.{bytes_eq-refl}
+use Rattle.mdc_ast.proofs.FitsLemmas.{is_of_type-text}
 use Rattle.mdc_ast.proofs.KindsLemmas.{is_of_kind}
-use Rattle.mdc_ast.proofs.TestsLemmas.{both, some_is}
 
 -- ---- kinds
 
@@ -71,9 +66,13 @@ trimmed-trimmed : (text : List ℕ) → trimmed (trimmed text) ≡ trimmed text
 trimmed-trimmed [] = refl
 trimmed-trimmed (byte ∷ text) = before_text-trimmed byte (trimmed text) (trimmed-trimmed text)
 
-text_type : (n : ℕ) (text : List ℕ) (b : Bool) → nat_le (length (trimmed text)) n ≡ b → IsTrue (is_of_type (Char n) (judged_value (if b then Ok (Text (trimmed text)) else Err TooLong)))
-text_type n text true e = rw (e, trimmed-trimmed text) (bytes_eq-refl (trimmed text))
-text_type n text false e = refl
+text_type : (n : ℕ) (text : List ℕ) (bytes short : Bool) → are_bytes text ≡ bytes → nat_le (length (trimmed text)) n ≡ short
+    → IsTrue (is_of_type (Char n) (judged_value (if bytes then (if short then Ok (Text (trimmed text)) else Err TooLong) else Err WrongType)))
+text_type n text true true are e =
+    let le : length (trimmed text) ≤ n = grind (arith, nat_tests, e) in
+    is_of_type-text n (trimmed text) (record { short = le; ends = trimmed-trimmed text; bytes = are_bytes-trimmed text are })
+text_type n text true false are e = refl
+text_type n text false short are e = refl
 
 days_few : (p q r : Bool) → cond p (cond q 29 28) (cond r 30 31) ≤ 31
 days_few true true r = omega arith
@@ -131,7 +130,7 @@ date_type text = day_type (day_named text) (day_named_is text (is_day_text text)
 pub is_of_type-fit_of : (ty : ColType) (lit : Literal) → IsTrue (is_of_type ty (judged_value (fit_of ty lit)))
 is_of_type-fit_of Integer (literal.Number negative size) = number_type Integer in_integer (λ n. refl) refl (signed negative size) (in_integer (signed negative size)) refl
 is_of_type-fit_of Bigint (literal.Number negative size) = number_type Bigint in_bigint (λ n. refl) refl (signed negative size) (in_bigint (signed negative size)) refl
-is_of_type-fit_of (Char n) (literal.Text text) = text_type n text (nat_le (length (trimmed text)) n) refl
+is_of_type-fit_of (Char n) (literal.Text text) = text_type n text (are_bytes text) (nat_le (length (trimmed text)) n) refl refl
 is_of_type-fit_of Date (literal.Text text) = date_type text
 is_of_type-fit_of Date (literal.Date text) = date_type text
 is_of_type-fit_of Integer literal.Null = refl

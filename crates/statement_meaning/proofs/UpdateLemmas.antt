@@ -1,6 +1,6 @@
 -- Rows that an UPDATE changes fit their columns, where nothing is said against them.
 use Rattle.std.proofs.Common.{◌≡◌, ℕ, zero, suc, List, [], ◌∷◌, ◌++◌, length, map, Bool, true, false, refl, sym, ap, subst, ℤ, arith}
-use Rattle.std.specs.Prelude.{IsTrue, not, nat_le, nat_lt, flat_map, if◌then◌else◌, Option, Some, slice_get, slice_set, option_map, unwrap_or}
+use Rattle.std.specs.Prelude.{IsTrue, ◌≤◌, not, nat_lt, flat_map, if◌then◌else◌, Option, Some, slice_get, slice_set, option_map, unwrap_or}
 use Rattle.std.specs.List.{AllByRecursion}
 use Rattle.std.proofs.lemmas.Bool.Decides.{nat_tests}
 use Rattle.mdc_values.specs.declared.value.ColType.{ColType}
@@ -20,7 +20,7 @@ use Rattle.mdc_ast.specs.declared.statement.Sign.{Sign}
 use Rattle.mdc_ast.specs.Truth.{value_at, qualifies}
 use Rattle.statement_meaning.specs.Binding.{bound_set, bound_set_item, the_place, the_type}
 use Rattle.statement_meaning.specs.Cause.{ColumnTwice, cause_if, Overflow, TextTooLong}
-use Rattle.mdc_ast.specs.Database.{fits, fits_all, is_of_type, is_trimmed}
+use Rattle.mdc_ast.specs.Database.{fits, fits_all, is_of_type}
 use Rattle.mdc_ast.specs.Definitions.{column_named, column_place, is_among}
 use Rattle.statement_meaning.specs.Doing.{holds_number, is_longer, changed_causes, changed_row, computed, computed_number, item_on, null_causes, outgrows, set_causes, set_on}
 use Rattle.statement_meaning.specs.Judged.{counts, item_columns, item_types, set_columns, set_types}
@@ -28,7 +28,7 @@ use Rattle.mdc_ast.specs.Kinds.{kind_of, is_number, same_kind}
 use Rattle.statement_meaning.specs.Judging.{kinds_meet, used_name}
 use Rattle.statement_meaning.proofs.BindingLemmas.{place_there}
 use Rattle.statement_meaning.proofs.CausesLemmas.{is_there, none_if, none_if_not, none_of_both, none_of_each, none_of_some}
-use Rattle.mdc_ast.proofs.FitsLemmas.{fits_all-at}
+use Rattle.mdc_ast.proofs.FitsLemmas.{fits_all-at, is_of_type-text, text_of_type}
 use Rattle.statement_meaning.proofs.LiteralsLemmas.{is_of_type-fit_of}
 use Rattle.statement_meaning.proofs.RowsLemmas.{null_type, are_of_types, fits_all-are_of_types}
 use Rattle.mdc_ast.proofs.TestsLemmas.{and_true, both, some_is}
@@ -47,11 +47,13 @@ copied_int name ty Bigint n kinds h e = int_type name ty n kinds e
 copied_int name ty (Char c) n kinds h e = cc
 copied_int name ty Date n kinds h e = cc
 
-not_longer : (n m : ℕ) → nat_lt n m ≡ false → IsTrue (nat_le m n)
+not_longer : (n m : ℕ) → nat_lt n m ≡ false → m ≤ n
 not_longer n m e = grind (arith, nat_tests, e)
 
 copied_text : (name : Name) (ty other : ColType) (text : List ℕ) → IsTrue (same_kind (kind_of ty) (kind_of other)) → IsTrue (is_of_type other (Text text)) → cause_if (is_longer ty text) (TextTooLong name) ≡ [] → IsTrue (is_of_type ty (Text text))
-copied_text name (Char n) (Char m) text kinds h e = and_true _ _ (not_longer n (length text) (none_if _ _ e)) (both (nat_le (length text) m) (is_trimmed text) h).1
+copied_text name (Char n) (Char m) text kinds h e =
+    let is = text_of_type m text h in
+    is_of_type-text n text (record { short = not_longer n (length text) (none_if _ _ e); ends = is.ends; bytes = is.bytes })
 copied_text name Integer (Char m) text kinds h e = cc
 copied_text name Bigint (Char m) text kinds h e = cc
 copied_text name Date (Char m) text kinds h e = cc
