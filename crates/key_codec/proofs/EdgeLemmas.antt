@@ -16,10 +16,10 @@ use Rattle.mdc_values.specs.Order.{order, padded, text_order}
 use Rattle.mdc_ast.specs.declared.span.Cut.{Cut}
 use Rattle.mdc_ast.specs.declared.span.Cut.TheVariants.{First, Last}
 use Rattle.key_codec.specs.Edges.{IsEdge, behind_front, front_order, is_past, put_before, side_of_blanks}
-use Rattle.key_codec.specs.Keys.{AreBytes, HasByteText, has_key, part_bytes, part_width, sort_bytes, turned}
+use Rattle.key_codec.specs.Keys.{AreBytes, has_key, part_bytes, part_width, sort_bytes, turned}
 use Rattle.key_codec.specs.Spans.{IsBoundOf, IsShortBound, is_above, reaches}
-use Rattle.key_codec.proofs.OrderLemmas.{AreBytes-append, AreBytes-complement, AreBytes-cons, AreBytes-none, AreBytes-replicate, front_order-append, front_order-complement, front_order-none, front_order-whole, reaches-past}
-use Rattle.key_codec.proofs.PartLemmas.{AreBytes-part_bytes, length-part_bytes, slice_cmp-part}
+use Rattle.key_codec.proofs.OrderLemmas.{AreBytes-append, AreBytes-complement, AreBytes-cons, AreBytes-none, AreBytes-replicate, AreBytes-take, front_order-append, front_order-complement, front_order-none, front_order-whole, reaches-past}
+use Rattle.key_codec.proofs.PartLemmas.{AreBytes-part_bytes, length-part_bytes, slice_cmp-part, text_with_key}
 use Rattle.key_codec.proofs.TextLemmas.{is_past-longer, length-padded, slice_cmp-padded}
 
 -- ---- the first byte string behind a front
@@ -88,26 +88,26 @@ behind_front-raised xs cut key (suc n) b v some le same cut_is read ne value key
 -- ---- places
 
 pub edge_of_first : (ty : ColType) → IsEdge ty (is_above First) [] false
-edge_of_first ty = record { short = omega arith; bytes = AreBytes-none; past = λ value h t. refl }
+edge_of_first ty = record { short = omega arith; bytes = AreBytes-none; past = λ value h. refl }
 
 pub edge_of_last : (ty : ColType) → IsEdge ty (is_above Last) [] true
-edge_of_last ty = record { short = omega arith; bytes = AreBytes-none; past = λ value h t. refl }
+edge_of_last ty = record { short = omega arith; bytes = AreBytes-none; past = λ value h. refl }
 
 pub edge_of_nulls : (ty : ColType) (behind : Bool) → IsEdge ty (λ x. is_past behind (order x Null)) (1 ∷ []) behind
 edge_of_nulls ty behind = record { short = omega arith; bytes = AreBytes-cons 1 [] (omega arith) AreBytes-none; past = past }
   where
-    past : (value : Value) → IsTrue (has_key ty value) → HasByteText value → is_past behind (front_order (part_bytes ty false value) (1 ∷ [])) ≡ is_past behind (order value Null)
-    past Null h t = ap (is_past behind) (front_order-none (sort_bytes ty Null))
-    past (Int n) h t = refl
-    past (Text text) h t = refl
-    past (Day day) h t = refl
+    past : (value : Value) → IsTrue (has_key ty value) → is_past behind (front_order (part_bytes ty false value) (1 ∷ [])) ≡ is_past behind (order value Null)
+    past Null h = ap (is_past behind) (front_order-none (sort_bytes ty Null))
+    past (Int n) h = refl
+    past (Text text) h = refl
+    past (Day day) h = refl
 
-pub edge_of_value : (ty : ColType) (behind : Bool) (other : Value) → IsTrue (has_key ty other) → HasByteText other
+pub edge_of_value : (ty : ColType) (behind : Bool) (other : Value) → IsTrue (has_key ty other)
     → IsEdge ty (λ x. is_past behind (order x other)) (part_bytes ty false other) behind
-edge_of_value ty behind other h t = record {
+edge_of_value ty behind other h = record {
   short = omega (arith, length-part_bytes ty false other h);
-  bytes = AreBytes-part_bytes ty other h t;
-  past = λ value g s.
+  bytes = AreBytes-part_bytes ty other h;
+  past = λ value g.
       ap (is_past behind) (front_order-whole (part_bytes ty false value) (part_bytes ty false other) (length-part_bytes ty false value g ∙ sym (length-part_bytes ty false other h)) ∙ slice_cmp-part ty value other g h);
 }
 
@@ -135,19 +135,19 @@ below_all (negsuc m) (negsuc n) h lt = absurd lt.lt
 pub edge_below : (behind : Bool) (n : ℤ) → n <ℤ negsuc 2147483647 → IsEdge Integer (λ x. is_past behind (order x (Int n))) [] false
 edge_below behind n lt = record { short = omega arith; bytes = AreBytes-none; past = past }
   where
-    past : (value : Value) → IsTrue (has_key Integer value) → HasByteText value → true ≡ is_past behind (order value (Int n))
-    past Null h t = sym (past_Greater behind)
-    past (Int m) h t = sym (ap (is_past behind) (above_all m n h lt) ∙ past_Greater behind)
-    past value h t = cc
+    past : (value : Value) → IsTrue (has_key Integer value) → true ≡ is_past behind (order value (Int n))
+    past Null h = sym (past_Greater behind)
+    past (Int m) h = sym (ap (is_past behind) (above_all m n h lt) ∙ past_Greater behind)
+    past value h = cc
 
 -- a number above all of INTEGER
 pub edge_above : (behind : Bool) (n : ℤ) → pos 2147483647 <ℤ n → IsEdge Integer (λ x. is_past behind (order x (Int n))) (1 ∷ []) false
 edge_above behind n lt = record { short = omega arith; bytes = AreBytes-cons 1 [] (omega arith) AreBytes-none; past = past }
   where
-    past : (value : Value) → IsTrue (has_key Integer value) → HasByteText value → is_past false (front_order (part_bytes Integer false value) (1 ∷ [])) ≡ is_past behind (order value (Int n))
-    past Null h t = sym (past_Greater behind)
-    past (Int m) h t = sym (ap (is_past behind) (below_all m n h lt) ∙ past_Less behind)
-    past value h t = cc
+    past : (value : Value) → IsTrue (has_key Integer value) → is_past false (front_order (part_bytes Integer false value) (1 ∷ [])) ≡ is_past behind (order value (Int n))
+    past Null h = sym (past_Greater behind)
+    past (Int m) h = sym (ap (is_past behind) (below_all m n h lt) ∙ past_Less behind)
+    past value h = cc
 
 -- the place beside a text is that beside the part of it which is no longer than the column
 edge_of_shared : (n : ℕ) (behind side : Bool) (text shared : List ℕ) → length shared ≤ n → AreBytes shared
@@ -159,23 +159,23 @@ edge_of_shared n behind side text shared le b agrees = record {
   past = past;
 }
   where
-    past : (value : Value) → IsTrue (has_key (Char n) value) → HasByteText value → is_past side (front_order (part_bytes (Char n) false value) (0 ∷ padded n shared)) ≡ is_past behind (order value (Text text))
-    past Null h t = past_Greater side ∙ sym (past_Greater behind)
-    past (Text a) h t =
-        let la : length a ≤ n = grind (arith, nat_tests, h) in
+    past : (value : Value) → IsTrue (has_key (Char n) value) → is_past side (front_order (part_bytes (Char n) false value) (0 ∷ padded n shared)) ≡ is_past behind (order value (Text text))
+    past Null h = past_Greater side ∙ sym (past_Greater behind)
+    past (Text a) h =
+        let la = (text_with_key n a h).0 in
         ap (is_past side) (front_order-whole (padded n a) (padded n shared) (length-padded n a la ∙ sym (length-padded n shared le))) ∙ agrees a la
-    past value h t = cc
+    past value h = cc
 
 padded-whole : (n : ℕ) (text : List ℕ) → length text ≡ n → padded n text ≡ text
 padded-whole n text e = let none : n - length text ≡ 0 = omega (arith, e) in rw none (append-nil text)
 
-pub edge_of_text : (n : ℕ) (behind : Bool) (text : List ℕ) (m : ℕ) → m ≡ min (length text) n → AreBytes (take m text)
+pub edge_of_text : (n : ℕ) (behind : Bool) (text : List ℕ) (m : ℕ) → m ≡ min (length text) n → AreBytes text
     → IsEdge (Char n) (λ x. is_past behind (order x (Text text))) (0 ∷ padded n (take m text)) (side_of_blanks behind (drop m text))
 edge_of_text n behind text m e b = elim (cases_lt n (length text)) [
   | inl longer ↦
       let same : m ≡ n = omega (arith, e, longer) in
       let whole : length (take n text) ≡ n = omega (arith, length-take n text, longer) in
-      let b' : AreBytes (take n text) = rw (sym same) b in
+      let b' : AreBytes (take n text) = AreBytes-take n text b in
       let agrees = λ (a : List ℕ) (la : length a ≤ n).
       ap (λ p. is_past (side_of_blanks behind (drop n text)) (slice_cmp nat_cmp (padded n a) p)) (padded-whole n (take n text) whole) ∙ is_past-longer behind n a text la (omega (arith, longer)) in
       rw same (edge_of_shared n behind (side_of_blanks behind (drop n text)) text (take n text) (omega (arith, whole)) b' agrees)
@@ -183,9 +183,8 @@ edge_of_text n behind text m e b = elim (cases_lt n (length text)) [
       let same : m ≡ length text = omega (arith, e, shorter) in
       let whole : take m text ≡ text = take_all m text (omega (arith, same)) in
       let none : drop m text ≡ [] = drop_all m text (omega (arith, same)) in
-      let b' : AreBytes text = rw (sym whole) b in
       let agrees = λ (a : List ℕ) (la : length a ≤ n). ap (is_past behind) (slice_cmp-padded n a text la shorter) in
-      rw (whole, none) (edge_of_shared n behind behind text text shorter b' agrees)
+      rw (whole, none) (edge_of_shared n behind behind text text shorter b agrees)
 ]
 
 -- ---- bounds
@@ -207,19 +206,19 @@ bytes_before (c ∷ x) rest (suc n) le b (suc k) lt = bytes_before x rest n (ome
 
 -- the keys that reach the bound of a place are those of the values that it picks
 reaches-ascending : (ty : ColType) (picks : Value → Bool) (front : List ℕ) (behind : Bool) → IsEdge ty picks front behind
-    → (value : Value) (rest : List ℕ) → IsTrue (has_key ty value) → HasByteText value
+    → (value : Value) (rest : List ℕ) → IsTrue (has_key ty value)
     → reaches (if behind then behind_front front else Some front) (part_bytes ty false value ++ rest) ≡ picks value
-reaches-ascending ty picks front behind edge value rest h t =
+reaches-ascending ty picks front behind edge value rest h =
     let part = part_bytes ty false value in
     let le : length front ≤ length part = omega (arith, edge.short, length-part_bytes ty false value h) in
-    reaches-past behind (part ++ rest) front (bytes_before part rest (length front) le (AreBytes-part_bytes ty value h t))
+    reaches-past behind (part ++ rest) front (bytes_before part rest (length front) le (AreBytes-part_bytes ty value h))
     ∙ ap (is_past behind) (front_order-append part front rest le)
-    ∙ edge.past value h t
+    ∙ edge.past value h
 
 reaches-descending : (ty : ColType) (picks : Value → Bool) (front : List ℕ) (behind : Bool) → IsEdge ty picks front behind
-    → (value : Value) (rest : List ℕ) → IsTrue (has_key ty value) → HasByteText value
+    → (value : Value) (rest : List ℕ) → IsTrue (has_key ty value)
     → reaches (if not behind then behind_front (turned true front) else Some (turned true front)) (part_bytes ty true value ++ rest) ≡ not (picks value)
-reaches-descending ty picks front behind edge value rest h t =
+reaches-descending ty picks front behind edge value rest h =
     let part = part_bytes ty false value in
     let le : length front ≤ length part = omega (arith, edge.short, length-part_bytes ty false value h) in
     let long : length (turned true front) ≤ length (part_bytes ty true value) =
@@ -227,16 +226,16 @@ reaches-descending ty picks front behind edge value rest h t =
     reaches-past (not behind) (part_bytes ty true value ++ rest) (turned true front)
     (bytes_before (part_bytes ty true value) rest (length (turned true front)) long (AreBytes-complement part))
     ∙ ap (is_past (not behind)) (front_order-append (part_bytes ty true value) (turned true front) rest long)
-    ∙ ap (is_past (not behind)) (front_order-complement part front le (AreBytes-part_bytes ty value h t) edge.bytes)
+    ∙ ap (is_past (not behind)) (front_order-complement part front le (AreBytes-part_bytes ty value h) edge.bytes)
     ∙ past_turned behind (front_order part front)
-    ∙ ap not (edge.past value h t)
+    ∙ ap not (edge.past value h)
 
 pub ascending_bound : (ty : ColType) (descending : Bool) (cut : Cut) (front : List ℕ) (behind : Bool) (bound : Option (List ℕ)) → descending ≡ false → IsEdge ty (is_above cut) front behind
     → bound ≡ (if behind then behind_front front else Some front) → IsBoundOf ty descending cut bound
 ascending_bound ty descending cut front behind bound turn edge bound_is =
-    rw (turn, bound_is) (λ value rest h t. reaches-ascending ty (is_above cut) front behind edge value rest h t)
+    rw (turn, bound_is) (λ value rest h. reaches-ascending ty (is_above cut) front behind edge value rest h)
 
 pub descending_bound : (ty : ColType) (descending : Bool) (cut : Cut) (front from : List ℕ) (behind past : Bool) (bound : Option (List ℕ)) → descending ≡ true → IsEdge ty (is_above cut) front behind
     → from ≡ turned true front → past ≡ not behind → bound ≡ (if past then behind_front from else Some from) → IsBoundOf ty descending cut bound
 descending_bound ty descending cut front from behind past bound turn edge from_is past_is bound_is =
-    rw (turn, bound_is, past_is, from_is) (λ value rest h t. reaches-descending ty (is_above cut) front behind edge value rest h t)
+    rw (turn, bound_is, past_is, from_is) (λ value rest h. reaches-descending ty (is_above cut) front behind edge value rest h)

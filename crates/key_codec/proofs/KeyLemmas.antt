@@ -1,7 +1,6 @@
 -- Keys of rows: their width, their order, and what equal ones say.
 use Rattle.std.proofs.Common.{◌≡◌, ℕ, zero, suc, ◌+◌, ◌<◌, ◌↔◌, List, [], ◌∷◌, ◌++◌, length, Bool, true, false, refl, sym, ap, subst, ◌∙◌, arith, Ordering, add-one, drop, drop-cons, length-append}
 use Rattle.std.specs.Prelude.{nat_lt, IsTrue, Some, slice_get, slice_index_or, unwrap_or}
-use Rattle.std.specs.Bool.{OnTrue}
 use Rattle.std.specs.declared.cmp.Ordering.TheVariants.{Less, Equal, Greater}
 use Rattle.std.specs.Ordering.{nat_cmp, is_lt, ordering_then}
 use Rattle.std.specs.Cmp.Lexicographic.{slice_cmp}
@@ -18,7 +17,7 @@ use Rattle.mdc_ast.specs.Database.{fits_all, is_of_type}
 use Rattle.mdc_ast.specs.Truth.{value_at}
 use Rattle.mdc_ast.proofs.FitsLemmas.{fits_all-at}
 use Rattle.mdc_ast.proofs.TestsLemmas.{both}
-use Rattle.key_codec.specs.Keys.{ArePartsOf, AreTurnable, HasByteText, HasByteTexts, bytes_at_part, has_key, key_bytes, part_bytes, part_width, type_of_column, type_or_none, width_of_parts}
+use Rattle.key_codec.specs.Keys.{ArePartsOf, bytes_at_part, has_key, key_bytes, part_bytes, part_width, type_of_column, type_or_none, width_of_parts}
 use Rattle.mdc_ast.specs.ValidDatabase.{AreSameAtParts}
 use Rattle.key_codec.specs.KeyOrder.{order_at_part, order_by_parts, turned_order}
 use Rattle.key_codec.proofs.OrderLemmas.{slice_cmp-append, slice_cmp-same}
@@ -71,30 +70,21 @@ length-key_bytes columns (part ∷ parts) values there fits =
 
 -- ---- order
 
--- where all texts are of bytes, those that are turned are
-pub AreTurnable-HasByteTexts : (parts : List KeyPart) (values : List Value) → HasByteTexts parts values → AreTurnable parts values
-AreTurnable-HasByteTexts [] values h = tt
-AreTurnable-HasByteTexts (part ∷ parts) values h = (if_turned part.descending, AreTurnable-HasByteTexts parts values h.1)
-  where
-    if_turned : (descending : Bool) → OnTrue descending (HasByteText (value_at values part.column))
-    if_turned true = h.0
-    if_turned false = tt
-
 pub slice_cmp-key_bytes : (columns : List ColumnDef) (parts : List KeyPart) (a b : List Value) → IsTrue (are_there columns (places_of parts))
-    → IsTrue (fits_all columns a) → IsTrue (fits_all columns b) → AreTurnable parts a → AreTurnable parts b
+    → IsTrue (fits_all columns a) → IsTrue (fits_all columns b)
     → slice_cmp nat_cmp (key_bytes columns parts a) (key_bytes columns parts b) ≡ order_by_parts parts a b
-slice_cmp-key_bytes columns [] a b there fa fb ta tb = refl
-slice_cmp-key_bytes columns (part ∷ parts) a b there fa fb ta tb =
+slice_cmp-key_bytes columns [] a b there fa fb = refl
+slice_cmp-key_bytes columns (part ∷ parts) a b there fa fb =
     let split = first_there columns part parts there in
     let ty = type_of_column columns part.column in
     let x = value_at a part.column in
     let y = value_at b part.column in
     let hx = has_key-is_of_type ty x (type_at_part columns a part.column split.0 fa) in
     let hy = has_key-is_of_type ty y (type_at_part columns b part.column split.0 fb) in
-    let rest = slice_cmp-key_bytes columns parts a b split.1 fa fb ta.1 tb.1 in
+    let rest = slice_cmp-key_bytes columns parts a b split.1 fa fb in
     slice_cmp-append (part_bytes ty part.descending x) (part_bytes ty part.descending y) (key_bytes columns parts a) (key_bytes columns parts b)
     (length-part_bytes ty part.descending x hx ∙ sym (length-part_bytes ty part.descending y hy))
-    ∙ ap (λ o. ordering_then o (slice_cmp nat_cmp (key_bytes columns parts a) (key_bytes columns parts b))) (slice_cmp-turned_part ty part.descending x y hx hy ta.0 tb.0)
+    ∙ ap (λ o. ordering_then o (slice_cmp nat_cmp (key_bytes columns parts a) (key_bytes columns parts b))) (slice_cmp-turned_part ty part.descending x y hx hy)
     ∙ ap (ordering_then (order_at_part part a b)) rest
 
 then_Equal : (o p : Ordering) → ordering_then o p ≡ Equal → (o ≡ Equal) × (p ≡ Equal)
@@ -136,17 +126,17 @@ key_bytes-same columns (part ∷ parts) a b same =
 -- ---- the laws
 
 pub below-key_bytes : (columns : List ColumnDef) (parts : List KeyPart) (a b : List Value) → ArePartsOf columns parts
-    → IsTrue (fits_all columns a) → IsTrue (fits_all columns b) → AreTurnable parts a → AreTurnable parts b
+    → IsTrue (fits_all columns a) → IsTrue (fits_all columns b)
     → below (key_bytes columns parts a) (key_bytes columns parts b) ≡ is_lt (order_by_parts parts a b)
 unfolding below
-below-key_bytes columns parts a b are fa fb ta tb = ap is_lt (slice_cmp-key_bytes columns parts a b are.there fa fb ta tb)
+below-key_bytes columns parts a b are fa fb = ap is_lt (slice_cmp-key_bytes columns parts a b are.there fa fb)
 
 pub same-key_bytes : (columns : List ColumnDef) (parts : List KeyPart) (a b : List Value) → ArePartsOf columns parts
-    → IsTrue (fits_all columns a) → IsTrue (fits_all columns b) → AreTurnable parts a → AreTurnable parts b
+    → IsTrue (fits_all columns a) → IsTrue (fits_all columns b)
     → (key_bytes columns parts a ≡ key_bytes columns parts b) ↔ AreSameAtParts parts a b
-same-key_bytes columns parts a b are fa fb ta tb =
+same-key_bytes columns parts a b are fa fb =
     let one_place : key_bytes columns parts a ≡ key_bytes columns parts b → order_by_parts parts a b ≡ Equal =
-    λ e. sym (slice_cmp-key_bytes columns parts a b are.there fa fb ta tb) ∙ ap (slice_cmp nat_cmp (key_bytes columns parts a)) (sym e) ∙ slice_cmp-same (key_bytes columns parts a) in
+    λ e. sym (slice_cmp-key_bytes columns parts a b are.there fa fb) ∙ ap (slice_cmp nat_cmp (key_bytes columns parts a)) (sym e) ∙ slice_cmp-same (key_bytes columns parts a) in
     (λ e. same_by_parts columns parts a b are.there fa fb (one_place e), λ same. key_bytes-same columns parts a b same)
 
 -- ---- the parts that are left in a loop

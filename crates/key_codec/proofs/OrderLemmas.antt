@@ -1,5 +1,5 @@
 -- The order of byte strings: what stands behind them, fronts, complements, and numbers.
-use Rattle.std.proofs.Common.{◌≡◌, ℕ, zero, suc, ◌+◌, ◌-◌, ◌*◌, ◌%◌, ◌^◌, ◌<◌, ◌≤◌, List, [], ◌∷◌, ◌++◌, length, map, replicate, Bool, true, false, refl, sym, ap, ◌∙◌, arith, Ordering}
+use Rattle.std.proofs.Common.{◌≡◌, ℕ, zero, suc, ◌+◌, ◌-◌, ◌*◌, ◌%◌, ◌^◌, ◌<◌, ◌≤◌, List, [], ◌∷◌, ◌++◌, length, map, replicate, take, Bool, true, false, refl, sym, ap, ◌∙◌, arith, Ordering}
 use Rattle.std.specs.Prelude.{not, nat_lt, ◌==◌, Some, None, Option, slice_index, if◌then◌else◌}
 use Rattle.std.specs.declared.cmp.Ordering.TheVariants.{Less, Equal, Greater}
 use Rattle.std.specs.Ordering.{nat_cmp, is_ge, is_gt, is_lt, ordering_then, ordering_reverse}
@@ -209,9 +209,10 @@ pub AreBytes-append : (xs ys : List ℕ) → AreBytes xs → AreBytes ys → Are
 AreBytes-append [] ys hx hy = hy
 AreBytes-append (x ∷ xs) ys hx hy = AreBytes-cons x (xs ++ ys) (hx 0) (AreBytes-append xs ys (λ k. hx (suc k)) hy)
 
-pub AreBytes-front : (xs ys : List ℕ) → AreBytes (xs ++ ys) → AreBytes xs
-AreBytes-front [] ys h = AreBytes-none
-AreBytes-front (x ∷ xs) ys h = AreBytes-cons x xs (h 0) (AreBytes-front xs ys (λ k. h (suc k)))
+pub AreBytes-take : (n : ℕ) (xs : List ℕ) → AreBytes xs → AreBytes (take n xs)
+AreBytes-take zero xs h = AreBytes-none
+AreBytes-take (suc n) [] h = AreBytes-none
+AreBytes-take (suc n) (x ∷ xs) h = AreBytes-cons x (take n xs) (h 0) (AreBytes-take n xs (λ k. h (suc k)))
 
 pub AreBytes-replicate : (n b : ℕ) → b < 256 → AreBytes (replicate n b)
 AreBytes-replicate zero b lt = AreBytes-none

@@ -10,7 +10,7 @@ use Rattle.mdc_ast.specs.declared.definition.KeyPart.{KeyPart}
 use Rattle.mdc_ast.specs.Database.{fits_all}
 use Rattle.mdc_ast.specs.Definitions.{are_there, places_of}
 use Rattle.mdc_ast.specs.Truth.{value_at}
-use Rattle.key_codec.specs.Keys.{HasByteText, HasByteTexts, bytes_at_part, key_bytes, part_bytes, part_width, type_of_column, width_of_parts}
+use Rattle.key_codec.specs.Keys.{bytes_at_part, key_bytes, part_bytes, part_width, type_of_column, width_of_parts}
 use Rattle.key_codec.proofs.KeyLemmas.{first_there, type_at_part, width_of_parts-cons}
 use Rattle.key_codec.proofs.PartLemmas.{has_key-is_of_type, length-part_bytes}
 use borrow.Rule.Slice.PartMut.{put_mid}
@@ -30,7 +30,6 @@ pub record HasPut (columns : List ColumnDef) (parts : List KeyPart) (values : Li
   pub width : at + width_of_parts columns left ≡ width_of_parts columns parts
   pub bytes : take at out ++ key_bytes columns left values ≡ key_bytes columns parts values
   pub rest : drop at out ≡ drop at old
-  pub texts : HasByteTexts left values → HasByteTexts parts values
 
 -- the part behind the first byte
 pub length_behind_first : (bytes : List ℕ) (b : ℕ) → 0 < length bytes → length (take (length (slice_set bytes 0 b) - 1) (drop 1 (slice_set bytes 0 b))) ≡ length bytes - 1
@@ -44,9 +43,8 @@ pub put_next : (columns : List ColumnDef) (parts items : List KeyPart) (values :
     → ty ≡ type_of_column columns (slice_index_or items i d).column → slice_get values (slice_index_or items i d).column ≡ Some value
     → w ≡ part_width ty → width_of_parts columns parts ≤ length out
     → new ≡ part_bytes ty (slice_index_or items i d).descending value ++ drop (part_width ty) (take (length out - at) (drop at out))
-    → HasByteText value
     → HasPut columns parts values old (drop (i + 1) items) (at + w) (put_mid at (length out - at) out new)
-put_next columns parts items values old out new i at w d ty value put lt fits ty_is value_is w_is room new_is texts =
+put_next columns parts items values old out new i at w d ty value put lt fits ty_is value_is w_is room new_is =
     let part = slice_index_or items i d in
     let more = drop (i + 1) items in
     let bytes = bytes_at_part columns values part in
@@ -83,7 +81,6 @@ put_next columns parts items values old out new i at w d ty value put lt fits ty
       bytes = ap (λ t. t ++ key_bytes columns more values) taken ∙ append_assoc (take at out) bytes (key_bytes columns more values)
           ∙ ap (λ ps. take at out ++ key_bytes columns ps values) (sym left) ∙ put.bytes;
       rest = dropped ∙ ap (drop w) put.rest ∙ drop-drop w at old;
-      texts = λ h. put.texts (subst (λ ps. HasByteTexts ps values) (sym left) (subst HasByteText (sym v_is) texts, h));
     }
 
 -- there is room for one part more

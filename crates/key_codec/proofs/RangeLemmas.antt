@@ -11,7 +11,7 @@ use Rattle.mdc_ast.specs.declared.span.Span.{Span}
 use Rattle.mdc_ast.specs.Database.{fits_all}
 use Rattle.mdc_ast.specs.Truth.{value_at}
 use Rattle.mdc_ast.proofs.TestsLemmas.{some_is}
-use Rattle.key_codec.specs.Keys.{ArePartsOf, HasByteText, bytes_at_part, key_bytes, part_bytes, type_of_column}
+use Rattle.key_codec.specs.Keys.{ArePartsOf, bytes_at_part, key_bytes, part_bytes, type_of_column}
 use Rattle.key_codec.specs.Spans.{IsBoundOf, IsRangeOf, first_column, is_above, is_first_descending, is_in_range, lies_in_span, reaches}
 use Rattle.key_codec.proofs.KeyLemmas.{first_there, type_at_part}
 use Rattle.key_codec.proofs.PartLemmas.{has_key-is_of_type}
@@ -22,17 +22,17 @@ IsBetween low high from end = (entry : Entry) → is_in_range from end entry ≡
 
 ascending_range : (ty : ColType) (span : Span) (low high : Option Entry) (from : Entry) (end : Option Entry)
     → IsBoundOf ty false span.low low → IsBoundOf ty false span.high high → IsBetween low high from end → IsRangeOf ty false span from end
-ascending_range ty span low high from end is_low is_high is_between = λ value rest h t.
+ascending_range ty span low high from end is_low is_high is_between = λ value rest h.
     is_between (part_bytes ty false value ++ rest)
-    ∙ ap (λ b. b && not (reaches high (part_bytes ty false value ++ rest))) (is_low value rest h t)
-    ∙ ap (λ b. is_above span.low value && not b) (is_high value rest h t)
+    ∙ ap (λ b. b && not (reaches high (part_bytes ty false value ++ rest))) (is_low value rest h)
+    ∙ ap (λ b. is_above span.low value && not b) (is_high value rest h)
 
 descending_range : (ty : ColType) (span : Span) (low high : Option Entry) (from : Entry) (end : Option Entry)
     → IsBoundOf ty true span.low low → IsBoundOf ty true span.high high → IsBetween high low from end → IsRangeOf ty true span from end
-descending_range ty span low high from end is_low is_high is_between = λ value rest h t.
+descending_range ty span low high from end is_low is_high is_between = λ value rest h.
     is_between (part_bytes ty true value ++ rest)
-    ∙ ap (λ b. b && not (reaches low (part_bytes ty true value ++ rest))) (is_high value rest h t)
-    ∙ ap (λ b. not (is_above span.high value) && not b) (is_low value rest h t)
+    ∙ ap (λ b. b && not (reaches low (part_bytes ty true value ++ rest))) (is_high value rest h)
+    ∙ ap (λ b. not (is_above span.high value) && not b) (is_low value rest h)
     ∙ mirrored (is_above span.low value) (is_above span.high value)
   where
     mirrored : (a b : Bool) → (not b && not (not a)) ≡ (a && not b)
@@ -93,12 +93,12 @@ range_of_descending_parts columns parts part ty span low high from end e ty_is t
 -- whole keys lie as their first parts do
 pub range_of_rows : (columns : List ColumnDef) (parts : List KeyPart) (span : Span) (from : Entry) (end : Option Entry)
     → 0 < length parts → ArePartsOf columns parts → IsRangeOf (type_of_column columns (first_column parts)) (is_first_descending parts) span from end
-    → (values : List Value) (rest : List ℕ) → IsTrue (fits_all columns values) → HasByteText (value_at values (first_column parts))
+    → (values : List Value) (rest : List ℕ) → IsTrue (fits_all columns values)
     → is_in_range from end (key_bytes columns parts values ++ rest) ≡ lies_in_span span (value_at values (first_column parts))
-range_of_rows columns [] span from end some are range values rest fits texts = absurd (omega (arith, some))
-range_of_rows columns (part ∷ parts) span from end some are range values rest fits texts =
+range_of_rows columns [] span from end some are range values rest fits = absurd (omega (arith, some))
+range_of_rows columns (part ∷ parts) span from end some are range values rest fits =
     let ty = type_of_column columns part.column in
     let value = value_at values part.column in
     let there = first_there columns part parts are.there in
     ap (is_in_range from end) (append_assoc (bytes_at_part columns values part) (key_bytes columns parts values) rest)
-    ∙ range value (key_bytes columns parts values ++ rest) (has_key-is_of_type ty value (type_at_part columns values part.column there.0 fits)) texts
+    ∙ range value (key_bytes columns parts values ++ rest) (has_key-is_of_type ty value (type_at_part columns values part.column there.0 fits))

@@ -1,17 +1,15 @@
 -- What the bytes of a part tell of the text that they were made of.
-use Rattle.std.proofs.Common.{◌≡◌, ℕ, suc, false, ◌-◌, ◌≤◌, List, ◌++◌, length, take, drop, sym, ap, subst, ◌∙◌, arith}
-use Rattle.std.specs.Prelude.{nat_le, IsTrue, get_or}
-use Rattle.std.proofs.lemmas.Bool.Decides.{nat_tests}
+use Rattle.std.proofs.Common.{◌≡◌, ℕ, suc, false, ◌-◌, List, ◌++◌, length, take, drop, sym, ap, subst, ◌∙◌, arith}
+use Rattle.std.specs.Prelude.{IsTrue, get_or}
 use Rattle.std.proofs.lemmas.List.{take_at, take_rest}
-use Rattle.std.proofs.lemmas.Slice.Eq.{bytes_eq-Decides}
 use Rattle.mdc_values.specs.declared.value.ColType.{ColType}
 use Rattle.mdc_values.specs.declared.value.ColType.TheVariants.{Char}
 use Rattle.mdc_values.specs.declared.value.Value.{Value}
 use Rattle.mdc_values.specs.declared.value.Value.TheVariants.{Null, Text}
 use Rattle.mdc_values.specs.Order.{padded}
 use Rattle.mdc_values.specs.Value.{trimmed}
-use Rattle.mdc_ast.specs.Database.{is_of_type, is_trimmed}
-use Rattle.mdc_ast.proofs.TestsLemmas.{both}
+use Rattle.mdc_ast.specs.Database.{is_of_type}
+use Rattle.mdc_ast.proofs.FitsLemmas.{text_of_type}
 use Rattle.key_codec.specs.Keys.{part_bytes}
 use Rattle.key_codec.proofs.TextLemmas.{length-padded, trimmed-filled}
 
@@ -27,9 +25,8 @@ text_told ty n key field written rest ty_is field_is present typed key_is =
         no_null : suc 0 ≡ 0 → ⊥
         no_null e = omega (arith, e)
     of_char (Text text) h e =
-        let ends = both (nat_le (length text) n) (is_trimmed text) h in
-        let le : length text ≤ n = grind (arith, nat_tests, ends.0) in
+        let is = text_of_type n text h in
         let whole : take n (take (length key - 1) (drop 1 key)) ≡ padded n text =
-        ap (take n) (take_rest key 1 ∙ ap (drop 1) e) ∙ take_at (padded n text) rest n (length-padded n text le) in
-        ap Text (field_is ∙ ap trimmed whole ∙ trimmed-filled text (n - length text) ∙ (bytes_eq-Decides (trimmed text) text).0 ends.1)
+        ap (take n) (take_rest key 1 ∙ ap (drop 1) e) ∙ take_at (padded n text) rest n (length-padded n text is.short) in
+        ap Text (field_is ∙ ap trimmed whole ∙ trimmed-filled text (n - length text) ∙ is.ends)
     of_char value h e = cc

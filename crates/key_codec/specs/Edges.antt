@@ -5,7 +5,7 @@ use Rattle.std.specs.declared.cmp.Ordering.TheVariants.{Less, Equal}
 use Rattle.std.specs.Ordering.{is_ge, is_gt, nat_cmp, ordering_then}
 use Rattle.mdc_values.specs.declared.value.ColType.{ColType}
 use Rattle.mdc_values.specs.declared.value.Value.{Value}
-use Rattle.key_codec.specs.Keys.{AreBytes, HasByteText, has_key, part_bytes, part_width}
+use Rattle.key_codec.specs.Keys.{AreBytes, has_key, part_bytes, part_width}
 
 -- the order of a byte string and a front: equal where it begins with the front
 abbrev pub front_order : List ℕ → List ℕ → Ordering
@@ -37,5 +37,5 @@ side_of_blanks behind (b ∷ text) = if b == 32 then side_of_blanks behind text 
 pub record IsEdge (ty : ColType) (picks : Value → Bool) (front : List ℕ) (behind : Bool) : Type 0 where
   pub short : length front ≤ part_width ty
   pub bytes : AreBytes front
-  pub past : (value : Value) → IsTrue (has_key ty value) → HasByteText value
+  pub past : (value : Value) → IsTrue (has_key ty value)
       → is_past behind (front_order (part_bytes ty false value) front) ≡ picks value

@@ -1,6 +1,5 @@
 -- Values as bytes of a key, so that the bytes go as SQL order goes (docs/FORMAT.md, "Keys").
-use Rattle.std.specs.Prelude.{ℕ, ◌+◌, ◌-◌, ◌<◌, ℤ, pos, negsuc, Bool, true, false, nat_le, nat_lt, List, [], ◌∷◌, length, map, flat_map, replicate, slice_get, slice_index, Option, Some, None, IsTrue}
-use Rattle.std.specs.Bool.{OnTrue}
+use Rattle.std.specs.Prelude.{ℕ, ◌+◌, ◌-◌, ◌<◌, ℤ, pos, negsuc, Bool, true, false, ◌&&◌, nat_le, nat_lt, List, ◌∷◌, length, map, flat_map, replicate, slice_get, slice_index, Option, Some, None, IsTrue}
 use Rattle.byteorder.specs.Endian.{big_bytes}
 use Rattle.mdc_values.specs.declared.value.ColType.{ColType}
 use Rattle.mdc_values.specs.declared.value.ColType.TheVariants as column
@@ -8,6 +7,7 @@ use Rattle.mdc_values.specs.declared.value.Value.{Value}
 use Rattle.mdc_values.specs.declared.value.Value.TheVariants.{Null, Int, Text, Day}
 use Rattle.mdc_values.specs.Fitting.{in_bigint, in_integer}
 use Rattle.mdc_values.specs.Order.{padded}
+use Rattle.mdc_values.specs.Value.{are_bytes}
 use Rattle.mdc_ast.specs.declared.definition.ColumnDef.{ColumnDef}
 use Rattle.mdc_ast.specs.declared.definition.KeyPart.{KeyPart}
 use Rattle.mdc_ast.specs.Definitions.{are_there, is_short_key, key_width, places_of, types_at, width}
@@ -46,11 +46,11 @@ part_bytes ty descending value = turned descending (null_byte value ∷ sort_byt
 abbrev pub part_width : ColType → ℕ
 part_width ty = 1 + width ty
 
--- a value has a key in a column of that type: a number within it, a text no longer, a day of 32 bits, or a null
+-- a value has a key in a column of that type: a number within it, a text of bytes that is no longer, a day of 32 bits, or a null
 abbrev pub has_key : ColType → Value → Bool
 has_key column.Integer (Int n) = in_integer n
 has_key column.Bigint (Int n) = in_bigint n
-has_key (column.Char n) (Text text) = nat_le (length text) n
+has_key (column.Char n) (Text text) = nat_le (length text) n && are_bytes text
 has_key column.Date (Day day) = nat_lt day 4294967296
 has_key ty Null = true
 has_key ty value = false
@@ -83,23 +83,6 @@ pub record ArePartsOf (columns : List ColumnDef) (parts : List KeyPart) : Type 0
   pub there : IsTrue (are_there columns (places_of parts))
   pub short : IsTrue (is_short_key columns (places_of parts))
 
--- ---- bytes of texts
-
 -- numbers that are bytes
 abbrev pub AreBytes : List ℕ → Type 0
 AreBytes bytes = (k : ℕ) → slice_index bytes k < 256
-
--- a text is of bytes
-abbrev pub HasByteText : Value → Type 0
-HasByteText (Text text) = AreBytes text
-HasByteText value = Unit {0}
-
--- the texts of a row are of bytes in the columns of all these parts
-abbrev pub HasByteTexts : List KeyPart → List Value → Type 0
-HasByteTexts [] values = Unit {0}
-HasByteTexts (part ∷ parts) values = HasByteText (value_at values part.column) × HasByteTexts parts values
-
--- in the columns of the descending parts they are
-abbrev pub AreTurnable : List KeyPart → List Value → Type 0
-AreTurnable [] values = Unit {0}
-AreTurnable (part ∷ parts) values = OnTrue part.descending (HasByteText (value_at values part.column)) × AreTurnable parts values

@@ -11,7 +11,7 @@ use Rattle.mdc_ast.specs.declared.definition.KeyPart.{KeyPart}
 use Rattle.mdc_ast.specs.declared.span.Cut.{Cut}
 use Rattle.mdc_ast.specs.declared.span.Cut.TheVariants.{First, Before, After, Last}
 use Rattle.mdc_ast.specs.declared.span.Span.{Span}
-use Rattle.key_codec.specs.Keys.{HasByteText, has_key, part_bytes}
+use Rattle.key_codec.specs.Keys.{has_key, part_bytes}
 
 -- ---- values
 
@@ -70,7 +70,7 @@ is_first_descending (part ∷ parts) = part.descending
 -- Whatever stands behind a value in a key, the key lies in the range exactly where the value lies in the span.
 abbrev pub IsRangeOf : ColType → Bool → Span → Entry → Option Entry → Type 0
 IsRangeOf ty descending span low high =
-    (value : Value) (rest : List ℕ) → IsTrue (has_key ty value) → HasByteText value
+    (value : Value) (rest : List ℕ) → IsTrue (has_key ty value)
     → is_in_range low high (part_bytes ty descending value ++ rest) ≡ lies_in_span span value
 
 -- a bound, if there is one, is no longer than this
@@ -81,5 +81,5 @@ IsShortBound n (Some bound) = length bound ≤ n
 -- The keys of the values above a cut reach a bound, and in a descending part those of the values below it.
 abbrev pub IsBoundOf : ColType → Bool → Cut → Option Entry → Type 0
 IsBoundOf ty descending cut bound =
-    (value : Value) (rest : List ℕ) → IsTrue (has_key ty value) → HasByteText value
+    (value : Value) (rest : List ℕ) → IsTrue (has_key ty value)
     → reaches bound (part_bytes ty descending value ++ rest) ≡ (if descending then not (is_above cut value) else is_above cut value)

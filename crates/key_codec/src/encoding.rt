@@ -1,7 +1,7 @@
 // The key of a row.
-ghost use Rattle.std.specs.Prelude.{◌≡◌, ◌≤◌, ◌++◌, IfOk, IsTrue, OnOk, drop, length};
+ghost use Rattle.std.specs.Prelude.{◌≡◌, ◌≤◌, ◌++◌, IfOk, IsTrue, drop, length};
 ghost use Rattle.mdc_ast.specs.Database.{fits_all};
-ghost use Rattle.key_codec.specs.Keys.{ArePartsOf, HasByteTexts, key_bytes, width_of_parts};
+ghost use Rattle.key_codec.specs.Keys.{ArePartsOf, key_bytes, width_of_parts};
 
 use crate::Key;
 use crate::part::put_part;
@@ -21,7 +21,6 @@ pub fn key_of(
     requires fits { IsTrue (fits_all columns.now values.now) }
     ensures bytes { IfOk result (λ key. key ≡ key_bytes columns.now parts.now values.now) }
     ensures width { IfOk result (λ key. length key ≡ width_of_parts columns.now parts.now) }
-    ensures texts { OnOk result (HasByteTexts parts.now values.now) }
 {
     let mut bytes = vec![in alloc; 0; key_width(columns, parts) as usize]?;
     put_key(&mut bytes, values, columns, parts);
@@ -40,7 +39,6 @@ pub fn put_key(
     requires room { width_of_parts columns.now parts.now ≤ length out.old }
     ensures bytes { out.new ≡ key_bytes columns.now parts.now values.now ++ drop (width_of_parts columns.now parts.now) out.old }
     ensures width { length (key_bytes columns.now parts.now values.now) ≡ width_of_parts columns.now parts.now }
-    ensures texts { HasByteTexts parts.now values.now }
 {
     let mut at = 0;
     for part in parts.as_slice() {

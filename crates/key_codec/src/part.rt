@@ -2,7 +2,7 @@
 ghost use Rattle.std.specs.Prelude.{true, false, ◌∷◌, ◌-◌, ◌≡◌, ◌+◌, ◌≤◌, ◌<◌, ◌++◌, IsTrue, OnOk, length, drop};
 ghost use Rattle.mdc_values.specs.Order.{padded};
 ghost use Rattle.mdc_ast.specs.Definitions.{width};
-ghost use Rattle.key_codec.specs.Keys.{AreBytes, HasByteText, has_key, part_bytes, sort_bytes, turned};
+ghost use Rattle.key_codec.specs.Keys.{has_key, part_bytes, sort_bytes, turned};
 ghost use Rattle.key_codec.specs.Keys as spec;
 
 use crate::width::part_width;
@@ -26,8 +26,7 @@ pub(crate) const BIGINT_RISE: i128 = 9_223_372_036_854_775_808;
 pub fn put_part(out: &mut [u8], ty: ColType, descending: bool, value: &Value)
     requires room { spec.part_width ty ≤ length out.old }
     requires within { IsTrue (has_key ty value.now) }
-    ensures bytes { out.new ≡ part_bytes ty descending value.now ++ drop (spec.part_width ty) out.old }
-    ensures texts { HasByteText value.now }
+    ensures { out.new ≡ part_bytes ty descending value.now ++ drop (spec.part_width ty) out.old }
 {
     let part = &mut out[..part_width(ty) as usize];
     put_ascending(part, ty, value);
@@ -44,8 +43,7 @@ pub fn push_key_part(
     value: &Value,
 ) -> Result<(), Memory>
     requires { IsTrue (has_key ty value.now) }
-    ensures part { OnOk result (key.new.items ≡ key.old.items ++ part_bytes ty descending value.now) }
-    ensures texts { OnOk result (HasByteText value.now) }
+    ensures { OnOk result (key.new.items ≡ key.old.items ++ part_bytes ty descending value.now) }
 {
     let at = key.len();
     key.resize(at + usize::from(part_width(ty)), 0)?;
@@ -57,8 +55,7 @@ pub fn push_key_part(
 pub(crate) fn put_ascending(part: &mut [u8], ty: ColType, value: &Value)
     requires room { length part.old ≡ spec.part_width ty }
     requires within { IsTrue (has_key ty value.now) }
-    ensures bytes { part.new ≡ part_bytes ty false value.now }
-    ensures texts { HasByteText value.now }
+    ensures { part.new ≡ part_bytes ty false value.now }
 {
     part[0] = null_byte(value);
     put_value(&mut part[1..], ty, value);
@@ -67,8 +64,7 @@ pub(crate) fn put_ascending(part: &mut [u8], ty: ColType, value: &Value)
 /// Writes the byte for null and a text with blanks behind it, which fill `part`.
 pub(crate) fn put_text(part: &mut [u8], text: &[u8])
     requires { length text.now < length part.old }
-    ensures bytes { part.new ≡ 0 ∷ padded (length part.old - 1) text.now }
-    ensures texts { AreBytes text.now }
+    ensures { part.new ≡ 0 ∷ padded (length part.old - 1) text.now }
 {
     part[0] = PRESENT;
     put_padded(&mut part[1..], text);
@@ -88,8 +84,7 @@ fn null_byte(value: &Value) -> u8
 fn put_value(out: &mut [u8], ty: ColType, value: &Value)
     requires room { length out.old ≡ width ty }
     requires within { IsTrue (has_key ty value.now) }
-    ensures bytes { out.new ≡ sort_bytes ty value.now }
-    ensures texts { HasByteText value.now }
+    ensures { out.new ≡ sort_bytes ty value.now }
 {
     match (ty, value) {
         (ColType::Integer, Value::Int(n)) => BigEndian::write_u32(out, (*n + INTEGER_RISE) as u32),
@@ -106,8 +101,7 @@ fn put_value(out: &mut [u8], ty: ColType, value: &Value)
 /// Writes a text and then blanks, which fill `out`.
 fn put_padded(out: &mut [u8], text: &[u8])
     requires { length text.now ≤ length out.old }
-    ensures bytes { out.new ≡ padded (length out.old) text.now }
-    ensures texts { AreBytes text.now }
+    ensures { out.new ≡ padded (length out.old) text.now }
 {
     out[..text.len()].copy_from_slice(text);
     out[text.len()..].fill(BLANK);

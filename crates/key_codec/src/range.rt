@@ -4,7 +4,7 @@ ghost use Rattle.mdc_words.specs.ByteOrder.{Entry};
 ghost use Rattle.mdc_values.specs.declared.value.Value.{Value};
 ghost use Rattle.mdc_ast.specs.Truth.{value_at};
 ghost use Rattle.mdc_ast.specs.Database.{fits_all};
-ghost use Rattle.key_codec.specs.Keys.{ArePartsOf, HasByteText, key_bytes, part_width, type_of_column};
+ghost use Rattle.key_codec.specs.Keys.{ArePartsOf, key_bytes, part_width, type_of_column};
 ghost use Rattle.key_codec.specs.Spans.{IsRangeOf, IsShortBound, first_column, is_first_descending, is_in_range, lies_in_span, reaches, span_has_kind_of};
 
 use crate::Key;
@@ -31,7 +31,7 @@ pub fn key_range(
     ensures low { IfOk result (λ range. length range.0 ≤ part_width (type_of_column columns.now (first_column parts.now))) }
     ensures high { IfOk result (λ range. IsShortBound (part_width (type_of_column columns.now (first_column parts.now))) range.1) }
     ensures rows { IfOk result (λ range. (values : List Value) (rest : List ℕ)
-        → IsTrue (fits_all columns.now values) → HasByteText (value_at values (first_column parts.now))
+        → IsTrue (fits_all columns.now values)
         → is_in_range range.0 range.1 (key_bytes columns.now parts.now values ++ rest)
         ≡ lies_in_span span.now (value_at values (first_column parts.now))) }
 {

@@ -23,7 +23,7 @@ loop-part-preserved c =
     put_next c.args.columns.now c.args.parts.now c.as_slice-part-items.result.now c.args.values.now c.args.out.now c.loop-part.out c.put_part.new.out c.loop-part.part-index c.loop-part.at c.part_width.result
     (record { column = 0; descending = false }) c.type_of-ty.result c.at.result.now
     c.loop-part.invariant c.loop-part-test.true c.requires.fits c.type_of-ty.ensures c.at.ensures c.part_width.ensures
-    (omega (arith, c.requires.room, c.loop-part.auto.out)) c.put_part.ensures.bytes c.put_part.ensures.texts
+    (omega (arith, c.requires.room, c.loop-part.auto.out)) c.put_part.ensures
 
 pub put_part-requires-clause-room : goal.put_part-requires-clause-room
 put_part-requires-clause-room c =

@@ -2,7 +2,7 @@ use Rattle.key_codec.proofs.KeyLemmas.{below-key_bytes, same-key_bytes, slice_cm
 use Rattle.key_codec.proofs.laws.keys_go_as_rows.Goals as goal
 
 pub returns-clause-order : goal.returns-clause-order
-returns-clause-order c = λ columns parts a b are fa fb ta tb. slice_cmp-key_bytes columns parts a b are.there fa fb ta tb
+returns-clause-order c = λ columns parts a b are fa fb. slice_cmp-key_bytes columns parts a b are.there fa fb
 
 pub returns-clause-below : goal.returns-clause-below
 returns-clause-below c = below-key_bytes
