@@ -1,7 +1,6 @@
 -- What is held between two statements over pages, and what a statement may do to it.
 use Rattle.std.specs.Prelude.{◌≡◌, ℕ, [], Bool, true, false, Some}
 use Rattle.mdc_ast.specs.declared.definition.TableDef.{TableDef}
-use Rattle.mdc_ast.specs.declared.name.Name.{Name}
 use Rattle.mdc_ast.specs.declared.reply.Outcome.{Outcome}
 use Rattle.mdc_ast.specs.declared.reply.Outcome.TheVariants as said
 use Rattle.mdc_ast.specs.declared.statement.Stmt.{Stmt}
@@ -9,46 +8,54 @@ use Rattle.mdc_ast.specs.declared.statement.Stmt.TheVariants.{Begin, Commit, Lis
 use Rattle.mdc_ast.specs.Reading.{IsItemOf, Statement}
 use Rattle.statement_meaning.specs.Binding.{bound_of}
 use Rattle.statement_meaning.specs.Cause.{FileFull, refusal_of}
-use Rattle.mdc_ast.specs.Definitions.{Definitions, def_at, def_named}
-use Rattle.statement_meaning.specs.Session.{Session, turn}
+use Rattle.mdc_ast.specs.Definitions.{Definitions, def_at}
+use Rattle.statement_meaning.specs.Session.{AgreesWith, Session, turn}
 use Rattle.statement_meaning.specs.Step.{Answer, faults}
+use Rattle.statement_meaning.specs.declared.pass.Pass.{Pass}
+use Rattle.statement_meaning.specs.declared.settings.Settings.{Settings}
 use Rattle.extent_map.specs.declared.extents.Extents.{Extents}
 use Rattle.table_trees.specs.ToldPages.{PageList}
 use Rattle.mdc_sound.specs.StandsForDatabase.{PagesStandFor}
-use Rattle.row_checks.specs.Executing.{answer_of}
 use Rattle.script_engine.specs.Doing.{PlacesOnPages, StatementRunsFull, changed_place}
-use Rattle.script_engine.specs.Listing.{TellsBlocks, asks_blocks}
+use Rattle.script_engine.specs.Listing.{PagesTell}
 use Rattle.script_engine.specs.Others.{KeepsOthers, touched_place}
 
 -- ---- two lists of pages
 
--- the pages of the last commit, those as they are now, the definitions that these have, and whether a transaction is open
+-- the pages of the last commit, those as they are now, the definitions that these have, whether a transaction is open, what the
+-- run is set to, and how far the cleaner's pass is
 pub record HeldPages : Type 0 where
   pub base : PageList
   pub work : PageList
   pub defs : Definitions
   pub open_ : Bool
+  pub settings : Settings
+  pub pass : Pass
 
 -- they stand for the session, of one shape
 pub record StandsForSession (ext : Extents) (held : HeldPages) (session : Session) : Type 0 where
   pub kept : PagesStandFor ext held.base session.kept
   pub working : PagesStandFor ext held.work session.working
   pub is_open : session.open_ ≡ held.open_
+  pub settings : session.settings ≡ held.settings
+  pub pass : session.pass ≡ held.pass
 
--- the session after a statement, and its answer, as the pages and the outcome have them
-pub record StandsForTurn (ext : Extents) (held : HeldPages) (turned : Session × Answer) (outcome : Outcome) : Type 0 where
-  pub session : StandsForSession ext held turned.0
-  pub answers : turned.1 ≡ answer_of outcome
+-- the session after a statement, and its answer, as the pages and the outcome have them; what lists of rows don't give, the pages
+-- before it tell
+pub record StandsForTurn (ext : Extents) (old : HeldPages) (stmt : Stmt) (turned : Session × Answer) (outcome : Outcome) (new : HeldPages) : Type 0 where
+  pub session : StandsForSession ext new turned.0
+  pub answers : AgreesWith (PagesTell old.work old.defs stmt) turned.1 outcome
 
 -- Where no transaction is open, the pages are those of the last commit; where one is, these stay.
 pub record KeepsBase (old new : HeldPages) : Type 0 where
   pub closed : new.open_ ≡ false → new.base ≡ new.work
   pub is_open : new.open_ ≡ true → new.base ≡ old.base
 
--- a query, LIST BLOCKS, BEGIN and COMMIT leave the pages, and ROLLBACK of an open transaction brings back those of the last commit
+-- a query, BEGIN and COMMIT leave the pages, LIST BLOCKS all, and ROLLBACK of an open transaction brings back the pages of the last
+-- commit
 abbrev pub KeepsWork : Stmt → HeldPages → HeldPages → Type 0
 KeepsWork (Query select) old new = new.work ≡ old.work
-KeepsWork (ListBlocks name) old new = new.work ≡ old.work
+KeepsWork (ListBlocks name) old new = new ≡ old
 KeepsWork Begin old new = new.work ≡ old.work
 KeepsWork Commit old new = new.work ≡ old.work
 KeepsWork Rollback old new = old.open_ ≡ true → new.work ≡ old.base
@@ -60,15 +67,13 @@ LeavesOthers ext Rollback old new = Unit {0}
 LeavesOthers ext stmt old new = KeepsOthers ext ext old.work new.work old.defs new.defs (touched_place (bound_of old.defs stmt))
 
 -- What a statement may do to what is held: it turns whatever session that stands for, rows go where placing says, trees take no
--- more space than these ask for, and other tables stay, where a refusal changes nothing; or it tells the blocks of a table, and
--- nothing changes; or it is refused with 70, where it runs full and nothing else is said against it, and nothing changes.
+-- more space than these ask for, and other tables stay, where a refusal changes nothing; or it is refused with 70, where it runs
+-- full and nothing else is said against it, and nothing changes.
 pub data StepsOnPages (ext : Extents) (old : HeldPages) (stmt : Stmt) (outcome : Outcome) (new : HeldPages) : Type 0 where
-  turns : asks_blocks old.defs stmt ≡ false → ((session : Session) → StandsForSession ext old session → StandsForTurn ext new (turn session stmt) outcome) → KeepsBase old new → KeepsWork stmt old new
+  turns : ((session : Session) → StandsForSession ext old session → StandsForTurn ext old stmt (turn session stmt) outcome new) → KeepsBase old new → KeepsWork stmt old new
       → LeavesOthers ext stmt old new → ((refusal : _) → outcome ≡ said.Refused refusal → new ≡ old)
       → ((done : _) → outcome ≡ said.Done done → (place : ℕ) (def : TableDef) → changed_place (bound_of old.defs stmt) ≡ Some place → def_at old.defs place ≡ Some def
       → PlacesOnPages ext ext old.work new.work def (bound_of old.defs stmt)) → StepsOnPages ext old stmt outcome new
-  lists : (name : Name) (def : TableDef) → stmt ≡ ListBlocks name → def_named old.defs name ≡ Some def → new ≡ old → TellsBlocks old.work def outcome
-      → StepsOnPages ext old stmt outcome new
   full : outcome ≡ said.Refused (refusal_of (FileFull ext.cap)) → new ≡ old → StatementRunsFull ext old.work old.defs (bound_of old.defs stmt)
       → ((session : Session) → StandsForSession ext old session → faults session.working stmt ≡ []) → StepsOnPages ext old stmt outcome new
 

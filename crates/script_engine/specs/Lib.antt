@@ -12,6 +12,7 @@ pub mod Opening
 pub mod Others
 pub mod Ready
 pub mod Reloading
+pub mod Resting
 pub mod Serving
 pub mod Stops
 pub mod Trying

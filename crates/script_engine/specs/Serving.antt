@@ -17,6 +17,8 @@ held_by g engine = record {
   work = (g.state engine.store).work;
   defs = engine.tables.catalog;
   open_ = engine.is_open;
+  settings = engine.settings;
+  pass = engine.pass;
 }
 
 -- The engine may take a call: its store takes calls, no mark is open, and definitions of built forms are served.

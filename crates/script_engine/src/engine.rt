@@ -15,6 +15,7 @@ ghost use Rattle.script_engine.specs.Breaking.{StaysAtDamage};
 ghost use Rattle.script_engine.specs.Fetching.{FetchesForListing, FetchesForQuery};
 ghost use Rattle.script_engine.specs.Held.{IsWritten, KeepsBase, KeepsWork, StepsOnPages};
 ghost use Rattle.script_engine.specs.Leaving.{IsAllCommitted, LeftWithin, MayBeLeft};
+ghost use Rattle.script_engine.specs.Resting.{Settles};
 ghost use Rattle.script_engine.specs.Serving.{IsReadyEngine, MayCall, held_by};
 ghost use Rattle.script_engine.specs.Turns.{AnswersControl, IsServedByForms, control_of, opened_by};
 ghost use Rattle.script_engine.specs.declared.transactions.Control.{Control};
@@ -22,6 +23,7 @@ ghost use Rattle.script_engine.specs.declared.transactions.Control.{Control};
 use crate::stop::EngineStop;
 use crate::tables::Tables;
 use mdc_ast::{Outcome, Stmt};
+use statement_meaning::{Pass, Settings};
 use store_api::Store;
 
 /// An engine over a store, which it owns.
@@ -33,6 +35,10 @@ pub struct Engine<S: Store> {
     pub(crate) served: bool,
     // Whether a transaction is open.
     pub(crate) is_open: bool,
+    // What the run is set to.
+    pub(crate) settings: Settings,
+    // How far the cleaner's pass is.
+    pub(crate) pass: Pass,
 }
 
 impl<S: Store> Engine<S> {
@@ -100,11 +106,11 @@ impl<S: Store> Engine<S> {
         Ok(())
     }
 
-    /// Does what is left to be done after an answer. There is nothing yet.
+    /// Does what is left to be done after an answer: where no transaction is open, perhaps steps, each a commit that leaves the
+    /// database as it is. A crash meanwhile leaves the pages of one of these commits, or those before them. There is no step yet.
     pub fn settle(&mut self) -> Result<(), EngineStop>
         requires may { MayCall S.Pages self.old }
-        ensures done { result ≡ Ok tt }
-        ensures stays { self.new ≡ self.old }
+        ensures settles { Settles S.Pages result self.old self.new }
     {
         Ok(())
     }

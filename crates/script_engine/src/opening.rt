@@ -12,6 +12,7 @@ ghost use Rattle.script_engine.specs.Breaking.{IsExactDamage};
 ghost use Rattle.script_engine.specs.NotedRooms.{AreForgotten};
 ghost use Rattle.script_engine.specs.Opening.{IsSoundStore, KeepsPages};
 ghost use Rattle.statement_meaning.specs.Built.{are_built, is_built_place};
+ghost use Rattle.statement_meaning.specs.Session.{first_settings};
 ghost use Rattle.script_engine.specs.Serving.{IsReadyEngine, MayCall};
 ghost use Rattle.script_engine.specs.Turns.{IsServedByForms};
 
@@ -23,6 +24,7 @@ use crate::tables::Tables;
 use catalog::Catalog;
 use extent_map::Extents;
 use mdc_ast::{ColumnDef, TableDef};
+use statement_meaning::{Pass, Settings};
 use std::alloc::Global;
 use store_api::Store;
 
@@ -47,6 +49,8 @@ impl<S: Store> Engine<S> {
         ensures stored { IfOk result (λ engine. IsTrue (S.state store).is_told → AreStored (S.state store).work engine.tables.catalog) }
         ensures built { IfOk result (λ engine. IsServedByForms engine) }
         ensures closed { IfOk result (λ engine. engine.is_open ≡ false) }
+        ensures settings { IfOk result (λ engine. engine.settings ≡ first_settings) }
+        ensures pass { IfOk result (λ engine. engine.pass ≡ Pass.Idle) }
         ensures shape { IfOk result (λ engine. IsSameShape ext engine.tables.ext) }
         ensures pages { MatchResult result (λ engine. KeepsPages S.Pages store engine.store) (λ stopped. KeepsPages S.Pages store stopped.store) }
         ensures ended { IfErr result (λ stopped. (S.state stopped.store).ended ≡ (S.state store).ended) }
@@ -68,7 +72,7 @@ impl<S: Store> Engine<S> {
 /// An engine on a store whose catalog is this.
 fn engine_on<S: Store>(alloc: Global, store: S, ext: Extents, catalog: Catalog) -> Engine<S>
     requires limits { AreWithinLimits catalog }
-    ensures is { result ≡ record { store = store; tables = result.tables; served = are_built catalog; is_open = false } }
+    ensures is { result ≡ record { store = store; tables = result.tables; served = are_built catalog; is_open = false; settings = first_settings; pass = Pass.Idle } }
     ensures catalog { result.tables.catalog ≡ catalog }
     ensures shape { IsSameShape ext result.tables.ext }
     ensures notes { (owners : List Kind) → AreRightNotes result.tables.ext owners }
@@ -88,6 +92,8 @@ fn engine_on<S: Store>(alloc: Global, store: S, ext: Extents, catalog: Catalog) 
         tables,
         served,
         is_open: false,
+        settings: Settings::first(),
+        pass: Pass::Idle,
     }
 }
 

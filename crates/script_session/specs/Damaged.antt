@@ -1,12 +1,12 @@
 -- Damage at which a session stops.
-use Rattle.std.specs.Prelude.{◌≡◌, ◌⊎◌, Bool, List, [], ◌∷◌, IsTrue, false}
+use Rattle.std.specs.Prelude.{◌≡◌, Bool, List, [], ◌∷◌, IsTrue, false}
 use Rattle.mdc_ast.specs.Reading.{Item, Statement}
 use Rattle.mdc_ast.specs.Reading as reading
 use Rattle.store_api.specs.declared.fault.Damage.{Damage}
 use Rattle.store_api.specs.declared.pages.Pages.{Ghosts}
 use Rattle.mdc_sound.specs.Breaks.{IsFirstBreak}
-use Rattle.script_engine.specs.Committing.{IsUncounted}
 use Rattle.script_engine.specs.Leaving.{IsAllCommitted}
+use Rattle.script_engine.specs.Resting.{HoldsCommitted}
 use Rattle.script_engine.specs.Serving.{held_by}
 use Rattle.script_engine.specs.Turns.{control_of, opened_by}
 use Rattle.script_engine.specs.declared.engine.Engine.{Engine}
@@ -20,12 +20,6 @@ opened_by_item (reading.Refused refusal) was = was
 abbrev pub opened_behind : List Item → Bool → Bool
 opened_behind [] was = was
 opened_behind (item ∷ items) was = opened_behind items (opened_by_item item was)
-
--- Where no transaction is open, the pages that are held are those of the last commit, or page 0 of them doesn't state how many there
--- are, as a commit found.
-abbrev pub HoldsCommitted : {S : Type 0} → Ghosts S → Engine S → Type 0
-HoldsCommitted g engine = engine.is_open ≡ false
-    → ((g.state engine.store).base ≡ (g.state engine.store).work) ⊎ (IsTrue (g.state engine.store).is_told → IsUncounted (g.state engine.store).work)
 
 -- The damage is that of the pages that are held behind these items: the first rule that they break, and the lowest page that breaks
 -- it. Whether a transaction is open hangs on the items alone. The store goes on.

@@ -1,4 +1,4 @@
--- A run of a script's items over pages: what is held after each.
+-- A run of a script's items over pages: what is held once each was met, and behind the steps after it.
 use Rattle.std.specs.Prelude.{◌≡◌, ℕ, zero, suc, List, [], ◌∷◌}
 use Rattle.mdc_ast.specs.declared.reply.Outcome.{Outcome}
 use Rattle.mdc_ast.specs.declared.reply.Outcome.TheVariants as said
@@ -11,6 +11,7 @@ use Rattle.extent_map.specs.declared.extents.Extents.{Extents}
 use Rattle.mdc_sound.specs.SoundDatabase.{IsSoundDatabase}
 use Rattle.stored_catalog.specs.StoredDefinitions.{AreStored}
 use Rattle.script_engine.specs.Held.{HeldPages, StepsOnPages}
+use Rattle.script_engine.specs.Resting.{IsHeldWithin, RestsOnPages, held_behind}
 
 -- a statement stepped on pages in extents of this shape, whatever was noted of these
 pub record StepsInShape (ext : Extents) (old : HeldPages) (stmt : Stmt) (outcome : Outcome) (new : HeldPages) : Type 0 where
@@ -23,29 +24,47 @@ abbrev pub MeetsOnPages : Extents → HeldPages → Item → Outcome → HeldPag
 MeetsOnPages ext old (Statement stmt) outcome new = StepsInShape ext old stmt outcome new
 MeetsOnPages ext old (reading.Refused refusal) outcome new = (outcome ≡ said.Refused refusal) × (new ≡ old)
 
--- An item was met: it did what it may, and a refusal changed nothing. Before it and after it the pages are sound, and the
--- definitions that are held are theirs.
-pub record MeetsItem (ext : Extents) (old : HeldPages) (item : Item) (outcome : Outcome) (new : HeldPages) : Type 0 where
-  pub meets : MeetsOnPages ext old item outcome new
-  pub refused : (refusal : Refusal) → outcome ≡ said.Refused refusal → new ≡ old
+-- a stage of a run: what is held once an item was met, and behind each step that is taken after it
+pub record Stage : Type 0 where
+  pub met : HeldPages
+  pub rests : List HeldPages
+
+-- what is held, with no item met and no step taken
+abbrev pub still : HeldPages → Stage
+still held = record { met = held; rests = [] }
+
+-- what is held at the end of a stage
+abbrev pub end_of : Stage → HeldPages
+end_of stage = held_behind stage.met stage.rests
+
+-- it is held within a stage: once its item was met, or behind a step after it
+abbrev pub IsHeldIn : Stage → HeldPages → Type 0
+IsHeldIn stage held = IsHeldWithin stage.met stage.rests held
+
+-- An item was met, and steps were taken after it: it did what it may, and a refusal changed nothing. Before it and once it was met
+-- the pages are sound, and the definitions that are held are theirs; each step keeps that.
+pub record MeetsItem (ext : Extents) (old : HeldPages) (item : Item) (outcome : Outcome) (stage : Stage) : Type 0 where
+  pub meets : MeetsOnPages ext old item outcome stage.met
+  pub refused : (refusal : Refusal) → outcome ≡ said.Refused refusal → stage.met ≡ old
   pub was_sound : IsSoundDatabase ext old.work
   pub was_stored : AreStored old.work old.defs
-  pub sound : IsSoundDatabase ext new.work
-  pub stored : AreStored new.work new.defs
+  pub sound : IsSoundDatabase ext stage.met.work
+  pub stored : AreStored stage.met.work stage.met.defs
+  pub rests : RestsOnPages ext stage.met stage.rests
 
--- The items have these outcomes, and after each item this is held.
-pub data GoesOnPages (ext : Extents) : HeldPages → List Item → List Outcome → List HeldPages → Type 0 where
+-- The items have these outcomes, and are met in these stages, each from the end of the one before.
+pub data GoesOnPages (ext : Extents) : HeldPages → List Item → List Outcome → List Stage → Type 0 where
   nothing : {held : HeldPages} → GoesOnPages ext held [] [] []
-  one : {held next : HeldPages} {item : Item} {outcome : Outcome} {items : List Item} {outcomes : List Outcome} {states : List HeldPages}
-      → MeetsItem ext held item outcome next → GoesOnPages ext next items outcomes states → GoesOnPages ext held (item ∷ items) (outcome ∷ outcomes) (next ∷ states)
+  one : {held : HeldPages} {stage : Stage} {item : Item} {outcome : Outcome} {items : List Item} {outcomes : List Outcome} {stages : List Stage}
+      → MeetsItem ext held item outcome stage → GoesOnPages ext (end_of stage) items outcomes stages → GoesOnPages ext held (item ∷ items) (outcome ∷ outcomes) (stage ∷ stages)
 
--- what is held after so many items, or after the last one
-abbrev pub held_after : HeldPages → List HeldPages → ℕ → HeldPages
-held_after held [] n = held
-held_after held (next ∷ states) zero = held
-held_after held (next ∷ states) (suc n) = held_after next states n
+-- the stage after so many items, or after the last one
+abbrev pub stage_after : Stage → List Stage → ℕ → Stage
+stage_after stage [] n = stage
+stage_after stage (next ∷ stages) zero = stage
+stage_after stage (next ∷ stages) (suc n) = stage_after next stages n
 
 -- what is held after all items
-abbrev pub held_last : HeldPages → List HeldPages → HeldPages
+abbrev pub held_last : HeldPages → List Stage → HeldPages
 held_last held [] = held
-held_last held (next ∷ states) = held_last next states
+held_last held (stage ∷ stages) = held_last (end_of stage) stages

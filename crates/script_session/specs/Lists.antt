@@ -6,19 +6,18 @@ use Rattle.mdc_ast.specs.declared.statement.Stmt.{Stmt}
 use Rattle.mdc_ast.specs.Reading.{Item, Statement}
 use Rattle.mdc_ast.specs.Reading as reading
 use Rattle.statement_meaning.specs.Cause.{FileFull, refusal_of}
-use Rattle.mdc_ast.specs.Database.{Database, defs_of}
-use Rattle.statement_meaning.specs.Session.{Session, turn}
+use Rattle.mdc_ast.specs.Database.{Database}
+use Rattle.statement_meaning.specs.Session.{AgreesWith, Session, rested, turn}
 use Rattle.statement_meaning.specs.Step.{faults}
 use Rattle.extent_map.specs.declared.extents.Extents.{Extents}
 use Rattle.script_engine.specs.Held.{HeldPages, StandsForSession}
-use Rattle.script_engine.specs.Listing.{asks_blocks, blocks_told}
-use Rattle.row_checks.specs.Executing.{answer_of}
+use Rattle.script_engine.specs.Listing.{TellsNumbers}
+use Rattle.script_session.specs.Going.{IsHeldIn, Stage, end_of}
 
--- What a statement may do to a session over lists: it turns it; or it is LIST BLOCKS of a table that is there, and tells some
--- numbers, which are the pages' to say; or it is refused with 70 where nothing else is said against it.
+-- What a statement may do to a session over lists: it turns it, and its outcome agrees with the answer, where numbers of blocks are
+-- the pages' to say; or it is refused with 70 where nothing else is said against it.
 pub data TurnsLists (cap : ℕ) (old : Session) (stmt : Stmt) (outcome : Outcome) (new : Session) : Type 0 where
-  turns : asks_blocks (defs_of old.working) stmt ≡ false → turn old stmt ≡ (new, answer_of outcome) → TurnsLists cap old stmt outcome new
-  lists : (used free pending : ℕ) → asks_blocks (defs_of old.working) stmt ≡ true → outcome ≡ blocks_told used free pending → new ≡ old → TurnsLists cap old stmt outcome new
+  turns : new ≡ (turn old stmt).0 → AgreesWith TellsNumbers (turn old stmt).1 outcome → TurnsLists cap old stmt outcome new
   full : outcome ≡ said.Refused (refusal_of (FileFull cap)) → faults old.working stmt ≡ [] → new ≡ old → TurnsLists cap old stmt outcome new
 
 -- what one item may do: a statement turns the session, and what can't be read is refused and changes nothing
@@ -26,12 +25,17 @@ abbrev pub MeetsOnLists : ℕ → Session → Item → Outcome → Session → T
 MeetsOnLists cap old (Statement stmt) outcome new = TurnsLists cap old stmt outcome new
 MeetsOnLists cap old (reading.Refused refusal) outcome new = (outcome ≡ said.Refused refusal) × (new ≡ old)
 
--- The items have these outcomes over lists, the pages that are held stand for a session, and so do those after each item.
-pub data GoesOnLists (ext : Extents) : HeldPages → Session → List Item → List Outcome → List HeldPages → List Session → Type 0 where
+-- the pages within a stage stand for the session that its item left, each with the pass that is held with it
+abbrev pub StandInStage : Extents → Stage → Session → Type 0
+StandInStage ext stage session = (held : HeldPages) → IsHeldIn stage held → StandsForSession ext held (rested session held.pass)
+
+-- The items have these outcomes over lists, the pages that are held stand for a session, and so do those of each stage.
+pub data GoesOnLists (ext : Extents) : HeldPages → Session → List Item → List Outcome → List Stage → List Session → Type 0 where
   nothing : {held : HeldPages} {session : Session} → StandsForSession ext held session → GoesOnLists ext held session [] [] [] []
-  one : {held next : HeldPages} {session after : Session} {item : Item} {outcome : Outcome} {items : List Item} {outcomes : List Outcome} {states : List HeldPages} {sessions : List Session}
-      → StandsForSession ext held session → MeetsOnLists ext.cap session item outcome after → GoesOnLists ext next after items outcomes states sessions
-      → GoesOnLists ext held session (item ∷ items) (outcome ∷ outcomes) (next ∷ states) (after ∷ sessions)
+  one : {held : HeldPages} {stage : Stage} {session met after : Session} {item : Item} {outcome : Outcome} {items : List Item} {outcomes : List Outcome} {stages : List Stage} {sessions : List Session}
+      → StandsForSession ext held session → MeetsOnLists ext.cap session item outcome met → StandInStage ext stage met → after ≡ rested met (end_of stage).pass
+      → GoesOnLists ext (end_of stage) after items outcomes stages sessions
+      → GoesOnLists ext held session (item ∷ items) (outcome ∷ outcomes) (stage ∷ stages) (after ∷ sessions)
 
 -- the session after so many items, or after the last one
 abbrev pub session_at : Session → List Session → ℕ → Session

@@ -5,11 +5,10 @@ use Rattle.mdc_ast.specs.declared.reply.Outcome.{Outcome}
 use Rattle.mdc_ast.specs.Reading.{Item}
 use Rattle.mdc_outside.specs.Outside.{Takes}
 use Rattle.store_api.specs.declared.pages.Pages.{Ghosts}
-use Rattle.script_engine.specs.Held.{HeldPages}
 use Rattle.script_engine.specs.Serving.{IsReadyEngine, held_by}
 use Rattle.script_engine.specs.declared.engine.Engine.{Engine}
 use Rattle.script_session.specs.Ending.{EndsSo, script_limit}
-use Rattle.script_session.specs.Going.{GoesOnPages, held_last}
+use Rattle.script_session.specs.Going.{GoesOnPages, Stage, held_last}
 use Rattle.script_session.specs.Leaving.{AreKept, LeftByServing}
 use Rattle.script_session.specs.declared.stop.Served.{Served}
 use Rattle.script_session.specs.declared.stop.SessionStop.{SessionStop}
@@ -42,13 +41,13 @@ pub record EndsScript (script : List ℕ) (left : Option (List ℕ)) (said : Lis
 pub record RunsScript {S : Type 0} (g : Ghosts S) (script left : Option (List ℕ)) (old new : Engine S) (result : Result Served SessionStop) : Type 0 where
   pub items : List Item
   pub outcomes : List Outcome
-  pub states : List HeldPages
+  pub stages : List Stage
   pub in_hand : List Item
-  pub goes : GoesOnPages old.tables.ext (held_by g old) items outcomes states
+  pub goes : GoesOnPages old.tables.ext (held_by g old) items outcomes stages
   pub said : List ℕ
   pub told : Takes (g.state old.store).told said (g.state new.store).told
   pub ends : IfSome script (λ script. EndsScript script left said items in_hand outcomes result)
-  pub last : OnOk result ((held_by g new ≡ held_last (held_by g old) states) × IsReadyEngine g new)
-  pub base : (n : ℕ) × AreKept old.tables.ext (held_by g old) states in_hand (g.state new.store).base n
+  pub last : OnOk result ((held_by g new ≡ held_last (held_by g old) stages) × IsReadyEngine g new)
+  pub base : (n : ℕ) × AreKept old.tables.ext (held_by g old) stages in_hand (g.state new.store).base n
   pub time : (before : List ℕ) → (g.state old.store).told ≡ Some before
-      → OverTime g.clock g.left (LeftByServing old.tables.ext (held_by g old) states outcomes in_hand before) old.store new.store
+      → OverTime g.clock g.left (LeftByServing old.tables.ext (held_by g old) stages outcomes in_hand before) old.store new.store

@@ -26,7 +26,7 @@ use Rattle.mdc_ast.specs.Truth.{qualifies}
 use Rattle.statement_meaning.specs.Judged.{create_judged, judged_of, sets_judged, set_columns, set_types, targets}
 use Rattle.statement_meaning.specs.Judging.{Judged, in_order, on_table, then_judged, where_judged}
 use Rattle.statement_meaning.specs.Step.{Refused, faults, step, step_by}
-use Rattle.statement_meaning.specs.Built.{IsBuiltDatabase, are_built, has_no_generated, is_built}
+use Rattle.statement_meaning.specs.Built.{IsBuiltDatabase, are_built, has_no_generated, is_built_step}
 use Rattle.statement_meaning.proofs.BuiltLemmas.{is_built_def, is_valid_table, values_fit}
 use Rattle.statement_meaning.proofs.CausesLemmas.{none_if, none_of_both, none_of_some}
 use Rattle.statement_meaning.proofs.CreateLemmas.{created_is_valid, none_made}
@@ -236,7 +236,7 @@ step_keeps_built db statement valid = keeps_by db (faults db statement) (effect 
 
 -- and where a table is of a form that isn't built nothing is done
 pub unbuilt_stays : (db : Database) (statement : Stmt) → are_built (defs_of db) ≡ false → step db statement ≡ (db, Refused (refusal_of NotBuilt))
-unbuilt_stays db statement unbuilt = ap (λ causes. step_by db causes (effect db (bound_of (defs_of db) statement))) (by_test (is_built statement))
+unbuilt_stays db statement unbuilt = ap (λ causes. step_by db causes (effect db (bound_of (defs_of db) statement))) (by_test (is_built_step statement))
   where
     by_test : (b : Bool) → (if b && are_built (defs_of db) then in_order (judged_of (defs_of db) statement) ++ causes_of_rows db (bound_of (defs_of db) statement) else NotBuilt ∷ []) ≡ NotBuilt ∷ []
     by_test true = ap (λ c. if c then in_order (judged_of (defs_of db) statement) ++ causes_of_rows db (bound_of (defs_of db) statement) else NotBuilt ∷ []) unbuilt

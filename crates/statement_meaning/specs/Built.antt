@@ -39,15 +39,15 @@ is_plain_query select = shows_columns select.list && is_empty select.group && is
 abbrev pub has_no_generated : List ColumnText → Bool
 has_no_generated columns = list_all (λ column. is_none column.made) columns
 
--- a form that is built, whose answer a database alone gives; transactions and LIST BLOCKS aren't judged here
-abbrev pub is_built : Stmt → Bool
-is_built (CreateTable name columns dims) = has_no_generated columns
-is_built (DropTable name) = true
-is_built (Insert name listed tuples) = true
-is_built (Update name sets pred) = true
-is_built (Delete name pred) = true
-is_built (Query select) = is_plain_query select
-is_built stmt = false
+-- a form by which a database steps, and which is built; BEGIN, COMMIT, ROLLBACK and LIST BLOCKS, which are, turn a session
+abbrev pub is_built_step : Stmt → Bool
+is_built_step (CreateTable name columns dims) = has_no_generated columns
+is_built_step (DropTable name) = true
+is_built_step (Insert name listed tuples) = true
+is_built_step (Update name sets pred) = true
+is_built_step (Delete name pred) = true
+is_built_step (Query select) = is_plain_query select
+is_built_step stmt = false
 
 -- ---- tables
 

@@ -1,13 +1,15 @@
--- Laws of the step.
-use Rattle.std.specs.Prelude.{◌≡◌, List, [], ◌∷◌, refl}
+-- Laws of the step, and of a session's turn.
+use Rattle.std.specs.Prelude.{◌≡◌, List, [], ◌∷◌, Bool, true, false, refl}
 use Rattle.mdc_ast.specs.declared.refusal.Refusal.{Refusal}
 use Rattle.mdc_ast.specs.declared.reply.Reply.{Reply}
 use Rattle.mdc_ast.specs.declared.statement.Stmt.{Stmt}
+use Rattle.mdc_ast.specs.declared.statement.Stmt.TheVariants as stmt
 use Rattle.statement_meaning.specs.Binding.{bound_of}
 use Rattle.statement_meaning.specs.Cause.{Cause}
 use Rattle.mdc_ast.specs.Database.{Database, defs_of}
 use Rattle.statement_meaning.specs.Doing.{effect}
-use Rattle.statement_meaning.specs.Step.{Answer, Refused, Replied, faults, step, step_by}
+use Rattle.statement_meaning.specs.Session.{Session, begun, committed, rolled_back, stepped, turn}
+use Rattle.statement_meaning.specs.Step.{Answer, Refused, Replied, ToldByPages, faults, step, step_by}
 
 kept_by : (db : Database) (causes : List Cause) (done : Database × Reply) (refusal : Refusal) → (step_by db causes done).1 ≡ Refused refusal → (step_by db causes done).0 ≡ db
 kept_by db [] done refusal e = cc
@@ -24,3 +26,30 @@ done_by db (first ∷ causes) done e = cc
 -- a statement with nothing against it is done
 pub faultless_is_done : (db : Database) (stmt : Stmt) → faults db stmt ≡ [] → step db stmt ≡ ((effect db (bound_of (defs_of db) stmt)).0, Replied (effect db (bound_of (defs_of db) stmt)).1)
 faultless_is_done db stmt e = done_by db (faults db stmt) (effect db (bound_of (defs_of db) stmt)) e
+
+-- ---- a refusal leaves a session
+
+begun_refused : (session : Session) (is_open : Bool) (refusal : Refusal) → (begun session is_open).1 ≡ Refused refusal → (begun session is_open).0 ≡ session
+begun_refused session true refusal e = refl
+begun_refused session false refusal e = cc
+
+committed_refused : (session : Session) (is_open : Bool) (refusal : Refusal) → (committed session is_open).1 ≡ Refused refusal → (committed session is_open).0 ≡ session
+committed_refused session true refusal e = cc
+committed_refused session false refusal e = refl
+
+rolled_back_refused : (session : Session) (is_open : Bool) (refusal : Refusal) → (rolled_back session is_open).1 ≡ Refused refusal → (rolled_back session is_open).0 ≡ session
+rolled_back_refused session true refusal e = cc
+rolled_back_refused session false refusal e = refl
+
+stepped_refused : (session : Session) (end_ : Database × Answer) (refusal : Refusal) → (stepped session end_).1 ≡ Refused refusal → (stepped session end_).0 ≡ session
+stepped_refused session (db, Replied reply) refusal e = cc
+stepped_refused session (db, Refused said) refusal e = refl
+stepped_refused session (db, ToldByPages) refusal e = refl
+
+-- a statement that is refused in a session leaves it
+pub refused_turn_stays : (session : Session) (statement : Stmt) (refusal : Refusal) → (turn session statement).1 ≡ Refused refusal → (turn session statement).0 ≡ session
+refused_turn_stays session stmt.Begin refusal e = begun_refused session session.open_ refusal e
+refused_turn_stays session stmt.Commit refusal e = committed_refused session session.open_ refusal e
+refused_turn_stays session stmt.Rollback refusal e = rolled_back_refused session session.open_ refusal e
+refused_turn_stays session (stmt.ListBlocks name) refusal e = refl
+refused_turn_stays session statement refusal e = stepped_refused session (step session.working statement) refusal e

@@ -1,10 +1,11 @@
 -- Worked rows: whole scripts with the bytes of their replies, and whole lists of what is said against a statement.
-use Rattle.std.specs.Prelude.{◌≡◌, ℕ, List, [], ◌∷◌, Bool, true, false, Option, Some, None, codes, refl, map}
+use Rattle.std.specs.Prelude.{◌≡◌, ℕ, List, [], ◌∷◌, Bool, true, false, Option, Some, None, codes, flat_map, refl, map}
 use Rattle.std.specs.Fmt.{digits}
 use Prim.Native.String.{String}
 use Rattle.mdc_values.specs.declared.literal.Literal.TheVariants as literal
 use Rattle.mdc_ast.specs.declared.name.Name.{Name}
 use Rattle.mdc_ast.specs.declared.predicate.PredText.{PredText}
+use Rattle.mdc_ast.specs.declared.reply.Outcome.{Outcome}
 use Rattle.mdc_ast.specs.declared.statement.ColumnText.{ColumnText}
 use Rattle.mdc_ast.specs.declared.statement.InsertItem.{InsertItem}
 use Rattle.mdc_ast.specs.declared.statement.InsertItem.TheVariants as item
@@ -15,13 +16,13 @@ use Rattle.mdc_ast.specs.declared.statement.Out.TheVariants as out
 use Rattle.mdc_ast.specs.declared.statement.SetItem.TheVariants.{Two}
 use Rattle.mdc_ast.specs.declared.statement.Sign.TheVariants.{Plus}
 use Rattle.mdc_ast.specs.declared.statement.Stmt.{Stmt}
-use Rattle.mdc_ast.specs.declared.statement.Stmt.TheVariants.{CreateTable, Delete, DropTable, Insert, Query, Update, Clean}
+use Rattle.mdc_ast.specs.declared.statement.Stmt.TheVariants.{Begin, Clean, Commit, CreateTable, Delete, DropTable, Insert, ListBlocks, Query, Rollback, Update}
 use Rattle.mdc_ast.specs.declared.statement.TypeText.{TypeText}
 use Rattle.mdc_ast.specs.declared.statement.TypeText.TheVariants.{Integer, Char, Date}
 use Rattle.mdc_ast.specs.Database.{empty_database}
 use Rattle.mdc_ast.specs.Reading.{Statement}
 use Rattle.statement_meaning.specs.Session.{outcomes_from, session_on}
-use Rattle.statement_meaning.specs.Texts.{texts}
+use Rattle.statement_meaning.specs.Texts.{outcome_text}
 
 -- a name of these letters
 abbrev pub named : String → Name
@@ -71,9 +72,14 @@ only s = Outs (out.Column (named s) ∷ [])
 abbrev up_by_one : Stmt
 up_by_one = Update (named "T") (record { column = named "A"; item = Two (operand.Column (named "A")) Plus (operand.Literal (literal.Number false 1)) } ∷ []) None
 
+-- the text of what is said, and of what pages tell a mark
+abbrev text_said : Option Outcome → List ℕ
+text_said None = codes "BLOCKS\n"
+text_said (Some outcome) = outcome_text outcome
+
 -- all that is said to these statements, run one after another on a database without tables
 abbrev pub answers : List Stmt → List ℕ
-answers stmts = texts (outcomes_from (session_on empty_database) (map Statement stmts))
+answers stmts = flat_map text_said (outcomes_from (session_on empty_database) (map Statement stmts))
 
 -- rows come in the order of insertion
 rows_in_order : answers (t_of_numbers ∷ into ((number 2 ∷ number 10 ∷ []) ∷ (number 1 ∷ number 20 ∷ []) ∷ []) ∷ into ((number 2 ∷ number 30 ∷ []) ∷ []) ∷ query Star None ∷ [])
@@ -104,3 +110,15 @@ dates_and_texts : answers (t_of_dates ∷ into ((text "2004-02-29" ∷ text "it'
     ≡ codes "OK\n1 ROWS INSERTED\nA|B\n2004-02-29|'it'''\n1 ROWS\nERROR 34 no such date for A\nERROR 32 null in A\n1 ROWS DELETED\nOK\nERROR 21 no table T\n"
 unfolding digits
 dates_and_texts = refl
+
+-- a transaction that is undone, and what the state of one doesn't allow
+transactions : answers (Begin ∷ t_of_numbers ∷ Begin ∷ Commit ∷ Begin ∷ into ((number 1 ∷ number 2 ∷ []) ∷ []) ∷ Rollback ∷ query Star None ∷ Commit ∷ [])
+    ≡ codes "OK\nOK\nERROR 12 transaction state\nOK\nOK\n1 ROWS INSERTED\nOK\nA|B\n0 ROWS\nERROR 12 transaction state\n"
+unfolding digits
+transactions = refl
+
+-- lists of rows don't tell the blocks of a table that is there
+listed_blocks : answers (ListBlocks (named "T") ∷ t_of_numbers ∷ ListBlocks (named "T") ∷ Begin ∷ ListBlocks (named "U") ∷ [])
+    ≡ codes "ERROR 21 no table T\nOK\nBLOCKS\nOK\nERROR 21 no table U\n"
+unfolding digits
+listed_blocks = refl

@@ -1,52 +1,55 @@
--- A session: a plain database with transactions and settings, and what is answered in it, item by item (docs/SQL.md, "Transactions").
-use Rattle.std.specs.Prelude.{List, [], ◌∷◌, Bool, true, false, if◌then◌else◌, ℕ}
+-- A session: a plain database with transactions, settings and a pass of the cleaner, and what is answered in it, item by item
+-- (docs/SQL.md, "Transactions").
+use Rattle.std.specs.Prelude.{◌≡◌, List, [], ◌∷◌, Bool, true, false, if◌then◌else◌, Option, Some, None, MatchOption}
 use Rattle.std.specs.List.{list_any}
+use Rattle.mdc_ast.specs.declared.definition.TableDef.{TableDef}
 use Rattle.mdc_ast.specs.declared.name.Name.{Name}
 use Rattle.mdc_ast.specs.declared.reply.Outcome.{Outcome}
 use Rattle.mdc_ast.specs.declared.reply.Outcome.TheVariants as outcome
 use Rattle.mdc_ast.specs.declared.reply.Reply.TheVariants as reply
-use Rattle.mdc_ast.specs.declared.statement.PlanMode.{PlanMode}
 use Rattle.mdc_ast.specs.declared.statement.PlanMode.TheVariants.{Auto}
-use Rattle.mdc_ast.specs.declared.statement.RolloutMode.{RolloutMode}
 use Rattle.mdc_ast.specs.declared.statement.RolloutMode.TheVariants.{Immediate}
 use Rattle.mdc_ast.specs.declared.statement.Stmt.{Stmt}
 use Rattle.mdc_ast.specs.declared.statement.Stmt.TheVariants as stmt
 use Rattle.mdc_ast.specs.Database.{Database, defs_of}
-use Rattle.mdc_ast.specs.Definitions.{Definitions}
+use Rattle.mdc_ast.specs.Definitions.{Definitions, def_named}
 use Rattle.mdc_ast.specs.Reading.{Item, Statement}
 use Rattle.mdc_ast.specs.Reading as reading
 use Rattle.statement_meaning.specs.Built.{are_built}
-use Rattle.statement_meaning.specs.Cause.{Cause, NoTable, NotBuilt, State, refusal_of}
-use Rattle.statement_meaning.specs.Step.{Answer, Refused, Replied, step}
-
--- what a run is set to; a database keeps none of it
-pub record Settings : Type 0 where
-  pub rollout : RolloutMode
-  pub plan : PlanMode
-  pub pace : ℕ
+use Rattle.statement_meaning.specs.Cause.{NoTable, NotBuilt, State, refusal_of}
+use Rattle.statement_meaning.specs.Step.{Answer, Refused, Replied, ToldByPages, step}
+use Rattle.statement_meaning.specs.declared.pass.Pass.{Pass}
+use Rattle.statement_meaning.specs.declared.pass.Pass.TheVariants.{Idle}
+use Rattle.statement_meaning.specs.declared.settings.Settings.{Settings}
 
 -- IMMEDIATE, AUTO and a pace of 1, as each run begins with
 abbrev pub first_settings : Settings
 first_settings = record { rollout = Immediate; plan = Auto; pace = 1 }
 
--- the kept database, the working one, whether a transaction is open, and the settings
+-- the kept database, the working one, whether a transaction is open, the settings, and how far the cleaner's pass is
 pub record Session : Type 0 where
   pub kept : Database
   pub working : Database
   pub open_ : Bool
   pub settings : Settings
+  pub pass : Pass
 
 -- a session at its beginning
 abbrev pub session_on : Database → Session
-session_on db = record { kept = db; working = db; open_ = false; settings = first_settings }
+session_on db = record { kept = db; working = db; open_ = false; settings = first_settings; pass = Idle }
 
 -- another working database, which is kept where no transaction is open
 abbrev pub working_on : Session → Database → Session
 working_on session db = record session { kept = if session.open_ then session.kept else db; working = db }
 
--- the session on the database that a statement leaves, with the statement's answer
+-- the session on the database that a statement leaves where it is done, and as it was where it isn't, with the statement's answer
 abbrev pub stepped : Session → Database × Answer → Session × Answer
-stepped session (db, answer) = (working_on session db, answer)
+stepped session (db, Replied reply) = (working_on session db, Replied reply)
+stepped session (db, answer) = (session, answer)
+
+-- the session behind steps of the cleaner: how far its pass is, and nothing else, is another
+abbrev pub rested : Session → Pass → Session
+rested session pass = record session { pass = pass }
 
 -- ---- transactions
 
@@ -71,17 +74,21 @@ rolled_back session false = not_now session
 
 -- ---- turns
 
--- what is said against LIST BLOCKS of a table that isn't there: 21, or 14 where a table is of a form that isn't built
-abbrev pub listing_cause : Definitions → Name → Cause
-listing_cause defs name = if are_built defs then NoTable name else NotBuilt
+-- what is answered to LIST BLOCKS of a table of that name: the pages tell its blocks, and where there is none it is refused with 21
+abbrev pub listed_of : Name → Option TableDef → Answer
+listed_of name None = Refused (refusal_of (NoTable name))
+listed_of name (Some def) = ToldByPages
 
--- A statement in a session. LIST BLOCKS turns nothing: of a table that is there lists of rows don't tell the blocks, and the answer
--- here is that of one that isn't there.
+-- what is answered to LIST BLOCKS: 14 where a table is of a form that isn't built
+abbrev pub listed : Definitions → Name → Answer
+listed defs name = if are_built defs then listed_of name (def_named defs name) else Refused (refusal_of NotBuilt)
+
+-- a statement in a session, with its answer
 abbrev pub turn : Session → Stmt → Session × Answer
 turn session stmt.Begin = begun session session.open_
 turn session stmt.Commit = committed session session.open_
 turn session stmt.Rollback = rolled_back session session.open_
-turn session (stmt.ListBlocks name) = (session, Refused (refusal_of (listing_cause (defs_of session.working) name)))
+turn session (stmt.ListBlocks name) = (session, listed (defs_of session.working) name)
 turn session statement = stepped session (step session.working statement)
 
 -- an item in a session: what can't be read is refused, and changes nothing
@@ -91,13 +98,18 @@ item_turn session (reading.Refused refusal) = (session, Refused refusal)
 
 -- ---- what is said to items, one after another
 
--- what is said for an answer
-abbrev pub outcome_of : Answer → Outcome
-outcome_of (Replied reply) = outcome.Done reply
-outcome_of (Refused refusal) = outcome.Refused refusal
+-- what is said for an answer, if lists of rows give it
+abbrev pub outcome_of : Answer → Option Outcome
+outcome_of (Replied reply) = Some (outcome.Done reply)
+outcome_of (Refused refusal) = Some (outcome.Refused refusal)
+outcome_of ToldByPages = None
 
--- what is said to each item, judged in the session that the items before it left
-abbrev pub outcomes_from : Session → List Item → List Outcome
+-- the outcome is what is said for the answer, or, where lists of rows don't give that, one that pages tell
+abbrev pub AgreesWith : (Outcome → Type 0) → Answer → Outcome → Type 0
+AgreesWith Tells answer said = MatchOption (outcome_of answer) (Tells said) (λ outcome. said ≡ outcome)
+
+-- what is said to each item, if lists of rows give it, judged in the session that the items before it left
+abbrev pub outcomes_from : Session → List Item → List (Option Outcome)
 outcomes_from session [] = []
 outcomes_from session (first ∷ items) = outcome_of (item_turn session first).1 ∷ outcomes_from (item_turn session first).0 items
 

@@ -5,7 +5,7 @@ use Rattle.mdc_ast.specs.declared.refusal.Refusal.{Refusal}
 use Rattle.mdc_ast.specs.declared.reply.Reply.{Reply}
 use Rattle.mdc_ast.specs.declared.statement.Stmt.{Stmt}
 use Rattle.statement_meaning.specs.Binding.{bound_of}
-use Rattle.statement_meaning.specs.Built.{are_built, is_built}
+use Rattle.statement_meaning.specs.Built.{are_built, is_built_step}
 use Rattle.statement_meaning.specs.Cause.{Cause, NotBuilt, refusal_of}
 use Rattle.mdc_ast.specs.Database.{Database, defs_of}
 use Rattle.statement_meaning.specs.Doing.{causes_of_rows, effect}
@@ -19,12 +19,13 @@ use Rattle.statement_meaning.specs.Judging.{in_order}
 -- refused with 14.
 abbrev pub faults : Database → Stmt → List Cause
 faults db stmt =
-    if is_built stmt && are_built (defs_of db) then in_order (judged_of (defs_of db) stmt) ++ causes_of_rows db (bound_of (defs_of db) stmt) else NotBuilt ∷ []
+    if is_built_step stmt && are_built (defs_of db) then in_order (judged_of (defs_of db) stmt) ++ causes_of_rows db (bound_of (defs_of db) stmt) else NotBuilt ∷ []
 
--- the end of a statement: what it replies, or why it isn't done
+-- the end of a statement: what it replies, why it isn't done, or that pages tell the reply, which lists of rows don't give
 pub data Answer : Type 0 where
   Replied : Reply → Answer
   Refused : Refusal → Answer
+  ToldByPages : Answer
 
 -- the first cause, or the effect
 abbrev pub step_by : Database → List Cause → Database × Reply → Database × Answer

@@ -1,4 +1,4 @@
-//! What statements mean to plain lists of rows: definitions and laws, no calls.
+//! What statements mean to plain lists of rows: definitions and laws, and what a session holds beside its databases, as data.
 //!
 //! Its `specs` say what is said against a statement, in the order of refusals (`Judging`, `Judged`, `Cause`), what its names and
 //! literals stand for (`Binding`), what it does (`Doing`), which forms are built (`Built`), the step that is the first cause or else
@@ -6,3 +6,9 @@
 //! (`Texts`); with worked scripts (`Rows`, `Orders`) and laws of the step (`Laws`). Its `proofs` show that a step keeps a database
 //! valid. It stands on `mdc_ast`.
 #![tactic(auto)]
+
+mod pass;
+mod settings;
+
+pub use pass::Pass;
+pub use settings::Settings;

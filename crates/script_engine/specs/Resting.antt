@@ -1,0 +1,104 @@
+-- What is kept behind an item may be a chain of steps, each a commit that leaves the database as it is.
+use Rattle.std.specs.Prelude.{◌≡◌, ◌⊎◌, List, [], ◌∷◌, Some, false, true, IfSome, IsTrue, OnOk, IsErrOf, Result, Err}
+use Rattle.mdc_words.specs.Faults.{CountsFault}
+use Rattle.mdc_words.specs.Time.{OverTime}
+use Rattle.statement_meaning.specs.Session.{Session, rested}
+use Rattle.store_api.specs.Moments.{Outcomes}
+use Rattle.store_api.specs.StoreState.{StoreState}
+use Rattle.store_api.specs.Works.{Rests}
+use Rattle.store_api.specs.declared.fault.Damage.{Damage}
+use Rattle.store_api.specs.declared.pages.Pages.{Ghosts}
+use Rattle.extent_map.specs.Owners.{IsSameShape}
+use Rattle.extent_map.specs.declared.extents.Extents.{Extents}
+use Rattle.table_trees.specs.ToldPages.{PageList}
+use Rattle.mdc_sound.specs.SoundDatabase.{IsSoundDatabase}
+use Rattle.stored_catalog.specs.StoredDefinitions.{AreStored}
+use Rattle.script_engine.specs.Breaking.{NamesExactly}
+use Rattle.script_engine.specs.Committing.{IsUncounted}
+use Rattle.script_engine.specs.Held.{HeldPages, StandsForSession}
+use Rattle.script_engine.specs.Leaving.{IsAllCommitted}
+use Rattle.script_engine.specs.Serving.{IsReadyEngine, MayCall, held_by}
+use Rattle.script_engine.specs.Turns.{IsServedByForms, KeepsTime}
+use Rattle.script_engine.specs.declared.engine.Engine.{Engine}
+use Rattle.script_engine.specs.declared.stop.EngineStop.{EngineStop}
+use Rattle.script_engine.specs.declared.stop.EngineStop.TheVariants.{Damaged, Device, Output}
+
+-- ---- the chain
+
+-- A step where no transaction is open: its pages are sound and committed, and stand for every session that those before stood for,
+-- but for how far the pass is. Definitions and settings stay.
+pub record RestsOnce (ext : Extents) (old new : HeldPages) : Type 0 where
+  pub was_shut : old.open_ ≡ false
+  pub is_shut : new.open_ ≡ false
+  pub committed : new.base ≡ new.work
+  pub sound : IsSoundDatabase ext new.work
+  pub stands : (session : Session) → StandsForSession ext old session → StandsForSession ext new (rested session new.pass)
+  pub defs : new.defs ≡ old.defs
+  pub stored : AreStored new.work new.defs
+  pub settings : new.settings ≡ old.settings
+
+-- steps, each from where the one before ends, behind which this is held
+pub data RestsOnPages (ext : Extents) : HeldPages → List HeldPages → Type 0 where
+  nothing : {held : HeldPages} → RestsOnPages ext held []
+  one : {held next : HeldPages} {rests : List HeldPages} → RestsOnce ext held next → RestsOnPages ext next rests → RestsOnPages ext held (next ∷ rests)
+
+-- what is held behind the last of them
+abbrev pub held_behind : HeldPages → List HeldPages → HeldPages
+held_behind held [] = held
+held_behind held (next ∷ rests) = held_behind next rests
+
+-- it is held before them all, or behind one of them
+abbrev pub IsHeldWithin : HeldPages → List HeldPages → HeldPages → Type 0
+IsHeldWithin held [] within = within ≡ held
+IsHeldWithin held (next ∷ rests) within = (within ≡ held) ⊎ IsHeldWithin next rests within
+
+-- ---- what the engine does by it
+
+-- the pages are those of the last commit before such steps, or behind one of them
+abbrev pub IsBaseWithin : HeldPages → List HeldPages → PageList → Type 0
+IsBaseWithin held rests pages = (within : HeldPages) × IsHeldWithin held rests within × (pages ≡ within.base)
+
+-- the pages to which the file reopens after a crash within such steps, with the bytes told before them, where they are told
+abbrev pub LeftResting : HeldPages → List HeldPages → StoreState → Outcomes
+LeftResting held rests s left told = ((pages : PageList) × (left ≡ Some pages) × IsBaseWithin held rests pages) × IfSome s.told (λ bytes. told ≡ bytes)
+
+-- whatever the pages are: the file reopens to some pages, with the bytes told before, where they are told
+abbrev pub LeftTold : StoreState → Outcomes
+LeftTold s left told = ((pages : PageList) × (left ≡ Some pages)) × IfSome s.told (λ bytes. told ≡ bytes)
+
+-- A sound engine took such steps: it is sound behind the last, or it stopped, and then the last was perhaps not committed.
+pub record TakesSteps {S : Type 0} (g : Ghosts S) (result : Result (Unit {0}) EngineStop) (old new : Engine S) : Type 0 where
+  pub rests : List HeldPages
+  pub steps : RestsOnPages old.tables.ext (held_by g old) rests
+  pub last : OnOk result ((held_by g new ≡ held_behind (held_by g old) rests) × IsReadyEngine g new)
+  pub base : IsBaseWithin (held_by g old) rests (g.state new.store).base
+  pub time : OverTime g.clock g.left (LeftResting (held_by g old) rests (g.state old.store)) old.store new.store
+
+-- Where no transaction is open, the pages that are held are those of the last commit, or page 0 of them doesn't state how many there
+-- are, as a commit found.
+abbrev pub HoldsCommitted : {S : Type 0} → Ghosts S → Engine S → Type 0
+HoldsCommitted g engine = engine.is_open ≡ false
+    → ((g.state engine.store).base ≡ (g.state engine.store).work) ⊎ (IsTrue (g.state engine.store).is_told → IsUncounted (g.state engine.store).work)
+
+-- The engine did what is left to be done after an answer. Whatever the pages are, a transaction stays open or none, all that was
+-- committed is, nothing is told, and the file reopens; no damage is named of sound pages, and damage that is named is exact.
+pub record Settles {S : Type 0} (g : Ghosts S) (result : Result (Unit {0}) EngineStop) (old new : Engine S) : Type 0 where
+  pub takes : IsReadyEngine g old → TakesSteps g result old new
+  pub still : old.is_open ≡ true → held_by g new ≡ held_by g old
+  pub may : OnOk result (MayCall g new)
+  pub built : OnOk result (IsServedByForms old → IsServedByForms new)
+  pub keeps : OnOk result (IsAllCommitted (held_by g old) → IsAllCommitted (held_by g new))
+  pub opens : new.is_open ≡ old.is_open
+  pub damaged : (damage : Damage) → result ≡ Err (Damaged damage) → IsReadyEngine g old → ⊥
+  pub exact : NamesExactly g old.tables.ext result new.store
+  pub going : (damage : Damage) → result ≡ Err (Damaged damage) → (g.state new.store).ended ≡ false
+  pub committed : (damage : Damage) → result ≡ Err (Damaged damage) → IsAllCommitted (held_by g old) → HoldsCommitted g new
+  pub shape : IsSameShape old.tables.ext new.tables.ext
+  pub device : CountsFault (IsErrOf result Device) (g.disk_faults old.store) (g.disk_faults new.store)
+  pub output : IsErrOf result Output → ⊥
+  pub say_faults : g.say_faults new.store ≡ g.say_faults old.store
+  pub is_told : (g.state new.store).is_told ≡ (g.state old.store).is_told
+  pub told : (g.state new.store).told ≡ (g.state old.store).told
+  pub attached : (g.state new.store).attached ≡ (g.state old.store).attached
+  pub time : OverTime g.clock g.left (LeftTold (g.state old.store)) old.store new.store
+  pub at_rest : KeepsTime g → (g.state old.store).ended ≡ false → Rests g old.store → Rests g new.store
