@@ -4,7 +4,7 @@ ghost use Rattle.statement_meaning.specs.Binding.{bound_of};
 ghost use Rattle.mdc_ast.specs.ValidDatabase.{AreValidDefs};
 ghost use Rattle.statement_meaning.specs.Judged.{judged_of};
 ghost use Rattle.statement_meaning.specs.Judging.{in_order};
-ghost use Rattle.statement_meaning.specs.Built.{is_built};
+ghost use Rattle.statement_meaning.specs.Built.{is_built_step};
 ghost use Rattle.binder.specs.Refusing.{IsRefusedFor};
 
 use crate::judging::judge;
@@ -37,7 +37,7 @@ impl From<Memory> for BindFault {
 /// for what is said first against it, in the order of refusals. The catalog is only read, so that after want of memory
 /// the statement can be bound again.
 pub fn bind(alloc: Global, stmt: &Stmt, catalog: &Catalog) -> Result<Bound, BindFault>
-    requires built { IsTrue (is_built stmt.now) }
+    requires built { IsTrue (is_built_step stmt.now) }
     requires valid { AreValidDefs catalog.now }
     ensures bound { IfOk result (λ bound. (in_order (judged_of catalog.now stmt.now) ≡ []) × (bound ≡ bound_of catalog.now stmt.now)) }
     ensures refused { IsRefusedFor (in_order (judged_of catalog.now stmt.now)) result }

@@ -7,7 +7,7 @@ use mdc_ast::{ColumnText, Out, OutList, Select, Stmt};
 
 /// Whether the form of a statement is built. It takes no memory.
 pub fn built(stmt: &Stmt) -> bool
-    ensures { result ≡ spec.is_built stmt.now }
+    ensures { result ≡ spec.is_built_step stmt.now }
 {
     match stmt {
         Stmt::CreateTable { columns, .. } => has_no_generated(columns.as_slice()),

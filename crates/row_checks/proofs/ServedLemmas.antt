@@ -22,7 +22,7 @@ use Rattle.mdc_ast.specs.Definitions.{Definitions, def_at, def_named, empty_plac
 use Rattle.statement_meaning.specs.Doing.{null_causes, set_causes, set_on}
 use Rattle.statement_meaning.specs.Judged.{column_limits, create_judged, insert_judged, judged_of, long_name, query_judged, set_columns, set_types, sets_judged, shown_columns, targets}
 use Rattle.statement_meaning.specs.Judging.{Judged, atom_columns, atom_types, atoms_of, in_order, no_fault, on_table, then_judged, where_judged}
-use Rattle.statement_meaning.specs.Built.{is_built}
+use Rattle.statement_meaning.specs.Built.{is_built_step}
 use Rattle.statement_meaning.proofs.BindingLemmas.{AreBound}
 use Rattle.statement_meaning.proofs.CausesLemmas.{is_there, none_of_both}
 use Rattle.statement_meaning.proofs.KeepingLemmas.{IsFaultless, is_faultless}
@@ -128,5 +128,5 @@ serves defs (stmt.Query select) said =
 serves defs statement said = tt
 
 -- so it may on valid definitions, where its form is built
-pub served : (defs : Definitions) (stmt : Stmt) → AreValidDefs defs → is_built stmt ≡ true → in_order (judged_of defs stmt) ≡ [] → IsServed defs (bound_of defs stmt)
+pub served : (defs : Definitions) (stmt : Stmt) → AreValidDefs defs → is_built_step stmt ≡ true → in_order (judged_of defs stmt) ≡ [] → IsServed defs (bound_of defs stmt)
 served defs statement valid built said = serves defs statement said

@@ -18,7 +18,7 @@ use Rattle.statement_meaning.specs.Doing.{causes_of_rows, effect}
 use Rattle.statement_meaning.specs.Judged.{judged_of}
 use Rattle.statement_meaning.specs.Judging.{in_order}
 use Rattle.statement_meaning.specs.Step.{Answer, Refused, step, step_by}
-use Rattle.statement_meaning.specs.Built.{IsBuiltDatabase, are_built, is_built}
+use Rattle.statement_meaning.specs.Built.{IsBuiltDatabase, are_built, is_built_step}
 use Rattle.statement_meaning.specs.Laws.{refused_stays}
 use Rattle.statement_meaning.proofs.KeepingLemmas.{step_keeps_built}
 use Rattle.mdc_ast.specs.Definitions.{Definitions}
@@ -27,7 +27,7 @@ use Rattle.row_checks.proofs.Ready.{ready}
 use Rattle.row_checks.specs.Executing.{MayBeDone, answer_of, done}
 
 -- a statement that is bound is done as it is bound
-pub step_is_done : (db : Database) (statement : Stmt) → is_built statement ≡ true → are_built (defs_of db) ≡ true → in_order (judged_of (defs_of db) statement) ≡ []
+pub step_is_done : (db : Database) (statement : Stmt) → is_built_step statement ≡ true → are_built (defs_of db) ≡ true → in_order (judged_of (defs_of db) statement) ≡ []
     → step db statement ≡ done db (bound_of (defs_of db) statement)
 step_is_done db statement form tables said =
     let rest : List Cause = causes_of_rows db (bound_of (defs_of db) statement) in
@@ -37,7 +37,7 @@ step_is_done db statement form tables said =
     ∙ ap (λ causes. step_by db (causes ++ rest) does) said
 
 -- so its answer is the one of its step
-pub answered : {E : Type 0} (db new : Database) (statement : Stmt) (statement_bound : Bound) (result : Result Outcome E) → is_built statement ≡ true → are_built (defs_of db) ≡ true → in_order (judged_of (defs_of db) statement) ≡ [] → statement_bound ≡ bound_of (defs_of db) statement →
+pub answered : {E : Type 0} (db new : Database) (statement : Stmt) (statement_bound : Bound) (result : Result Outcome E) → is_built_step statement ≡ true → are_built (defs_of db) ≡ true → in_order (judged_of (defs_of db) statement) ≡ [] → statement_bound ≡ bound_of (defs_of db) statement →
     IfOk result (λ outcome. done db statement_bound ≡ (new, answer_of outcome)) → IfOk result (λ outcome. step db statement ≡ (new, answer_of outcome))
 answered db new statement statement_bound (Err fault) form tables said is e = tt
 answered db new statement statement_bound (Ok outcome) form tables said is e = step_is_done db statement form tables said ∙ sym (ap (done db) is) ∙ e

@@ -18,7 +18,7 @@ use Rattle.mdc_ast.specs.Definitions.{Definitions, def_at, place_of}
 use Rattle.statement_meaning.specs.Judged.{judged_of, query_judged}
 use Rattle.statement_meaning.specs.Judging.{in_order, on_table}
 use Rattle.statement_meaning.specs.Step.{Refused, Replied, step}
-use Rattle.statement_meaning.specs.Built.{are_built, is_built}
+use Rattle.statement_meaning.specs.Built.{are_built, is_built_step}
 use Rattle.mdc_ast.proofs.TestsLemmas.{some_is}
 use Rattle.store_api.specs.RunsOverPages.{RunsOverPages}
 use Rattle.store_api.specs.declared.fault.StoreFault.TheVariants as store_fault
@@ -49,7 +49,7 @@ use Rattle.script_engine.proofs.WrittenTablesLemmas.{written_is_new}
 
 -- ---- what is bound
 
-pub is_bound_on : (defs : Definitions) (stmt : Stmt) (statement : Bound) → is_built stmt ≡ true → (in_order (judged_of defs stmt) ≡ []) × (statement ≡ bound_of defs stmt) → IsBoundOn defs stmt statement
+pub is_bound_on : (defs : Definitions) (stmt : Stmt) (statement : Bound) → is_built_step stmt ≡ true → (in_order (judged_of defs stmt) ≡ []) × (statement ≡ bound_of defs stmt) → IsBoundOn defs stmt statement
 is_bound_on defs stmt statement built bound = record { built = built; said = bound.0; is = bound.1 }
 
 pub may_execute : (defs : Definitions) (stmt : Stmt) (statement : Bound) → AreServed defs → IsWritten stmt → IsBoundOn defs stmt statement → MayBeExecuted defs statement
@@ -60,7 +60,7 @@ may_execute defs stmt statement serves written bound = subst (MayBeExecuted defs
 
 -- ---- the end of a statement that is bound
 
-does_step : {S : Type 0} (g : Ghosts S) (old new : S) (before now : Tables) (stmt : Stmt) (outcome : Outcome) → are_built before.catalog ≡ true → is_built stmt ≡ true → in_order (judged_of before.catalog stmt) ≡ []
+does_step : {S : Type 0} (g : Ghosts S) (old new : S) (before now : Tables) (stmt : Stmt) (outcome : Outcome) → are_built before.catalog ≡ true → is_built_step stmt ≡ true → in_order (judged_of before.catalog stmt) ≡ []
     → IsReady g old before → DoesStatement g old new before now (bound_of before.catalog stmt) outcome → DoesStep g old new before now stmt outcome
 does_step g old new before now stmt outcome tables built said ready does = record {
   ready = does.ready;
@@ -79,7 +79,7 @@ steps_as_bound g old new before now stmt statement (Ok outcome) served bound doe
     does_step g old new before now stmt outcome served.built bound.built bound.said ready (subst (λ b. DoesStatement g old new before now b outcome) bound.is (does ready))
 
 -- where a bound statement runs full, its text does
-step_full : {S : Type 0} (g : Ghosts S) (s : S) (tables : Tables) (stmt : Stmt) → are_built tables.catalog ≡ true → is_built stmt ≡ true → in_order (judged_of tables.catalog stmt) ≡ [] → IsReady g s tables
+step_full : {S : Type 0} (g : Ghosts S) (s : S) (tables : Tables) (stmt : Stmt) → are_built tables.catalog ≡ true → is_built_step stmt ≡ true → in_order (judged_of tables.catalog stmt) ≡ [] → IsReady g s tables
     → RunsFullAlone tables.ext (pages_of g s) tables.catalog (bound_of tables.catalog stmt) → StepRunsFull tables.ext (pages_of g s) tables.catalog stmt
 step_full g s tables stmt forms built said ready alone = record {
   full = alone.full;
@@ -132,7 +132,7 @@ stays g s tables stmt refusal ready same = record {
   others = keeps_others_itself tables.ext tables.ext (pages_of g s) (pages_of g s) tables.catalog tables.catalog (touched_place (bound_of tables.catalog stmt)) (shape_none tables.ext) refl refl;
 }
 
-pub steps_not_built : {S : Type 0} (g : Ghosts S) (s : S) (tables : Tables) (stmt : Stmt) (refusal : Refusal) → is_built stmt ≡ false → refusal ≡ refusal_of NotBuilt → IsReady g s tables
+pub steps_not_built : {S : Type 0} (g : Ghosts S) (s : S) (tables : Tables) (stmt : Stmt) (refusal : Refusal) → is_built_step stmt ≡ false → refusal ≡ refusal_of NotBuilt → IsReady g s tables
     → DoesStep g s s tables tables stmt (said.Refused refusal)
 steps_not_built g s tables stmt refusal built is ready = stays g s tables stmt refusal ready (λ db stands. step_not_built db stmt built ∙ ap (λ r. (db, Refused r)) (sym is))
 
@@ -144,7 +144,7 @@ first_cause (cause ∷ causes) refusal e = (cause, refl, some_is _ _ e)
 refused_first : (causes : List Cause) (fault : BindFault) (refusal : Refusal) → fault ≡ bind_fault.Refused refusal → IsRefusedFor causes (Err fault) → option_map refusal_of (first_of causes) ≡ Some refusal
 refused_first causes fault refusal is refused = subst (λ f. IsRefusedFor causes (Err f)) is refused
 
-pub steps_refused : {S : Type 0} (g : Ghosts S) (s : S) (tables : Tables) (stmt : Stmt) (fault : BindFault) (refusal : Refusal) → are_built tables.catalog ≡ true → is_built stmt ≡ true
+pub steps_refused : {S : Type 0} (g : Ghosts S) (s : S) (tables : Tables) (stmt : Stmt) (fault : BindFault) (refusal : Refusal) → are_built tables.catalog ≡ true → is_built_step stmt ≡ true
     → fault ≡ bind_fault.Refused refusal → IsRefusedFor (in_order (judged_of tables.catalog stmt)) (Err fault) → IsReady g s tables → DoesStep g s s tables tables stmt (said.Refused refusal)
 steps_refused g s tables stmt fault refusal forms built is refused ready =
     let first : (cause : Cause) × (first_of (in_order (judged_of tables.catalog stmt)) ≡ Some cause) × (refusal_of cause ≡ refusal) = first_cause (in_order (judged_of tables.catalog stmt)) refusal

@@ -24,6 +24,7 @@ pub mod PuttingTuplesLemmas
 pub mod ReadRowsLemmas
 pub mod ReadyTablesLemmas
 pub mod ReloadingLemmas
+pub mod RestingLemmas
 pub mod RetryingLemmas
 pub mod RootLemmas
 pub mod SameWorkLemmas

@@ -1,6 +1,6 @@
 -- LIST BLOCKS on an engine: what it says of a table of ready pages, and that nothing changes.
 use Rattle.std.proofs.Common.{◌≡◌, ℕ, List, Option, Some, None, Result, Ok, Err, IsErrAnd, refl, sym, ap, subst, ◌∙◌}
-use Rattle.std.specs.Prelude.{if◌then◌else◌, false, true, is_some, length, option_and_then}
+use Rattle.std.specs.Prelude.{if◌then◌else◌, false, true, length, option_and_then, option_map}
 use Rattle.mdc_words.proofs.FaultsLemmas.{counts_fault_as, counts_fault_then}
 use Rattle.mdc_ast.specs.declared.definition.TableDef.{TableDef}
 use Rattle.mdc_ast.specs.declared.name.Name.{Name}
@@ -8,7 +8,9 @@ use Rattle.mdc_ast.specs.declared.reply.Outcome.{Outcome}
 use Rattle.mdc_ast.specs.declared.reply.Outcome.TheVariants as said
 use Rattle.mdc_ast.specs.declared.statement.Stmt.TheVariants.{ListBlocks}
 use Rattle.statement_meaning.specs.Cause.{NoTable, NotBuilt, refusal_of}
-use Rattle.statement_meaning.specs.Step.{Refused}
+use Rattle.statement_meaning.specs.Session.{AgreesWith, Session, listed, listed_of}
+use Rattle.statement_meaning.specs.Step.{Answer, Refused}
+use Rattle.mdc_ast.specs.Database.{defs_of}
 use Rattle.mdc_ast.specs.Definitions.{Definitions, def_at, def_named, place_of}
 use Rattle.store_api.specs.Frame.{NoPage}
 use Rattle.store_api.specs.RunsOverPages.{RunsOverPages}
@@ -26,16 +28,16 @@ use Rattle.table_trees.specs.TableTrees.{map_place}
 use Rattle.table_trees.specs.TreesBeside.{IsTreePageAt}
 use Rattle.table_trees.proofs.ToldPagesLemmas.{tree_of_told}
 use Rattle.mdc_sound.specs.StandingTable.{BreaksTable, StandsTable, TableForests, pages_of}
+use Rattle.mdc_sound.specs.StandsForDatabase.{rootless}
 use Rattle.mdc_table.specs.TableReading.{CountsBlocks}
 use Rattle.mdc_table.specs.declared.account.Account.{Account}
-use Rattle.row_checks.specs.Executing.{answer_of}
 use Rattle.statement_rows.specs.RowsOfStatement.{AnyPage}
 use Rattle.script_engine.specs.Breaking.{HoldsAtDamage, NamesExactly}
 use Rattle.script_engine.specs.Fetching.{FetchesForListing}
 use Rattle.script_engine.specs.Held.{HeldPages, KeepsBase, StandsForSession, StepsOnPages}
-use Rattle.script_engine.specs.Held.StepsOnPages.{lists, turns}
+use Rattle.script_engine.specs.Held.StepsOnPages.{turns}
 use Rattle.script_engine.specs.Leaving.{IsAllCommitted}
-use Rattle.script_engine.specs.Listing.{TellsBlocks, blocks_told}
+use Rattle.script_engine.specs.Listing.{PagesTell, TellsBlocks, blocks_told}
 use Rattle.statement_meaning.specs.Built.{are_built}
 use Rattle.script_engine.specs.Ready.{AreServed, BreaksDatabase, IsReady}
 use Rattle.script_engine.specs.Serving.{IsReadyEngine, MayCall, held_by}
@@ -45,7 +47,7 @@ use Rattle.script_engine.specs.Turns.{Executes, LeavesOutside}
 use Rattle.script_engine.specs.declared.engine.Engine.{Engine}
 use Rattle.script_engine.specs.declared.stop.EngineStop.{EngineStop}
 use Rattle.script_engine.specs.declared.tables.Tables.{Tables}
-use Rattle.script_engine.proofs.StoredDefsLemmas.{same_built, stored_defs}
+use Rattle.script_engine.proofs.StoredDefsLemmas.{def_named-without_roots, same_built, stored_defs, without_roots}
 use Rattle.script_engine.proofs.LeavingLemmas.{leaves_steady}
 use Rattle.script_engine.proofs.LeavingOthersLemmas.{leaves_others_still}
 use Rattle.script_engine.proofs.ScannedTablesLemmas.{StandsReady, stands_ready}
@@ -94,22 +96,30 @@ module _ {S : Type 0} (g : Ghosts S) (old : Engine S) (store : S) (name : Name) 
 
   module _ {fault : Option StoreFault} (runs : RunsOverPages g NoPage AnyPage (BreaksDatabase g old.store old.tables) old.store store fault) where
     still : held_by g new ≡ held_by g old
-    still = same_held (held_by g old) (held_by g new) runs.works.steady.base same refl refl
+    still = same_held (held_by g old) (held_by g new) runs.works.steady.base same refl refl (record { settings = refl; pass = refl })
 
     base_still : IsAllCommitted (held_by g old) → KeepsBase (held_by g old) (held_by g new)
     base_still all = record { closed = λ shut. runs.works.steady.base ∙ (all shut ∙ sym same); is_open = λ opened. runs.works.steady.base }
 
-    -- a name that no table has turns no session
-    absent_steps : (outcome : Outcome) → are_built old.tables.catalog ≡ true → def_named old.tables.catalog name ≡ None → outcome ≡ said.Refused (refusal_of (NoTable name)) → IsReadyEngine g old
+    -- what lists of rows answer to it, by the table of that name
+    listed_is : (session : Session) (found : Option TableDef) → are_built old.tables.catalog ≡ true → def_named old.tables.catalog name ≡ found
+        → defs_of session.working ≡ without_roots old.tables.catalog → listed (defs_of session.working) name ≡ listed_of name (option_map rootless found)
+    listed_is session found built named defs =
+        ap (λ b. if b then listed_of name (def_named (defs_of session.working) name) else Refused (refusal_of NotBuilt)) (same_built session.working old.tables.catalog defs built)
+        ∙ ap (listed_of name) (ap (λ d. def_named d name) defs ∙ (def_named-without_roots old.tables.catalog name ∙ ap (option_map rootless) named))
+
+    -- it turns no session, and its outcome agrees with that answer
+    list_turns : (outcome : Outcome) (found : Option TableDef) → are_built old.tables.catalog ≡ true → def_named old.tables.catalog name ≡ found
+        → AgreesWith (PagesTell (pages_of g old.store) old.tables.catalog (ListBlocks name)) (listed_of name (option_map rootless found)) outcome → IsReadyEngine g old
         → StepsOnPages old.tables.ext (held_by g old) (ListBlocks name) outcome (held_by g new)
-    absent_steps outcome built absent is ready = turns (ap is_some absent)
+    list_turns outcome found built named agrees ready = turns
         (λ session stands.
         let defs = stored_defs old.tables.ext (pages_of g old.store) old.tables.catalog session.working ready.work.stored stands.working in
         record {
           session = subst (λ (held : HeldPages). StandsForSession old.tables.ext held session) (sym still) stands;
-          answers = ap (λ b. Refused (refusal_of (if b then NoTable name else NotBuilt))) (same_built session.working old.tables.catalog defs built) ∙ ap answer_of (sym is);
+          answers = subst (λ (answer : Answer). AgreesWith (PagesTell (pages_of g old.store) old.tables.catalog (ListBlocks name)) answer outcome) (sym (listed_is session found built named defs)) agrees;
         })
-        (base_still ready.closed) same
+        (base_still ready.closed) still
         (leaves_others_still old.tables.ext (ListBlocks name) (held_by g old) (held_by g new) same refl) (λ refusal says. still)
         (λ done says place def changed at. absurd (cc))
 
@@ -119,8 +129,8 @@ module _ {S : Type 0} (g : Ghosts S) (old : Engine S) (store : S) (name : Name) 
     list_steps outcome built absent tells ready = go (def_named old.tables.catalog name) refl
       where
         go : (found : Option TableDef) → def_named old.tables.catalog name ≡ found → StepsOnPages old.tables.ext (held_by g old) (ListBlocks name) outcome (held_by g new)
-        go None named = absent_steps outcome built named (absent named) ready
-        go (Some def) named = lists name def refl named still (tells def named ready.work)
+        go None named = list_turns outcome None built named (absent named) ready
+        go (Some def) named = list_turns outcome (Some def) built named (def, named, tells def named ready.work) ready
 
   -- it was answered
   pub list_done : (outcome : Outcome) → MayCall g old → old.served ≡ true → RunsOverPages g NoPage AnyPage (BreaksDatabase g old.store old.tables) old.store store None
@@ -133,7 +143,7 @@ module _ {S : Type 0} (g : Ghosts S) (old : Engine S) (store : S) (name : Name) 
         steps = λ ready. (list_steps runs outcome (may.served served).built absent tells ready, ready_along g old store steady.is_told steady.base same ready);
         may = record { going = steady.ended ∙ may.going; unmarked = runs.works.marked ∙ may.unmarked; served = may.served };
         keeps = λ all. base_still runs all;
-        keeps_work = same;
+        keeps_work = still runs;
         controls = tt;
         built = λ was. was;
         leaves = λ ready. leaves_steady g (ListBlocks name) old new steady;
@@ -175,7 +185,7 @@ module _ {S : Type 0} (g : Ghosts S) (old : Engine S) (mid store : S) (tables : 
     work_anew = tried.reads.work ∙ same
 
     held_anew : held_by g anew ≡ held_by g old
-    held_anew = same_held (held_by g old) (held_by g anew) steady_anew.base work_anew tried.catalog refl
+    held_anew = same_held (held_by g old) (held_by g anew) steady_anew.base work_anew tried.catalog refl (record { settings = refl; pass = refl })
 
     outside_anew : LeavesOutside g result old anew
     outside_anew = outside_steady g result old anew steady_anew (counts_fault_then (runs.cause.device.still (λ is. absurd (cc))) tried.device) tried.output
@@ -192,7 +202,7 @@ module _ {S : Type 0} (g : Ghosts S) (old : Engine S) (mid store : S) (tables : 
           served = λ is. subst AreServed (sym tried.catalog) (may.served is);
         };
         keeps = λ all. record { closed = λ shut. steady.base ∙ (all shut ∙ sym (work_anew (Ok outcome) tried)); is_open = λ opened. steady.base };
-        keeps_work = work_anew (Ok outcome) tried;
+        keeps_work = held_anew (Ok outcome) tried;
         controls = tt;
         built = λ was. was ∙ ap are_built (sym tried.catalog);
         leaves = λ ready. absurd (unready ready);

@@ -22,6 +22,8 @@ use Rattle.script_engine.specs.Breaking.{NamesExactly, OnlyReads}
 use Rattle.script_engine.specs.NotedRooms.{AreForgotten}
 use Rattle.script_engine.specs.Opening.{IsSoundStore, KeepsPages}
 use Rattle.statement_meaning.specs.Built.{are_built}
+use Rattle.statement_meaning.specs.Session.{first_settings}
+use Rattle.statement_meaning.specs.declared.pass.Pass.TheVariants.{Idle}
 use Rattle.script_engine.specs.Serving.{IsReadyEngine, MayCall}
 use Rattle.script_engine.specs.Stops.{stop_of}
 use Rattle.script_engine.specs.declared.engine.Engine.{Engine}
@@ -54,7 +56,7 @@ module _ {S : Type 0} (g : Ghosts S) where
 
   -- the catalog was read into an engine
   module _ (ext : Extents) (old read : S) (engine : Engine S) (catalog : Definitions) (reads : OnlyReads g old read)
-      (is : engine ≡ record { store = read; tables = engine.tables; served = are_built catalog; is_open = false }) (has : engine.tables.catalog ≡ catalog) (limits : AreWithinLimits catalog) (differ : AllDefsDiffer catalog) where
+      (is : engine ≡ record { store = read; tables = engine.tables; served = are_built catalog; is_open = false; settings = first_settings; pass = Idle }) (has : engine.tables.catalog ≡ catalog) (limits : AreWithinLimits catalog) (differ : AllDefsDiffer catalog) where
     store_is : engine.store ≡ read
     store_is = ap (λ (e : Engine S). e.store) is
 

@@ -19,7 +19,7 @@ use Rattle.statement_meaning.specs.Doing.{causes_of_rows, effect}
 use Rattle.statement_meaning.specs.Judged.{column_limits, create_judged, dim_limits, judged_of, long_name}
 use Rattle.statement_meaning.specs.Judging.{Judged, in_order, on_table}
 use Rattle.statement_meaning.specs.Step.{Refused, faults, step, step_by}
-use Rattle.statement_meaning.specs.Built.{are_built, is_built, is_built_place, is_empty}
+use Rattle.statement_meaning.specs.Built.{are_built, is_built_step, is_built_place, is_empty}
 use Rattle.statement_meaning.proofs.DatabaseLemmas.{def_at-defs_of, def_of}
 use Rattle.mdc_ast.proofs.TestsLemmas.{some_is}
 use Rattle.extent_map.specs.declared.extents.Extents.{Extents}
@@ -168,12 +168,12 @@ pub same_built : (db : Database) (defs : Definitions) → defs_of db ≡ without
 same_built db defs same built = ap are_built same ∙ (built-without_roots defs ∙ built)
 
 -- where all tables are of built forms, so the form of the statement decides
-by_form : (db : Database) (stmt : Stmt) (causes : List Cause) → are_built (defs_of db) ≡ true → is_built stmt ≡ true → (if is_built stmt && are_built (defs_of db) then causes else NotBuilt ∷ []) ≡ causes
+by_form : (db : Database) (stmt : Stmt) (causes : List Cause) → are_built (defs_of db) ≡ true → is_built_step stmt ≡ true → (if is_built_step stmt && are_built (defs_of db) then causes else NotBuilt ∷ []) ≡ causes
 by_form db stmt causes tables form =
     ap (λ b. if b && are_built (defs_of db) then causes else NotBuilt ∷ []) form ∙ ap (λ b. if b then causes else NotBuilt ∷ []) tables
 
 -- a statement that nothing is said against is done as it is bound on the catalog
-pub step_is_done_on : (db : Database) (defs : Definitions) (stmt : Stmt) → defs_of db ≡ without_roots defs → are_built defs ≡ true → is_built stmt ≡ true → in_order (judged_of defs stmt) ≡ [] → step db stmt ≡ done db (bound_of defs stmt)
+pub step_is_done_on : (db : Database) (defs : Definitions) (stmt : Stmt) → defs_of db ≡ without_roots defs → are_built defs ≡ true → is_built_step stmt ≡ true → in_order (judged_of defs stmt) ≡ [] → step db stmt ≡ done db (bound_of defs stmt)
 step_is_done_on db defs stmt same tables built said =
     let rest : List Cause = causes_of_rows db (bound_of (defs_of db) stmt) in
     let does : Database × Reply = effect db (bound_of (defs_of db) stmt) in
@@ -182,7 +182,7 @@ step_is_done_on db defs stmt same tables built said =
     ∙ ap (done db) (same_bound db defs stmt same)
 
 -- and nothing is said against it where nothing is said by the rows
-pub none_said_on : (db : Database) (defs : Definitions) (stmt : Stmt) → defs_of db ≡ without_roots defs → are_built defs ≡ true → is_built stmt ≡ true → in_order (judged_of defs stmt) ≡ [] → causes_of_rows db (bound_of defs stmt) ≡ []
+pub none_said_on : (db : Database) (defs : Definitions) (stmt : Stmt) → defs_of db ≡ without_roots defs → are_built defs ≡ true → is_built_step stmt ≡ true → in_order (judged_of defs stmt) ≡ [] → causes_of_rows db (bound_of defs stmt) ≡ []
     → faults db stmt ≡ []
 none_said_on db defs stmt same tables built said unsaid =
     let rest : List Cause = causes_of_rows db (bound_of (defs_of db) stmt) in
@@ -196,7 +196,7 @@ first_decides db [] rest does cause e = cc
 first_decides db (first ∷ causes) rest does cause e = ap (λ c. (db, Refused (refusal_of c))) (some_is first cause e)
 
 -- one that something is said against is refused for what is said first
-pub step_refused_on : (db : Database) (defs : Definitions) (stmt : Stmt) (cause : Cause) → defs_of db ≡ without_roots defs → are_built defs ≡ true → is_built stmt ≡ true → first_of (in_order (judged_of defs stmt)) ≡ Some cause
+pub step_refused_on : (db : Database) (defs : Definitions) (stmt : Stmt) (cause : Cause) → defs_of db ≡ without_roots defs → are_built defs ≡ true → is_built_step stmt ≡ true → first_of (in_order (judged_of defs stmt)) ≡ Some cause
     → step db stmt ≡ (db, Refused (refusal_of cause))
 step_refused_on db defs stmt cause same tables built said =
     let rest : List Cause = causes_of_rows db (bound_of (defs_of db) stmt) in
@@ -205,7 +205,7 @@ step_refused_on db defs stmt cause same tables built said =
     ∙ first_decides db (in_order (judged_of (defs_of db) stmt)) rest does cause (ap first_of (same_said db defs stmt same) ∙ said)
 
 -- and a form that isn't built is answered so
-pub step_not_built : (db : Database) (stmt : Stmt) → is_built stmt ≡ false → step db stmt ≡ (db, Refused (refusal_of NotBuilt))
+pub step_not_built : (db : Database) (stmt : Stmt) → is_built_step stmt ≡ false → step db stmt ≡ (db, Refused (refusal_of NotBuilt))
 step_not_built db stmt built =
     let rest : List Cause = causes_of_rows db (bound_of (defs_of db) stmt) in
     let does : Database × Reply = effect db (bound_of (defs_of db) stmt) in

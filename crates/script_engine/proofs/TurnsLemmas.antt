@@ -15,6 +15,8 @@ use Rattle.mdc_ast.specs.Database.{Database}
 use Rattle.mdc_ast.specs.Definitions.{Definitions}
 use Rattle.statement_meaning.specs.Session.{Session, committed, is_refusal, rolled_back, stepped, turn}
 use Rattle.statement_meaning.specs.Step.{Answer, step}
+use Rattle.statement_meaning.specs.declared.pass.Pass.{Pass}
+use Rattle.statement_meaning.specs.declared.settings.Settings.{Settings}
 use Rattle.store_api.specs.Works.{Rests, Steady}
 use Rattle.store_api.specs.declared.fault.Damage.{Damage}
 use Rattle.store_api.specs.declared.pages.Pages.{Ghosts}
@@ -33,7 +35,7 @@ use Rattle.script_engine.specs.Doing.{DoesStep, LeavesAll, PlacesOnPages, Stands
 use Rattle.script_engine.specs.Held.{HeldPages, KeepsBase, KeepsWork, StandsForSession, StandsForTurn, StepsOnPages}
 use Rattle.script_engine.specs.Held.StepsOnPages.{full, turns}
 use Rattle.script_engine.specs.Leaving.{IsAllCommitted, MayBeLeft}
-use Rattle.script_engine.specs.Listing.{asks_blocks, is_listing}
+use Rattle.script_engine.specs.Listing.{is_listing}
 use Rattle.statement_meaning.specs.Built.{are_built}
 use Rattle.script_engine.specs.Ready.{AreServed, IsReady}
 use Rattle.script_engine.specs.Reloading.{Reloads}
@@ -58,13 +60,21 @@ use Rattle.script_engine.proofs.ShapeLemmas.{keeps_along, places_along, stands_f
 
 -- ---- what is held
 
-abbrev held_with : PageList → PageList → Definitions → Bool → HeldPages
-held_with base work defs is_open = record { base = base; work = work; defs = defs; open_ = is_open }
+abbrev held_with : PageList → PageList → Definitions → Bool → Settings → Pass → HeldPages
+held_with base work defs is_open settings pass = record { base = base; work = work; defs = defs; open_ = is_open; settings = settings; pass = pass }
 
-pub same_held : (old new : HeldPages) → new.base ≡ old.base → new.work ≡ old.work → new.defs ≡ old.defs → new.open_ ≡ old.open_ → new ≡ old
-same_held old new base work defs is_open =
-    ap (λ x. held_with x new.work new.defs new.open_) base
-    ∙ (ap (λ x. held_with old.base x new.defs new.open_) work ∙ (ap (λ x. held_with old.base old.work x new.open_) defs ∙ ap (λ x. held_with old.base old.work old.defs x) is_open))
+-- what a run is set to, and how far the pass is, stay
+pub record KeepsSettings (old new : HeldPages) : Type 0 where
+  pub settings : new.settings ≡ old.settings
+  pub pass : new.pass ≡ old.pass
+
+pub same_held : (old new : HeldPages) → new.base ≡ old.base → new.work ≡ old.work → new.defs ≡ old.defs → new.open_ ≡ old.open_ → KeepsSettings old new → new ≡ old
+same_held old new base work defs is_open set =
+    ap (λ x. held_with x new.work new.defs new.open_ new.settings new.pass) base
+    ∙ (ap (λ x. held_with old.base x new.defs new.open_ new.settings new.pass) work
+    ∙ (ap (λ x. held_with old.base old.work x new.open_ new.settings new.pass) defs
+    ∙ (ap (λ x. held_with old.base old.work old.defs x new.settings new.pass) is_open
+    ∙ (ap (λ x. held_with old.base old.work old.defs old.open_ x new.pass) set.settings ∙ ap (λ x. held_with old.base old.work old.defs old.open_ old.settings x) set.pass))))
 
 -- of two tests none holds
 neither : (a b : Bool) → (a || b) ≡ false → (a ≡ false) × (b ≡ false)
@@ -94,11 +104,6 @@ turn_other session statement.Rollback other changing = absurd (cc)
 turn_other session (statement.ListBlocks name) other changing = absurd (cc)
 turn_other session stmt other changing = refl
 
--- none of these asks for the blocks of a table
-asks_none : (defs : Definitions) (stmt : Stmt) → is_listing stmt ≡ false → asks_blocks defs stmt ≡ false
-asks_none defs (statement.ListBlocks name) changing = absurd (cc)
-asks_none defs stmt changing = refl
-
 -- any statement but BEGIN, COMMIT, ROLLBACK and LIST BLOCKS leaves the pages, where it is a query
 keeps_work : (old new : HeldPages) (stmt : Stmt) → control_of stmt ≡ control.Other → is_listing stmt ≡ false → (is_reading stmt ≡ true → new.work ≡ old.work) → KeepsWork stmt old new
 keeps_work old new statement.Begin other changing reads = absurd (cc)
@@ -114,29 +119,40 @@ kept_on : (ext : Extents) (base work : PageList) (kept db : Database) (is_open :
 kept_on ext base work kept db true stands on closed = on refl
 kept_on ext base work kept db false stands on closed = subst (λ (pages : PageList). PagesStandFor ext pages db) (sym (closed refl)) stands
 
--- pages that stand for the end of a step on a session's working database stand for the session behind it
-stands_stepped : (ext : Extents) (old new : HeldPages) (session : Session) (end_ : Database × Answer) (outcome : Outcome) → StandsForSession ext old session → KeepsBase old new → new.open_ ≡ old.open_
-    → StandsAfter ext new.work end_ outcome → StandsForTurn ext new (stepped session end_) outcome
-stands_stepped ext old new session (db, answer) outcome stands keeps is_open after = record {
-  session = record {
-    kept = kept_on ext new.base new.work session.kept db session.open_ after.pages_are
-        (λ opened. subst (λ (pages : PageList). PagesStandFor ext pages session.kept) (sym (keeps.is_open (is_open ∙ (sym stands.is_open ∙ opened)))) stands.kept)
-        (λ shut. keeps.closed (is_open ∙ (sym stands.is_open ∙ shut)));
-    working = after.pages_are;
-    is_open = stands.is_open ∙ sym is_open;
-  };
-  answers = after.answers;
-}
+-- pages that stand for the end of a step on a session's working database stand for the session behind it; a refusal changed nothing
+stands_stepped : (ext : Extents) (old new : HeldPages) (stmt : Stmt) (session : Session) (end_ : Database × Answer) (outcome : Outcome) → StandsForSession ext old session → KeepsBase old new → new.open_ ≡ old.open_
+    → KeepsSettings old new → ((refusal : Refusal) → outcome ≡ said.Refused refusal → new ≡ old) → StandsAfter ext new.work end_ outcome → StandsForTurn ext old stmt (stepped session end_) outcome new
+stands_stepped ext old new stmt session (db, answer) (said.Done reply) stands keeps is_open set refused after =
+    subst (λ (a : Answer). StandsForTurn ext old stmt (stepped session (db, a)) (said.Done reply) new) (sym after.answers) (record {
+      session = record {
+        kept = kept_on ext new.base new.work session.kept db session.open_ after.pages_are
+            (λ opened. subst (λ (pages : PageList). PagesStandFor ext pages session.kept) (sym (keeps.is_open (is_open ∙ (sym stands.is_open ∙ opened)))) stands.kept)
+            (λ shut. keeps.closed (is_open ∙ (sym stands.is_open ∙ shut)));
+        working = after.pages_are;
+        is_open = stands.is_open ∙ sym is_open;
+        settings = stands.settings ∙ sym set.settings;
+        pass = stands.pass ∙ sym set.pass;
+      };
+      answers = refl;
+    })
+stands_stepped ext old new stmt session (db, answer) (said.Refused refusal) stands keeps is_open set refused after =
+    subst (λ (a : Answer). StandsForTurn ext old stmt (stepped session (db, a)) (said.Refused refusal) new) (sym after.answers) (record {
+      session = subst (λ (held : HeldPages). StandsForSession ext held session) (sym (refused refusal refl)) stands;
+      answers = refl;
+    })
 
 -- a COMMIT makes the pages those of the last commit
-commit_steps : (ext : Extents) (old new : HeldPages) → old.open_ ≡ true → new.open_ ≡ false → new.base ≡ old.work → new.work ≡ old.work → new.defs ≡ old.defs → StepsOnPages ext old statement.Commit (said.Done reply.Done) new
-commit_steps ext old new is_open shut base work defs = turns refl
+commit_steps : (ext : Extents) (old new : HeldPages) → old.open_ ≡ true → new.open_ ≡ false → new.base ≡ old.work → new.work ≡ old.work → new.defs ≡ old.defs → KeepsSettings old new
+    → StepsOnPages ext old statement.Commit (said.Done reply.Done) new
+commit_steps ext old new is_open shut base work defs set = turns
     (λ session stands.
-    subst (λ (b : Bool). StandsForTurn ext new (committed session b) (said.Done reply.Done)) (sym (stands.is_open ∙ is_open)) (record {
+    subst (λ (b : Bool). StandsForTurn ext old statement.Commit (committed session b) (said.Done reply.Done) new) (sym (stands.is_open ∙ is_open)) (record {
       session = record {
         kept = subst (λ (pages : PageList). PagesStandFor ext pages session.working) (sym base) stands.working;
         working = subst (λ (pages : PageList). PagesStandFor ext pages session.working) (sym work) stands.working;
         is_open = sym shut;
+        settings = stands.settings ∙ sym set.settings;
+        pass = stands.pass ∙ sym set.pass;
       };
       answers = refl;
     }))
@@ -144,12 +160,16 @@ commit_steps ext old new is_open shut base work defs = turns refl
     (leaves_others_still ext statement.Commit old new work defs) (λ refusal is. absurd (cc))
     (λ done says place def changed at. absurd (cc))
 
+-- by these two
+abbrev same_settings : {old new : HeldPages} → new.settings ≡ old.settings → new.pass ≡ old.pass → KeepsSettings old new
+same_settings settings pass = record { settings = settings; pass = pass }
+
 module _ {S : Type 0} (g : Ghosts S) where
   -- a step on pages, from what it does to the work and what becomes of the base
   steps_done : (old : Engine S) (new : HeldPages) (mid : S) (now : Tables) (stmt : Stmt) (outcome : Outcome) → control_of stmt ≡ control.Other → is_listing stmt ≡ false → DoesStep g old.store mid old.tables now stmt outcome
-      → new.work ≡ pages_of g mid → new.defs ≡ now.catalog → KeepsBase (held_by g old) new → (is_reading stmt ≡ true → pages_of g mid ≡ pages_of g old.store) → new.open_ ≡ old.is_open → IsSameShape old.tables.ext now.ext
+      → new.work ≡ pages_of g mid → new.defs ≡ now.catalog → KeepsBase (held_by g old) new → (is_reading stmt ≡ true → pages_of g mid ≡ pages_of g old.store) → new.open_ ≡ old.is_open → KeepsSettings (held_by g old) new → IsSameShape old.tables.ext now.ext
       → ((refusal : Refusal) → outcome ≡ said.Refused refusal → new ≡ held_by g old) → StepsOnPages old.tables.ext (held_by g old) stmt outcome new
-  steps_done old new mid now stmt outcome other changing does work defs keeps reads is_open shape refused = turns (asks_none old.tables.catalog stmt changing)
+  steps_done old new mid now stmt outcome other changing does work defs keeps reads is_open set shape refused = turns
       (λ session stands.
       let after = does.stands session.working stands.working in
       let here : StandsAfter old.tables.ext new.work (step session.working stmt) outcome =
@@ -158,8 +178,8 @@ module _ {S : Type 0} (g : Ghosts S) where
             (stands_for_along now.ext old.tables.ext (pages_of g mid) (step session.working stmt).0 (record { cap = sym shape.cap; extent_pages = sym shape.extent_pages }) after.pages_are);
         answers = after.answers;
       } in
-      subst (λ (end_ : Session × Answer). StandsForTurn old.tables.ext new end_ outcome) (sym (turn_other session stmt other changing))
-      (stands_stepped old.tables.ext (held_by g old) new session (step session.working stmt) outcome stands keeps is_open here))
+      subst (λ (end_ : Session × Answer). StandsForTurn old.tables.ext (held_by g old) stmt end_ outcome new) (sym (turn_other session stmt other changing))
+      (stands_stepped old.tables.ext (held_by g old) new stmt session (step session.working stmt) outcome stands keeps is_open set refused here))
       keeps (keeps_work (held_by g old) new stmt other changing (λ is. work ∙ reads is))
       (leaves_others_done g old new mid now stmt outcome shape work defs does) refused
       (λ reply done place def changed at.
@@ -304,7 +324,7 @@ module _ {S : Type 0} (g : Ghosts S) where
   work_left : (old : Engine S) → MayCall g old → old.is_open ≡ true → IsReadyEngine g old → MayBeLeft old.tables.ext (held_by g old) statement.Commit (g.state old.store).work
   work_left old may is_open ready =
       let work = (g.state old.store).work in
-      MayBeLeft.after (said.Done reply.Done) (held_with work work old.tables.catalog false) (commit_steps old.tables.ext (held_by g old) (held_with work work old.tables.catalog false) is_open refl refl refl refl) refl refl
+      MayBeLeft.after (said.Done reply.Done) (held_with work work old.tables.catalog false old.settings old.pass) (commit_steps old.tables.ext (held_by g old) (held_with work work old.tables.catalog false old.settings old.pass) is_open refl refl refl refl (same_settings refl refl)) refl refl
       (ready.work.view, ready.work.sound) ready.work.stored (built_defs old.tables.catalog (may.served ready.served))
 
   -- a commit that found another count of pages committed nothing
@@ -334,7 +354,7 @@ module _ {S : Type 0} (g : Ghosts S) where
   commit_done old store may is_open commits rests =
       let new : Engine S = record old { store = store; is_open = false } in
       record {
-        steps = λ ready. (commit_steps old.tables.ext (held_by g old) (held_by g new) is_open refl commits.base commits.work refl, ready_committed old new old.store old.tables ready.work (may.served ready.served) ready.served refl commits);
+        steps = λ ready. (commit_steps old.tables.ext (held_by g old) (held_by g new) is_open refl commits.base commits.work refl (same_settings refl refl), ready_committed old new old.store old.tables ready.work (may.served ready.served) ready.served refl commits);
         may = record { going = commits.going; unmarked = commits.unmarked; served = may.served };
         keeps = λ all. record { closed = λ shut. commits.base ∙ sym commits.work; is_open = λ opened. absurd (cc) };
         keeps_work = commits.work;
@@ -372,16 +392,18 @@ module _ {S : Type 0} (g : Ghosts S) where
       (λ ready. leaves_steady g statement.Rollback old new reloads.steady) reloads.shape (outside_steady (Err stop) old new reloads.steady reloads.device reloads.output)
 
   roll_back_steps : (old : Engine S) (store : S) (tables : Tables) (served : Bool) → old.is_open ≡ true → Reloads g (Ok served) old.store store old.tables tables
-      → StepsOnPages old.tables.ext (held_by g old) statement.Rollback (said.Done reply.Done) (held_by g (record { store = store; tables = tables; served = served; is_open = false }))
+      → StepsOnPages old.tables.ext (held_by g old) statement.Rollback (said.Done reply.Done) (held_by g (record old { store = store; tables = tables; served = served; is_open = false }))
   roll_back_steps old store tables served is_open reloads =
-      let new : Engine S = record { store = store; tables = tables; served = served; is_open = false } in
-      turns refl
+      let new : Engine S = record old { store = store; tables = tables; served = served; is_open = false } in
+      turns
       (λ session stands.
-      subst (λ (b : Bool). StandsForTurn old.tables.ext (held_by g new) (rolled_back session b) (said.Done reply.Done)) (sym (stands.is_open ∙ is_open)) (record {
+      subst (λ (b : Bool). StandsForTurn old.tables.ext (held_by g old) statement.Rollback (rolled_back session b) (said.Done reply.Done) (held_by g new)) (sym (stands.is_open ∙ is_open)) (record {
         session = record {
           kept = subst (λ (pages : PageList). PagesStandFor old.tables.ext pages session.kept) (sym reloads.steady.base) stands.kept;
           working = subst (λ (pages : PageList). PagesStandFor old.tables.ext pages session.kept) (sym reloads.work) stands.kept;
           is_open = refl;
+          settings = stands.settings;
+          pass = stands.pass;
         };
         answers = refl;
       }))
@@ -389,7 +411,7 @@ module _ {S : Type 0} (g : Ghosts S) where
       (λ done says place def changed at. absurd (cc))
 
   ready_reloaded : (old : Engine S) (store : S) (tables : Tables) (served : Bool) → Reloads g (Ok served) old.store store old.tables tables → IsReadyEngine g old
-      → IsReadyEngine g (record { store = store; tables = tables; served = served; is_open = false })
+      → IsReadyEngine g (record old { store = store; tables = tables; served = served; is_open = false })
   ready_reloaded old store tables served reloads ready =
       let base_kept = reloads.steady.base in
       let is_told = subst IsTrue (sym reloads.steady.is_told) ready.work.told in
@@ -410,9 +432,9 @@ module _ {S : Type 0} (g : Ghosts S) where
       }
 
   pub rolled_back_done : (old : Engine S) (store : S) (tables : Tables) (served : Bool) → MayCall g old → old.is_open ≡ true → Reloads g (Ok served) old.store store old.tables tables
-      → Executes g statement.Rollback (Ok (said.Done reply.Done)) old (record { store = store; tables = tables; served = served; is_open = false })
+      → Executes g statement.Rollback (Ok (said.Done reply.Done)) old (record old { store = store; tables = tables; served = served; is_open = false })
   rolled_back_done old store tables served may is_open reloads =
-      let new : Engine S = record { store = store; tables = tables; served = served; is_open = false } in
+      let new : Engine S = record old { store = store; tables = tables; served = served; is_open = false } in
       record {
         steps = λ ready. (roll_back_steps old store tables served is_open reloads, ready_reloaded old store tables served reloads ready);
         may = record {
@@ -440,7 +462,7 @@ module _ {S : Type 0} (g : Ghosts S) where
   -- ---- any other statement
 
   held_left : (old : Engine S) (store : S) (tables : Tables) → Steady g old.store store → LeavesAll g old.store store old.tables tables → held_by g (record old { store = store; tables = tables }) ≡ held_by g old
-  held_left old store tables steady leaves = same_held (held_by g old) (held_by g (record old { store = store; tables = tables })) steady.base leaves.pages leaves.catalog refl
+  held_left old store tables steady leaves = same_held (held_by g old) (held_by g (record old { store = store; tables = tables })) steady.base leaves.pages leaves.catalog refl (same_settings refl refl)
 
   -- where no transaction is open, only a refusal isn't committed
   base_tried : (old : Engine S) (store : S) (tables : Tables) (stmt : Stmt) (outcome : Outcome) → IsAllCommitted (held_by g old) → TriesStep g stmt (Ok outcome) old.store store old.tables tables
@@ -455,7 +477,7 @@ module _ {S : Type 0} (g : Ghosts S) where
       → DoesStep g old.store store old.tables tables stmt outcome ⊎ IsRefusedFull g old.store store old.tables tables stmt outcome
       → StepsOnPages old.tables.ext (held_by g old) stmt outcome (held_by g (record old { store = store; tables = tables }))
   kept_steps old store tables stmt outcome other changing ready tries kept (inl does) =
-      steps_done old (held_by g (record old { store = store; tables = tables })) store tables stmt outcome other changing does refl refl (base_tried old store tables stmt outcome ready.closed tries kept) tries.reads refl tries.shape
+      steps_done old (held_by g (record old { store = store; tables = tables })) store tables stmt outcome other changing does refl refl (base_tried old store tables stmt outcome ready.closed tries kept) tries.reads refl (same_settings refl refl) tries.shape
       (λ refusal is. held_left old store tables tries.steady (tries.refused refusal (ap Ok is)))
   kept_steps old store tables stmt outcome other changing ready tries kept (inr refused) = full refused.says (held_left old store tables tries.steady refused.leaves) refused.full.full (λ session stands. refused.full.faultless session.working stands.working)
 
@@ -510,13 +532,13 @@ module _ {S : Type 0} (g : Ghosts S) where
 
   -- a statement that was done, whose pages are committed
   committed_steps : (old : Engine S) (new : HeldPages) (mid : S) (tables : Tables) (stmt : Stmt) (outcome : Outcome) → control_of stmt ≡ control.Other → is_listing stmt ≡ false → is_refusal outcome ≡ false → old.is_open ≡ false → new.open_ ≡ false
-      → new.base ≡ pages_of g mid → new.work ≡ pages_of g mid → new.defs ≡ tables.catalog → TriesStep g stmt (Ok outcome) old.store mid old.tables tables
+      → new.base ≡ pages_of g mid → new.work ≡ pages_of g mid → new.defs ≡ tables.catalog → KeepsSettings (held_by g old) new → TriesStep g stmt (Ok outcome) old.store mid old.tables tables
       → DoesStep g old.store mid old.tables tables stmt outcome ⊎ IsRefusedFull g old.store mid old.tables tables stmt outcome → StepsOnPages old.tables.ext (held_by g old) stmt outcome new
-  committed_steps old new mid tables stmt outcome other changing done shut still base work defs tries (inl does) =
+  committed_steps old new mid tables stmt outcome other changing done shut still base work defs set tries (inl does) =
       steps_done old new mid tables stmt outcome other changing does work defs
-      (record { closed = λ closed. base ∙ sym work; is_open = λ opened. let wrong : true ≡ false = sym opened ∙ still in absurd (cc) }) tries.reads (still ∙ sym shut) tries.shape
+      (record { closed = λ closed. base ∙ sym work; is_open = λ opened. let wrong : true ≡ false = sym opened ∙ still in absurd (cc) }) tries.reads (still ∙ sym shut) set tries.shape
       (λ refusal is. absurd (not_done outcome refusal done is))
-  committed_steps old new mid tables stmt outcome other changing done shut still base work defs tries (inr refused) =
+  committed_steps old new mid tables stmt outcome other changing done shut still base work defs set tries (inr refused) =
       let wrong : true ≡ false = sym (ap is_refusal refused.says) ∙ done in absurd (cc)
 
   -- the pages that it makes those of the last commit
@@ -525,8 +547,8 @@ module _ {S : Type 0} (g : Ghosts S) where
   made_left old mid tables stmt outcome other changing done shut tries ready =
       let work = (g.state mid).work in
       let now = ready_tried old.store mid old.tables tables stmt outcome (tries.does ready.work) in
-      MayBeLeft.after outcome (held_with work work tables.catalog false)
-      (committed_steps old (held_with work work tables.catalog false) mid tables stmt outcome other changing done shut refl refl refl refl tries (tries.does ready.work)) refl refl
+      MayBeLeft.after outcome (held_with work work tables.catalog false old.settings old.pass)
+      (committed_steps old (held_with work work tables.catalog false old.settings old.pass) mid tables stmt outcome other changing done shut refl refl refl refl (same_settings refl refl) tries (tries.does ready.work)) refl refl
       (now.view, keeps_along tables.ext old.tables.ext work now.view (record { cap = sym tries.shape.cap; extent_pages = sym tries.shape.extent_pages }) now.sound) now.stored (built_defs tables.catalog tries.served)
 
   pub change_committed : (old : Engine S) (mid store : S) (tables : Tables) (stmt : Stmt) (outcome : Outcome) → MayCall g old → old.served ≡ true → control_of stmt ≡ control.Other → is_listing stmt ≡ false
@@ -539,7 +561,7 @@ module _ {S : Type 0} (g : Ghosts S) where
       let still : g.disk_faults mid ≡ g.disk_faults old.store = tries.device.still (λ is. absurd (cc)) in
       record {
         steps = λ ready. (
-          committed_steps old (held_by g new) mid tables stmt outcome other changing done shut shut commits.base commits.work refl tries (tries.does ready.work),
+          committed_steps old (held_by g new) mid tables stmt outcome other changing done shut shut commits.base commits.work refl (same_settings refl refl) tries (tries.does ready.work),
           ready_committed old new mid tables (ready_tried old.store mid old.tables tables stmt outcome (tries.does ready.work)) tries.served served refl commits,
         );
         may = record { going = commits.going; unmarked = commits.unmarked; served = λ is. tries.served };

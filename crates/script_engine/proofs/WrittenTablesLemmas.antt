@@ -20,7 +20,7 @@ use Rattle.mdc_ast.specs.Definitions.{AllPlacesDiffer, Definitions, IsShort, are
 use Rattle.mdc_ast.specs.ValidDatabase.{IsValidDef}
 use Rattle.statement_meaning.specs.Judged.{create_judged, judged_of, targets}
 use Rattle.statement_meaning.specs.Judging.{in_order}
-use Rattle.statement_meaning.specs.Built.{is_built}
+use Rattle.statement_meaning.specs.Built.{is_built_step}
 use Rattle.statement_meaning.proofs.CreateLemmas.{created_is_valid, none_made}
 use Rattle.mdc_ast.proofs.DefinitionsLemmas.{neither}
 use Rattle.statement_meaning.proofs.KeepingLemmas.{IsFaultless, is_faultless}
@@ -158,7 +158,7 @@ none_made_on defs name bind each = by_place (place_of defs name)
     by_place (Some place) = each place
 
 -- a CREATE TABLE that is written, is built, and against which nothing is said, makes a new table
-pub written_is_new : (defs : Definitions) (stmt : Stmt) → IsWritten stmt → is_built stmt ≡ true → in_order (judged_of defs stmt) ≡ [] → IsNewIfMade (bound_of defs stmt)
+pub written_is_new : (defs : Definitions) (stmt : Stmt) → IsWritten stmt → is_built_step stmt ≡ true → in_order (judged_of defs stmt) ≡ [] → IsNewIfMade (bound_of defs stmt)
 written_is_new defs (stmt.CreateTable name columns dims) written built said =
     new_table defs name columns dims (item_table written.0 (Statement (stmt.CreateTable name columns dims)) (stmt.CreateTable name columns dims) written.1 refl) said
 written_is_new defs (stmt.DropTable name) written built said = none_made_on defs name (λ place columns. bound.DropTable place) (λ place. tt)

@@ -9,7 +9,7 @@ use Rattle.statement_meaning.specs.Binding.{bound_of}
 use Rattle.mdc_ast.specs.Definitions.{Definitions}
 use Rattle.statement_meaning.specs.Judged.{judged_of}
 use Rattle.statement_meaning.specs.Judging.{in_order}
-use Rattle.statement_meaning.specs.Built.{is_built}
+use Rattle.statement_meaning.specs.Built.{is_built_step}
 use Rattle.row_checks.specs.Served.{IsServed}
 use Rattle.stored_catalog.specs.NewTables.{IsNewTableDef}
 
@@ -32,6 +32,6 @@ pub record MayBeExecuted (defs : Definitions) (statement : Bound) : Type 0 where
 
 -- a statement of a form that is built, against which the definitions say nothing, is bound to this
 pub record IsBoundOn (defs : Definitions) (stmt : Stmt) (statement : Bound) : Type 0 where
-  pub built : is_built stmt ≡ true
+  pub built : is_built_step stmt ≡ true
   pub said : in_order (judged_of defs stmt) ≡ []
   pub is : statement ≡ bound_of defs stmt

@@ -2,6 +2,7 @@
 use Rattle.std.specs.Prelude.{◌≡◌, ◌⊎◌, List, [], ◌∷◌, Some, false, true, IfSome, IsTrue, OnOk, IsErrOf, Result, Err}
 use Rattle.mdc_words.specs.Faults.{CountsFault}
 use Rattle.mdc_words.specs.Time.{OverTime}
+use Rattle.statement_meaning.specs.Built.{AreBuiltDefs}
 use Rattle.statement_meaning.specs.Session.{Session, rested}
 use Rattle.store_api.specs.Moments.{Outcomes}
 use Rattle.store_api.specs.StoreState.{StoreState}
@@ -26,7 +27,7 @@ use Rattle.script_engine.specs.declared.stop.EngineStop.TheVariants.{Damaged, De
 -- ---- the chain
 
 -- A step where no transaction is open: its pages are sound and committed, and stand for every session that those before stood for,
--- but for how far the pass is. Definitions and settings stay.
+-- but for how far the pass is. Definitions, which are of built forms, and settings stay.
 pub record RestsOnce (ext : Extents) (old new : HeldPages) : Type 0 where
   pub was_shut : old.open_ ≡ false
   pub is_shut : new.open_ ≡ false
@@ -35,6 +36,7 @@ pub record RestsOnce (ext : Extents) (old new : HeldPages) : Type 0 where
   pub stands : (session : Session) → StandsForSession ext old session → StandsForSession ext new (rested session new.pass)
   pub defs : new.defs ≡ old.defs
   pub stored : AreStored new.work new.defs
+  pub valid : AreBuiltDefs new.defs
   pub settings : new.settings ≡ old.settings
 
 -- steps, each from where the one before ends, behind which this is held

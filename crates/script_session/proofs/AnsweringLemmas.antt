@@ -13,7 +13,8 @@ use Rattle.mdc_ast.specs.declared.statement.Stmt.TheVariants as statement
 use Rattle.statement_meaning.specs.Binding.{bound_of}
 use Rattle.mdc_ast.specs.Database.{Database}
 use Rattle.mdc_ast.specs.Definitions.{Definitions}
-use Rattle.statement_meaning.specs.Session.{Session, first_settings, turn}
+use Rattle.statement_meaning.specs.Session.{Session, stepped, turn}
+use Rattle.statement_meaning.specs.Step.{Answer, Refused, Replied, ToldByPages, step}
 use Rattle.store_api.specs.Calls.{TellsPart, continued}
 use Rattle.store_api.specs.Moments.{BaseOrNow}
 use Rattle.store_api.specs.StoreState.{StoreState}
@@ -43,20 +44,25 @@ SoundPagesStand = (ext : Extents) (pages : PageList) → IsSoundDatabase ext pag
 begin_not_full : (ext : Extents) (work : PageList) (defs : Definitions) → StatementRunsFull ext work defs bound.Begin → ⊥
 begin_not_full ext work defs full = elim full [ ]
 
--- a statement that runs full leaves open what was open
+-- a step leaves open what was open
+stepped_open : (session : Session) (end_ : Database × Answer) → (stepped session end_).0.open_ ≡ session.open_
+stepped_open session (db, Replied reply) = refl
+stepped_open session (db, Refused refusal) = refl
+stepped_open session (db, ToldByPages) = refl
+
+-- so does a statement that runs full
 full_keeps_open : (ext : Extents) (work : PageList) (defs : Definitions) (session : Session) (stmt : Stmt) → StatementRunsFull ext work defs (bound_of defs stmt)
     → (turn session stmt).0.open_ ≡ session.open_
 full_keeps_open ext work defs session statement.Begin full = absurd (begin_not_full ext work defs full)
 full_keeps_open ext work defs session statement.Commit full = absurd (begin_not_full ext work defs full)
 full_keeps_open ext work defs session statement.Rollback full = absurd (begin_not_full ext work defs full)
-full_keeps_open ext work defs session stmt full = refl
+full_keeps_open ext work defs session (statement.ListBlocks name) full = refl
+full_keeps_open ext work defs session stmt full = stepped_open session (step session.working stmt)
 
 -- a step leaves a transaction open where the turn of a session does that the pages stand for
 open_after : (ext : Extents) (old new : HeldPages) (stmt : Stmt) (outcome : Outcome) (session : Session) → StandsForSession ext old session → StepsOnPages ext old stmt outcome new
     → new.open_ ≡ (turn session stmt).0.open_
-open_after ext old new stmt outcome session stands (StepsOnPages.turns apart turns base work others refused places) = sym (turns session stands).session.is_open
-open_after ext old new stmt outcome session stands (StepsOnPages.lists name def is found same tells) =
-    ap (λ held. held.open_) same ∙ (sym stands.is_open ∙ sym (ap (λ s. (turn session s).0.open_) is))
+open_after ext old new stmt outcome session stands (StepsOnPages.turns turns base work others refused places) = sym (turns session stands).session.is_open
 open_after ext old new stmt outcome session stands (StepsOnPages.full says same full faultless) =
     ap (λ held. held.open_) same ∙ (sym stands.is_open ∙ sym (full_keeps_open ext old.work old.defs session stmt full))
 
@@ -65,8 +71,8 @@ ready_session : {S : Type 0} (g : Ghosts S) (engine : Engine S) → SoundPagesSt
 ready_session g engine law ready =
     let base = law engine.tables.ext (g.state engine.store).base (ready.base_view, ready.base_sound) in
     let work = law engine.tables.ext (g.state engine.store).work (ready.work.view, ready.work.sound) in (
-      record { kept = base.0; working = work.0; open_ = engine.is_open; settings = first_settings },
-      record { kept = base.1; working = work.1; is_open = refl },
+      record { kept = base.0; working = work.0; open_ = engine.is_open; settings = engine.settings; pass = engine.pass },
+      record { kept = base.1; working = work.1; is_open = refl; settings = refl; pass = refl },
     )
 
 -- ---- what a crash leaves of a statement that was answered

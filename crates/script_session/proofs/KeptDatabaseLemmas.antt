@@ -7,37 +7,42 @@ use Rattle.statement_meaning.specs.Session.{Session}
 use Rattle.extent_map.specs.declared.extents.Extents.{Extents}
 use Rattle.table_trees.specs.ToldPages.{PageList}
 use Rattle.mdc_sound.specs.StandsForDatabase.{PagesStandFor}
-use Rattle.stored_catalog.specs.StoredDefinitions.{AreStored}
 use Rattle.script_engine.specs.Held.{HeldPages, StandsForSession}
-use Rattle.script_session.specs.Going.{GoesOnPages, held_after, held_last}
+use Rattle.script_session.specs.Going.{IsHeldIn, Stage, held_last, stage_after, still}
 use Rattle.script_session.specs.Leaving.{AreKept}
 use Rattle.script_session.specs.Lists.{GoesOnLists, IsKeptDatabase, session_at, session_last}
 use Rattle.script_session.proofs.ListsLemmas.{statement_meets}
 
--- what is held after some of the items stands for the session after these
-stands_at : {ext : Extents} {held : HeldPages} {session : Session} {items : List Item} {outcomes : List Outcome} {states : List HeldPages} {sessions : List Session}
-    → GoesOnLists ext held session items outcomes states sessions → (n : ℕ) → StandsForSession ext (held_after held states n) (session_at session sessions n)
-stands_at (GoesOnLists.nothing stands) n = stands
-stands_at (GoesOnLists.one stands meets goes) zero = stands
-stands_at (GoesOnLists.one stands meets goes) (suc n) = stands_at goes n
-
--- what is held after all of them stands for the last session
-stands_last : {ext : Extents} {held : HeldPages} {session : Session} {items : List Item} {outcomes : List Outcome} {states : List HeldPages} {sessions : List Session}
-    → GoesOnLists ext held session items outcomes states sessions → StandsForSession ext (held_last held states) (session_last session sessions)
+-- what is held after all of the items stands for the last session
+stands_last : {ext : Extents} {held : HeldPages} {session : Session} {items : List Item} {outcomes : List Outcome} {stages : List Stage} {sessions : List Session}
+    → GoesOnLists ext held session items outcomes stages sessions → StandsForSession ext (held_last held stages) (session_last session sessions)
 stands_last (GoesOnLists.nothing stands) = stands
-stands_last (GoesOnLists.one stands meets goes) = stands_last goes
+stands_last (GoesOnLists.one stands meets within after goes) = stands_last goes
 
--- each state has its session
-length-sessions : {ext : Extents} {held : HeldPages} {session : Session} {items : List Item} {outcomes : List Outcome} {states : List HeldPages} {sessions : List Session}
-    → GoesOnLists ext held session items outcomes states sessions → length sessions ≡ length states
+-- the pages of the last commit that is held within a stage stand for what the session keeps
+pub KeepsStage : Extents → Stage → Session → Type 0
+KeepsStage ext stage session = (within : HeldPages) → IsHeldIn stage within → PagesStandFor ext within.base session.kept
+
+-- what is held after some of the items stands so for the session after these, where what is held before them all does
+keeps_at : {ext : Extents} {held : HeldPages} {session : Session} {items : List Item} {outcomes : List Outcome} {stages : List Stage} {sessions : List Session} (first : Stage)
+    → GoesOnLists ext held session items outcomes stages sessions → KeepsStage ext first session → (n : ℕ) → KeepsStage ext (stage_after first stages n) (session_at session sessions n)
+unfolding KeepsStage
+keeps_at first (GoesOnLists.nothing stands) keeps n = keeps
+keeps_at first (GoesOnLists.one stands meets within after goes) keeps zero = keeps
+keeps_at {ext} first (GoesOnLists.one {stage = stage} stands meets within after goes) keeps (suc n) =
+    keeps_at stage goes (λ held is. subst (λ (s : Session). PagesStandFor ext held.base s.kept) (sym after) (within held is).kept) n
+
+-- each stage has its session
+length-sessions : {ext : Extents} {held : HeldPages} {session : Session} {items : List Item} {outcomes : List Outcome} {stages : List Stage} {sessions : List Session}
+    → GoesOnLists ext held session items outcomes stages sessions → length sessions ≡ length stages
 length-sessions (GoesOnLists.nothing stands) = refl
-length-sessions (GoesOnLists.one stands meets goes) = omega (arith, length-sessions goes)
+length-sessions (GoesOnLists.one stands meets within after goes) = omega (arith, length-sessions goes)
 
--- the definitions that are held at the end are those of the pages
-stored_last : {ext : Extents} {held : HeldPages} {items : List Item} {outcomes : List Outcome} {states : List HeldPages}
-    → GoesOnPages ext held items outcomes states → AreStored held.work held.defs → AreStored (held_last held states).work (held_last held states).defs
-stored_last GoesOnPages.nothing stored = stored
-stored_last (GoesOnPages.one met goes) stored = stored_last goes met.stored
+-- what is held at the start stands for the session there
+stands_first : {ext : Extents} {held : HeldPages} {session : Session} {items : List Item} {outcomes : List Outcome} {stages : List Stage} {sessions : List Session}
+    → GoesOnLists ext held session items outcomes stages sessions → StandsForSession ext held session
+stands_first (GoesOnLists.nothing stands) = stands
+stands_first (GoesOnLists.one stands meets within after goes) = stands
 
 -- pages stand for a database that a run over lists keeps after so many items
 pub record StandForKept (ext : Extents) (session : Session) (sessions : List Session) (in_hand : List Item) (pages : PageList) (items : ℕ) : Type 0 where
@@ -46,18 +51,19 @@ pub record StandForKept (ext : Extents) (session : Session) (sessions : List Ses
   pub stand : PagesStandFor ext pages db
 
 -- so the pages of the last commit do after so many items
-pub kept_stand : {ext : Extents} {held : HeldPages} {session : Session} {items : List Item} {outcomes : List Outcome} {states : List HeldPages} {sessions : List Session} {in_hand : List Item} {pages : PageList} {n : ℕ}
-    → GoesOnPages ext held items outcomes states → AreStored held.work held.defs → GoesOnLists ext held session items outcomes states sessions
-    → AreKept ext held states in_hand pages n → StandForKept ext session sessions in_hand pages n
-kept_stand {ext} {held} {session} {states = states} {sessions = sessions} {n = n} goes stored lists (AreKept.done few same) =
+pub kept_stand : {ext : Extents} {held : HeldPages} {session : Session} {items : List Item} {outcomes : List Outcome} {stages : List Stage} {sessions : List Session} {in_hand : List Item} {pages : PageList} {n : ℕ}
+    → GoesOnLists ext held session items outcomes stages sessions → AreKept ext held stages in_hand pages n → StandForKept ext session sessions in_hand pages n
+unfolding KeepsStage
+kept_stand {ext} {held} {session} {stages = stages} {sessions = sessions} {n = n} lists (AreKept.done few within is same) =
     let db = (session_at session sessions n).kept in
+    let first = λ (at : HeldPages) at_is. subst (λ (h : HeldPages). PagesStandFor ext h.base session.kept) (sym at_is) (stands_first lists).kept in
     record {
       db = db;
       kept = IsKeptDatabase.done (omega (arith, few, length-sessions lists)) refl;
-      stand = subst (λ (p : PageList). PagesStandFor ext p db) (sym same) (stands_at lists n).kept;
+      stand = subst (λ (p : PageList). PagesStandFor ext p db) (sym same) (keeps_at (still held) lists first n within is);
     }
-kept_stand {ext} {held} {session} {states = states} {sessions = sessions} goes stored lists (AreKept.stopped stmt outcome new in_hand count steps closed same saved) =
-    let met = statement_meets ext steps.noted (held_last held states) new stmt outcome (session_last session sessions) steps.shape steps.steps (stored_last goes stored) (stands_last lists) in
+kept_stand {ext} {held} {session} {stages = stages} {sessions = sessions} lists (AreKept.stopped stmt outcome new in_hand count steps closed same saved) =
+    let met = statement_meets ext steps.noted (held_last held stages) new stmt outcome (session_last session sessions) steps.shape steps.steps (stands_last lists) in
     record {
       db = met.after.kept;
       kept = IsKeptDatabase.stopped stmt outcome met.after in_hand (omega (arith, count, length-sessions lists)) met.meets (met.stands.is_open ∙ closed) refl;

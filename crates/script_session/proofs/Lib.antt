@@ -14,4 +14,5 @@ pub mod ScriptItemsLemmas
 pub mod ServingLemmas
 pub mod ToldLemmas
 pub mod TurningLemmas
+pub mod TurnsLemmas
 pub mod WrittenLemmas

@@ -1,52 +1,37 @@
 -- A run over pages is one over the plain lists of rows that they stand for.
-use Rattle.std.proofs.Common.{◌≡◌, List, [], ◌∷◌, Option, Some, None, refl, sym, ap, subst, ◌∙◌}
-use Rattle.std.specs.Prelude.{is_some, option_map}
+use Rattle.std.proofs.Common.{◌≡◌, List, [], ◌∷◌, refl, sym, ap, subst, inl, inr, ◌∙◌}
 use Rattle.mdc_ast.specs.declared.reply.Outcome.{Outcome}
 use Rattle.mdc_ast.specs.declared.reply.Outcome.TheVariants as said
 use Rattle.mdc_ast.specs.declared.statement.Stmt.{Stmt}
 use Rattle.mdc_ast.specs.declared.statement.Stmt.TheVariants as statement
 use Rattle.mdc_ast.specs.Reading.{Item, Statement}
 use Rattle.mdc_ast.specs.Reading as reading
+use Rattle.mdc_ast.specs.Definitions.{Definitions}
 use Rattle.statement_meaning.specs.Cause.{FileFull, refusal_of}
-use Rattle.mdc_ast.specs.Database.{defs_of}
-use Rattle.mdc_ast.specs.Definitions.{Definitions, def_named}
-use Rattle.statement_meaning.specs.Session.{Session, turn}
+use Rattle.statement_meaning.specs.Session.{AgreesWith, Session, rested, turn}
+use Rattle.statement_meaning.specs.Step.{Answer, Refused, Replied, ToldByPages}
+use Rattle.statement_meaning.specs.declared.pass.Pass.{Pass}
 use Rattle.extent_map.specs.Owners.{IsSameShape}
 use Rattle.extent_map.specs.declared.extents.Extents.{Extents}
+use Rattle.table_trees.specs.ToldPages.{PageList}
 use Rattle.script_engine.specs.Held.{HeldPages, StandsForSession, StepsOnPages}
-use Rattle.mdc_sound.specs.StandsForDatabase.{rootless}
-use Rattle.stored_catalog.specs.StoredDefinitions.{AreStored}
-use Rattle.script_engine.specs.Listing.{asks_blocks}
-use Rattle.script_engine.proofs.ShapeLemmas.{stands_for_along}
-use Rattle.script_engine.proofs.StoredDefsLemmas.{def_named-without_roots, stored_defs, without_roots}
-use Rattle.script_session.proofs.GoingLemmas.{shape-sym}
-use Rattle.script_session.specs.Going.{GoesOnPages, MeetsOnPages}
+use Rattle.script_engine.specs.Listing.{PagesTell, TellsNumbers}
+use Rattle.script_engine.specs.Resting.{IsHeldWithin, RestsOnPages}
+use Rattle.script_engine.specs.Resting as resting
+use Rattle.script_session.proofs.GoingLemmas.{end_in_stage, session_along, shape-sym}
+use Rattle.script_session.specs.Going.{GoesOnPages, MeetsOnPages, Stage, end_of}
 use Rattle.script_session.specs.Lists.{GoesOnLists, MeetsOnLists, TurnsLists}
 
--- what is held stands for the same session in extents of one shape
-session_along : (before now : Extents) (held : HeldPages) (session : Session) → IsSameShape before now → StandsForSession before held session → StandsForSession now held session
-session_along before now held session shape stands = record {
-  kept = stands_for_along before now held.base session.kept shape stands.kept;
-  working = stands_for_along before now held.work session.working shape stands.working;
-  is_open = stands.is_open;
-}
+-- what the pages tell are some numbers of blocks
+pages_tell_numbers : (pages : PageList) (defs : Definitions) (stmt : Stmt) (outcome : Outcome) → PagesTell pages defs stmt outcome → TellsNumbers outcome
+pages_tell_numbers pages defs (statement.ListBlocks name) outcome (def, named, tells) = (_, _, _, tells.tells)
+pages_tell_numbers pages defs stmt outcome tells = absurd tells
 
--- ---- which tables there are to be listed
-
-is_some-option_map : {A B : Type 0} (f : A → B) (x : Option A) → is_some (option_map f x) ≡ is_some x
-is_some-option_map f None = refl
-is_some-option_map f (Some a) = refl
-
--- whether a statement is LIST BLOCKS of a table that is there doesn't look at roots
-asks_blocks-without_roots : (defs : Definitions) (stmt : Stmt) → asks_blocks (without_roots defs) stmt ≡ asks_blocks defs stmt
-asks_blocks-without_roots defs (statement.ListBlocks name) = ap is_some (def_named-without_roots defs name) ∙ is_some-option_map rootless (def_named defs name)
-asks_blocks-without_roots defs stmt = refl
-
--- and it is one in the words of the pages where it is one in those of the lists that they stand for
-asks_on_lists : (ext : Extents) (held : HeldPages) (stmt : Stmt) (session : Session) → AreStored held.work held.defs → StandsForSession ext held session
-    → asks_blocks (defs_of session.working) stmt ≡ asks_blocks held.defs stmt
-asks_on_lists ext held stmt session stored stands =
-    ap (λ defs. asks_blocks defs stmt) (stored_defs ext held.work held.defs session.working stored stands.working) ∙ asks_blocks-without_roots held.defs stmt
+-- an outcome that agrees with an answer by the pages agrees with it by some numbers
+agrees_on_lists : (pages : PageList) (defs : Definitions) (stmt : Stmt) (outcome : Outcome) (answer : Answer) → AgreesWith (PagesTell pages defs stmt) answer outcome → AgreesWith TellsNumbers answer outcome
+agrees_on_lists pages defs stmt outcome (Replied reply) agrees = agrees
+agrees_on_lists pages defs stmt outcome (Refused refusal) agrees = agrees
+agrees_on_lists pages defs stmt outcome ToldByPages agrees = pages_tell_numbers pages defs stmt outcome agrees
 
 -- ---- item by item
 
@@ -58,38 +43,54 @@ pub record MeetsSession (ext : Extents) (session : Session) (item : Item) (outco
 
 -- a statement that steps on pages turns the session that they stand for
 pub statement_meets : (ext noted : Extents) (held next : HeldPages) (stmt : Stmt) (outcome : Outcome) (session : Session) → IsSameShape ext noted → StepsOnPages noted held stmt outcome next
-    → AreStored held.work held.defs → StandsForSession ext held session → MeetsSession ext session (Statement stmt) outcome next
-statement_meets ext noted held next stmt outcome session shape (StepsOnPages.turns apart turns base work others refused places) stored stands =
+    → StandsForSession ext held session → MeetsSession ext session (Statement stmt) outcome next
+statement_meets ext noted held next stmt outcome session shape (StepsOnPages.turns turns base work others refused places) stands =
     let turned = turns session (session_along ext noted held session shape stands) in
     record {
       after = (turn session stmt).0;
-      meets = TurnsLists.turns (asks_on_lists ext held stmt session stored stands ∙ apart) (ap (λ answer. ((turn session stmt).0, answer)) turned.answers);
+      meets = TurnsLists.turns refl (agrees_on_lists held.work held.defs stmt outcome (turn session stmt).1 turned.answers);
       stands = session_along noted ext next (turn session stmt).0 (shape-sym shape) turned.session;
     }
-statement_meets ext noted held next stmt outcome session shape (StepsOnPages.lists name def is found same tells) stored stands = record {
-  after = session;
-  meets = TurnsLists.lists _ _ _ (asks_on_lists ext held stmt session stored stands ∙ (ap (asks_blocks held.defs) is ∙ ap is_some found)) tells.tells refl;
-  stands = subst (λ at. StandsForSession ext at session) (sym same) stands;
-}
-statement_meets ext noted held next stmt outcome session shape (StepsOnPages.full says same full faultless) stored stands = record {
+statement_meets ext noted held next stmt outcome session shape (StepsOnPages.full says same full faultless) stands = record {
   after = session;
   meets = TurnsLists.full (says ∙ ap (λ cap. said.Refused (refusal_of (FileFull cap))) shape.cap) (faultless session (session_along ext noted held session shape stands)) refl;
   stands = subst (λ at. StandsForSession ext at session) (sym same) stands;
 }
 
-item_meets : (ext : Extents) (held next : HeldPages) (item : Item) (outcome : Outcome) (session : Session) → MeetsOnPages ext held item outcome next → AreStored held.work held.defs
+item_meets : (ext : Extents) (held next : HeldPages) (item : Item) (outcome : Outcome) (session : Session) → MeetsOnPages ext held item outcome next
     → StandsForSession ext held session → MeetsSession ext session item outcome next
-item_meets ext held next (Statement stmt) outcome session meets stored stands = statement_meets ext meets.noted held next stmt outcome session meets.shape meets.steps stored stands
-item_meets ext held next (reading.Refused refusal) outcome session meets stored stands = record {
+item_meets ext held next (Statement stmt) outcome session meets stands = statement_meets ext meets.noted held next stmt outcome session meets.shape meets.steps stands
+item_meets ext held next (reading.Refused refusal) outcome session meets stands = record {
   after = session;
   meets = (meets.0, refl);
   stands = subst (λ at. StandsForSession ext at session) (sym meets.1) stands;
 }
 
-pub goes_on_lists : (ext : Extents) (held : HeldPages) (items : List Item) (outcomes : List Outcome) (states : List HeldPages) → GoesOnPages ext held items outcomes states
-    → (session : Session) → StandsForSession ext held session → (sessions : List Session) × GoesOnLists ext held session items outcomes states sessions
-goes_on_lists ext held items outcomes states GoesOnPages.nothing session stands = ([], GoesOnLists.nothing stands)
-goes_on_lists ext held items outcomes states (GoesOnPages.one {next = next} {item = item} {outcome = outcome} {items = more} {outcomes = others} {states = later} meets goes) session stands =
-    let met = item_meets ext held next item outcome session meets.meets meets.was_stored stands in
-    let rest = goes_on_lists ext next more others later goes met.after met.stands in
-    (met.after ∷ rest.0, GoesOnLists.one stands met.meets rest.1)
+-- ---- within a stage
+
+-- a session with the pass that it has
+rested_same : (session : Session) (pass : Pass) → session.pass ≡ pass → session ≡ rested session pass
+rested_same session pass same = ap (rested session) same
+
+-- it stands for the session with the pass that is held
+stands_rested : (ext : Extents) (held : HeldPages) (session : Session) → StandsForSession ext held session → StandsForSession ext held (rested session held.pass)
+stands_rested ext held session stands = subst (StandsForSession ext held) (rested_same session held.pass stands.pass) stands
+
+-- steps behind an item leave what the pages stand for, but for how far the pass is
+pub stand_within : {ext : Extents} {held : HeldPages} {rests : List HeldPages} (session : Session) → RestsOnPages ext held rests → StandsForSession ext held (rested session held.pass)
+    → (within : HeldPages) → IsHeldWithin held rests within → StandsForSession ext within (rested session within.pass)
+stand_within {ext} session resting.nothing stands within same = subst (λ (at : HeldPages). StandsForSession ext at (rested session at.pass)) (sym same) stands
+stand_within {ext} session (resting.one step steps) stands within (inl same) = subst (λ (at : HeldPages). StandsForSession ext at (rested session at.pass)) (sym same) stands
+stand_within {held = held} session (resting.one step steps) stands within (inr later) = stand_within session steps (step.stands (rested session held.pass) stands) within later
+
+-- ---- item by item, and so a run
+
+pub goes_on_lists : (ext : Extents) (held : HeldPages) (items : List Item) (outcomes : List Outcome) (stages : List Stage) → GoesOnPages ext held items outcomes stages
+    → (session : Session) → StandsForSession ext held session → (sessions : List Session) × GoesOnLists ext held session items outcomes stages sessions
+goes_on_lists ext held items outcomes stages GoesOnPages.nothing session stands = ([], GoesOnLists.nothing stands)
+goes_on_lists ext held items outcomes stages (GoesOnPages.one {stage = stage} {item = item} {outcome = outcome} {items = more} {outcomes = others} {stages = later} meets goes) session stands =
+    let met = item_meets ext held stage.met item outcome session meets.meets stands in
+    let within = stand_within met.after meets.rests (stands_rested ext stage.met met.after met.stands) in
+    let after = rested met.after (end_of stage).pass in
+    let rest = goes_on_lists ext (end_of stage) more others later goes after (within (end_of stage) (end_in_stage stage)) in
+    (after ∷ rest.0, GoesOnLists.one stands met.meets within refl rest.1)

@@ -13,10 +13,9 @@ use Rattle.sql_reader.specs.declared.statements.Read.{Read}
 use Rattle.sql_reader.specs.declared.statements.ReadStop.{ReadStop}
 use Rattle.store_api.specs.declared.pages.Pages.{Ghosts}
 use Rattle.extent_map.specs.Owners.{IsSameShape}
-use Rattle.script_engine.specs.Held.{HeldPages}
 use Rattle.script_engine.specs.Serving.{IsReadyEngine, held_by}
 use Rattle.script_engine.specs.declared.engine.Engine.{Engine}
-use Rattle.script_session.specs.Going.{held_last}
+use Rattle.script_session.specs.Going.{Stage, held_last}
 use Rattle.script_session.specs.ScriptLaws.{ScriptLaws}
 use Rattle.script_session.specs.Serving.{EndsScript, RunsScript}
 use Rattle.script_session.specs.Stops.{served_by, stop_of_reader}
@@ -32,9 +31,9 @@ use Rattle.script_session.proofs.RunsLemmas.{runs_none, runs_then}
 -- The items have outcomes, all of which are told, and the engine that they leave is sound.
 pub record HasAnswered {S : Type 0} (g : Ghosts S) (items : List Item) (refused : Bool) (old new : Engine S) : Type 0 where
   pub outcomes : List Outcome
-  pub states : List HeldPages
-  pub runs : RunsItems g items [] outcomes states (texts outcomes) old new
-  pub held : held_by g new ≡ held_last (held_by g old) states
+  pub stages : List Stage
+  pub runs : RunsItems g items [] outcomes stages (texts outcomes) old new
+  pub held : held_by g new ≡ held_last (held_by g old) stages
   pub noted : refused ≡ has_refusal outcomes
   pub ready : IsReadyEngine g new
 
@@ -57,20 +56,20 @@ module _ {S : Type 0} (g : Ghosts S) where
 
   -- at the start
   pub answered_first : (engine : Engine S) → IsReadyEngine g engine → HasAnswered g [] false engine engine
-  answered_first engine ready = record { outcomes = []; states = []; runs = runs_none g engine; held = refl; noted = refl; ready = ready }
+  answered_first engine ready = record { outcomes = []; stages = []; runs = runs_none g engine; held = refl; noted = refl; ready = ready }
 
   -- one item more, whose outcome is told
   pub answered_more : {items : List Item} {refused noted : Bool} (item : Item) {old mid new : Engine S} → HasAnswered g items refused old mid → IsSameShape old.tables.ext mid.tables.ext
       → EndsTold g item noted mid new → HasAnswered g (items ++ item ∷ []) (refused || noted) old new
   answered_more {items} {refused} {noted} item {old} {mid} {new} was shape turn =
       let outcomes = was.outcomes ++ turn.outcome ∷ [] in
-      let states = was.states ++ held_by g new ∷ [] in
+      let stages = was.stages ++ turn.stage ∷ [] in
       let runs = runs_then g was.runs was.held shape turn.runs in
       record {
         outcomes = outcomes;
-        states = states;
-        runs = subst (λ (said : List ℕ). RunsItems g (items ++ item ∷ []) [] outcomes states said old new) (sym (texts_more was.outcomes turn.outcome)) runs;
-        held = sym (held_last-append (held_by g old) was.states (held_by g new ∷ []));
+        stages = stages;
+        runs = subst (λ (said : List ℕ). RunsItems g (items ++ item ∷ []) [] outcomes stages said old new) (sym (texts_more was.outcomes turn.outcome)) runs;
+        held = turn.held ∙ sym (held_last-append (held_by g old) was.stages (turn.stage ∷ []));
         noted = ap (λ b. b || noted) was.noted ∙ (ap (λ b. has_refusal was.outcomes || b) turn.noted ∙ sym (refusal_more was.outcomes turn.outcome));
         ready = turn.ready;
       }
@@ -78,13 +77,13 @@ module _ {S : Type 0} (g : Ghosts S) where
   -- ---- how it ends
 
   -- a run of items that ends so is one of their script
-  runs_script : {script left : Option (List ℕ)} {items in_hand : List Item} {outcomes : List Outcome} {states : List HeldPages} {said : List ℕ} {old new : Engine S} (result : Result Served SessionStop)
-      → RunsItems g items in_hand outcomes states said old new → IfSome script (λ bytes. EndsScript bytes left said items in_hand outcomes result)
-      → OnOk result ((held_by g new ≡ held_last (held_by g old) states) × IsReadyEngine g new) → RunsScript g script left old new result
-  runs_script {items = items} {in_hand = in_hand} {outcomes = outcomes} {states = states} {said = said} result runs ends last = record {
+  runs_script : {script left : Option (List ℕ)} {items in_hand : List Item} {outcomes : List Outcome} {stages : List Stage} {said : List ℕ} {old new : Engine S} (result : Result Served SessionStop)
+      → RunsItems g items in_hand outcomes stages said old new → IfSome script (λ bytes. EndsScript bytes left said items in_hand outcomes result)
+      → OnOk result ((held_by g new ≡ held_last (held_by g old) stages) × IsReadyEngine g new) → RunsScript g script left old new result
+  runs_script {items = items} {in_hand = in_hand} {outcomes = outcomes} {stages = stages} {said = said} result runs ends last = record {
     items = items;
     outcomes = outcomes;
-    states = states;
+    stages = stages;
     in_hand = in_hand;
     goes = runs.goes;
     said = said;
@@ -112,8 +111,8 @@ module _ {S : Type 0} (g : Ghosts S) where
       let ends = ends_asked_untold laws stop was.outcomes turn.outcome turn.part turn.unsaid (length-items was.runs.goes) turn.text asked is_stop in
       runs_script (Err stop) (runs_then g was.runs was.held shape turn.runs) ends tt
   exit_turning laws {items = items} {read = read} stop {old = old} {new = new} asked was shape is_stop (inr turn) =
-      let runs : RunsItems g items (item_of read ∷ []) was.outcomes was.states (texts was.outcomes) old new =
-      rw (append-nil items, append-nil was.outcomes, append-nil was.states, append-nil (texts was.outcomes)) at (runs_then g was.runs was.held shape turn) in
+      let runs : RunsItems g items (item_of read ∷ []) was.outcomes was.stages (texts was.outcomes) old new =
+      rw (append-nil items, append-nil was.outcomes, append-nil was.stages, append-nil (texts was.outcomes)) at (runs_then g was.runs was.held shape turn) in
       runs_script (Err stop) runs (ends_asked_in_hand laws stop was.outcomes (length-items was.runs.goes) asked is_stop) tt
 
   -- the script ends

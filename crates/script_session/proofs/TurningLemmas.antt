@@ -1,5 +1,5 @@
 -- The turn of one item, as a run of it alone.
-use Rattle.std.proofs.Common.{◌≡◌, ◌≤◌, ℕ, List, [], ◌∷◌, Option, Some, IfSome, refl, sym, ◌∙◌, ap, subst, inl, inr, arith}
+use Rattle.std.proofs.Common.{◌≡◌, ◌≤◌, ◌++◌, ℕ, zero, suc, List, [], ◌∷◌, Option, Some, IfSome, refl, sym, ◌∙◌, ap, subst, inl, inr, arith}
 use Rattle.std.proofs.lemmas.List.{append-nil}
 use Rattle.mdc_words.specs.Time.{OverTime}
 use Rattle.mdc_words.proofs.TimeLemmas.{over_time_then, over_time_wider}
@@ -8,7 +8,7 @@ use Rattle.mdc_ast.specs.declared.reply.Outcome.TheVariants as said
 use Rattle.mdc_ast.specs.declared.refusal.Refusal.{Refusal}
 use Rattle.mdc_ast.specs.declared.statement.Stmt.{Stmt}
 use Rattle.mdc_ast.specs.Reading.{Item, Statement}
-use Rattle.statement_meaning.specs.Texts.{outcome_text}
+use Rattle.statement_meaning.specs.Texts.{outcome_text, texts}
 use Rattle.mdc_outside.specs.Outside.{Takes}
 use Rattle.sql_reader.specs.Item.{item_of}
 use Rattle.sql_reader.specs.declared.statements.Read.{Read}
@@ -23,16 +23,18 @@ use Rattle.stored_catalog.specs.StoredDefinitions.{AreStored}
 use Rattle.script_engine.specs.Held.{HeldPages}
 use Rattle.script_engine.specs.Leaving.{LeftWithin, MayBeLeft}
 use Rattle.script_engine.specs.Leaving as leaving
+use Rattle.script_engine.specs.Resting.{IsBaseWithin, IsHeldWithin, LeftResting, LeftTold, RestsOnPages}
+use Rattle.script_engine.specs.Resting as resting
 use Rattle.script_engine.specs.Serving.{IsReadyEngine, held_by}
 use Rattle.script_engine.specs.declared.engine.Engine.{Engine}
 use Rattle.script_session.specs.Answering.{BaseBeforeOrAfter, StopsAt}
 use Rattle.script_session.specs.Ending.{IsPartOfNext}
-use Rattle.script_session.specs.Going.{MeetsItem, MeetsOnPages, nothing, one}
+use Rattle.script_session.specs.Going.{GoesOnPages, IsHeldIn, MeetsItem, MeetsOnPages, Stage, end_of, nothing, one, stage_after, still}
 use Rattle.script_session.specs.Leaving.{AreKept, AreServedPages, LeftByServing, ReopensAlways, done, some_told, stopped}
 use Rattle.script_session.specs.Turning.{RunsItems}
-use Rattle.script_session.proofs.GoingLemmas.{same_shape, sound_in_shape}
+use Rattle.script_session.proofs.GoingLemmas.{rests_in_shape, rests_then, same_shape, sound_in_shape, stage_then, within_behind, within_front}
 use Rattle.script_session.proofs.LeftLemmas.{served_in_shape}
-use Rattle.script_session.proofs.ToldLemmas.{takes_nothing}
+use Rattle.script_session.proofs.ToldLemmas.{takes_nothing, told_behind}
 
 -- the bytes told, where they are known
 bytes_told : {tape : Option (List ℕ)} {before told : List ℕ} → tape ≡ Some before → IfSome tape (λ bytes. told ≡ bytes) → told ≡ before
@@ -44,8 +46,8 @@ part_none [] = refl
 part_none (outcome ∷ outcomes) = (outcome_text outcome, refl)
 
 -- a crash before a reply is begun leaves what was told before
-left_silent : {ext : Extents} {held : HeldPages} {states : List HeldPages} {outcomes : List Outcome} {in_hand : List Item} {before told : List ℕ} {left : Option PageList} (pages : PageList) (items : ℕ)
-    → left ≡ Some pages → AreServedPages ext pages → AreKept ext held states in_hand pages items → items ≤ 1 → told ≡ before → LeftByServing ext held states outcomes in_hand before left told
+left_silent : {ext : Extents} {held : HeldPages} {stages : List Stage} {outcomes : List Outcome} {in_hand : List Item} {before told : List ℕ} {left : Option PageList} (pages : PageList) (items : ℕ)
+    → left ≡ Some pages → AreServedPages ext pages → AreKept ext held stages in_hand pages items → items ≤ 1 → told ≡ before → LeftByServing ext held stages outcomes in_hand before left told
 left_silent {outcomes = outcomes} {before = before} pages items reopens served kept few same = record {
   pages = pages;
   reopens = reopens;
@@ -70,13 +72,47 @@ some_told-one (byte ∷ part) = omega arith
 
 -- the pages that may be left of the statement in hand are those before it, or those that it commits
 kept_at : {ext : Extents} (item : Item) (stmt : Stmt) (held : HeldPages) (pages : PageList) → item ≡ Statement stmt → MayBeLeft ext held stmt pages → (n : ℕ) × AreKept ext held [] (item ∷ []) pages n × (n ≤ 1)
-kept_at item stmt held pages hand (leaving.before same) = (0, done (omega arith) same, omega arith)
+kept_at item stmt held pages hand (leaving.before same) = (0, done (omega arith) held refl same, omega arith)
 kept_at {ext} item stmt held pages hand (leaving.after outcome new steps closed same sound stored valid) = (
   1,
   stopped stmt outcome new (ap (λ (i : Item). i ∷ []) hand) refl (record { noted = ext; shape = same_shape ext; steps = steps }) closed same
       (subst (λ (base : PageList). AreStored base new.defs) same stored),
   omega arith,
 )
+
+-- pages behind steps that are taken after an item may be served
+served_within : {ext : Extents} {held : HeldPages} {rests : List HeldPages} → AreServedPages ext held.base → RestsOnPages ext held rests → (within : HeldPages) → IsHeldWithin held rests within
+    → AreServedPages ext within.base
+served_within {ext} served resting.nothing within same = subst (λ (h : HeldPages). AreServedPages ext h.base) (sym same) served
+served_within {ext} served (resting.one step steps) within (inl same) = subst (λ (h : HeldPages). AreServedPages ext h.base) (sym same) served
+served_within {ext} served (resting.one {next = next} step steps) within (inr later) =
+    served_within (subst (AreServedPages ext) (sym step.committed) (record { sound = step.sound; defs = next.defs; stored = step.stored; valid = step.valid })) steps within later
+
+-- a run of one item goes on so by steps after it
+goes_rested : {ext : Extents} {held : HeldPages} {stage : Stage} {item : Item} {outcome : Outcome} {rests : List HeldPages} → GoesOnPages ext held (item ∷ []) (outcome ∷ []) (stage ∷ [])
+    → RestsOnPages ext (end_of stage) rests → GoesOnPages ext held (item ∷ []) (outcome ∷ []) (stage_then stage rests ∷ [])
+unfolding stage_then
+goes_rested (one meets nothing) steps = one (record {
+  meets = meets.meets;
+  refused = meets.refused;
+  was_sound = meets.was_sound;
+  was_stored = meets.was_stored;
+  sound = meets.sound;
+  stored = meets.stored;
+  rests = rests_then meets.rests steps;
+}) nothing
+
+-- what was kept before such steps is kept where they are counted too
+held_rested : (held within : HeldPages) (stage : Stage) (rests : List HeldPages) (n : ℕ) → IsHeldIn (stage_after (still held) (stage ∷ []) n) within
+    → IsHeldIn (stage_after (still held) (stage_then stage rests ∷ []) n) within
+unfolding stage_then
+held_rested held within stage rests zero is = is
+held_rested held within stage rests (suc n) is = within_front stage.met within stage.rests rests is
+
+kept_rested : {ext : Extents} {held : HeldPages} {stage : Stage} {pages : PageList} {n : ℕ} (rests : List HeldPages) → AreKept ext held (stage ∷ []) [] pages n
+    → AreKept ext held (stage_then stage rests ∷ []) [] pages n
+kept_rested {held = held} {stage = stage} {n = n} rests (done few within is same) = done few within (held_rested held within stage rests n is) same
+kept_rested rests (stopped stmt outcome new none count steps closed same stored) = absurd (cc)
 
 module _ {S : Type 0} (g : Ghosts S) where
   -- the pages of the last commit of a sound engine
@@ -86,22 +122,22 @@ module _ {S : Type 0} (g : Ghosts S) where
   -- a crash while an outcome is found
   left_answering : (outcome : Outcome) (old mid new : Engine S) → IsReadyEngine g old → IsReadyEngine g mid → IsSameShape old.tables.ext mid.tables.ext → held_by g new ≡ held_by g mid
       → (before : List ℕ) → (g.state old.store).told ≡ Some before → (left : Option PageList) (told : List ℕ) → BaseBeforeOrAfter (g.state old.store) (g.state mid.store) left told
-      → LeftByServing old.tables.ext (held_by g old) (held_by g new ∷ []) (outcome ∷ []) [] before left told
+      → LeftByServing old.tables.ext (held_by g old) (still (held_by g new) ∷ []) (outcome ∷ []) [] before left told
   left_answering outcome old mid new ready ready_mid shape held before is left told (inl base, known) =
-      left_silent (g.state old.store).base 0 base (served_base old ready) (done (omega arith) refl) (omega arith) (bytes_told is known)
+      left_silent (g.state old.store).base 0 base (served_base old ready) (done (omega arith) (held_by g old) refl refl) (omega arith) (bytes_told is known)
   left_answering outcome old mid new ready ready_mid shape held before is left told (inr base, known) =
-      left_silent (g.state mid.store).base 1 base (served_in_shape shape (served_base mid ready_mid)) (done (omega arith) (ap (λ (h : HeldPages). h.base) (sym held))) (omega arith) (bytes_told is known)
+      left_silent (g.state mid.store).base 1 base (served_in_shape shape (served_base mid ready_mid)) (done (omega arith) (held_by g mid) (sym held) refl) (omega arith) (bytes_told is known)
 
   -- a crash while its text is told
   left_telling : (outcome : Outcome) (old mid new : Engine S) → IsReadyEngine g mid → IsSameShape old.tables.ext mid.tables.ext → held_by g new ≡ held_by g mid
       → (before : List ℕ) → (g.state mid.store).told ≡ Some before → (left : Option PageList) (told : List ℕ) → BaseWithFront (outcome_text outcome) (g.state mid.store) left told
-      → LeftByServing old.tables.ext (held_by g old) (held_by g new ∷ []) (outcome ∷ []) [] before left told
+      → LeftByServing old.tables.ext (held_by g old) (still (held_by g new) ∷ []) (outcome ∷ []) [] before left told
   left_telling outcome old mid new ready shape held before is left told (base, part, front, known) = record {
     pages = (g.state mid.store).base;
     reopens = base;
     served = served_in_shape shape (served_base mid ready);
     items = 1;
-    kept = done (omega arith) (ap (λ (h : HeldPages). h.base) (sym held));
+    kept = done (omega arith) (held_by g mid) (sym held) refl;
     more = part;
     told_is = subst (λ (t : Option (List ℕ)). IfSome (continued part t) (λ bytes. told ≡ bytes)) is known;
     begun = some_told part;
@@ -117,7 +153,7 @@ module _ {S : Type 0} (g : Ghosts S) where
   -- an item that did what it may, from a sound engine to a sound one
   met_one : {item : Item} {outcome : Outcome} {old mid : Engine S} → IsReadyEngine g old → IsReadyEngine g mid → MeetsOnPages old.tables.ext (held_by g old) item outcome (held_by g mid)
       → ((refusal : Refusal) → outcome ≡ said.Refused refusal → held_by g mid ≡ held_by g old) → IsSameShape old.tables.ext mid.tables.ext
-      → MeetsItem old.tables.ext (held_by g old) item outcome (held_by g mid)
+      → MeetsItem old.tables.ext (held_by g old) item outcome (still (held_by g mid))
   met_one {mid = mid} ready ready_mid meets refused shape = record {
     meets = meets;
     refused = refused;
@@ -125,6 +161,7 @@ module _ {S : Type 0} (g : Ghosts S) where
     was_stored = ready.work.stored;
     sound = sound_in_shape shape (ready_mid.work.view, ready_mid.work.sound);
     stored = ready_mid.work.stored;
+    rests = resting.nothing;
   }
 
   -- an item that has an outcome, of whose text this is told
@@ -134,13 +171,53 @@ module _ {S : Type 0} (g : Ghosts S) where
       → (g.state mid.store).told ≡ (g.state old.store).told → Takes (g.state mid.store).told part (g.state new.store).told
       → OverTime g.clock g.left (BaseBeforeOrAfter (g.state old.store) (g.state mid.store)) old.store mid.store
       → OverTime g.clock g.left (BaseWithFront (outcome_text outcome) (g.state mid.store)) mid.store new.store
-      → RunsItems g (item ∷ []) [] (outcome ∷ []) (held_by g new ∷ []) part old new
+      → RunsItems g (item ∷ []) [] (outcome ∷ []) (still (held_by g new) ∷ []) part old new
   runs_one {item} {outcome} {part} {old} {mid} {new} ready ready_mid meets refused shape held same takes answering telling = record {
-    goes = one (subst (λ (h : HeldPages). MeetsItem old.tables.ext (held_by g old) item outcome h) (sym held) (met_one ready ready_mid meets refused shape)) nothing;
+    goes = one (subst (λ (h : HeldPages). MeetsItem old.tables.ext (held_by g old) item outcome (still h)) (sym held) (met_one ready ready_mid meets refused shape)) nothing;
     told = subst (λ (t : Option (List ℕ)). Takes t part (g.state new.store).told) same takes;
-    base = (1, done (omega arith) refl);
+    base = (1, done (omega arith) (held_by g new) refl refl);
     time = λ before is. over_time_then (over_time_wider answering (left_answering outcome old mid new ready ready_mid shape held before is))
         (over_time_wider telling (left_telling outcome old mid new ready_mid shape held before (same ∙ is)));
+  }
+
+  -- ---- steps after an item
+
+  -- a crash while they are taken
+  left_resting : (outcome : Outcome) (old mid : Engine S) (stage : Stage) (rests : List HeldPages) → held_by g mid ≡ end_of stage → IsReadyEngine g mid → IsSameShape old.tables.ext mid.tables.ext
+      → RestsOnPages mid.tables.ext (held_by g mid) rests → (before : List ℕ) → (g.state mid.store).told ≡ Some (before ++ outcome_text outcome)
+      → (left : Option PageList) (told : List ℕ) → LeftResting (held_by g mid) rests (g.state mid.store) left told
+      → LeftByServing old.tables.ext (held_by g old) (stage_then stage rests ∷ []) (outcome ∷ []) [] before left told
+  unfolding stage_then
+  left_resting outcome old mid stage rests at ready shape steps before is left told ((pages, reopens, within, held, same), known) = record {
+    pages = pages;
+    reopens = reopens;
+    served = subst (AreServedPages old.tables.ext) (sym same) (served_in_shape shape (served_within (served_base mid ready) steps within held));
+    items = 1;
+    kept = done (omega arith) within (within_behind stage.met within stage.rests rests (subst (λ (h : HeldPages). IsHeldWithin h rests within) at held)) same;
+    more = outcome_text outcome;
+    told_is = bytes_told is known;
+    begun = 1;
+    has_begun = record {
+      answered = 1;
+      says = record { done = outcome ∷ []; left = []; part = []; all = refl; next = refl; bytes = sym (append-nil (texts (outcome ∷ [])) ∙ append-nil (outcome_text outcome)); count = refl };
+      count = omega arith;
+    };
+    all_begun = omega arith;
+    one_more = omega arith;
+  }
+
+  -- an item whose text was told, and then such steps
+  pub runs_rested : {item : Item} {outcome : Outcome} {stage : Stage} {old mid new : Engine S} {rests : List HeldPages} → RunsItems g (item ∷ []) [] (outcome ∷ []) (stage ∷ []) (outcome_text outcome) old mid
+      → held_by g mid ≡ end_of stage → IsReadyEngine g mid → IsSameShape old.tables.ext mid.tables.ext → RestsOnPages mid.tables.ext (held_by g mid) rests → IsBaseWithin (held_by g mid) rests (g.state new.store).base
+      → (g.state new.store).told ≡ (g.state mid.store).told → OverTime g.clock g.left (LeftResting (held_by g mid) rests (g.state mid.store)) mid.store new.store
+      → RunsItems g (item ∷ []) [] (outcome ∷ []) (stage_then stage rests ∷ []) (outcome_text outcome) old new
+  unfolding stage_then
+  runs_rested {outcome = outcome} {stage = stage} {old = old} {mid = mid} {rests = rests} runs at ready shape steps base same resting = record {
+    goes = goes_rested runs.goes (subst (λ (h : HeldPages). RestsOnPages old.tables.ext h rests) at (rests_in_shape shape steps));
+    told = subst (Takes (g.state old.store).told (outcome_text outcome)) (sym same) runs.told;
+    base = (1, done (omega arith) base.0 (within_behind stage.met base.0 stage.rests rests (subst (λ (h : HeldPages). IsHeldWithin h rests base.0) at base.1)) base.2);
+    time = λ before is. over_time_then (over_time_wider (runs.time before is) (λ left told was. record was { kept = kept_rested rests was.kept }))
+        (over_time_wider resting (left_resting outcome old mid stage rests at ready shape steps before (told_behind (g.state old.store).told (g.state mid.store).told (outcome_text outcome) before is runs.told)));
   }
 
   -- the pages that may be left of a statement may be served
@@ -175,7 +252,11 @@ pub reopens_answering : (old new : StoreState) (left : Option PageList) (told : 
 reopens_answering old new left told (inl base, known) = (old.base, base)
 reopens_answering old new left told (inr work, known) = (new.work, work)
 
--- and so does one while its text is told
+-- so does one while steps are taken after it
+pub reopens_resting : (s : StoreState) (left : Option PageList) (told : List ℕ) → LeftTold s left told → ReopensAlways left told
+reopens_resting s left told is = is.0
+
+-- and one while its text is told
 pub reopens_then : {S : Type 0} (g : Ghosts S) {text : List ℕ} (old mid new : S) → OverTime g.clock g.left (BaseOrNow (g.state old) (g.state mid)) old mid
     → OverTime g.clock g.left (BaseWithFront text (g.state mid)) mid new → OverTime g.clock g.left ReopensAlways old new
 reopens_then g old mid new answering telling =

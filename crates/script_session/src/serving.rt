@@ -1,19 +1,17 @@
 // The statements of a script, answered one after another as they close.
-ghost use Rattle.std.specs.Prelude.{◌≡◌, ◌≤◌, [], IfErr, IfSome, IfOk, IsErrOf, Err, OnErr, OnOk};
+ghost use Rattle.std.specs.Prelude.{◌≡◌, ◌≤◌, IfSome, IsErrOf, Err};
 ghost use Rattle.mdc_words.specs.Faults.{CountsFault};
 ghost use Rattle.mdc_words.specs.Time.{OverTime};
 ghost use Rattle.statement_meaning.specs.Session.{is_refusal};
-ghost use Rattle.extent_map.specs.Owners.{IsSameShape};
 ghost use Rattle.script_session.specs.Told.{TellsMore};
 ghost use Rattle.store_api.specs.declared.fault.Damage.{Damage};
-ghost use Rattle.script_engine.specs.Leaving.{IsAllCommitted};
-ghost use Rattle.script_engine.specs.Serving.{IsReadyEngine, MayCall, held_by};
-ghost use Rattle.script_session.specs.Damaged.{BreaksAtStop, opened_by_item};
-ghost use Rattle.script_session.specs.Replying.{HasReply, RepliesTo, StopsReplying};
+ghost use Rattle.script_engine.specs.Serving.{IsReadyEngine, MayCall};
+ghost use Rattle.script_session.specs.Damaged.{BreaksAtStop};
+ghost use Rattle.script_session.specs.Replying.{RepliesTo};
 ghost use Rattle.script_session.specs.ScriptLaws.{ScriptLaws};
 ghost use Rattle.script_session.specs.Leaving.{ReopensAlways};
 ghost use Rattle.script_session.specs.Serving.{RunsScript, TakesScript};
-ghost use Rattle.script_session.specs.Turning.{EndsTold, IsTurnStop, StopsTurn};
+ghost use Rattle.script_session.specs.Turning.{TurnsItem};
 ghost use Rattle.script_session.specs.Written.{IsReadWritten};
 ghost use Rattle.sql_reader.specs.Item.{item_of};
 
@@ -70,7 +68,7 @@ fn script_laws()
     one_closing();
 }
 
-// Answers an item, and tells whether it was refused.
+// Answers an item and does what is left to be done after the answer, and tells whether the item was refused.
 fn answer<S: Store>(
     engine: &mut Engine<S>,
     read: Read,
@@ -78,28 +76,25 @@ fn answer<S: Store>(
 ) -> Result<bool, SessionStop>
     requires may { MayCall S.Pages engine.old }
     requires written { IsReadWritten read }
-    ensures ends { IfOk result (λ refused. IsReadyEngine S.Pages engine.old → EndsTold S.Pages (item_of read) refused engine.old engine.new) }
-    ensures stops { OnErr result (IsReadyEngine S.Pages engine.old → StopsTurn S.Pages (item_of read) engine.old engine.new) }
-    ensures may { OnOk result (MayCall S.Pages engine.new) }
-    ensures stop { IfErr result IsTurnStop }
-    ensures unsaid { CountsFault (IsErrOf result SessionStop.Unsaid) (S.say_faults engine.old.store) (S.say_faults engine.new.store) }
-    ensures device { CountsFault (IsErrOf result SessionStop.Device) (S.disk_faults engine.old.store) (S.disk_faults engine.new.store) }
-    ensures damaged { (damage : Damage) → result ≡ Err (SessionStop.Damaged damage) → IsReadyEngine S.Pages engine.old → ⊥ }
-    ensures breaks { (damage : Damage) → result ≡ Err (SessionStop.Damaged damage) → BreaksAtStop S.Pages [] engine.old engine.new damage × ((S.state engine.new.store).told ≡ (S.state engine.old.store).told) }
-    ensures opens { OnOk result (engine.new.is_open ≡ opened_by_item (item_of read) engine.old.is_open) }
-    ensures keeps { OnOk result (IsAllCommitted (held_by S.Pages engine.old) → IsAllCommitted (held_by S.Pages engine.new)) }
-    ensures attached { (S.state engine.new.store).attached ≡ (S.state engine.old.store).attached }
-    ensures is_told { (S.state engine.new.store).is_told ≡ (S.state engine.old.store).is_told }
-    ensures tells { TellsMore (S.state engine.old.store).told (S.state engine.new.store).told }
-    ensures replies { IfOk result (λ refused. HasReply (item_of read) refused (S.state engine.old.store).told (S.state engine.new.store).told) }
-    ensures part { OnErr result (StopsReplying (item_of read) (S.state engine.old.store).told (S.state engine.new.store).told) }
-    ensures reopens { OverTime S.clock S.left ReopensAlways engine.old.store engine.new.store }
-    ensures shape { IsSameShape engine.old.tables.ext engine.new.tables.ext }
-    ensures later { S.clock engine.old.store ≤ S.clock engine.new.store }
+    ensures turns { TurnsItem S.Pages (item_of read) result engine.old engine.new }
+{
+    let refused = answer_item(engine, read, reply)?;
+    engine.settle()?;
+    Ok(refused)
+}
+
+// Answers an item, and tells whether it was refused.
+fn answer_item<S: Store>(
+    engine: &mut Engine<S>,
+    read: Read,
+    reply: &mut Vec<u8>,
+) -> Result<bool, SessionStop>
+    requires may { MayCall S.Pages engine.old }
+    requires written { IsReadWritten read }
+    ensures turns { TurnsItem S.Pages (item_of read) result engine.old engine.new }
 {
     let outcome = outcome_of(engine, read)?;
     tell_outcome(engine, &outcome, reply)?;
-    engine.settle()?;
     Ok(is_refused(&outcome))
 }
 

@@ -8,15 +8,15 @@ use Rattle.sql_reader.specs.declared.statements.ReadStop.{ReadStop}
 use Rattle.sql_reader.specs.declared.statements.ReadStop.TheVariants as read
 use Rattle.store_api.specs.declared.fault.Damage.{Damage}
 use Rattle.mdc_words.proofs.TimeLemmas.{over_time_none, over_time_then}
-use Rattle.script_session.specs.Damaged.{BreaksAtStop, opened_by_item}
+use Rattle.script_session.specs.Damaged.{opened_by_item}
 use Rattle.script_session.specs.Stops.{stop_of_reader}
 use Rattle.script_session.specs.declared.stop.SessionStop.TheVariants.{Damaged, Device, Memory, Unsaid}
 use Rattle.script_session.proofs.AskedEndsLemmas.{takes_asked_done, takes_asked_reading, takes_asked_turning, takes_unasked}
 use Rattle.script_session.proofs.AskingLemmas.{IsAsked, asked_next, given_first, given_next}
-use Rattle.script_session.proofs.DamagedLemmas.{breaks_then, opened_behind_more}
+use Rattle.script_session.proofs.DamagedLemmas.{opened_behind-append}
 use Rattle.script_session.proofs.GoingLemmas.{same_shape, shape_then}
 use Rattle.script_session.proofs.HandedLemmas.{handed}
-use Rattle.script_session.proofs.ReplyingLemmas.{replied_first, replied_more, replies_before, replies_done, replies_reading, replies_turning, replies_unasked}
+use Rattle.script_session.proofs.ReplyingLemmas.{replied_first, replied_more, replies_broken, replies_done, replies_reading, replies_turning, replies_unasked}
 use Rattle.script_session.proofs.ServingLemmas.{answered_first, answered_more, exit_done, exit_first, exit_reading, exit_turning}
 use Rattle.script_session.proofs.ToldLemmas.{same-tells_more, tells_more_then}
 use Rattle.script_session.proofs.serving.serve.Given.{Over}
@@ -77,7 +77,7 @@ pub loop-reply-preserved : goal.loop-reply-preserved
 loop-reply-preserved g c =
     let was = c.loop-reply.invariant in
     let asks = c.in_ok-read.ensures in
-    let turns = c.in_ok-refused.ensures in
+    let turns = c.in_ok-refused.ensures.turns in
     let read = c.in-Some.read in
     record {
       items = was.items ++ item_of read ∷ [];
@@ -86,7 +86,7 @@ loop-reply-preserved g c =
       replied = replied_more (item_of read) _ _ _ was.replied turns.replies;
       may = turns.may;
       fits = elim asks.within [ inl fits ↦ fits | inr e ↦ absurd (cc) ];
-      opened = turns.opens ∙ (ap (λ was. opened_by_item (item_of read) was) was.opened ∙ sym (opened_behind_more was.items (item_of read) c.args.engine.now.is_open));
+      opened = turns.opens ∙ (ap (λ was. opened_by_item (item_of read) was) was.opened ∙ sym (opened_behind-append was.items (item_of read ∷ []) c.args.engine.now.is_open));
       committed = λ all. turns.keeps (was.committed all);
       shape = shape_then was.shape turns.shape;
       reads = elim asks.no_fault [ inl e ↦ absurd (cc) | inr still ↦ still ∙ was.reads ];
@@ -141,7 +141,7 @@ returns-in_err-read-clause-breaks g c damage e =
 
 pub returns-in_err-refused-clause-runs : goal.returns-in_err-refused-clause-runs
 returns-in_err-refused-clause-runs g c ready =
-    let turns = c.in_err-refused.ensures in
+    let turns = c.in_err-refused.ensures.turns in
     let was = c.loop-reply.invariant in
     let answered = was.answered ready in
     rw (turn_stopped g c)
@@ -149,43 +149,42 @@ returns-in_err-refused-clause-runs g c ready =
 
 pub returns-in_err-refused-clause-takes : goal.returns-in_err-refused-clause-takes
 returns-in_err-refused-clause-takes g c =
-    rw (turn_stopped g c) (takes_asked_turning c.in_err-refused.field-0.0 (rw (c.in_ok-read.was, c.in-Some.is) at (asked g (goal.at.returns-in_err-refused-clause-takes g c).After-next)) c.in_err-refused.ensures.stop)
+    rw (turn_stopped g c) (takes_asked_turning c.in_err-refused.field-0.0 (rw (c.in_ok-read.was, c.in-Some.is) at (asked g (goal.at.returns-in_err-refused-clause-takes g c).After-next)) c.in_err-refused.ensures.turns.stop)
 
 pub returns-in_err-refused-clause-replies : goal.returns-in_err-refused-clause-replies
 returns-in_err-refused-clause-replies g c =
-    let turns = c.in_err-refused.ensures in
+    let turns = c.in_err-refused.ensures.turns in
     rw (turn_stopped g c)
     (replies_turning c.script_laws.ensures c.in_err-refused.field-0.0 (rw (c.in_ok-read.was, c.in-Some.is) at (asked g (goal.at.returns-in_err-refused-clause-replies g c).After-next)) c.loop-reply.invariant.replied turns.stop turns.part)
 
 pub returns-in_err-refused-clause-unsaid : goal.returns-in_err-refused-clause-unsaid
 returns-in_err-refused-clause-unsaid g c =
-    rw (turn_stopped g c) (counts_fault_then {now = g.S.Pages.say_faults c.answer.new.engine.store} c.loop-reply.invariant.unsaid (counts_err c.in_err-refused.field-0.0 Unsaid c.in_err-refused.ensures.unsaid))
+    rw (turn_stopped g c) (counts_fault_then {now = g.S.Pages.say_faults c.answer.new.engine.store} c.loop-reply.invariant.unsaid (counts_err c.in_err-refused.field-0.0 Unsaid c.in_err-refused.ensures.turns.unsaid))
 
 pub returns-in_err-refused-clause-device : goal.returns-in_err-refused-clause-device
 returns-in_err-refused-clause-device g c =
-    rw (turn_stopped g c) (counts_fault_then {now = g.S.Pages.disk_faults c.answer.new.engine.store} c.loop-reply.invariant.device (counts_err c.in_err-refused.field-0.0 Device c.in_err-refused.ensures.device))
+    rw (turn_stopped g c) (counts_fault_then {now = g.S.Pages.disk_faults c.answer.new.engine.store} c.loop-reply.invariant.device (counts_err c.in_err-refused.field-0.0 Device c.in_err-refused.ensures.turns.device))
 
 pub returns-in_err-refused-clause-tells : goal.returns-in_err-refused-clause-tells
-returns-in_err-refused-clause-tells g c = tells_more_then _ _ _ c.loop-reply.invariant.told c.in_err-refused.ensures.tells
+returns-in_err-refused-clause-tells g c = tells_more_then _ _ _ c.loop-reply.invariant.told c.in_err-refused.ensures.turns.tells
 
 pub returns-in_err-refused-clause-reopens : goal.returns-in_err-refused-clause-reopens
-returns-in_err-refused-clause-reopens g c = over_time_then c.loop-reply.invariant.reopens c.in_err-refused.ensures.reopens
+returns-in_err-refused-clause-reopens g c = over_time_then c.loop-reply.invariant.reopens c.in_err-refused.ensures.turns.reopens
 
 pub returns-in_err-refused-clause-damaged : goal.returns-in_err-refused-clause-damaged
 returns-in_err-refused-clause-damaged g c damage e ready =
     let named : c.in_err-refused.field-0.0 ≡ Damaged damage = cc (turn_stopped g c) in
-    c.in_err-refused.ensures.damaged damage (ap Err named) (c.loop-reply.invariant.answered ready).ready
+    c.in_err-refused.ensures.turns.damaged damage (ap Err named) (c.loop-reply.invariant.answered ready).ready
 
 pub returns-in_err-refused-clause-breaks : goal.returns-in_err-refused-clause-breaks
 returns-in_err-refused-clause-breaks g c damage e =
     let was = c.loop-reply.invariant in
-    let turns = c.in_err-refused.ensures in
+    let turns = c.in_err-refused.ensures.turns in
     let asked = rw (c.in_ok-read.was, c.in-Some.is) at (asked g (goal.at.returns-in_err-refused-clause-breaks g c).After-next) in
     let named : c.in_err-refused.field-0.0 ≡ Damaged damage = cc (turn_stopped g c) in
-    let at = turns.breaks damage (ap Err named) in
-    let replies = replies_before c.script_laws.ensures c.in_err-refused.field-0.0 asked was.replied turns.stop at.1 in
-    let breaks = breaks_then g.S.Pages was.items c.args.engine.now c.loop-reply.engine c.answer.new.engine damage was.shape was.is_told was.committed was.opened at.0 in
-    rw (turn_stopped g c) (replies.0, subst (λ (items : List Item). BreaksAtStop g.S.Pages items c.args.engine.now c.answer.new.engine damage) replies.1 breaks)
+    rw (turn_stopped g c)
+    (replies_broken g.S.Pages c.script_laws.ensures c.in_err-refused.field-0.0 c.args.engine.now c.loop-reply.engine c.answer.new.engine damage asked was.replied turns.stop was.shape was.is_told was.committed was.opened
+    (turns.breaks damage (ap Err named)))
 
 -- ---- the script ends
 

@@ -1,0 +1,33 @@
+-- An engine that takes no step behind an answer.
+use Rattle.std.proofs.Common.{[], Ok, refl}
+use Rattle.mdc_words.proofs.FaultsLemmas.{counts_fault_none}
+use Rattle.mdc_words.proofs.TimeLemmas.{over_time_none}
+use Rattle.store_api.specs.declared.pages.Pages.{Ghosts}
+use Rattle.entry_tree.proofs.ClaimsLemmas.{shape_none}
+use Rattle.script_engine.specs.Resting.{Settles, nothing}
+use Rattle.script_engine.specs.Serving.{MayCall, held_by}
+use Rattle.script_engine.specs.declared.engine.Engine.{Engine}
+
+-- it stays as it is
+pub settles_still : {S : Type 0} (g : Ghosts S) (engine : Engine S) → MayCall g engine → Settles g (Ok tt) engine engine
+settles_still g engine may = record {
+  takes = λ ready. record { rests = []; steps = nothing; last = (refl, ready); base = (held_by g engine, refl, refl); time = over_time_none };
+  still = λ opened. refl;
+  may = may;
+  built = λ was. was;
+  keeps = λ all. all;
+  opens = refl;
+  damaged = λ damage is. absurd (cc);
+  exact = λ damage is. absurd (cc);
+  going = λ damage is. absurd (cc);
+  committed = λ damage is. absurd (cc);
+  shape = shape_none engine.tables.ext;
+  device = counts_fault_none (λ is. absurd (cc));
+  output = λ is. absurd (cc);
+  say_faults = refl;
+  is_told = refl;
+  told = refl;
+  attached = refl;
+  time = over_time_none;
+  at_rest = λ back going rests. rests;
+}
