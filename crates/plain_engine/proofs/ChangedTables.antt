@@ -4,8 +4,7 @@ use Rattle.std.specs.Prelude.{Option, Some, None, option_map, IsSome, IfSome, Re
 use Rattle.mdc_ast.specs.declared.row.Row.{Row}
 use Rattle.mdc_ast.specs.Database.{Database, PlainTable, changed_at, table_at, with_place}
 use Rattle.statement_meaning.specs.Built.{IsBuiltDatabase}
-use Rattle.statement_meaning.proofs.BuiltLemmas.{is_valid_table}
-use Rattle.statement_meaning.proofs.DatabaseLemmas.{IsValidAt, changed_at_keeps, changed_at-with_place, is_valid_at}
+use Rattle.statement_meaning.proofs.DatabaseLemmas.{changed_at-with_place, is_valid_at}
 use Rattle.mdc_ast.proofs.TestsLemmas.{some_is}
 use Rattle.row_checks.specs.Executing.{IsThere}
 use Rattle.plain_engine.specs.Tables.{with_next, with_rows}
@@ -14,6 +13,11 @@ use Rattle.plain_engine.specs.Tables.{with_next, with_rows}
 pub on_err : {V E : Type 0} (result : Result V E) (P : Type 0) → P → OnErr result P
 on_err (Ok v) P h = tt
 on_err (Err e) P h = h
+
+-- tables that an error leaves are of built forms where they were
+pub still_built : {V E : Type 0} (result : Result V E) (db new : Database) → OnErr result (new ≡ db) → IsBuiltDatabase db → OnErr result (IsBuiltDatabase new)
+still_built (Ok v) db new same valid = tt
+still_built (Err e) db new same valid = subst IsBuiltDatabase (sym same) valid
 
 -- ---- a table that is there
 
@@ -105,12 +109,17 @@ put_and_numbered db without rowed new place table rows next change at left put n
     ∙ ap (λ d. changed_at d place (with_next next)) (put_back db without rowed place table rows (with_rows rows) at left put refl)
     ∙ sym number
 
--- without its rows a table is valid
-pub emptied_keeps : (db without : Database) (place : ℕ) → IsBuiltDatabase db → without ≡ changed_at db place (with_rows []) → IsSome (table_at db place) → IsBuiltDatabase without
-emptied_keeps db without place valid left h = by_table (table_at db place) refl h
-  where
-    by_table : (found : Option PlainTable) → table_at db place ≡ found → IsSome found → IsBuiltDatabase without
-    by_table None at h = cc
-    by_table (Some table) at h =
-        let here : IsValidAt db place table = is_valid_at db place table valid at in
-        subst IsBuiltDatabase (sym left) (changed_at_keeps db place table (with_rows []) valid at refl here.built here.def (is_valid_table (with_rows [] table) here.built (omega arith) tt))
+-- a change that makes a table of itself
+changed_at-same : (db : Database) (place : ℕ) → changed_at db place (λ table. table) ≡ db
+changed_at-same [] place = refl
+changed_at-same (None ∷ db) zero = refl
+changed_at-same (Some table ∷ db) zero = refl
+changed_at-same (table ∷ db) (suc place) = ap (λ rest. table ∷ rest) (changed_at-same db place)
+
+-- the rows that were taken out are put back as they were
+pub put_back_same : (db without new : Database) (place : ℕ) (taken rows : List Row) → option_map (λ table. table.rows) (table_at db place) ≡ Some taken → without ≡ changed_at db place (with_rows [])
+    → new ≡ changed_at without place (with_rows rows) → rows ≡ taken → new ≡ db
+put_back_same db without new place taken rows took left put same =
+    let known : AreRowsOf db place taken = are_rows_of db place taken took in
+    let its : known.table ≡ with_rows rows known.table = ap (λ r. with_rows r known.table) (known.rows_are ∙ sym same) in
+    sym (put_back db without new place known.table rows (λ table. table) known.is left put its) ∙ changed_at-same db place

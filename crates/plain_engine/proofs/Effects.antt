@@ -10,9 +10,10 @@ use Rattle.mdc_ast.specs.declared.reply.Reply.{Reply}
 use Rattle.mdc_ast.specs.declared.reply.Reply.TheVariants.{Inserted, Updated, Deleted}
 use Rattle.mdc_ast.specs.declared.row.Row.{Row}
 use Rattle.statement_meaning.specs.Cause.{NumbersUsedUp, cause_if}
-use Rattle.mdc_ast.specs.Database.{Database, PlainTable, changed_at, table_at, appended, numbered}
+use Rattle.mdc_ast.specs.Database.{Database, PlainTable, changed_at, table_at, appended, numbered, with_place}
 use Rattle.statement_meaning.specs.Doing.{causes_of_rows, changed_causes, changed_row, changed_table, effect, hits, left_table, null_causes, used_up}
 use Rattle.mdc_ast.specs.Truth.{qualifies}
+use Rattle.statement_meaning.proofs.DatabaseLemmas.{changed_at-with_place}
 use Rattle.statement_meaning.specs.Judging.{of_some}
 use Rattle.statement_meaning.specs.Step.{Answer, Replied, step_by}
 use Rattle.mdc_ast.proofs.TestsLemmas.{some_is}
@@ -40,21 +41,19 @@ delete_is db without new place pred taken left count rows took put stays gone =
     (put_back db without new place table left (left_table pred) known.is took put same)
     (ap (λ r. Deleted (length r)) (hits_are db place pred taken known) ∙ ap Deleted (sym gone))
 
--- an UPDATE that nothing is said against: the changed rows are put back
-pub update_is : (db without new : Database) (place : ℕ) (sets : List BoundSet) (pred : Option Pred) (table : PlainTable) (taken changed : List Row) (count : ℕ) →
-    table_at db place ≡ Some table → flat_map (changed_causes table.def.columns sets pred) table.rows ≡ [] →
-    option_map (λ table. table.rows) (table_at db place) ≡ Some taken → without ≡ changed_at db place (with_rows []) → new ≡ changed_at without place (with_rows changed) →
-    changed ≡ map (changed_row sets pred) taken → count ≡ length (filter (λ row. qualifies pred row.values) taken) →
-    done db (bound.Update place sets pred) ≡ (new, Replied (Updated count))
-update_is db without new place sets pred table taken changed count at none rows took put changes counts =
-    let known : AreRowsOf db place taken = are_rows_of db place taken rows in
-    let same : changed_table sets pred known.table ≡ with_rows changed known.table = ap (λ r. with_rows (map (changed_row sets pred) r) known.table) known.rows_are ∙ ap (λ r. with_rows r known.table) (sym changes) in
+-- an UPDATE that nothing is said against: the table has the changed rows
+pub update_is : (db new : Database) (place : ℕ) (sets : List BoundSet) (pred : Option Pred) (table : PlainTable) (changed : List Row) (count : ℕ) → table_at db place ≡ Some table
+    → flat_map (changed_causes table.def.columns sets pred) table.rows ≡ [] → new ≡ changed_at db place (with_rows changed) → changed ≡ map (changed_row sets pred) table.rows
+    → count ≡ length (filter (λ row. qualifies pred row.values) table.rows) → done db (bound.Update place sets pred) ≡ (new, Replied (Updated count))
+update_is db new place sets pred table changed count at none put changes counts =
+    let same : changed_table sets pred table ≡ with_rows changed table = ap (λ r. with_rows r table) (sym changes) in
     let faultless : causes_of_rows db (bound.Update place sets pred) ≡ [] =
     ap (λ found. of_some found (λ (table : PlainTable). flat_map (changed_causes table.def.columns sets pred) table.rows) ++ []) at ∙ ap (λ causes. causes ++ []) none in
+    let made : changed_at db place (changed_table sets pred) ≡ new =
+    changed_at-with_place db place table (changed_table sets pred) at
+    ∙ (ap (λ t. with_place db place (Some t)) same ∙ (sym (changed_at-with_place db place table (with_rows changed) at) ∙ sym put)) in
     ap (λ causes. step_by db causes (effect db (bound.Update place sets pred))) faultless
-    ∙ same_end _ new _ (Updated count)
-    (put_back db without new place known.table changed (changed_table sets pred) known.is took put same)
-    (ap (λ r. Updated (length r)) (hits_are db place pred taken known) ∙ ap Updated (sym counts))
+    ∙ same_end _ new _ (Updated count) made (ap (λ found. Updated (length (hits pred found))) at ∙ ap Updated (sym counts))
 
 -- numbers below 2^64 aren't used up
 pub not_used_up : (next count : ℕ) → next + count < 18446744073709551616 → used_up next count ≡ []

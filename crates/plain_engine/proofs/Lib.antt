@@ -1,6 +1,7 @@
 pub mod ChangedTables
+pub mod CopiedTables
 pub mod Effects
 pub mod Filterable
 pub mod FoundRows
-pub mod Mapped
+pub mod SessionsLemmas
 pub mod TablesLemmas

@@ -114,19 +114,19 @@ number_known defs rows db place def e is h =
 
 -- ---- what stays true of the places
 
-def_at-other : (defs : Definitions) (place : ℕ) (def : Option TableDef) (other : ℕ) → other ≢ place → def_at (set defs place def) other ≡ def_at defs other
+pub def_at-other : (defs : Definitions) (place : ℕ) (def : Option TableDef) (other : ℕ) → other ≢ place → def_at (set defs place def) other ≡ def_at defs other
 def_at-other defs place def other ne = ap (option_and_then (λ def. def)) (slice_get-set_other defs place def other ne)
 
-def_at-same : (defs : Definitions) (place : ℕ) (def : Option TableDef) → place < length defs → def_at (set defs place def) place ≡ def
+pub def_at-same : (defs : Definitions) (place : ℕ) (def : Option TableDef) → place < length defs → def_at (set defs place def) place ≡ def
 def_at-same defs place def lt = ap (option_and_then (λ def. def)) (slice_get-set_same defs place def lt)
 
-rows_in-other : (rows : List (List Row)) (place : ℕ) (new : List Row) (other : ℕ) → other ≢ place → rows_in (set rows place new) other ≡ rows_in rows other
+pub rows_in-other : (rows : List (List Row)) (place : ℕ) (new : List Row) (other : ℕ) → other ≢ place → rows_in (set rows place new) other ≡ rows_in rows other
 rows_in-other rows place new other ne = ap (λ o. unwrap_or o []) (slice_get-set_other rows place new other ne)
 
 rows_in-same : (rows : List (List Row)) (place : ℕ) (new : List Row) → place < length rows → rows_in (set rows place new) place ≡ new
 rows_in-same rows place new lt = ap (λ o. unwrap_or o []) (slice_get-set_same rows place new lt)
 
-same_or_other : (a b : ℕ) → (a ≡ b) ⊎ (a ≢ b)
+pub same_or_other : (a b : ℕ) → (a ≡ b) ⊎ (a ≢ b)
 same_or_other zero zero = inl refl
 same_or_other zero (suc b) = inr (λ e. cc)
 same_or_other (suc a) zero = inr (λ e. cc)

@@ -16,11 +16,11 @@ use mdc_values::Memory;
 use row_checks::not_built;
 use std::alloc::Global;
 
-/// Executes a statement on the tables of a valid database. Where it is refused they stay as they are. After `Memory` the
-/// table of the statement may have lost its rows.
+/// Executes a statement on the tables of a valid database. Where it is refused, and after `Memory`, they stay as they are.
 pub fn execute(alloc: Global, stmt: &Stmt, tables: &mut Tables) -> Result<Outcome, Memory>
     requires { IsBuiltDatabase tables.old }
     ensures done { IfOk result (λ outcome. step tables.old stmt.now ≡ (tables.new, answer_of outcome)) }
+    ensures memory { OnErr result (tables.new ≡ tables.old) }
     ensures valid { IsBuiltDatabase tables.new }
 {
     // Most statements are INSERTs against which nothing is said.
@@ -41,6 +41,7 @@ pub fn execute(alloc: Global, stmt: &Stmt, tables: &mut Tables) -> Result<Outcom
 fn execute_any(alloc: Global, stmt: &Stmt, tables: &mut Tables) -> Result<Outcome, Memory>
     requires { IsBuiltDatabase tables.old }
     ensures done { IfOk result (λ outcome. step tables.old stmt.now ≡ (tables.new, answer_of outcome)) }
+    ensures memory { OnErr result (tables.new ≡ tables.old) }
     ensures valid { IsBuiltDatabase tables.new }
 {
     if !built(stmt) {
@@ -58,7 +59,7 @@ fn carry_out(alloc: Global, bound: Bound, tables: &mut Tables) -> Result<Outcome
     requires valid { IsBuiltDatabase tables.old }
     requires ready { MayBeDone tables.old bound }
     ensures done { IfOk result (λ outcome. done tables.old bound ≡ (tables.new, answer_of outcome)) }
-    ensures valid { OnErr result (IsBuiltDatabase tables.new) }
+    ensures memory { OnErr result (tables.new ≡ tables.old) }
 {
     match bound {
         Bound::CreateTable(def) => Ok(create(def, tables)),

@@ -1,10 +1,11 @@
-//! The plain database as a program: tables in memory, each with its rows in one list, by row number.
+//! A session as a program: tables in memory, each with its rows in one list, by row number, in transactions.
 //!
-//! It promises that a statement does to its tables what the definitions of `statement_meaning` say, and answers so. It is slow
-//! where a database over pages is fast, and is what such a one is compared with. It stands on `row_checks` for what is asked
-//! of rows, and on `binder`, `answer_text` and `catalog`.
+//! It promises that a statement does to its session what the definitions of `statement_meaning` say, and answers so, and that
+//! nothing has changed where memory was wanted. It is slow where a database over pages is fast, and is what such a one is compared
+//! with. It stands on `row_checks` for what is asked of rows, and on `binder`, `answer_text` and `catalog`.
 #![tactic(auto)]
 
+mod copying;
 mod defining;
 mod deleting;
 mod engine;

@@ -1,10 +1,12 @@
 // Tables in memory: what each is, and its rows.
-ghost use Rattle.std.specs.Prelude.{◌≡◌, ◌<◌, [], None, Some, IfOk, IfSome, IsSome, option_map};
+ghost use Rattle.std.specs.Prelude.{◌≡◌, ◌<◌, [], None, Some, IfOk, IfSome, IsSome, OnOk, option_map};
 ghost use Rattle.mdc_ast.specs.Database.{changed_at, defs_of, empty_database, table_at, with_place};
 ghost use Rattle.mdc_ast.specs.Definitions.{empty_place};
+ghost use Rattle.statement_meaning.specs.Built.{IsBuiltDatabase};
 ghost use Rattle.statement_meaning.specs.Doing.{entered};
 ghost use Rattle.plain_engine.specs.Tables.{with_next, with_rows};
 
+use crate::copying::Copied;
 use catalog::Catalog;
 use mdc_ast::{Row, TableDef};
 use mdc_values::{List, Memory};
@@ -124,5 +126,43 @@ impl Tables {
         };
         def.next = next;
         self.catalog.put(place, def);
+    }
+
+    /// The same tables once more.
+    pub fn copied(&self) -> Result<Tables, Memory>
+        requires { IsBuiltDatabase self.now }
+        ensures { IfOk result (λ copy. copy ≡ self.now) }
+    {
+        let mut copy = Tables::empty(self.alloc)?;
+        for place in 0..PLACES {
+            self.copy_place(place as u8, &mut copy)?;
+        }
+        Ok(copy)
+    }
+
+    // Puts the table at a place once more into that place of others, which is empty.
+    fn copy_place(&self, place: u8, into: &mut Tables) -> Result<(), Memory>
+        requires within { place < 16 }
+        requires valid { IsBuiltDatabase self.now }
+        requires empty { table_at into.old place ≡ None }
+        ensures { OnOk result (into.new ≡ with_place into.old place (table_at self.now place)) }
+    {
+        if self.catalog.def(place).is_none() {
+            return Ok(());
+        }
+        let lent = self.table(place);
+        let def = lent.def.copied(self.alloc)?;
+        let rows = self.rows[place as usize].copied(self.alloc)?;
+        into.put_table(place, def, rows);
+        Ok(())
+    }
+
+    // Puts a table that has the number of a place into that place. It takes no memory.
+    fn put_table(&mut self, place: u8, def: TableDef, rows: List<Row>)
+        requires { (place < 16) × (def.number ≡ place) }
+        ensures { self.new ≡ with_place self.old place (Some (record { def = def; rows = rows })) }
+    {
+        self.catalog.put(place, def);
+        self.rows[place as usize] = rows;
     }
 }

@@ -1,5 +1,5 @@
 // The rows of an UPDATE: all are judged before one is changed.
-ghost use Rattle.std.specs.Prelude.{◌≡◌, length, map, filter, flat_map, option_map, IfOk, OnOk, OnErr, IsTrue};
+ghost use Rattle.std.specs.Prelude.{◌≡◌, length, map, filter, flat_map, option_map, IfOk, OnErr, IsTrue};
 ghost use Rattle.mdc_ast.specs.declared.bound.Bound.TheVariants as bound;
 ghost use Rattle.statement_meaning.specs.Built.{IsBuiltDatabase};
 ghost use Rattle.mdc_ast.specs.Database.{table_at};
@@ -12,13 +12,14 @@ ghost use Rattle.row_filter.specs.Filtering.{may_filter};
 ghost use Rattle.row_checks.specs.Filtering.{are_changeable, are_filterable, may_change};
 ghost use Rattle.row_checks.specs.RowChange.{are_within, misfit_cause};
 
+use crate::copying::Copied;
 use crate::tables::Tables;
 use mdc_ast::{BoundSet, ColumnDef, Outcome, Pred, Reply, Row};
 use mdc_values::Memory;
 use row_checks::{Misfit, changed_values, first_misfit_of_row, qualifies, unfit};
 use std::alloc::Global;
 
-/// An UPDATE: all rows are judged before one is changed. After `Memory` the table may have lost its rows.
+/// An UPDATE: all rows are judged before one is changed. After `Memory` nothing has changed.
 pub fn update(
     alloc: Global,
     table: u8,
@@ -29,15 +30,15 @@ pub fn update(
     requires valid { IsBuiltDatabase tables.old }
     requires ready { IsThere (table_at tables.old table) (MayUpdate sets.now pred.now) }
     ensures done { IfOk result (λ outcome. done tables.old (bound.Update table sets.now pred.now) ≡ (tables.new, answer_of outcome)) }
-    ensures valid { OnErr result (IsBuiltDatabase tables.new) }
+    ensures memory { OnErr result (tables.new ≡ tables.old) }
 {
     let lent = tables.table(table);
     let columns = lent.def.columns.as_slice();
     if let Some(misfit) = first_misfit_among(columns, sets, pred, lent.rows) {
         return Ok(Outcome::Refused(unfit(alloc, misfit)?));
     }
-    let mut rows = tables.take_rows(table);
-    let count = change_rows(alloc, sets, pred, &mut rows)?;
+    let rows = changed_rows(alloc, sets, pred, lent.rows)?;
+    let count = hits(pred, lent.rows);
     tables.put_rows(table, rows);
     Ok(Outcome::Done(Reply::Updated(count)))
 }
@@ -63,43 +64,55 @@ fn first_misfit_among<'c>(
     None
 }
 
-// Changes the rows that qualify, each from what it was, and tells their number. It needs that nothing is said against
-// the rows as they will be. After `Memory` some of them are changed.
-fn change_rows(
+// The rows with those changed that qualify, each from what it was. It needs that nothing is said against them as they will be.
+fn changed_rows(
     alloc: Global,
     sets: &[BoundSet],
     pred: &Option<Pred>,
-    rows: &mut Vec<Row>,
-) -> Result<u64, Memory>
-    requires filterable { IsTrue (are_filterable pred.now rows.old.items) }
-    requires changeable { IsTrue (are_changeable sets.now pred.now rows.old.items) }
-    ensures changed { OnOk result (rows.new.items ≡ map (changed_row sets.now pred.now) rows.old.items) }
-    ensures count { IfOk result (λ count. count ≡ length (filter (λ row. spec.qualifies pred.now row.values) rows.old.items)) }
+    rows: &[Row],
+) -> Result<Vec<Row>, Memory>
+    requires filterable { IsTrue (are_filterable pred.now rows.now) }
+    requires changeable { IsTrue (are_changeable sets.now pred.now rows.now) }
+    ensures { IfOk result (λ changed. changed.items ≡ map (changed_row sets.now pred.now) rows.now) }
+{
+    let mut all = Vec::with_capacity(alloc, rows.len())?;
+    for row in rows {
+        all.push(changed(alloc, sets, pred, row)?)?;
+    }
+    Ok(all)
+}
+
+// The number of rows that qualify.
+fn hits(pred: &Option<Pred>, rows: &[Row]) -> u64
+    requires { IsTrue (are_filterable pred.now rows.now) }
+    ensures { result ≡ length (filter (λ row. spec.qualifies pred.now row.values) rows.now) }
 {
     let mut count = 0;
-    for row in rows.iter_mut() {
-        if change(alloc, sets, pred, row)? {
+    for row in rows {
+        if qualifies(pred, row) {
             count += 1;
         }
     }
-    Ok(count)
+    count
 }
 
-// Changes a row if it qualifies, and tells whether it does.
-fn change(
+// A row as an UPDATE leaves it.
+fn changed(
     alloc: Global,
     sets: &[BoundSet],
     pred: &Option<Pred>,
-    row: &mut Row,
-) -> Result<bool, Memory>
-    requires filterable { IsTrue (may_filter pred.now row.old.values) }
-    requires changeable { IsTrue (may_change sets.now pred.now row.old) }
-    ensures changed { OnOk result (row.new ≡ changed_row sets.now pred.now row.old) }
-    ensures told { IfOk result (λ told. told ≡ spec.qualifies pred.now row.old.values) }
+    row: &Row,
+) -> Result<Row, Memory>
+    requires filterable { IsTrue (may_filter pred.now row.now.values) }
+    requires changeable { IsTrue (may_change sets.now pred.now row.now) }
+    ensures { IfOk result (λ changed. changed ≡ changed_row sets.now pred.now row.now) }
 {
     if !qualifies(pred, row) {
-        return Ok(false);
+        return row.copied(alloc);
     }
-    row.values = changed_values(alloc, sets, row.values.as_slice())?;
-    Ok(true)
+    let values = changed_values(alloc, sets, row.values.as_slice())?;
+    Ok(Row {
+        number: row.number,
+        values,
+    })
 }

@@ -22,8 +22,10 @@ impl Told {
     }
 
     fn run(&mut self, stmt: &Stmt) -> Result<(), Memory> {
-        let outcome = self.engine.execute(stmt)?;
-        outcome_bytes(&outcome, &mut self.text)
+        match self.engine.execute(stmt)? {
+            Some(outcome) => outcome_bytes(&outcome, &mut self.text),
+            None => Ok(self.text.extend_from_slice(b"BLOCKS\n")?),
+        }
     }
 }
 
@@ -177,6 +179,37 @@ fn a_place_is_used_again_without_its_rows(rt: HostRuntime) -> Result<(), Fail> {
     told.run(&create(alloc)?)?;
     told.run(&query(alloc)?)?;
     let text = b"OK\n1 ROWS INSERTED\nOK\nERROR 21 no table T\nOK\nA|B\n0 ROWS\n";
+    assert_eq!(rt; told.text.as_slice(), text.as_slice());
+    Ok(())
+}
+
+#[test]
+fn a_rollback_brings_back_the_rows_of_the_last_commit(rt: HostRuntime) -> Result<(), Fail> {
+    let alloc = rt.alloc();
+    let mut told = with_row(alloc, 1, 2)?;
+    told.run(&Stmt::Begin)?;
+    told.run(&insert(alloc, 3, 4)?)?;
+    told.run(&count_up(alloc)?)?;
+    told.run(&Stmt::Rollback)?;
+    told.run(&query(alloc)?)?;
+    told.run(&Stmt::Rollback)?;
+    let text = b"OK\n1 ROWS INSERTED\nOK\n1 ROWS INSERTED\n2 ROWS UPDATED\nOK\nA|B\n1|2\n1 ROWS\nERROR 12 transaction state\n";
+    assert_eq!(rt; told.text.as_slice(), text.as_slice());
+    Ok(())
+}
+
+#[test]
+fn a_commit_keeps_the_rows(rt: HostRuntime) -> Result<(), Fail> {
+    let alloc = rt.alloc();
+    let mut told = with_row(alloc, 1, 2)?;
+    told.run(&Stmt::Begin)?;
+    told.run(&Stmt::Begin)?;
+    told.run(&exchange(alloc)?)?;
+    told.run(&Stmt::Commit)?;
+    told.run(&query(alloc)?)?;
+    told.run(&Stmt::ListBlocks(named(alloc, b"T")?))?;
+    told.run(&Stmt::ListBlocks(named(alloc, b"U")?))?;
+    let text = b"OK\n1 ROWS INSERTED\nOK\nERROR 12 transaction state\n1 ROWS UPDATED\nOK\nA|B\n2|1\n1 ROWS\nBLOCKS\nERROR 21 no table U\n";
     assert_eq!(rt; told.text.as_slice(), text.as_slice());
     Ok(())
 }

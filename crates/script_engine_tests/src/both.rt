@@ -1,10 +1,10 @@
-// The same scripts on the plain engine, with transactions, and on the engine over a store.
+// The same scripts on the plain engine and on the engine over a store.
 ghost use Rattle.std.specs.Prelude.{◌≡◌, false, None, IfOk, OnOk};
 ghost use Rattle.script_engine.specs.Serving.{MayCall};
 ghost use Rattle.script_session.specs.Written.{IsReadWritten};
 
 use crate::mixed::{Drawn, script_of};
-use crate::reference::Reference;
+use crate::reference::answer_plainly;
 use crate::scripts::{reply_to, run_on, source_of};
 use crate::stores::{engine_on, fresh_store};
 use crate::written::{next_written, reader};
@@ -47,7 +47,7 @@ impl Compared {
 // Executes a statement on both engines.
 fn answer_both<S: Store>(
     alloc: Global,
-    reference: &mut Reference,
+    plain: &mut plain_engine::Engine,
     engine: &mut Engine<S>,
     read: Read,
     compared: &mut Compared,
@@ -61,7 +61,7 @@ fn answer_both<S: Store>(
     };
     let stored = reply_to(alloc, &engine.execute(stmt.get())?)?;
     let mut expected = Vec::new(alloc);
-    reference.answer(stmt, &mut expected)?;
+    answer_plainly(alloc, plain, stmt.get(), &mut expected)?;
     compared.note(expected.as_slice(), stored.as_slice());
     Ok(())
 }
@@ -75,7 +75,7 @@ fn compare_all<I: Source, S: Store>(
     requires may { MayCall S.Pages engine.old }
     ensures may { OnOk result (MayCall S.Pages engine.new) }
 {
-    let mut reference = Reference::new(alloc)?;
+    let mut plain = plain_engine::Engine::new(alloc)?;
     let mut statements = reader(alloc)?;
     let mut compared = Compared {
         statements: 0,
@@ -84,7 +84,7 @@ fn compare_all<I: Source, S: Store>(
         alike: 0,
     };
     while let Some(read) = next_written(&mut statements, source)? {
-        answer_both(alloc, &mut reference, engine, read, &mut compared)?;
+        answer_both(alloc, &mut plain, engine, read, &mut compared)?;
     }
     Ok(compared)
 }

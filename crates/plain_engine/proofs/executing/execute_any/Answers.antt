@@ -5,6 +5,7 @@ use Rattle.statement_meaning.specs.Judging.{in_order}
 use Rattle.row_checks.specs.Executing.{MayBeDone}
 use Rattle.row_checks.proofs.Ready.{ready}
 use Rattle.row_checks.proofs.Stepping.{answered, valid_after}
+use Rattle.plain_engine.proofs.ChangedTables.{still_built}
 use Rattle.plain_engine.proofs.executing.execute_any.Goals as goal
 
 pub carry_out-requires-clause-ready : goal.carry_out-requires-clause-ready
@@ -19,4 +20,4 @@ returns-in-Ok-clause-valid c =
     let is = c.in-Ok.ensures.bound.1 ∙ ap (λ defs. bound_of defs c.args.stmt.now) c.catalog.ensures in
     valid_after c.args.tables.now c.carry_out.new.tables c.args.stmt.now c.carry_out.result c.requires
     (answered c.args.tables.now c.carry_out.new.tables c.args.stmt.now c.in-Ok.bound c.carry_out.result (sym c.built.ensures ∙ c.if-not-built.false) c.requires.built said is c.carry_out.ensures.done)
-    c.carry_out.ensures.valid
+    (still_built c.carry_out.result c.args.tables.now c.carry_out.new.tables c.carry_out.ensures.memory c.requires)

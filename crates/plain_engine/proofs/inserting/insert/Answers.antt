@@ -1,16 +1,17 @@
-use Rattle.std.proofs.Common.{◌≡◌, ◌∙◌, ◌+◌, [], refl, sym, ap, length, arith}
+use Rattle.std.proofs.Common.{◌≡◌, ◌∙◌, ◌+◌, ◌++◌, [], refl, sym, ap, length, arith}
 use Rattle.std.specs.Prelude.{flat_map}
 use Rattle.mdc_ast.specs.Database.{PlainTable}
 use Rattle.statement_meaning.specs.Doing.{null_causes}
 use Rattle.binder.specs.Saying.{first_of}
 use Rattle.binder.proofs.FirstLemmas.{first_of-nothing}
-use Rattle.plain_engine.proofs.ChangedTables.{emptied_keeps, is_there-some, on_err, still_numbered, still_there, valid_number}
+use Rattle.plain_engine.proofs.ChangedTables.{is_there-some, on_err, put_back_same, still_numbered, still_there, valid_number}
 use Rattle.plain_engine.proofs.Effects.{insert_is, not_used_up}
 use Rattle.plain_engine.proofs.inserting.insert.Goals as goal
 
-pub returns-in_err-append_rows-clause-valid : goal.returns-in_err-append_rows-clause-valid
-returns-in_err-append_rows-clause-valid c =
-    on_err _ _ (emptied_keeps c.args.tables.now c.take_rows-rows.new.self c.args.table c.requires.valid c.take_rows-rows.ensures.left (is_there-some _ _ c.requires.ready))
+pub returns-in_err-appended-clause-memory : goal.returns-in_err-appended-clause-memory
+returns-in_err-appended-clause-memory c =
+    on_err _ _ (put_back_same c.args.tables.now c.take_rows-rows.new.self c.put_rows.new.self c.args.table c.take_rows-rows.result.items c.append-appended.new.self.items c.take_rows-rows.ensures.taken c.take_rows-rows.ensures.left c.put_rows.ensures
+    (rw c.in_err-appended.is at c.append-appended.ensures.items))
 
 pub put_rows-requires : goal.put_rows-requires
 put_rows-requires c = still_there c.args.tables.now c.take_rows-rows.new.self c.args.table _ c.take_rows-rows.ensures.left (is_there-some _ _ c.requires.ready)
@@ -33,6 +34,6 @@ returns-clause-done c =
     let count : c.len-count.result ≡ length c.args.tuples = c.len-count.ensures in
     let sum = c.in-Some-checked_add.ensures in
     let after : c.in-Some-checked_add.after ≡ table.def.next + length c.args.tuples = omega (arith, sum.1) in
-    insert_is c.args.tables.now c.take_rows-rows.new.self c.put_rows.new.self c.number_from.new.self c.args.table c.args.tuples table c.take_rows-rows.result.items c.append_rows.new.rows.items c.in-Some-checked_add.after c.len-count.result
+    insert_is c.args.tables.now c.take_rows-rows.new.self c.put_rows.new.self c.number_from.new.self c.args.table c.args.tuples table c.take_rows-rows.result.items c.append-appended.new.self.items c.in-Some-checked_add.after c.len-count.result
     c.table.ensures nulls (not_used_up table.def.next (length c.args.tuples) (omega (arith, sum.0))) c.take_rows-rows.ensures.taken c.take_rows-rows.ensures.left c.put_rows.ensures c.number_from.ensures
-    c.in_ok-append_rows.ensures after count
+    (rw c.in_ok-appended.is at c.append-appended.ensures.items ∙ ap (λ added. c.take_rows-rows.result.items ++ added) c.in_ok-added.ensures) after count
