@@ -3,6 +3,8 @@ use Rattle.std.proofs.Common.{◌≡◌, ◌⊎◌, ◌≤◌, ◌++◌, ℕ, Li
 use Rattle.mdc_words.specs.Time.{ReachesBack}
 use Rattle.mdc_ast.specs.declared.reply.Outcome.{Outcome}
 use Rattle.mdc_ast.specs.Reading.{Item}
+use Rattle.statement_meaning.specs.Session.{first_settings}
+use Rattle.statement_meaning.specs.declared.pass.Pass.TheVariants.{Idle}
 use Rattle.mdc_outside.specs.Disk.{File}
 use Rattle.mdc_outside.specs.declared.disk.Disk as disk
 use Rattle.store_api.specs.declared.fault.Damage.{Damage}
@@ -14,7 +16,7 @@ use Rattle.page_store.specs.Bound.{OpensOf}
 use Rattle.page_store.specs.Opened.{CouldBeLeft, LeavesBaseSince, StandsSince}
 use Rattle.page_store.specs.Standing.{IsFormed, pages_in}
 use Rattle.script_engine.specs.Held.{HeldPages}
-use Rattle.script_session.specs.Going.{GoesOnPages}
+use Rattle.script_session.specs.Going.{GoesOnPages, Stage}
 use Rattle.script_session.specs.Leaving.{AreServedPages, LeftByServing}
 use Rattle.script_session.specs.declared.stop.Served.{Served}
 use Rattle.script_session.specs.declared.stop.SessionStop.{SessionStop}
@@ -51,7 +53,7 @@ module _ {D : Type 0} (d : disk.Ghosts D) where
     pub ext : Extents
     pub states_extents : StatesExtents before.bytes ext
     pub run : RunsItems ext pages said script left (d.beside new).tape result
-    pub leaves : LeavesSince d before said (LeftByRun ext run.held run.states run.outcomes run.in_hand said) old new
+    pub leaves : LeavesSince d before said (LeftByRun ext run.held run.stages run.outcomes run.in_hand said) old new
 
   on_file : (before : File) (said : List ℕ) (script left : Option (List ℕ)) (old new : D) (result : Result Served FileStop) → RunsFrom (pages_in before.bytes) before said script left old new result
       → RunsOnFile d before said script left old new result
@@ -60,11 +62,11 @@ module _ {D : Type 0} (d : disk.Ghosts D) where
   -- ---- a store was opened
 
   -- an image that the run left, or the store left it, and for the pages of the file the run leaves it
-  left_opened : {S : Type 0} (g : pages.Ghosts S) (store : S) (ext : Extents) (held : HeldPages) (run_states : List HeldPages) (outcomes : List Outcome) (in_hand : List Item) (bytes said : List ℕ) (t : ℕ) (image heard : List ℕ)
+  left_opened : {S : Type 0} (g : pages.Ghosts S) (store : S) (ext : Extents) (held : HeldPages) (run_stages : List Stage) (outcomes : List Outcome) (in_hand : List Item) (bytes said : List ℕ) (t : ℕ) (image heard : List ℕ)
       → AreServedPages ext (g.state store).base → held.base ≡ (g.state store).base → (g.state store).base ≡ pages_in bytes
-      → IsLeftSince (λ pages heard. LeftByServing ext held run_states outcomes in_hand said (Some pages) heard) ext (g.left store t) image heard
-      → LeftByRun ext held run_states outcomes in_hand said image heard ⊎ IsLeftByStore g store bytes said (LeftByRun ext held run_states outcomes in_hand said) t image heard
-  left_opened g store ext held run_states outcomes in_hand bytes said t image heard served held_base base left =
+      → IsLeftSince (λ pages heard. LeftByServing ext held run_stages outcomes in_hand said (Some pages) heard) ext (g.left store t) image heard
+      → LeftByRun ext held run_stages outcomes in_hand said image heard ⊎ IsLeftByStore g store bytes said (LeftByRun ext held run_stages outcomes in_hand said) t image heard
+  left_opened g store ext held run_stages outcomes in_hand bytes said t image heard served held_base base left =
       split_left left
       (λ formed states was. inr (record {
         pages = Some (pages_in image);
@@ -72,7 +74,7 @@ module _ {D : Type 0} (d : disk.Ghosts D) where
         kind = λ is same. record {
           formed = formed;
           states_extents = states;
-          left = left_first ext held run_states outcomes in_hand said (g.state store).base (Some (pages_in image)) heard served held_base (is ∙ ap Some (sym base)) same;
+          left = left_first ext held run_stages outcomes in_hand said (g.state store).base (Some (pages_in image)) heard served held_base (is ∙ ap Some (sym base)) same;
         };
       }))
       (λ formed states within. inl (record { formed = formed; states_extents = states; left = within }))
@@ -90,27 +92,27 @@ module _ {D : Type 0} (d : disk.Ghosts D) where
         ext = serves.ext;
         states_extents = states_along before.bytes ext serves.ext serves.shape states;
         run = serves.run;
-        leaves = inl (rests_on_file d g store before said (LeftByRun serves.ext serves.run.held serves.run.states serves.run.outcomes serves.run.in_hand said) old opened new
+        leaves = inl (rests_on_file d g store before said (LeftByRun serves.ext serves.run.held serves.run.stages serves.run.outcomes serves.run.in_hand said) old opened new
             (λ t image heard early now.
-            left_opened g store serves.ext serves.run.held serves.run.states serves.run.outcomes serves.run.in_hand before.bytes said t image heard serves.served serves.run.opened.base base (serves.since t early image heard now))
+            left_opened g store serves.ext serves.run.held serves.run.stages serves.run.outcomes serves.run.in_hand before.bytes said t image heard serves.served serves.run.opened.base base (serves.since t early image heard now))
             crash same_clock later by_host rests);
       }))
 
   -- ---- none was opened
 
   -- a crash within an opening that was refused leaves the pages of the file
-  leaves_refused : (before : File) (said : List ℕ) (ext : Extents) (held : HeldPages) (run_states : List HeldPages) (outcomes : List Outcome) (in_hand : List Item) (old new : D) (First : Type 0) → IsFormed before.bytes
+  leaves_refused : (before : File) (said : List ℕ) (ext : Extents) (held : HeldPages) (run_stages : List Stage) (outcomes : List Outcome) (in_hand : List Item) (old new : D) (First : Type 0) → IsFormed before.bytes
       → StatesExtents before.bytes ext → AreServedPages ext (pages_in before.bytes) → held.base ≡ pages_in before.bytes → TellsNow d old → d.file old ≡ Some before → (d.beside old).tape ≡ Some said
-      → OpensOf d old new ⊎ (First × LeavesOf d CouldBeLeft old new) → LeavesSince d before said (LeftByRun ext held run_states outcomes in_hand said) old new
-  leaves_refused before said ext held run_states outcomes in_hand old new First formed states served base now_old is told leaves =
-      let Left : List ℕ → List ℕ → Type 0 = LeftByRun ext held run_states outcomes in_hand said in
+      → OpensOf d old new ⊎ (First × LeavesOf d CouldBeLeft old new) → LeavesSince d before said (LeftByRun ext held run_stages outcomes in_hand said) old new
+  leaves_refused before said ext held run_stages outcomes in_hand old new First formed states served base now_old is told leaves =
+      let Left : List ℕ → List ℕ → Type 0 = LeftByRun ext held run_stages outcomes in_hand said in
       leaves_since d before said Left old new (rests_refused d before said Left old new First First
       (λ image heard stand same.
       let stands = stand.1 formed in
       record {
         formed = stands.formed;
         states_extents = states_standing before.bytes image (pages_in before.bytes) ext stands states;
-        left = left_first ext held run_states outcomes in_hand said (pages_in before.bytes) (Some (pages_in image)) heard served base (ap Some stands.pages) same;
+        left = left_first ext held run_stages outcomes in_hand said (pages_in before.bytes) (Some (pages_in image)) heard served base (ap Some stands.pages) same;
       }) (λ first. first) is told leaves)
 
   -- a run that stopped before any item, on a well file
@@ -118,17 +120,17 @@ module _ {D : Type 0} (d : disk.Ghosts D) where
       → (end_ ≡ session.Device) ⊎ (end_ ≡ session.Memory) → stop ≡ stop_of_session end_ → TellsNow d old → d.file old ≡ Some before → (d.beside old).tape ≡ Some said
       → OpensOf d old new ⊎ (First × LeavesOf d CouldBeLeft old new) → RunsOnFile d before said script script old new (Err stop)
   refused_on_file laws before said script old new First stop end_ well is_one stop_is now_old is told leaves =
-      let held : HeldPages = record { base = pages_in before.bytes; work = pages_in before.bytes; defs = well.served.defs; open_ = false } in
+      let held : HeldPages = record { base = pages_in before.bytes; work = pages_in before.bytes; defs = well.served.defs; open_ = false; settings = first_settings; pass = Idle } in
       let tape : (d.beside new).tape ≡ Some (said ++ []) = ap (λ b. b.tape) (kept_beside d old new First leaves) ∙ (told ∙ ap Some (sym (append-nil said))) in
       let run : RunsItems well.ext (pages_in before.bytes) said script script (d.beside new).tape (Err stop) =
-      items_on_lists laws well.ext (pages_in before.bytes) said script script (d.beside new).tape (Err stop) held well.served (record { base = refl; work = refl; defs = well.served.stored; closed = refl })
+      items_on_lists laws well.ext (pages_in before.bytes) said script script (d.beside new).tape (Err stop) held well.served (record { base = refl; work = refl; defs = well.served.stored; closed = refl; settings = refl; pass = refl })
       [] [] [] [] GoesOnPages.nothing [] tape (Err end_) (λ damage ends. no_damage end_ (Err end_) is_one refl damage ends) (ap Err stop_is)
       (ends_first script end_ (λ e. elim is_one [ inl f ↦ cc | inr f ↦ cc ]) (λ e. elim is_one [ inl f ↦ cc | inr f ↦ cc ])) in
       record {
         ext = well.ext;
         states_extents = well.states;
         run = run;
-        leaves = leaves_refused before said well.ext run.held run.states run.outcomes run.in_hand old new First well.formed well.states well.served run.opened.base now_old is told leaves;
+        leaves = leaves_refused before said well.ext run.held run.stages run.outcomes run.in_hand old new First well.formed well.states well.served run.opened.base now_old is told leaves;
       }
 
   -- ---- each image is of a kind
@@ -137,5 +139,5 @@ module _ {D : Type 0} (d : disk.Ghosts D) where
   pub stays_well : (before after : File) (said : List ℕ) (script left : Option (List ℕ)) (old new : D) (result : Result Served FileStop) → TellsNow d old → TellsNow d new → ReachesBack d.clock d.moment new
       → d.file old ≡ Some before → (d.beside old).tape ≡ Some said → d.file new ≡ Some after → AreWell before → RunsOnFile d before said script left old new result → AreWell after
   stays_well before after said script left old new result now_old now_new back is told is_after well runs =
-      each_since d IsWell before after said (said ++ runs.run.more) old new (LeftByRun runs.ext runs.run.held runs.run.states runs.run.outcomes runs.run.in_hand said) now_old now_new back is told is_after runs.run.tape_is
-      (λ image heard run. well_left runs.ext runs.run.held runs.run.states runs.run.outcomes runs.run.in_hand said image heard run) well runs.leaves
+      each_since d IsWell before after said (said ++ runs.run.more) old new (LeftByRun runs.ext runs.run.held runs.run.stages runs.run.outcomes runs.run.in_hand said) now_old now_new back is told is_after runs.run.tape_is
+      (λ image heard run. well_left runs.ext runs.run.held runs.run.stages runs.run.outcomes runs.run.in_hand said image heard run) well runs.leaves

@@ -8,7 +8,7 @@ use Rattle.extent_map.specs.declared.extents.Extents.{Extents}
 use Rattle.table_trees.specs.ToldPages.{PageList}
 use Rattle.script_engine.specs.Held.{HeldPages}
 use Rattle.script_session.specs.Ending.{IsPartOfNext}
-use Rattle.script_session.specs.Going.{held_after}
+use Rattle.script_session.specs.Going.{IsHeldIn, Stage, stage_after, still}
 use Rattle.script_session.specs.Leaving.{AreKept, AreServedPages, LeftByServing}
 
 -- nothing is a first part of each text
@@ -17,19 +17,19 @@ part_nothing [] = refl
 part_nothing (outcome ∷ outcomes) = (_, refl)
 
 -- before the first item what was held is held
-held_first : (held : HeldPages) (states : List HeldPages) → held_after held states 0 ≡ held
+held_first : (held : HeldPages) (stages : List Stage) → IsHeldIn (stage_after (still held) stages 0) held
 held_first held [] = refl
-held_first held (next ∷ states) = refl
+held_first held (next ∷ stages) = refl
 
 -- the pages that were held at the start, with nothing said, are left by each run
-pub left_first : (ext : Extents) (held : HeldPages) (states : List HeldPages) (outcomes : List Outcome) (in_hand : List Item) (before : List ℕ) (pages : PageList) (left : Option PageList) (heard : List ℕ)
-    → AreServedPages ext pages → held.base ≡ pages → left ≡ Some pages → heard ≡ before → LeftByServing ext held states outcomes in_hand before left heard
-left_first ext held states outcomes in_hand before pages left heard served base is said = record {
+pub left_first : (ext : Extents) (held : HeldPages) (stages : List Stage) (outcomes : List Outcome) (in_hand : List Item) (before : List ℕ) (pages : PageList) (left : Option PageList) (heard : List ℕ)
+    → AreServedPages ext pages → held.base ≡ pages → left ≡ Some pages → heard ≡ before → LeftByServing ext held stages outcomes in_hand before left heard
+left_first ext held stages outcomes in_hand before pages left heard served base is said = record {
   pages = pages;
   reopens = is;
   served = served;
   items = 0;
-  kept = AreKept.done (omega arith) (subst (λ (h : HeldPages). pages ≡ h.base) (sym (held_first held states)) (sym base));
+  kept = AreKept.done (omega arith) held (held_first held stages) (sym base);
   more = [];
   told_is = said ∙ sym (append-nil before);
   begun = 0;
@@ -39,8 +39,8 @@ left_first ext held states outcomes in_hand before pages left heard served base 
 }
 
 -- and so is what a store leaves whose base is these
-pub left_only_base : (ext : Extents) (held : HeldPages) (states : List HeldPages) (outcomes : List Outcome) (in_hand : List Item) (before : List ℕ) (s : StoreState) (left : Option PageList) (heard : List ℕ)
-    → AreServedPages ext s.base → held.base ≡ s.base → s.told ≡ Some before → OnlyBase s left heard → LeftByServing ext held states outcomes in_hand before left heard
-left_only_base ext held states outcomes in_hand before s left heard served base told only =
-    left_first ext held states outcomes in_hand before s.base left heard served base only.0
+pub left_only_base : (ext : Extents) (held : HeldPages) (stages : List Stage) (outcomes : List Outcome) (in_hand : List Item) (before : List ℕ) (s : StoreState) (left : Option PageList) (heard : List ℕ)
+    → AreServedPages ext s.base → held.base ≡ s.base → s.told ≡ Some before → OnlyBase s left heard → LeftByServing ext held stages outcomes in_hand before left heard
+left_only_base ext held stages outcomes in_hand before s left heard served base told only =
+    left_first ext held stages outcomes in_hand before s.base left heard served base only.0
     (subst (λ (o : Option (List ℕ)). IfSome o (λ bytes. heard ≡ bytes)) told only.1)

@@ -17,7 +17,7 @@ use Rattle.page_store.specs.FileStore.{IsLeft}
 use Rattle.page_store.specs.declared.shape.Shape.{Shape}
 use Rattle.page_store.specs.Standing.{pages_in}
 use Rattle.script_engine.specs.Held.{HeldPages, StandsForSession}
-use Rattle.script_session.specs.Going.{GoesOnPages}
+use Rattle.script_session.specs.Going.{GoesOnPages, Stage}
 use Rattle.script_session.specs.Leaving.{AreServedPages, LeftByServing}
 use Rattle.script_session.specs.Lists.{GoesOnLists}
 use Rattle.script_session.specs.Serving.{EndsScript}
@@ -34,8 +34,8 @@ use Rattle.file_session.specs.declared.stop.FileStop.{FileStop}
 -- the laws by which a run over sound pages is one over lists of rows
 pub record ListLaws : Type 0 where
   pub stand : (ext : Extents) (pages : PageList) → IsSoundDatabase ext pages → (db : Database) × PagesStandFor ext pages db
-  pub lists : (ext : Extents) (held : HeldPages) (items : List Item) (outcomes : List Outcome) (states : List HeldPages) → GoesOnPages ext held items outcomes states
-      → (session : Session) → StandsForSession ext held session → (sessions : List Session) × GoesOnLists ext held session items outcomes states sessions
+  pub lists : (ext : Extents) (held : HeldPages) (items : List Item) (outcomes : List Outcome) (stages : List Stage) → GoesOnPages ext held items outcomes stages
+      → (session : Session) → StandsForSession ext held session → (sessions : List Session) × GoesOnLists ext held session items outcomes stages sessions
 
 -- what is held of pages that were opened stands for a session on each database that these stand for
 pub opened_session : (ext : Extents) (pages : PageList) (held : HeldPages) (db : Database) → IsOpened pages held → PagesStandFor ext pages db → StandsForSession ext held (session_on db)
@@ -43,16 +43,18 @@ opened_session ext pages held db opened stands = record {
   kept = subst (λ (p : PageList). PagesStandFor ext p db) (sym opened.base) stands;
   working = subst (λ (p : PageList). PagesStandFor ext p db) (sym opened.work) stands;
   is_open = sym opened.closed;
+  settings = sym opened.settings;
+  pass = sym opened.pass;
 }
 
 -- the run over the lists of rows for which the pages stand
 pub items_on_lists : (laws : ListLaws) (ext : Extents) (pages : PageList) (said : List ℕ) (script left tape : Option (List ℕ)) (result : Result Served FileStop) (held : HeldPages) → AreServedPages ext pages → IsOpened pages held
-    → (items : List Item) (outcomes : List Outcome) (states : List HeldPages) (in_hand : List Item) → GoesOnPages ext held items outcomes states → (more : List ℕ) → tape ≡ Some (said ++ more)
+    → (items : List Item) (outcomes : List Outcome) (stages : List Stage) (in_hand : List Item) → GoesOnPages ext held items outcomes stages → (more : List ℕ) → tape ≡ Some (said ++ more)
     → (end_ : Result Served SessionStop) → ((damage : Damage) → end_ ≡ Err (session.Damaged damage) → ⊥) → result ≡ end_of_session end_
     → IfSome script (λ script. EndsScript script left more items in_hand outcomes end_) → RunsItems ext pages said script left tape result
-items_on_lists laws ext pages said script left tape result held served opened items outcomes states in_hand goes more tape_is end_ undamaged result_is ends =
+items_on_lists laws ext pages said script left tape result held served opened items outcomes stages in_hand goes more tape_is end_ undamaged result_is ends =
     let stands = laws.stand ext pages served.sound in
-    let on_lists = laws.lists ext held items outcomes states goes (session_on stands.0) (opened_session ext pages held stands.0 opened stands.1) in
+    let on_lists = laws.lists ext held items outcomes stages goes (session_on stands.0) (opened_session ext pages held stands.0 opened stands.1) in
     record {
       held = held;
       opened = opened;
@@ -60,7 +62,7 @@ items_on_lists laws ext pages said script left tape result held served opened it
       stands = stands.1;
       items = items;
       outcomes = outcomes;
-      states = states;
+      stages = stages;
       in_hand = in_hand;
       goes = goes;
       sessions = on_lists.0;
@@ -82,7 +84,7 @@ left_since clock left Run ext old last t image heard time early never (inl (form
 left_since clock left Run ext old last t image heard time early never (inr none) = elim (time.only t None heard early none) [ inl was ↦ inr was | inr within ↦ absurd (never within) ]
 
 -- no run leaves a file that doesn't reopen
-reopens : {ext : Extents} {held : HeldPages} {states : List HeldPages} {outcomes : List Outcome} {in_hand : List Item} {before heard : List ℕ} → LeftByServing ext held states outcomes in_hand before None heard → ⊥
+reopens : {ext : Extents} {held : HeldPages} {stages : List Stage} {outcomes : List Outcome} {in_hand : List Item} {before heard : List ℕ} → LeftByServing ext held stages outcomes in_hand before None heard → ⊥
 reopens left = let none : None ≡ Some left.pages = left.reopens in cc
 
 -- extents of one shape are stated by the same images
@@ -104,10 +106,10 @@ run_on_host g d laws stated said script left old last new end_ result runs told 
   ext = runs.ext;
   shape = runs.shape;
   served = runs.served;
-  run = items_on_lists laws runs.ext (g.state old).base said script left (d.beside new).tape result runs.held runs.served runs.opened runs.items runs.outcomes runs.states runs.in_hand runs.goes runs.said
+  run = items_on_lists laws runs.ext (g.state old).base said script left (d.beside new).tape result runs.held runs.served runs.opened runs.items runs.outcomes runs.stages runs.in_hand runs.goes runs.said
       (tape_is ∙ told_behind (g.state old).told (g.state last).told runs.said said told runs.told) end_ runs.undamaged result_is runs.ends;
   since = λ t early image heard now.
-      left_since g.clock g.left (LeftByServing runs.ext runs.held runs.states runs.outcomes runs.in_hand said) runs.ext old last t image heard (runs.time said told) early reopens
+      left_since g.clock g.left (LeftByServing runs.ext runs.held runs.stages runs.outcomes runs.in_hand said) runs.ext old last t image heard (runs.time said told) early reopens
       (same_shape stated runs.ext (g.left last t) image heard runs.shape (closes t image heard now));
 }
 

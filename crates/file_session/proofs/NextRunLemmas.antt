@@ -24,20 +24,16 @@ use Rattle.file_session.proofs.WellFilesLemmas.{pages_left, synced_image}
 stated_shape : {file : List ℕ} {ext now : Extents} → StatesExtents file ext → StatesExtents file now → IsSameShape ext now
 stated_shape states others = record { cap = sym others.extents ∙ states.extents; extent_pages = sym others.extent_pages ∙ states.extent_pages }
 
--- what is held of pages that were opened has their definitions
-stored_opened : (pages : PageList) (held : HeldPages) → IsOpened pages held → AreStored held.work held.defs
-stored_opened pages held opened = subst (λ (p : PageList). AreStored p held.defs) (sym opened.work) opened.defs
-
 -- a run on what a crash within a run leaves begins with the database that this one kept
 pub next_database : ((ext : Extents) (pages : PageList) (a b : Database) → PagesStandFor ext pages a → PagesStandFor ext pages b → a ≡ b)
     → (ext now : Extents) (pages : PageList) (said said_next : List ℕ) (script left tape script_next left_next tape_next : Option (List ℕ)) (result result_next : Result Served FileStop)
-    (run : RunsItems ext pages said script left tape result) (image told : List ℕ) (crash : LeftByRun ext run.held run.states run.outcomes run.in_hand said image told)
+    (run : RunsItems ext pages said script left tape result) (image told : List ℕ) (crash : LeftByRun ext run.held run.stages run.outcomes run.in_hand said image told)
     → StatesExtents image now → (next : RunsItems now (pages_in image) said_next script_next left_next tape_next result_next)
     → IsKeptDatabase ext.cap (session_on run.db) run.sessions run.in_hand crash.left.items next.db
 next_database one ext now pages said said_next script left tape script_next left_next tape_next result result_next run image told crash states next =
-    let kept = kept_stand run.goes (stored_opened pages run.held run.opened) run.lists crash.left.kept in
+    let kept = kept_stand run.lists crash.left.kept in
     let shape = stated_shape crash.states_extents states in
-    let same = pages_left ext run.held run.states run.outcomes run.in_hand said image told crash in
+    let same = pages_left ext run.held run.stages run.outcomes run.in_hand said image told crash in
     let stands : PagesStandFor now (pages_in image) kept.db =
     subst (λ (p : PageList). PagesStandFor now p kept.db) (sym same) (stands_for_along ext now crash.left.pages kept.db shape kept.stand) in
     subst (IsKeptDatabase ext.cap (session_on run.db) run.sessions run.in_hand crash.left.items) (one now (pages_in image) kept.db next.db stands next.stands) kept.kept

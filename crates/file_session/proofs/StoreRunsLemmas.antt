@@ -2,6 +2,8 @@
 use Rattle.std.proofs.Common.{◌≡◌, ℕ, List, [], Option, IfSome, Result, Err, false, refl, sym, ◌∙◌, subst}
 use Rattle.mdc_words.specs.Time.{OverTime}
 use Rattle.mdc_words.proofs.TimeLemmas.{over_time_then, over_time_wider}
+use Rattle.statement_meaning.specs.Session.{first_settings}
+use Rattle.statement_meaning.specs.declared.pass.Pass.TheVariants.{Idle}
 use Rattle.mdc_outside.specs.Outside.{Takes}
 use Rattle.store_api.specs.declared.fault.Damage.{Damage}
 use Rattle.store_api.specs.declared.pages.Pages as pages
@@ -91,9 +93,9 @@ module _ {S : Type 0} (g : pages.Ghosts S) where
 
   -- a session that was served on an engine that was opened
   pub served_on_store : (script left : Option (List ℕ)) (result : Result Served SessionStop) (ext : Extents) (old : S) (opened new : Engine S) → IsSoundStore g ext old → IsReadyEngine g opened
-      → KeepsPages g old opened.store → opened.is_open ≡ false → IsSameShape ext opened.tables.ext → RunsScript g script left opened new result
+      → KeepsPages g old opened.store → opened.is_open ≡ false → opened.settings ≡ first_settings → opened.pass ≡ Idle → IsSameShape ext opened.tables.ext → RunsScript g script left opened new result
       → ((damage : Damage) → result ≡ Err (session.Damaged damage) → ⊥) → RunsOnStore g ext script left old new.store result
-  served_on_store script left result ext old opened new sound ready keeps closed shape runs undamaged =
+  served_on_store script left result ext old opened new sound ready keeps closed settings pass shape runs undamaged =
       let work : (g.state opened.store).work ≡ (g.state old).base = keeps.work ∙ sym sound.committed in
       let served = served_ready opened (g.state old).base keeps.base ready in
       record {
@@ -101,10 +103,10 @@ module _ {S : Type 0} (g : pages.Ghosts S) where
         shape = shape;
         served = served;
         held = held_by g opened;
-        opened = record { base = keeps.base; work = work; defs = subst (λ (pages : PageList). AreStored pages opened.tables.catalog) work ready.work.stored; closed = closed };
+        opened = record { base = keeps.base; work = work; defs = subst (λ (pages : PageList). AreStored pages opened.tables.catalog) work ready.work.stored; closed = closed; settings = settings; pass = pass };
         items = runs.items;
         outcomes = runs.outcomes;
-        states = runs.states;
+        stages = runs.stages;
         in_hand = runs.in_hand;
         goes = runs.goes;
         said = runs.said;
@@ -112,7 +114,7 @@ module _ {S : Type 0} (g : pages.Ghosts S) where
         undamaged = undamaged;
         ends = runs.ends;
         time = λ before is. over_time_then
-            (over_time_wider keeps.time (λ left heard only. left_only_base opened.tables.ext (held_by g opened) runs.states runs.outcomes runs.in_hand before (g.state old) left heard served keeps.base is only))
+            (over_time_wider keeps.time (λ left heard only. left_only_base opened.tables.ext (held_by g opened) runs.stages runs.outcomes runs.in_hand before (g.state old) left heard served keeps.base is only))
             (runs.time before (keeps.told ∙ is));
       }
 
@@ -121,16 +123,16 @@ module _ {S : Type 0} (g : pages.Ghosts S) where
       → ((damage : Damage) → stop ≡ engine.Damaged damage → ⊥) → RunsOnStore g ext script script old new (Err (stop_of_engine stop))
   stopped_on_store script stop ext old new sound keeps undamaged =
       let served = served_sound ext old sound in
-      let held : HeldPages = record { base = (g.state old).base; work = (g.state old).base; defs = served.defs; open_ = false } in
+      let held : HeldPages = record { base = (g.state old).base; work = (g.state old).base; defs = served.defs; open_ = false; settings = first_settings; pass = Idle } in
       record {
         ext = ext;
         shape = record { cap = refl; extent_pages = refl };
         served = served;
         held = held;
-        opened = record { base = refl; work = refl; defs = served.stored; closed = refl };
+        opened = record { base = refl; work = refl; defs = served.stored; closed = refl; settings = refl; pass = refl };
         items = [];
         outcomes = [];
-        states = [];
+        stages = [];
         in_hand = [];
         goes = GoesOnPages.nothing;
         said = [];
@@ -164,7 +166,7 @@ runs_along g before now script left old last end_ shape runs = record {
   opened = runs.opened;
   items = runs.items;
   outcomes = runs.outcomes;
-  states = runs.states;
+  stages = runs.stages;
   in_hand = runs.in_hand;
   goes = runs.goes;
   said = runs.said;

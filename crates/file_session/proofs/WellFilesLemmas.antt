@@ -15,6 +15,7 @@ use Rattle.page_store.specs.Standing.{pages_in}
 use Rattle.page_store.specs.declared.fault.OpenFault.{OpenFault}
 use Rattle.script_engine.specs.Held.{HeldPages}
 use Rattle.script_engine.specs.Opening.{IsSoundStore}
+use Rattle.script_session.specs.Going.{Stage}
 use Rattle.script_session.specs.Leaving.{AreServedPages}
 use Rattle.script_session.specs.declared.stop.SessionStop.{SessionStop}
 use Rattle.script_session.specs.declared.stop.SessionStop.TheVariants as session
@@ -61,14 +62,14 @@ sound_opened g s bytes is_told tape attaches well tells just base =
 -- ---- what a crash leaves
 
 -- the pages of an image that a crash within a run leaves are those that the run left
-pub pages_left : (ext : Extents) (held : HeldPages) (states : List HeldPages) (outcomes : List Outcome) (in_hand : List Item) (said image heard : List ℕ) → (run : LeftByRun ext held states outcomes in_hand said image heard)
+pub pages_left : (ext : Extents) (held : HeldPages) (stages : List Stage) (outcomes : List Outcome) (in_hand : List Item) (said image heard : List ℕ) → (run : LeftByRun ext held stages outcomes in_hand said image heard)
     → pages_in image ≡ run.left.pages
-pages_left ext held states outcomes in_hand said image heard run = let both : Some (pages_in image) ≡ Some run.left.pages = run.left.reopens in cc
+pages_left ext held stages outcomes in_hand said image heard run = let both : Some (pages_in image) ≡ Some run.left.pages = run.left.reopens in cc
 
 -- what a crash within a run leaves is well
-pub well_left : (ext : Extents) (held : HeldPages) (states : List HeldPages) (outcomes : List Outcome) (in_hand : List Item) (said image heard : List ℕ) → LeftByRun ext held states outcomes in_hand said image heard → IsWell image
-well_left ext held states outcomes in_hand said image heard run =
-    let same = pages_left ext held states outcomes in_hand said image heard run in
+pub well_left : (ext : Extents) (held : HeldPages) (stages : List Stage) (outcomes : List Outcome) (in_hand : List Item) (said image heard : List ℕ) → LeftByRun ext held stages outcomes in_hand said image heard → IsWell image
+well_left ext held stages outcomes in_hand said image heard run =
+    let same = pages_left ext held stages outcomes in_hand said image heard run in
     record { formed = run.formed; ext = ext; states = run.states_extents; served = subst (λ (pages : PageList). AreServedPages ext pages) (sym same) run.left.served }
 
 -- a file of which all is on the disk is left as it is

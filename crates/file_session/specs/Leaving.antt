@@ -7,14 +7,15 @@ use Rattle.extent_map.specs.declared.extents.Extents.{Extents}
 use Rattle.page_store.specs.Standing.{IsFormed, pages_in}
 use Rattle.file_verdict.specs.SoundFile.{StatesExtents}
 use Rattle.script_engine.specs.Held.{HeldPages}
+use Rattle.script_session.specs.Going.{Stage}
 use Rattle.script_session.specs.Leaving.{LeftByServing}
 
 -- A crash within a run leaves a well image that stands for the pages of the last commit after some of the items, with each whose
 -- reply was begun, and at most one more.
-pub record LeftByRun (ext : Extents) (held : HeldPages) (states : List HeldPages) (outcomes : List Outcome) (in_hand : List Item) (said image tape : List ℕ) : Type 0 where
+pub record LeftByRun (ext : Extents) (held : HeldPages) (stages : List Stage) (outcomes : List Outcome) (in_hand : List Item) (said image tape : List ℕ) : Type 0 where
   pub formed : IsFormed image
   pub states_extents : StatesExtents image ext
-  pub left : LeftByServing ext held states outcomes in_hand said (Some (pages_in image)) tape
+  pub left : LeftByServing ext held stages outcomes in_hand said (Some (pages_in image)) tape
 
 -- each image that a crash may leave of a file is formed
 abbrev pub AreFormed : File → Type 0

@@ -11,7 +11,7 @@ use Rattle.extent_map.specs.Owners.{IsSameShape}
 use Rattle.extent_map.specs.declared.extents.Extents.{Extents}
 use Rattle.page_store.specs.Standing.{IsFormed, pages_in}
 use Rattle.script_engine.specs.Held.{HeldPages}
-use Rattle.script_session.specs.Going.{GoesOnPages}
+use Rattle.script_session.specs.Going.{GoesOnPages, Stage}
 use Rattle.script_session.specs.Leaving.{AreServedPages, LeftByServing}
 use Rattle.script_session.specs.Serving.{EndsScript}
 use Rattle.script_session.specs.declared.stop.Served.{Served}
@@ -32,15 +32,15 @@ pub record RunsOnStore {S : Type 0} (g : pages.Ghosts S) (stated : Extents) (scr
   pub opened : IsOpened (g.state old).base held
   pub items : List Item
   pub outcomes : List Outcome
-  pub states : List HeldPages
+  pub stages : List Stage
   pub in_hand : List Item
-  pub goes : GoesOnPages ext held items outcomes states
+  pub goes : GoesOnPages ext held items outcomes stages
   pub said : List ℕ
   pub told : Takes (g.state old).told said (g.state new).told
   pub undamaged : (damage : Damage) → result ≡ Err (Damaged damage) → ⊥
   pub ends : IfSome script (λ script. EndsScript script left said items in_hand outcomes result)
   pub time : (before : List ℕ) → (g.state old).told ≡ Some before
-      → OverTime g.clock g.left (LeftByServing ext held states outcomes in_hand before) old new
+      → OverTime g.clock g.left (LeftByServing ext held stages outcomes in_hand before) old new
 
 -- What was left of a store since a time, by an image of the host that it gives back: the image is formed and states the extents, and
 -- the store left the pages that it stands for at its opening, or the run leaves them. Or the store left a file that doesn't reopen.
@@ -55,7 +55,7 @@ pub record ServesStore {S D : Type 0} (g : pages.Ghosts S) (d : disk.Ghosts D) (
   pub served : AreServedPages ext (g.state old).base
   pub run : RunsItems ext (g.state old).base said script left (d.beside new).tape result
   pub since : (t : ℕ) → t ≤ g.clock old → (image heard : List ℕ) → d.moment new t image heard
-      → IsLeftSince (λ pages heard. LeftByServing ext run.held run.states run.outcomes run.in_hand said (Some pages) heard) ext (g.left old t) image heard
+      → IsLeftSince (λ pages heard. LeftByServing ext run.held run.stages run.outcomes run.in_hand said (Some pages) heard) ext (g.left old t) image heard
 
 -- Whatever the pages are: since each time up to the opening of the store, a crash leaves an image of the host that is formed and
 -- states what the file states, or the store left a file then that doesn't reopen.

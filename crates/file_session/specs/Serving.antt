@@ -3,7 +3,8 @@ use Rattle.std.specs.Prelude.{◌≡◌, ◌++◌, ℕ, List, Option, Some, IfSo
 use Rattle.mdc_ast.specs.declared.reply.Outcome.{Outcome}
 use Rattle.mdc_ast.specs.Reading.{Item}
 use Rattle.mdc_ast.specs.Database.{Database}
-use Rattle.statement_meaning.specs.Session.{Session, session_on}
+use Rattle.statement_meaning.specs.Session.{Session, first_settings, session_on}
+use Rattle.statement_meaning.specs.declared.pass.Pass.TheVariants.{Idle}
 use Rattle.mdc_outside.specs.Disk.{File}
 use Rattle.mdc_outside.specs.declared.disk.Disk.{Ghosts}
 use Rattle.store_api.specs.declared.fault.Damage.{Damage}
@@ -13,7 +14,7 @@ use Rattle.mdc_sound.specs.StandsForDatabase.{PagesStandFor}
 use Rattle.stored_catalog.specs.StoredDefinitions.{AreStored}
 use Rattle.page_store.specs.Standing.{pages_in}
 use Rattle.script_engine.specs.Held.{HeldPages}
-use Rattle.script_session.specs.Going.{GoesOnPages}
+use Rattle.script_session.specs.Going.{GoesOnPages, Stage}
 use Rattle.script_session.specs.Lists.{GoesOnLists}
 use Rattle.script_session.specs.Replying.{RepliesTo}
 use Rattle.script_session.specs.Serving.{EndsScript, TakesScript}
@@ -26,12 +27,15 @@ use Rattle.file_session.specs.Ending.{end_of_session}
 use Rattle.file_session.specs.Leaving.{LeftByRun}
 use Rattle.file_session.specs.declared.stop.FileStop.{FileStop}
 
--- what is held of a file that was opened: its pages, all of which are committed, and no transaction is open
+-- what is held of a file that was opened: its pages, all of which are committed, no transaction is open, the settings are the first
+-- ones, and the cleaner's pass is idle
 pub record IsOpened (pages : PageList) (held : HeldPages) : Type 0 where
   pub base : held.base ≡ pages
   pub work : held.work ≡ pages
   pub defs : AreStored pages held.defs
   pub closed : held.open_ ≡ false
+  pub settings : held.settings ≡ first_settings
+  pub pass : held.pass ≡ Idle
 
 -- A run of a script on these pages, which are sound: one run of its items on them, and so one over the plain lists of rows that
 -- they stand for, whose texts are said in order, and how it ends.
@@ -42,11 +46,11 @@ pub record RunsItems (ext : Extents) (pages : PageList) (said : List ℕ) (scrip
   pub stands : PagesStandFor ext pages db
   pub items : List Item
   pub outcomes : List Outcome
-  pub states : List HeldPages
+  pub stages : List Stage
   pub in_hand : List Item
-  pub goes : GoesOnPages ext held items outcomes states
+  pub goes : GoesOnPages ext held items outcomes stages
   pub sessions : List Session
-  pub lists : GoesOnLists ext held (session_on db) items outcomes states sessions
+  pub lists : GoesOnLists ext held (session_on db) items outcomes stages sessions
   pub more : List ℕ
   pub tape_is : tape ≡ Some (said ++ more)
   pub end_ : Result Served SessionStop
@@ -70,4 +74,4 @@ pub record RunsOnFile {D : Type 0} (g : Ghosts D) (before : File) (said : List �
   pub ext : Extents
   pub states_extents : StatesExtents before.bytes ext
   pub run : RunsItems ext (pages_in before.bytes) said script left (g.beside new).tape result
-  pub leaves : LeavesSince g before said (LeftByRun ext run.held run.states run.outcomes run.in_hand said) old new
+  pub leaves : LeavesSince g before said (LeftByRun ext run.held run.stages run.outcomes run.in_hand said) old new

@@ -12,6 +12,7 @@ ghost use Rattle.mdc_sound.specs.StandsForDatabase.{PagesStandFor};
 ghost use Rattle.page_store.specs.Fresh.{HoldsFresh, fresh_file};
 ghost use Rattle.page_store.specs.Standing.{pages_in};
 ghost use Rattle.script_engine.specs.Held.{HeldPages};
+ghost use Rattle.script_session.specs.Going.{Stage};
 ghost use Rattle.script_session.specs.Lists.{IsKeptDatabase};
 ghost use Rattle.script_session.specs.declared.stop.Served.{Served};
 ghost use Rattle.file_verdict.specs.SoundFile.{StatesExtents};
@@ -37,8 +38,8 @@ pub fn made_is_well()
 
 /// What a crash within a run leaves is well, so that the next run keeps its promise too.
 pub fn left_by_run_is_well()
-    ensures { (ext : Extents) (held : HeldPages) (states : List HeldPages) (outcomes : List Outcome) (in_hand : List Item) (said image tape : List ℕ)
-        → LeftByRun ext held states outcomes in_hand said image tape → IsWell image }
+    ensures { (ext : Extents) (held : HeldPages) (stages : List Stage) (outcomes : List Outcome) (in_hand : List Item) (said image tape : List ℕ)
+        → LeftByRun ext held stages outcomes in_hand said image tape → IsWell image }
 {}
 
 /// The next run goes on from what the run before kept. On an image that a crash within a run leaves, it begins with the database that
@@ -47,7 +48,7 @@ pub fn left_by_run_is_well()
 /// with the same database.
 pub fn next_run_goes_on()
     ensures kept { (ext now : Extents) (pages : PageList) (said said_next : List ℕ) (script left tape script_next left_next tape_next : Option (List ℕ)) (result result_next : Result Served FileStop)
-        → (run : RunsItems ext pages said script left tape result) (image told : List ℕ) (crash : LeftByRun ext run.held run.states run.outcomes run.in_hand said image told)
+        → (run : RunsItems ext pages said script left tape result) (image told : List ℕ) (crash : LeftByRun ext run.held run.stages run.outcomes run.in_hand said image told)
         → StatesExtents image now → (next : RunsItems now (pages_in image) said_next script_next left_next tape_next result_next)
         → IsKeptDatabase ext.cap (session_on run.db) run.sessions run.in_hand crash.left.items next.db }
     ensures same { (before : File) (ext now : Extents) (said said_next : List ℕ) (script left tape script_next left_next tape_next : Option (List ℕ)) (result result_next : Result Served FileStop)
@@ -71,5 +72,5 @@ pub fn ended_run_is_left<H: Host>()
     ensures { (old new : H) (before after : File) (said heard : List ℕ) (script left : Option (List ℕ)) (result : Result Served FileStop)
         → H.file old ≡ Some before → (H.beside old).tape ≡ Some said → H.file new ≡ Some after → (H.beside new).tape ≡ Some heard
         → (runs : RunsOnFile H.Disk before said script left old new result) (image : List ℕ) → IsImage after.since image
-        → LeftByRun runs.ext runs.run.held runs.run.states runs.run.outcomes runs.run.in_hand said image heard ⊎ IsImage before.since image }
+        → LeftByRun runs.ext runs.run.held runs.run.stages runs.run.outcomes runs.run.in_hand said image heard ⊎ IsImage before.since image }
 {}

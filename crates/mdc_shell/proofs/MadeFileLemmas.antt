@@ -18,7 +18,7 @@ use Rattle.page_store.specs.Fresh.{HoldsFresh}
 use Rattle.page_store.specs.Standing.{pages_in}
 use Rattle.made_database.specs.MadePages.{made_pages}
 use Rattle.script_engine.specs.Held.{HeldPages, StandsForSession}
-use Rattle.script_session.specs.Going.{GoesOnPages}
+use Rattle.script_session.specs.Going.{GoesOnPages, Stage}
 use Rattle.script_session.specs.Leaving.{AreServedPages}
 use Rattle.script_session.specs.Lists.{GoesOnLists}
 use Rattle.script_session.specs.declared.stop.Served.{Served}
@@ -45,14 +45,14 @@ made_pages-served laws ext = record { sound = laws.sound ext; defs = no_tables; 
 
 -- the law of a run over pages: it is one over lists
 abbrev pub OverLists : Type 0
-OverLists = (ext : Extents) (held : HeldPages) (items : List Item) (outcomes : List Outcome) (states : List HeldPages) → GoesOnPages ext held items outcomes states
-    → (session : Session) → StandsForSession ext held session → (sessions : List Session) × GoesOnLists ext held session items outcomes states sessions
+OverLists = (ext : Extents) (held : HeldPages) (items : List Item) (outcomes : List Outcome) (stages : List Stage) → GoesOnPages ext held items outcomes stages
+    → (session : Session) → StandsForSession ext held session → (sessions : List Session) × GoesOnLists ext held session items outcomes stages sessions
 
 -- a run on pages that stand for no table is one over a database without a table
 over_nothing : OverLists → (ext : Extents) (pages : PageList) (said : List ℕ) (script left tape : Option (List ℕ)) (end_ : Result Served FileStop) → PagesStandFor ext pages empty_database
     → RunsItems ext pages said script left tape end_ → (run : RunsItems ext pages said script left tape end_) × (run.db ≡ empty_database)
 over_nothing over ext pages said script left tape end_ stands run =
-    let all = over ext run.held run.items run.outcomes run.states run.goes (session_on empty_database) (opened_session ext pages run.held empty_database run.opened stands) in (
+    let all = over ext run.held run.items run.outcomes run.stages run.goes (session_on empty_database) (opened_session ext pages run.held empty_database run.opened stands) in (
       record {
         held = run.held;
         opened = run.opened;
@@ -60,7 +60,7 @@ over_nothing over ext pages said script left tape end_ stands run =
         stands = stands;
         items = run.items;
         outcomes = run.outcomes;
-        states = run.states;
+        stages = run.stages;
         in_hand = run.in_hand;
         goes = run.goes;
         sessions = all.0;

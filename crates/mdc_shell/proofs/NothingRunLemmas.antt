@@ -2,6 +2,8 @@
 use Rattle.std.proofs.Common.{◌≡◌, ℕ, List, [], false, Option, Some, IfSome, Result, Err, refl, sym, ap}
 use Rattle.std.proofs.lemmas.List.{append-nil}
 use Rattle.mdc_ast.specs.Database.{Database}
+use Rattle.statement_meaning.specs.Session.{first_settings}
+use Rattle.statement_meaning.specs.declared.pass.Pass.TheVariants.{Idle}
 use Rattle.store_api.specs.declared.fault.Damage.{Damage}
 use Rattle.extent_map.specs.declared.extents.Extents.{Extents}
 use Rattle.table_trees.specs.ToldPages.{PageList}
@@ -27,8 +29,8 @@ run_to : (ext : Extents) (pages : PageList) (db : Database) (said : List ℕ) (s
     → ((damage : Damage) → end_ ≡ Err (session.Damaged damage) → ⊥) → IfSome script (λ bytes. EndsScript bytes script [] [] [] [] end_)
     → (run : RunsItems ext pages said script script (Some said) (end_of_session end_)) × (run.db ≡ db)
 run_to ext pages db said script end_ served stands undamaged ends =
-    let held : HeldPages = record { base = pages; work = pages; defs = served.defs; open_ = false } in
-    let opened : IsOpened pages held = record { base = refl; work = refl; defs = served.stored; closed = refl } in (
+    let held : HeldPages = record { base = pages; work = pages; defs = served.defs; open_ = false; settings = first_settings; pass = Idle } in
+    let opened : IsOpened pages held = record { base = refl; work = refl; defs = served.stored; closed = refl; settings = refl; pass = refl } in (
       record {
         held = held;
         opened = opened;
@@ -36,7 +38,7 @@ run_to ext pages db said script end_ served stands undamaged ends =
         stands = stands;
         items = [];
         outcomes = [];
-        states = [];
+        stages = [];
         in_hand = [];
         goes = GoesOnPages.nothing;
         sessions = [];

@@ -5,12 +5,12 @@ ghost use Rattle.mdc_ast.specs.Reading.{Item};
 ghost use Rattle.statement_meaning.specs.Session.{Session};
 ghost use Rattle.extent_map.specs.declared.extents.Extents.{Extents};
 ghost use Rattle.script_engine.specs.Held.{HeldPages, StandsForSession};
-ghost use Rattle.script_session.specs.Going.{GoesOnPages};
+ghost use Rattle.script_session.specs.Going.{GoesOnPages, Stage};
 ghost use Rattle.script_session.specs.Lists.{GoesOnLists};
 
 /// A run over pages that stand for a session is a run over that session's lists: each outcome is that of the lists, or 70 where
 /// nothing else is said against the statement, and the pages that are held after each item stand for the lists after it.
 pub fn goes_on_lists()
-    ensures { (ext : Extents) (held : HeldPages) (items : List Item) (outcomes : List Outcome) (states : List HeldPages) → GoesOnPages ext held items outcomes states
-        → (session : Session) → StandsForSession ext held session → (sessions : List Session) × GoesOnLists ext held session items outcomes states sessions }
+    ensures { (ext : Extents) (held : HeldPages) (items : List Item) (outcomes : List Outcome) (stages : List Stage) → GoesOnPages ext held items outcomes stages
+        → (session : Session) → StandsForSession ext held session → (sessions : List Session) × GoesOnLists ext held session items outcomes stages sessions }
 {}

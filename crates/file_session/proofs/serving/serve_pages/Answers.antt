@@ -22,7 +22,7 @@ returns-in-Ok-clause-runs g c = λ sound.
     let left = g.I.Source.left c.serve-end.new.input in
     let Runs : g.row.S.Denot → Type 0 = λ s. RunsOnStore g.S.Pages c.args.ext script left c.args.store s c.serve-end.result in
     subst Runs (sym c.close.ensures) (served_on_store g.S.Pages script left c.serve-end.result c.args.ext c.args.store c.in-Ok.engine c.serve-end.new.engine sound ready
-    c.in-Ok.ensures.pages c.in-Ok.ensures.closed c.in-Ok.ensures.shape (c.serve-end.ensures.runs ready) (λ damage is. c.serve-end.ensures.damaged damage is ready))
+    c.in-Ok.ensures.pages c.in-Ok.ensures.closed c.in-Ok.ensures.settings c.in-Ok.ensures.pass c.in-Ok.ensures.shape (c.serve-end.ensures.runs ready) (λ damage is. c.serve-end.ensures.damaged damage is ready))
 
 pub returns-in-Ok-clause-damaged : goal.returns-in-Ok-clause-damaged
 returns-in-Ok-clause-damaged g c = λ damage is sound. c.serve-end.ensures.damaged damage is (c.in-Ok.ensures.ready sound)
