@@ -1,5 +1,5 @@
 -- A statement with its names as places and its literals as values. It means something where nothing is said against it.
-use Rattle.std.specs.Prelude.{ℕ, List, [], ◌∷◌, map, if◌then◌else◌, Option, Some, None, option_map, unwrap_or}
+use Rattle.std.specs.Prelude.{ℕ, List, [], ◌∷◌, map, min, if◌then◌else◌, Option, Some, None, option_map, unwrap_or}
 use Rattle.std.specs.List.{position_from}
 use Rattle.mdc_values.specs.declared.literal.Literal.{Literal}
 use Rattle.mdc_values.specs.declared.value.ColType.{ColType}
@@ -15,8 +15,10 @@ use Rattle.mdc_ast.specs.declared.bound.BoundOperand.{BoundOperand}
 use Rattle.mdc_ast.specs.declared.bound.BoundOperand.TheVariants as bound_operand
 use Rattle.mdc_ast.specs.declared.bound.BoundOut.{BoundOut}
 use Rattle.mdc_ast.specs.declared.bound.BoundOut.TheVariants as bound_out
+use Rattle.mdc_ast.specs.declared.bound.BoundSelect.{BoundSelect}
 use Rattle.mdc_ast.specs.declared.bound.BoundSet.{BoundSet}
 use Rattle.mdc_ast.specs.declared.definition.ColumnDef.{ColumnDef}
+use Rattle.mdc_ast.specs.declared.definition.KeyPart.{KeyPart}
 use Rattle.mdc_ast.specs.declared.definition.TableDef.{TableDef}
 use Rattle.mdc_ast.specs.declared.name.Name.{Name}
 use Rattle.mdc_ast.specs.declared.predicate.Atom.{Atom}
@@ -36,12 +38,14 @@ use Rattle.mdc_ast.specs.declared.predicate.TestText.TheVariants.{Compare, Betwe
 use Rattle.mdc_ast.specs.declared.statement.ColumnText.{ColumnText}
 use Rattle.mdc_ast.specs.declared.statement.InsertItem.{InsertItem}
 use Rattle.mdc_ast.specs.declared.statement.InsertItem.TheVariants as item
+use Rattle.mdc_ast.specs.declared.statement.KeyText.{KeyText}
 use Rattle.mdc_ast.specs.declared.statement.Operand.{Operand}
 use Rattle.mdc_ast.specs.declared.statement.Operand.TheVariants as operand
 use Rattle.mdc_ast.specs.declared.statement.Out.{Out}
 use Rattle.mdc_ast.specs.declared.statement.Out.TheVariants as out
 use Rattle.mdc_ast.specs.declared.statement.OutList.{OutList}
 use Rattle.mdc_ast.specs.declared.statement.OutList.TheVariants.{Star, Outs}
+use Rattle.mdc_ast.specs.declared.statement.Select.{Select}
 use Rattle.mdc_ast.specs.declared.statement.SetItem.{SetItem}
 use Rattle.mdc_ast.specs.declared.statement.SetItem.TheVariants.{One, Two}
 use Rattle.mdc_ast.specs.declared.statement.SetText.{SetText}
@@ -164,6 +168,25 @@ abbrev pub shown : List ColumnDef → OutList → List BoundOut
 shown columns Star = map (λ name. bound_out.Column (the_place columns name)) (column_names columns)
 shown columns (Outs outs) = map (bound_out_of columns) outs
 
+-- a column that lines are ordered by
+abbrev pub bound_key : List ColumnDef → KeyText → KeyPart
+bound_key columns key = record { column = the_place columns key.column; descending = key.descending }
+
+-- how many lines are given at most; a number of more than 32 bits is refused
+abbrev pub bound_first : Option ℕ → Option ℕ
+bound_first first = option_map (min 4294967295) first
+
+-- a query on the table in a place
+abbrev pub bound_select : ℕ → List ColumnDef → Select → BoundSelect
+bound_select place columns select = record {
+  table = place;
+  outs = shown columns select.list;
+  pred = bound_where columns select.pred;
+  group = map (the_place columns) select.group;
+  order = map (bound_key columns) select.order;
+  first = bound_first select.first;
+}
+
 -- ---- any statement that is built
 
 -- the columns of a table; where there is no table, none
@@ -189,12 +212,5 @@ bound_of defs (stmt.Insert name listed tuples) =
 bound_of defs (stmt.Update name sets text) =
     bound_on defs name (λ place columns. bound.Update place (map (bound_set columns) sets) (bound_where columns text))
 bound_of defs (stmt.Delete name text) = bound_on defs name (λ place columns. bound.Delete place (bound_where columns text))
-bound_of defs (stmt.Query select) = bound_on defs select.table (λ place columns. bound.Query (record {
-  table = place;
-  outs = shown columns select.list;
-  pred = bound_where columns select.pred;
-  group = [];
-  order = [];
-  first = None;
-}))
+bound_of defs (stmt.Query select) = bound_on defs select.table (λ place columns. bound.Query (bound_select place columns select))
 bound_of defs statement = bound.Begin

@@ -3,11 +3,6 @@ use Rattle.std.specs.Prelude.{◌≡◌, List, [], ◌∷◌, Bool, true, false,
 use Rattle.std.specs.List.{list_all}
 use Rattle.mdc_ast.specs.declared.definition.TableDef.{TableDef}
 use Rattle.mdc_ast.specs.declared.statement.ColumnText.{ColumnText}
-use Rattle.mdc_ast.specs.declared.statement.Out.{Out}
-use Rattle.mdc_ast.specs.declared.statement.Out.TheVariants as out
-use Rattle.mdc_ast.specs.declared.statement.OutList.{OutList}
-use Rattle.mdc_ast.specs.declared.statement.OutList.TheVariants.{Star, Outs}
-use Rattle.mdc_ast.specs.declared.statement.Select.{Select}
 use Rattle.mdc_ast.specs.declared.statement.Stmt.{Stmt}
 use Rattle.mdc_ast.specs.declared.statement.Stmt.TheVariants.{CreateTable, DropTable, Insert, Update, Delete, Query}
 use Rattle.mdc_ast.specs.Database.{Database, defs_of}
@@ -16,24 +11,10 @@ use Rattle.mdc_ast.specs.ValidDatabase.{AreValidDefs, IsValid}
 
 -- ---- statements
 
--- a column, and no COUNT, SUM, MIN or MAX
-abbrev pub is_plain_out : Out → Bool
-is_plain_out (out.Column name) = true
-is_plain_out aggregate = false
-
--- `*`, or columns alone
-abbrev pub shows_columns : OutList → Bool
-shows_columns Star = true
-shows_columns (Outs outs) = list_all is_plain_out outs
-
 -- an empty list, as a clause has that isn't written
 abbrev pub is_empty : {X : Type 0} → List X → Bool
 is_empty [] = true
 is_empty (x ∷ xs) = false
-
--- a query without aggregate, GROUP BY, ORDER BY and FETCH FIRST
-abbrev pub is_plain_query : Select → Bool
-is_plain_query select = shows_columns select.list && is_empty select.group && is_empty select.order && is_none select.first
 
 -- no column is generated
 abbrev pub has_no_generated : List ColumnText → Bool
@@ -46,7 +27,7 @@ is_built_step (DropTable name) = true
 is_built_step (Insert name listed tuples) = true
 is_built_step (Update name sets pred) = true
 is_built_step (Delete name pred) = true
-is_built_step (Query select) = is_plain_query select
+is_built_step (Query select) = true
 is_built_step stmt = false
 
 -- ---- tables

@@ -1,12 +1,10 @@
 -- What a bound statement does to the plain database, and what is said against it row by row.
-use Rattle.std.specs.Prelude.{ℕ, ◌+◌, ℤ, ◌+ℤ◌, ◌-ℤ◌, ◌*ℤ◌, List, [], ◌∷◌, ◌++◌, map, flat_map, filter, length, Bool, true, false, not, ◌&&◌, nat_lt, if◌then◌else◌, Option, Some, None, slice_get, slice_set, codes}
-use Rattle.std.specs.Fmt.{decimal}
+use Rattle.std.specs.Prelude.{ℕ, ◌+◌, ℤ, ◌+ℤ◌, ◌-ℤ◌, ◌*ℤ◌, List, [], ◌∷◌, ◌++◌, map, flat_map, filter, length, Bool, true, false, not, ◌&&◌, nat_lt, if◌then◌else◌, Option, Some, None, slice_get, slice_set}
 use Rattle.mdc_values.specs.declared.value.ColType.{ColType}
 use Rattle.mdc_values.specs.declared.value.ColType.TheVariants as column
 use Rattle.mdc_values.specs.declared.value.Value.{Value}
 use Rattle.mdc_values.specs.declared.value.Value.TheVariants.{Null, Int, Text, Day}
 use Rattle.mdc_values.specs.Fitting.{in_bigint, in_integer}
-use Rattle.mdc_values.specs.Printing.{printed}
 use Rattle.mdc_ast.specs.declared.bound.Bound.{Bound}
 use Rattle.mdc_ast.specs.declared.bound.Bound.TheVariants as bound
 use Rattle.mdc_ast.specs.declared.bound.BoundItem.{BoundItem}
@@ -28,7 +26,9 @@ use Rattle.mdc_ast.specs.Truth.{qualifies, value_at}
 use Rattle.statement_meaning.specs.Cause.{Cause, cause_if, Overflow, TextTooLong, NullIn, NumbersUsedUp}
 use Rattle.mdc_ast.specs.Database.{appended, Database, PlainTable, defs_of, table_at, with_place, changed_at, is_null}
 use Rattle.mdc_ast.specs.Definitions.{empty_place}
+use Rattle.row_groups.specs.Shape.{shape_of}
 use Rattle.statement_meaning.specs.Judging.{of_some}
+use Rattle.statement_meaning.specs.Queries.{lines_of, sum_causes}
 
 -- ---- rows as they will be
 
@@ -99,12 +99,19 @@ changed_causes columns sets pred row =
 abbrev pub used_up : ℕ → ℕ → List Cause
 used_up next count = cause_if (nat_lt 18446744073709551615 (next + count)) (NumbersUsedUp next)
 
--- the values, row by row
+-- the qualifying rows of the table at a place
+abbrev pub hits : Option Pred → Option PlainTable → List Row
+hits pred None = []
+hits pred (Some table) = filter (λ row. qualifies pred row.values) table.rows
+
+-- the values, row by row, and of a query its sums
 abbrev pub value_causes : Database → Bound → List Cause
 value_causes db (bound.Insert place tuples) = of_some (table_at db place) (λ table.
     flat_map (null_causes table.def.columns) tuples)
 value_causes db (bound.Update place sets pred) = of_some (table_at db place) (λ table.
     flat_map (changed_causes table.def.columns sets pred) table.rows)
+value_causes db (bound.Query select) = of_some (table_at db select.table) (λ table.
+    sum_causes table.def.columns (shape_of select) (hits select.pred (Some table)))
 value_causes db statement = []
 
 -- the row numbers
@@ -136,38 +143,6 @@ changed_table sets pred table = record table { rows = map (changed_row sets pred
 abbrev pub left_table : Option Pred → PlainTable → PlainTable
 left_table pred table = record table { rows = filter (λ row. not (qualifies pred row.values)) table.rows }
 
--- the qualifying rows of the table at a place
-abbrev pub hits : Option Pred → Option PlainTable → List Row
-hits pred None = []
-hits pred (Some table) = filter (λ row. qualifies pred row.values) table.rows
-
--- the texts with a bar between two of them, as one line
-abbrev pub line : List (List ℕ) → List ℕ
-line [] = 10 ∷ []
-line (text ∷ []) = text ++ 10 ∷ []
-line (text ∷ next ∷ texts) = text ++ 124 ∷ line (next ∷ texts)
-
--- the name of a column that is there
-abbrev pub name_of : Option ColumnDef → List ℕ
-name_of None = []
-name_of (Some column) = column.name.0
-
--- what stands above a column of the reply
-abbrev pub heading : List ColumnDef → BoundOut → List ℕ
-heading columns (out.Column column) = name_of (slice_get columns column)
-heading columns aggregate = []
-
--- what stands in a column of the reply
-abbrev pub entry : List Value → BoundOut → List ℕ
-entry values (out.Column column) = printed (value_at values column)
-entry values aggregate = []
-
--- a line of names, a line for each row, and their number
-abbrev pub lines_of : List ColumnDef → List BoundOut → List Row → List ℕ
-lines_of columns outs rows =
-    line (map (heading columns) outs) ++ flat_map (λ row. line (map (entry row.values) outs)) rows
-    ++ decimal (length rows) ++ codes " ROWS\n"
-
 -- the columns of the table in a place, and none of an empty place
 abbrev pub columns_at : Option PlainTable → List ColumnDef
 columns_at None = []
@@ -181,5 +156,5 @@ effect db (bound.Insert place tuples) = (changed_at db place (appended tuples), 
 effect db (bound.Update place sets pred) = (changed_at db place (changed_table sets pred), Updated (length (hits pred (table_at db place))))
 effect db (bound.Delete place pred) = (changed_at db place (left_table pred), Deleted (length (hits pred (table_at db place))))
 effect db (bound.Query select) =
-    (db, Lines (lines_of (columns_at (table_at db select.table)) select.outs (hits select.pred (table_at db select.table))))
+    (db, Lines (lines_of (columns_at (table_at db select.table)) (shape_of select) (hits select.pred (table_at db select.table))))
 effect db statement = (db, Done)

@@ -1,5 +1,6 @@
 -- What is said against each form of a statement before a row is looked at.
-use Rattle.std.specs.Prelude.{ℕ, ◌+◌, List, [], ◌∷◌, ◌++◌, map, flat_map, length, Bool, true, false, not, ◌==◌, ◌&&◌, nat_le, nat_lt, if◌then◌else◌, Option, Some, None, is_some, is_none}
+use Rattle.std.specs.Prelude.{ℕ, ◌+◌, List, [], ◌∷◌, ◌++◌, map, flat_map, length, Bool, true, false, not, ◌==◌, ◌&&◌, ◌||◌, nat_le, nat_lt, if◌then◌else◌, Option, Some, None, is_some, is_none, codes}
+use Rattle.std.specs.List.{list_any}
 use Rattle.mdc_values.specs.declared.literal.Literal.TheVariants as literal
 use Rattle.mdc_values.specs.declared.value.ColType.{ColType}
 use Rattle.mdc_values.specs.declared.value.ColType.TheVariants.{Integer, Bigint, Char, Date}
@@ -23,7 +24,7 @@ use Rattle.mdc_ast.specs.declared.statement.Stmt.{Stmt}
 use Rattle.mdc_ast.specs.declared.statement.Stmt.TheVariants.{CreateTable, DropTable, Insert, Update, Delete, Query}
 use Rattle.mdc_ast.specs.declared.statement.TypeText.{TypeText}
 use Rattle.mdc_ast.specs.declared.statement.TypeText.TheVariants as type
-use Rattle.statement_meaning.specs.Cause.{Cause, cause_if, TableExists, ColumnTwice, Limit, WrongType, OutOfRange, WrongCount, GivenGenerated}
+use Rattle.statement_meaning.specs.Cause.{Cause, cause_if, TableExists, ColumnTwice, Limit, NotGrouped, WrongType, OutOfRange, WrongCount, GivenGenerated}
 use Rattle.mdc_ast.specs.Definitions.{Definitions, place_of, def_named, empty_place, column_named, column_names, is_among, row_width, key_width}
 use Rattle.statement_meaning.specs.Judging.{Judged, no_fault, of_some, on_table, listed_names, used_name, type_cause, value_cause, operand_columns, kinds_meet, where_judged, then_judged}
 use Rattle.mdc_ast.specs.Kinds.{is_number}
@@ -204,20 +205,77 @@ sets_judged sets columns = record no_fault {
 
 -- ---- queries
 
--- 22 of a column that is shown; no aggregate is built
-abbrev pub out_columns : List ColumnDef → Out → List Cause
-out_columns columns (out.Column name) = used_name columns name
-out_columns columns aggregate = []
+-- the column that a place of the list names, and none of COUNT(*)
+abbrev pub names_in : Out → List Name
+names_in (out.Column name) = name ∷ []
+names_in out.CountAll = []
+names_in (out.Count name) = name ∷ []
+names_in (out.Sum name) = name ∷ []
+names_in (out.Min name) = name ∷ []
+names_in (out.Max name) = name ∷ []
 
 -- 22 of what a query shows, of which `*` says nothing
 abbrev pub shown_columns : List ColumnDef → OutList → List Cause
 shown_columns columns Star = []
-shown_columns columns (Outs outs) = flat_map (out_columns columns) outs
+shown_columns columns (Outs outs) = flat_map (λ out. flat_map (used_name columns) (names_in out)) outs
 
--- a query: what it shows, and then its predicate
+-- an aggregate
+abbrev pub is_aggregate : Out → Bool
+is_aggregate (out.Column name) = false
+is_aggregate aggregate = true
+
+-- one of what is shown is an aggregate
+abbrev pub has_aggregate : OutList → Bool
+has_aggregate Star = false
+has_aggregate (Outs outs) = list_any is_aggregate outs
+
+-- with an aggregate or GROUP BY rows share lines
+abbrev pub shares_lines : Select → Bool
+shares_lines select = has_aggregate select.list || nat_lt 0 (length select.group)
+
+-- 27 of a column whose value the rows of a line need not share
+abbrev pub ungrouped : Bool → List Name → Name → List Cause
+ungrouped shares group name = cause_if (shares && not (is_among name group)) (NotGrouped name)
+
+-- 30 of the sum of what is no number
+abbrev pub no_number : List ColumnDef → Name → List Cause
+no_number columns name = of_some (column_named columns name) (λ column. cause_if (not (is_number column.ty)) (WrongType name))
+
+-- 27 of a plain column and 30 of a sum
+abbrev pub out_types : List ColumnDef → Bool → List Name → Out → List Cause
+out_types columns shares group (out.Column name) = ungrouped shares group name
+out_types columns shares group (out.Sum name) = no_number columns name
+out_types columns shares group aggregate = []
+
+-- 27 and 30 of what a query shows; `*` stands for all columns
+abbrev pub shown_types : List ColumnDef → Bool → List Name → OutList → List Cause
+shown_types columns shares group Star = flat_map (ungrouped shares group) (column_names columns)
+shown_types columns shares group (Outs outs) = flat_map (out_types columns shares group) outs
+
+-- 31 of the number of FETCH FIRST, which is from 1 to 2147483647
+abbrev pub fetch_value : Option ℕ → List Cause
+fetch_value None = []
+fetch_value (Some n) = cause_if (not (nat_le 1 n && nat_le n 2147483647)) (OutOfRange (record { 0 = codes "FETCH" }))
+
+-- what a query shows: 22, and then 27 and 30
+abbrev pub list_judged : Select → List ColumnDef → Judged
+list_judged select columns = record no_fault {
+  columns = shown_columns columns select.list;
+  types = shown_types columns (shares_lines select) select.group select.list;
+}
+
+-- GROUP BY, ORDER BY and FETCH FIRST: 22 of the columns, 27 of those that the lines are ordered by, and 31
+abbrev pub tail_judged : Select → List ColumnDef → Judged
+tail_judged select columns = record no_fault {
+  columns = flat_map (used_name columns) select.group ++ flat_map (λ key. used_name columns key.column) select.order;
+  types = flat_map (λ key. ungrouped (shares_lines select) select.group key.column) select.order;
+  values = fetch_value select.first;
+}
+
+-- a query in the order of its text: what it shows, its predicate, and what stands behind it
 abbrev pub query_judged : Select → List ColumnDef → Judged
 query_judged select columns =
-    then_judged (record no_fault { columns = shown_columns columns select.list }) (where_judged columns select.pred)
+    then_judged (then_judged (list_judged select columns) (where_judged columns select.pred)) (tail_judged select columns)
 
 -- ---- any statement that is built
 

@@ -6,6 +6,7 @@ pub mod Judged
 pub mod Judging
 pub mod Laws
 pub mod Orders
+pub mod Queries
 pub mod Rows
 pub mod Session
 pub mod Step
