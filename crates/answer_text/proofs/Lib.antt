@@ -1,3 +1,4 @@
 pub mod LineTexts
+pub mod QueryLinesLemmas
 pub mod RefusalTexts
 pub mod ShownLines

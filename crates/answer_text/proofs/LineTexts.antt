@@ -2,7 +2,7 @@
 use Rattle.std.proofs.Common.{◌≡◌, ◌∙◌, ◌≤◌, ℕ, List, [], ◌∷◌, ◌++◌, refl, ap, sym, arith, map, take, length, append-nil, append_assoc, length-append, lit≤}
 use Rattle.std.specs.Prelude.{flat_map}
 use Rattle.std.proofs.lemmas.List.{take_all}
-use Rattle.statement_meaning.specs.Doing.{line}
+use Rattle.statement_meaning.specs.Queries.{line}
 
 -- a line is its first text, a bar and a text for each other, and a line feed
 pub line-flat_map : {X : Type 0} (text_of : X → List ℕ) (x : X) (xs : List X) →

@@ -5,8 +5,8 @@ use Rattle.std.proofs.lemmas.List.{flat_map_more, take_more}
 use Rattle.mdc_ast.specs.declared.bound.BoundOut.{BoundOut}
 use Rattle.mdc_ast.specs.declared.definition.ColumnDef.{ColumnDef}
 use Rattle.mdc_ast.specs.declared.row.Row.{Row}
-use Rattle.statement_meaning.specs.Doing.{entry, heading, line}
-use Rattle.answer_text.specs.Lines.{LinesSoFar, lines_shown, with_line}
+use Rattle.statement_meaning.specs.Queries.{heading, line}
+use Rattle.answer_text.specs.Lines.{LinesSoFar, entry, lines_shown, with_line}
 
 -- a row is shown behind those that are shown
 pub with_line-lines_shown : (columns : List ColumnDef) (outs : List BoundOut) (rows : List Row) (row : Row) →

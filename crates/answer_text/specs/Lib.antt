@@ -1,3 +1,4 @@
+pub mod Answering
 pub mod BlockCounts
 pub mod Lines
 pub mod Wordings

@@ -1,14 +1,23 @@
--- The lines of a query as far as they have come.
-use Rattle.std.specs.Prelude.{ℕ, ◌+◌, List, [], ◌∷◌, ◌++◌, length, is_none, ◌&&◌, false, map, flat_map, Bool, true, ◌==◌, nat_lt, codes}
+-- The lines of a query as far as rows have come.
+use Rattle.std.specs.Prelude.{◌≡◌, ℕ, ◌+◌, List, [], ◌∷◌, ◌++◌, length, is_none, ◌&&◌, map, flat_map, Bool, true, false, ◌==◌, nat_lt, codes}
 use Rattle.std.specs.Fmt.{decimal}
 use Rattle.std.specs.List.{list_all}
 use Rattle.mdc_values.specs.declared.value.Value.{Value}
+use Rattle.mdc_values.specs.Printing.{printed}
 use Rattle.mdc_ast.specs.declared.bound.BoundOut.{BoundOut}
 use Rattle.mdc_ast.specs.declared.bound.BoundOut.TheVariants as out
 use Rattle.mdc_ast.specs.declared.bound.BoundSelect.{BoundSelect}
 use Rattle.mdc_ast.specs.declared.definition.ColumnDef.{ColumnDef}
 use Rattle.mdc_ast.specs.declared.row.Row.{Row}
-use Rattle.statement_meaning.specs.Doing.{entry, heading, line}
+use Rattle.mdc_ast.specs.Truth.{value_at}
+use Rattle.statement_meaning.specs.Queries.{heading, line}
+
+-- ---- a query without aggregate, GROUP BY, ORDER BY and FETCH FIRST: a line for each row
+
+-- what stands in a column of the line of a row
+abbrev pub entry : List Value → BoundOut → List ℕ
+entry values (out.Column column) = printed (value_at values column)
+entry values aggregate = []
 
 -- what they show, the text so far, and the number of rows so far
 pub record LinesSoFar : Type 0 where
@@ -32,8 +41,6 @@ with_line values lines = record lines { text = lines.text ++ line (map (entry va
 abbrev pub closed_lines : LinesSoFar → List ℕ
 closed_lines lines = lines.text ++ decimal lines.rows ++ codes " ROWS\n"
 
--- ---- what may be shown
-
 -- a column as it is, and no COUNT, SUM, MIN or MAX
 abbrev pub is_column_out : BoundOut → Bool
 is_column_out (out.Column column) = true
@@ -48,10 +55,16 @@ is_nothing (x ∷ xs) = false
 abbrev pub is_plain_select : BoundSelect → Bool
 is_plain_select select = list_all is_column_out select.outs && is_nothing select.group && is_nothing select.order && is_none select.first
 
--- a column that is shown is one of the first so many
+-- ---- what may be shown
+
+-- the column of what is shown is one of the first so many
 abbrev pub is_out_within : ℕ → BoundOut → Bool
 is_out_within width (out.Column column) = nat_lt column width
-is_out_within width aggregate = true
+is_out_within width out.CountAll = true
+is_out_within width (out.Count column) = nat_lt column width
+is_out_within width (out.Sum column) = nat_lt column width
+is_out_within width (out.Min column) = nat_lt column width
+is_out_within width (out.Max column) = nat_lt column width
 
 -- each column that is shown is one of the first so many
 abbrev pub are_outs_within : ℕ → List BoundOut → Bool

@@ -1,11 +1,12 @@
 // What stands in a line of a query, as bytes.
-ghost use Rattle.std.specs.Prelude.{◌≡◌, ◌++◌, length, map, take, IsTrue, OnOk, OnErr};
-ghost use Rattle.statement_meaning.specs.Doing.{entry, heading, line};
-ghost use Rattle.answer_text.specs.Lines.{are_outs_within, is_out_within};
+ghost use Rattle.std.specs.Prelude.{◌≡◌, ◌<◌, ◌++◌, codes, length, map, take, IsTrue, OnOk, OnErr};
+ghost use Rattle.statement_meaning.specs.Queries.{aggregate_name, heading, line, shown_text};
+ghost use Rattle.answer_text.specs.Lines.{are_outs_within, entry, is_out_within};
 
-use crate::appending::{append, kept_if_written};
+use crate::appending::{append, append_number, kept_if_written};
 use mdc_ast::{BoundOut, ColumnDef};
 use mdc_values::{List, Memory, Value, print};
+use row_groups::Shown;
 
 /// Appends the line of the names that stand above the columns. After `Memory` a part of it may stand at the end.
 pub fn push_headings(
@@ -60,6 +61,22 @@ fn push_entries(outs: &[BoundOut], values: &List<Value>, out: &mut Vec<u8>) -> R
     append(b"\n", out)
 }
 
+/// Appends a line with these shown. After `Memory` a part of it may stand at the end.
+pub fn push_shown(shows: &[Shown], out: &mut Vec<u8>) -> Result<(), Memory>
+    ensures ok { OnOk result (out.new.items ≡ out.old.items ++ line (map shown_text shows.now)) }
+    ensures err { OnErr result (take (length out.old.items) out.new.items ≡ out.old.items) }
+{
+    let Some((first, others)) = shows.split_first() else {
+        return append(b"\n", out);
+    };
+    append_shown(first, out)?;
+    for shown in others {
+        append(b"|", out)?;
+        append_shown(shown, out)?;
+    }
+    append(b"\n", out)
+}
+
 // After `Memory` the output is as before.
 fn append_heading(
     shown: BoundOut,
@@ -72,8 +89,38 @@ fn append_heading(
 {
     match shown {
         BoundOut::Column(column) => append(columns.at(column as usize).name.0.bytes(), out),
-        _ => Ok(()),
+        BoundOut::CountAll => append(b"COUNT(*)", out),
+        BoundOut::Count(column) => append_aggregate(b"COUNT(", columns, column, out),
+        BoundOut::Sum(column) => append_aggregate(b"SUM(", columns, column, out),
+        BoundOut::Min(column) => append_aggregate(b"MIN(", columns, column, out),
+        BoundOut::Max(column) => append_aggregate(b"MAX(", columns, column, out),
     }
+}
+
+// After `Memory` the output is as before.
+fn append_aggregate(
+    word: &[u8],
+    columns: &List<ColumnDef>,
+    column: u8,
+    out: &mut Vec<u8>,
+) -> Result<(), Memory>
+    requires { column < length columns.now }
+    ensures ok { OnOk result (out.new.items ≡ out.old.items ++ aggregate_name word.now columns.now column) }
+    ensures err { OnErr result (out.new.items ≡ out.old.items) }
+{
+    let start = out.len();
+    let written = push_aggregate(word, columns.at(column as usize).name.0.bytes(), out);
+    kept_if_written(written, start, out)
+}
+
+// After `Memory` a part of it may stand at the end.
+fn push_aggregate(word: &[u8], name: &[u8], out: &mut Vec<u8>) -> Result<(), Memory>
+    ensures ok { OnOk result (out.new.items ≡ out.old.items ++ (word.now ++ name.now ++ codes ")")) }
+    ensures err { OnErr result (take (length out.old.items) out.new.items ≡ out.old.items) }
+{
+    append(word, out)?;
+    append(name, out)?;
+    append(b")", out)
 }
 
 // After `Memory` the output is as before.
@@ -85,5 +132,18 @@ fn append_entry(shown: BoundOut, values: &List<Value>, out: &mut Vec<u8>) -> Res
     match shown {
         BoundOut::Column(column) => print(values.at(column as usize), out),
         _ => Ok(()),
+    }
+}
+
+// After `Memory` the output is as before.
+fn append_shown(shown: &Shown, out: &mut Vec<u8>) -> Result<(), Memory>
+    ensures ok { OnOk result (out.new.items ≡ out.old.items ++ shown_text shown.now) }
+    ensures err { OnErr result (out.new.items ≡ out.old.items) }
+{
+    match shown {
+        Shown::Value(value) => print(value, out),
+        Shown::Count(count) => append_number(*count, out),
+        Shown::Sum(None) => print(&Value::Null, out),
+        Shown::Sum(Some(total)) => print(&Value::Int(*total), out),
     }
 }

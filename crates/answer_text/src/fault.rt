@@ -4,7 +4,7 @@ ghost use Rattle.std.specs.Prelude.{◌≡◌};
 use mdc_ast::Name;
 use mdc_values::Memory;
 
-/// Why lines can't be given. `Overflow` names the column whose sum is out of range; no call gives it yet.
+/// Why lines can't be given. `Overflow` names the column whose sum is outside BIGINT.
 #[derive(Debug, Drop)]
 pub enum AnswerFault {
     Overflow(Name),

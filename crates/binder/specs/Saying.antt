@@ -2,7 +2,8 @@
 use Rattle.std.specs.Prelude.{List, [], ◌∷◌, Option, Some, None, Result, Ok, Err}
 use Rattle.binder.specs.declared.objection.Objection.{Objection}
 use Rattle.binder.specs.declared.objection.Objection.TheVariants as said
-use Rattle.statement_meaning.specs.Cause.{Cause, TableExists, NoTable, NoColumn, ColumnTwice, Limit, WrongType, OutOfRange, TextTooLong, NoDate, WrongCount, GivenGenerated}
+use Rattle.statement_meaning.specs.Cause.{Cause, TableExists, NoTable, NoColumn, ColumnTwice, Limit, NotGrouped, WrongType, OutOfRange, TextTooLong, NoDate, WrongCount, GivenGenerated}
+use Rattle.statement_meaning.specs.Judged.{fetch_name}
 
 -- the first of these causes, if there is one
 abbrev pub first_of : List Cause → Option Cause
@@ -16,10 +17,12 @@ objected (said.NoTable name) = NoTable name.now
 objected (said.NoColumn name) = NoColumn name.now
 objected (said.ColumnTwice name) = ColumnTwice name.now
 objected (said.Limit n) = Limit n
+objected (said.NotGrouped name) = NotGrouped name.now
 objected (said.WrongType name) = WrongType name.now
 objected (said.OutOfRange name) = OutOfRange name.now
 objected (said.TextTooLong name) = TextTooLong name.now
 objected (said.NoDate name) = NoDate name.now
+objected said.FetchOutOfRange = OutOfRange fetch_name
 objected said.WrongCount = WrongCount
 objected (said.GivenGenerated name) = GivenGenerated name.now
 

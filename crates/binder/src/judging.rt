@@ -4,14 +4,16 @@ ghost use Rattle.statement_meaning.specs.Cause.{NoTable};
 ghost use Rattle.mdc_ast.specs.Definitions.{def_named};
 ghost use Rattle.statement_meaning.specs.Judged.{insert_judged, judged_of, query_judged, sets_judged};
 ghost use Rattle.statement_meaning.specs.Judging.{in_order, no_fault, on_table, then_judged, where_judged};
+ghost use Rattle.binder.specs.Knowing.{Knows};
 ghost use Rattle.binder.specs.Saying.{objected, first_of, said_by};
 
 use crate::creation::judge_creation;
 use crate::filtering::judge_where;
 use crate::insertion::judge_insertion;
+use crate::known_names::KnownNames;
 use crate::literals::Class;
 use crate::objection::Objection;
-use crate::querying::judge_shown;
+use crate::querying::{judge_fetch, judge_order, judge_shown, judge_shown_types, judge_tail_columns};
 use crate::updating::{judge_set_columns, judge_sets};
 use catalog::Catalog;
 use mdc_ast::{ColumnDef, InsertItem, Name, PredText, Select, SetText, Stmt, TableDef};
@@ -42,7 +44,7 @@ pub fn judge<'a>(
             Ok(judge_update(alloc, table, sets.as_slice(), pred, catalog))
         }
         Stmt::Delete { table, pred } => Ok(judge_delete(alloc, table, pred, catalog)),
-        Stmt::Query(select) => Ok(judge_query(alloc, select, catalog)),
+        Stmt::Query(select) => judge_query(alloc, select, catalog),
         Stmt::CreateIndex { .. }
         | Stmt::DropIndex(_)
         | Stmt::Explain(_)
@@ -152,27 +154,37 @@ fn judge_filter<'a>(
     judge_where(alloc, Class::Values, columns, pred)
 }
 
+// The columns of GROUP BY are looked up in a set, so that it takes a step for each name.
 fn judge_query<'a>(
     alloc: Global,
     select: &'a Select,
     catalog: &'a Catalog,
-) -> Result<(), Objection<'a>>
-    ensures { first_of (in_order (on_table select.now.table (def_named catalog.now select.now.table) (query_judged select.now))) ≡ said_by result }
+) -> Result<Result<(), Objection<'a>>, Memory>
+    ensures { IfOk result (λ judged. first_of (in_order (on_table select.now.table (def_named catalog.now select.now.table) (query_judged select.now))) ≡ said_by judged) }
 {
-    let def = table_named(&select.table, catalog)?;
-    judge_selection(alloc, def.columns.as_slice(), select)
+    let Some(def) = catalog.table(&select.table) else {
+        return Ok(Err(Objection::NoTable(&select.table)));
+    };
+    let group = KnownNames::of(alloc, select.group.as_slice())?;
+    Ok(judge_selection(alloc, def.columns.as_slice(), &group, select))
 }
 
 #[tactic(auto, using(crate::proofs::FirstLemmas::first_steps))]
 fn judge_selection<'a>(
     alloc: Global,
-    columns: &[ColumnDef],
+    columns: &'a [ColumnDef],
+    group: &KnownNames<'_>,
     select: &'a Select,
 ) -> Result<(), Objection<'a>>
+    requires { Knows group.now select.now.group }
     ensures { first_of (in_order (query_judged select.now columns.now)) ≡ said_by result }
 {
     judge_shown(columns, &select.list)?;
     judge_where(alloc, Class::Columns, columns, &select.pred)?;
+    judge_tail_columns(columns, select)?;
+    judge_shown_types(columns, group, select)?;
     judge_where(alloc, Class::Types, columns, &select.pred)?;
-    judge_where(alloc, Class::Values, columns, &select.pred)
+    judge_order(group, select)?;
+    judge_where(alloc, Class::Values, columns, &select.pred)?;
+    judge_fetch(select.first)
 }

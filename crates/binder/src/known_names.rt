@@ -25,6 +25,17 @@ impl<'a> KnownNames<'a> {
         }
     }
 
+    /// These names.
+    pub fn of(alloc: Global, names: &'a [Name]) -> Result<KnownNames<'a>, Memory>
+        ensures { IfOk result (λ set. Knows set names.now) }
+    {
+        let mut known = KnownNames::new(alloc);
+        for name in names {
+            known.add(name)?;
+        }
+        Ok(known)
+    }
+
     /// Whether a name is among them.
     pub fn has(&self, name: &Name) -> bool
         ensures { (known : List Name) → Knows self.now known → result ≡ is_among name.now known }

@@ -18,6 +18,7 @@ mod known_names;
 mod literals;
 mod names;
 mod objection;
+mod query_binding;
 mod querying;
 mod row_binding;
 mod set_binding;

@@ -1,6 +1,7 @@
 // What is said against a statement. Names are lent, and copied only once it is refused.
 ghost use Rattle.std.specs.Prelude.{◌≡◌, IfOk};
 ghost use Rattle.statement_meaning.specs.Cause.{keeping, naming, refusal_of};
+ghost use Rattle.statement_meaning.specs.Judged.{fetch_name};
 ghost use Rattle.binder.specs.Saying.{objected};
 
 use crate::names::copy_of;
@@ -16,10 +17,13 @@ pub enum Objection<'a> {
     NoColumn(&'a Name),
     ColumnTwice(&'a Name),
     Limit(u64),
+    NotGrouped(&'a Name),
     WrongType(&'a Name),
     OutOfRange(&'a Name),
     TextTooLong(&'a Name),
     NoDate(&'a Name),
+    /// The number of FETCH FIRST.
+    FetchOutOfRange,
     WrongCount,
     GivenGenerated(&'a Name),
 }
@@ -34,10 +38,12 @@ pub fn refusal(alloc: Global, objection: &Objection<'_>) -> Result<Refusal, Memo
         Objection::NoColumn(column) => naming(alloc, 22, column),
         Objection::ColumnTwice(column) => naming(alloc, 23, column),
         Objection::Limit(limit) => keeping(alloc, 26, *limit),
+        Objection::NotGrouped(column) => naming(alloc, 27, column),
         Objection::WrongType(column) => naming(alloc, 30, column),
         Objection::OutOfRange(column) => naming(alloc, 31, column),
         Objection::TextTooLong(column) => naming(alloc, 33, column),
         Objection::NoDate(column) => naming(alloc, 34, column),
+        Objection::FetchOutOfRange => fetch_out_of_range(alloc),
         Objection::WrongCount => keeping(alloc, 35, 0),
         Objection::GivenGenerated(column) => naming(alloc, 36, column),
     }
@@ -50,6 +56,17 @@ fn naming(alloc: Global, number: u16, name: &Name) -> Result<Refusal, Memory>
         number,
         place: 0,
         name: copy_of(alloc, name)?,
+        kept: 0,
+    })
+}
+
+fn fetch_out_of_range(alloc: Global) -> Result<Refusal, Memory>
+    ensures { IfOk result (λ refusal. refusal ≡ naming 31 fetch_name) }
+{
+    Ok(Refusal {
+        number: 31,
+        place: 0,
+        name: Name(Chars::of(alloc, b"FETCH")?),
         kept: 0,
     })
 }

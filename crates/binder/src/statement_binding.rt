@@ -5,18 +5,15 @@ ghost use Rattle.mdc_ast.specs.Definitions.{AllNamesDiffer, column_names, def_na
 ghost use Rattle.mdc_ast.specs.ValidDatabase.{AreValidDefs};
 ghost use Rattle.statement_meaning.specs.Judged.{judged_of, targets};
 ghost use Rattle.statement_meaning.specs.Judging.{in_order};
-ghost use Rattle.binder.specs.Bounded.{plain_query};
 
-use crate::querying::bound_shown;
+use crate::query_binding::bound_select;
 use crate::row_binding::bound_tuples;
 use crate::set_binding::bound_sets;
 use crate::table_binding::bound_table;
 use crate::targets::Targets;
 use crate::where_binding::bound_where;
 use catalog::Catalog;
-use mdc_ast::{
-    Bound, BoundSelect, ColumnDef, InsertItem, Name, PredText, Select, SetText, Stmt, TableDef,
-};
+use mdc_ast::{Bound, ColumnDef, InsertItem, Name, PredText, Select, SetText, Stmt, TableDef};
 use mdc_values::{List, Memory};
 use std::alloc::Global;
 
@@ -179,26 +176,10 @@ fn bound_query(alloc: Global, select: &Select, catalog: &Catalog) -> Result<Boun
     ensures { IfOk result (λ bound. bound ≡ binding.bound_of catalog.now (Stmt.Query select.now)) }
 {
     match table_there(&select.table, catalog) {
-        Some(def) => query_of(alloc, def.number, def.columns.as_slice(), select),
+        Some(def) => {
+            let columns = def.columns.as_slice();
+            Ok(Bound::Query(bound_select(alloc, def.number, columns, select)?))
+        }
         None => Ok(Bound::Begin),
     }
-}
-
-fn query_of(
-    alloc: Global,
-    table: u8,
-    columns: &[ColumnDef],
-    select: &Select,
-) -> Result<Bound, Memory>
-    requires { length columns.now ≤ 16 }
-    ensures { IfOk result (λ bound. bound ≡ Bound.Query (plain_query table columns.now select.now)) }
-{
-    Ok(Bound::Query(BoundSelect {
-        table,
-        outs: bound_shown(alloc, columns, &select.list)?,
-        pred: bound_where(alloc, columns, &select.pred)?,
-        group: List::new(alloc),
-        order: List::new(alloc),
-        first: None,
-    }))
 }

@@ -252,10 +252,14 @@ abbrev pub shown_types : List ColumnDef → Bool → List Name → OutList → L
 shown_types columns shares group Star = flat_map (ungrouped shares group) (column_names columns)
 shown_types columns shares group (Outs outs) = flat_map (out_types columns shares group) outs
 
+-- what is named where the number of FETCH FIRST is refused
+abbrev pub fetch_name : Name
+fetch_name = record { 0 = codes "FETCH" }
+
 -- 31 of the number of FETCH FIRST, which is from 1 to 2147483647
 abbrev pub fetch_value : Option ℕ → List Cause
 fetch_value None = []
-fetch_value (Some n) = cause_if (not (nat_le 1 n && nat_le n 2147483647)) (OutOfRange (record { 0 = codes "FETCH" }))
+fetch_value (Some n) = cause_if (not (nat_le 1 n && nat_le n 2147483647)) (OutOfRange fetch_name)
 
 -- what a query shows: 22, and then 27 and 30
 abbrev pub list_judged : Select → List ColumnDef → Judged

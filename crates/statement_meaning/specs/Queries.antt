@@ -16,7 +16,6 @@ use Rattle.row_groups.specs.Numbers.{values_of}
 use Rattle.row_groups.specs.Ordering.{is_before, ordered}
 use Rattle.row_groups.specs.Shape.{Shape}
 use Rattle.statement_meaning.specs.Cause.{Cause, Overflow}
-use Rattle.statement_meaning.specs.Judging.{of_some}
 
 -- ---- lines as texts
 
@@ -69,9 +68,9 @@ lines_of columns shape rows = lines_text columns shape.outs (answered shape rows
 -- ---- what is said against it
 
 -- 37 of the sum of a column
-abbrev pub sum_cause : List ColumnDef → ℕ → List Cause
-sum_cause columns column = of_some (slice_get columns column) (λ def. Overflow def.name ∷ [])
+abbrev pub sum_cause : List ColumnDef → ℕ → Cause
+sum_cause columns column = Overflow (record { 0 = name_of (slice_get columns column) })
 
 -- 37 of each sum outside BIGINT, by the order of the groups and there by that of the list, also of a line that would be cut
 abbrev pub sum_causes : List ColumnDef → Shape → List Row → List Cause
-sum_causes columns shape rows = flat_map (sum_cause columns) (outgrown_sums shape.outs (made_lines shape (values_of rows)))
+sum_causes columns shape rows = map (sum_cause columns) (outgrown_sums shape.outs (made_lines shape (values_of rows)))

@@ -1,6 +1,6 @@
 use Rattle.std.proofs.Common.{◌≡◌, ◌∷◌, ◌++◌, take}
 use Rattle.std.specs.Prelude.{flat_map}
-use Rattle.statement_meaning.specs.Doing.{entry}
+use Rattle.answer_text.specs.Lines.{entry}
 use Rattle.answer_text.proofs.entries.push_entries.Given as goal
 
 abbrev pub invariant-loop-shown : goal.invariant-loop-shown

@@ -1,6 +1,6 @@
 use Rattle.std.proofs.Common.{arith, rules}
 use Rattle.std.proofs.lemmas.Result.{on_ok_weaker}
-use Rattle.statement_meaning.specs.Doing.{heading}
+use Rattle.statement_meaning.specs.Queries.{heading}
 use Rattle.answer_text.proofs.LineTexts.{line_whole}
 use Rattle.answer_text.proofs.entries.push_headings.Goals as goal
 

@@ -1,6 +1,6 @@
 use Rattle.std.proofs.Common.{◌≡◌, ◌∷◌, ◌++◌, take}
 use Rattle.std.specs.Prelude.{flat_map}
-use Rattle.statement_meaning.specs.Doing.{heading}
+use Rattle.statement_meaning.specs.Queries.{heading}
 use Rattle.answer_text.proofs.entries.push_headings.Given as goal
 
 abbrev pub invariant-loop-shown : goal.invariant-loop-shown

@@ -1,6 +1,6 @@
-use Rattle.std.proofs.Common.{◌≡◌, take}
-use Rattle.answer_text.specs.Lines.{lines_shown}
+use Rattle.std.proofs.Common.{take}
+use Rattle.answer_text.specs.Answering.{AreLinesOf}
 use Rattle.answer_text.proofs.select.select_lines.Given as goal
 
 abbrev pub invariant-loop-row : goal.invariant-loop-row
-invariant-loop-row l = l.lines ≡ lines_shown l.def.columns l.query.outs (take l.row-index l.row-items)
+invariant-loop-row l = AreLinesOf l.def.columns l.query (take l.row-index l.row-items) l.lines

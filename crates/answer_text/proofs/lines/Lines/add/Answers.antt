@@ -1,5 +1,6 @@
 use Rattle.std.proofs.Common.{arith, ap, length, length-append, map}
-use Rattle.statement_meaning.specs.Doing.{entry, line}
+use Rattle.statement_meaning.specs.Queries.{line}
+use Rattle.answer_text.specs.Lines.{entry}
 use Rattle.answer_text.proofs.LineTexts.{length-line}
 use Rattle.answer_text.proofs.lines.Lines.add.Goals as goal
 

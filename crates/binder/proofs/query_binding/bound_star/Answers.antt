@@ -3,7 +3,7 @@ use Rattle.std.proofs.lemmas.List.{take_all}
 use Rattle.mdc_ast.specs.declared.bound.BoundOut.TheVariants as out
 use Rattle.statement_meaning.specs.Binding.{the_place}
 use Rattle.binder.proofs.ColumnLemmas.{map-column_names}
-use Rattle.binder.proofs.querying.bound_star.Goals as goal
+use Rattle.binder.proofs.query_binding.bound_star.Goals as goal
 
 pub returns : goal.returns
 returns c =
