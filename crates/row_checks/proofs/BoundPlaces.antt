@@ -19,7 +19,7 @@ use Rattle.mdc_ast.specs.declared.statement.SetText.{SetText}
 use Rattle.statement_meaning.specs.Binding.{bound_out_of, bound_set, bound_set_item, bound_side, shown, the_place, the_type}
 use Rattle.statement_meaning.specs.Cause.{cause_if}
 use Rattle.mdc_ast.specs.Definitions.{column_names, column_place, is_among, is_same}
-use Rattle.statement_meaning.specs.Judged.{item_columns, out_columns, set_columns, shown_columns}
+use Rattle.statement_meaning.specs.Judged.{item_columns, names_in, set_columns, shown_columns}
 use Rattle.statement_meaning.specs.Judging.{operand_columns, used_name}
 use Rattle.statement_meaning.proofs.CausesLemmas.{none_of_both, none_of_each}
 use Rattle.mdc_ast.proofs.TestsLemmas.{and_true, lt_is_true, some_is}
@@ -78,18 +78,22 @@ sets_within columns earlier (set ∷ sets) e =
 
 -- ---- what is shown
 
-out_within : (columns : List ColumnDef) (shown : Out) → out_columns columns shown ≡ [] → IsTrue (is_out_within (length columns) (bound_out_of columns shown))
-out_within columns (out.Column name) e = name_within columns name e
-out_within columns out.CountAll e = refl
-out_within columns (out.Count name) e = refl
-out_within columns (out.Sum name) e = refl
-out_within columns (out.Min name) e = refl
-out_within columns (out.Max name) e = refl
+-- a name that is used is a column
+one_used : (columns : List ColumnDef) (name : Name) → flat_map (used_name columns) (name ∷ []) ≡ [] → IsTrue (nat_lt (the_place columns name) (length columns))
+one_used columns name e = name_within columns name (none_of_each (used_name columns) name [] e).0
 
-outs_within : (columns : List ColumnDef) (outs : List Out) → flat_map (out_columns columns) outs ≡ [] → IsTrue (are_outs_within (length columns) (map (bound_out_of columns) outs))
+out_within : (columns : List ColumnDef) (shown : Out) → flat_map (used_name columns) (names_in shown) ≡ [] → IsTrue (is_out_within (length columns) (bound_out_of columns shown))
+out_within columns (out.Column name) e = one_used columns name e
+out_within columns out.CountAll e = refl
+out_within columns (out.Count name) e = one_used columns name e
+out_within columns (out.Sum name) e = one_used columns name e
+out_within columns (out.Min name) e = one_used columns name e
+out_within columns (out.Max name) e = one_used columns name e
+
+outs_within : (columns : List ColumnDef) (outs : List Out) → flat_map (λ out. flat_map (used_name columns) (names_in out)) outs ≡ [] → IsTrue (are_outs_within (length columns) (map (bound_out_of columns) outs))
 outs_within columns [] e = refl
 outs_within columns (first ∷ outs) e =
-    let parts = none_of_each (out_columns columns) first outs e in
+    let parts = none_of_each (λ out. flat_map (used_name columns) (names_in out)) first outs e in
     and_true _ _ (out_within columns first parts.0) (outs_within columns outs parts.1)
 
 names_within : (columns : List ColumnDef) (names : List Name) → 0 < length columns → IsTrue (are_outs_within (length columns) (map (λ name. bound_out.Column (the_place columns name)) names))

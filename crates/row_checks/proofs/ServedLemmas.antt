@@ -20,7 +20,7 @@ use Rattle.mdc_ast.specs.Database.{fits_all, numbered}
 use Rattle.mdc_ast.specs.ValidDatabase.{AreValidDefs}
 use Rattle.mdc_ast.specs.Definitions.{Definitions, def_at, def_named, empty_place, place_of}
 use Rattle.statement_meaning.specs.Doing.{null_causes, set_causes, set_on}
-use Rattle.statement_meaning.specs.Judged.{column_limits, create_judged, insert_judged, judged_of, long_name, query_judged, set_columns, set_types, sets_judged, shown_columns, targets}
+use Rattle.statement_meaning.specs.Judged.{column_limits, create_judged, insert_judged, judged_of, list_judged, long_name, query_judged, set_columns, set_types, sets_judged, shown_columns, tail_judged, targets}
 use Rattle.statement_meaning.specs.Judging.{Judged, atom_columns, atom_types, atoms_of, in_order, no_fault, on_table, then_judged, where_judged}
 use Rattle.statement_meaning.specs.Built.{is_built_step}
 use Rattle.statement_meaning.proofs.BindingLemmas.{AreBound}
@@ -120,9 +120,12 @@ serves defs (stmt.Delete name text) said =
 serves defs (stmt.Query select) said =
     on_defined defs select.table _ (query_judged select) said
     (λ place def at faultless.
-    let columns = none_of_both (shown_columns def.columns select.list) (flat_map (atom_columns def.columns) (atoms_of select.pred)) faultless.columns in
+    let where_ = where_judged def.columns select.pred in
+    let front = none_of_both (shown_columns def.columns select.list ++ where_.columns) (tail_judged select def.columns).columns faultless.columns in
+    let columns = none_of_both (shown_columns def.columns select.list) where_.columns front.0 in
+    let types = none_of_both ((list_judged select def.columns).types ++ where_.types) (tail_judged select def.columns).types faultless.types in
     defined_as (def_at defs place) def _ at (record {
-      judge = may_judge_where def select.pred (record { there = columns.1; typed = faultless.types });
+      judge = may_judge_where def select.pred (record { there = columns.1; typed = (none_of_both (list_judged select def.columns).types where_.types types.0).1 });
       shown = shown_within def.columns select.list columns.0;
     }))
 serves defs statement said = tt

@@ -1,7 +1,7 @@
 // Why a statement isn't done, as a refusal.
 ghost use Rattle.std.specs.Prelude.{◌≡◌, IfOk};
 ghost use Rattle.statement_meaning.specs.Cause as spec;
-ghost use Rattle.statement_meaning.specs.Cause.{FileFull, NoTable, NotBuilt, NumbersUsedUp, State, refusal_of};
+ghost use Rattle.statement_meaning.specs.Cause.{FileFull, NoTable, NotBuilt, NumbersUsedUp, Overflow, State, refusal_of};
 ghost use Rattle.row_checks.specs.RowChange.{misfit_cause};
 
 use crate::row_change::Misfit;
@@ -52,6 +52,18 @@ pub fn unfit(alloc: Global, misfit: Misfit<'_>) -> Result<Refusal, Memory>
         Misfit::NullIn(name) => naming(alloc, 32, name),
         Misfit::TextTooLong(name) => naming(alloc, 33, name),
         Misfit::Overflow(name) => naming(alloc, 37, name),
+    }
+}
+
+/// A sum outside BIGINT, or a value that its column can't hold.
+pub fn overflow(name: Name) -> Refusal
+    ensures { result ≡ refusal_of (Overflow name) }
+{
+    Refusal {
+        number: 37,
+        place: 0,
+        name,
+        kept: 0,
     }
 }
 
