@@ -2,6 +2,7 @@ pub mod Binding
 pub mod Built
 pub mod Cause
 pub mod Doing
+pub mod GroupRows
 pub mod Judged
 pub mod Judging
 pub mod Laws
