@@ -1,6 +1,6 @@
 -- What the lines of a query give in the end.
-use Rattle.std.proofs.Common.{◌≡◌, ◌∙◌, ◌<◌, ◌≤◌, ◌+◌, ℕ, List, [], ◌∷◌, ◌++◌, map, filter, length, Bool, true, false, cond, ◌&&◌, ◌==◌, Option, Some, None, refl, sym, ap, subst, arith}
-use Rattle.std.specs.Prelude.{IsTrue, flat_map, is_none, nat_lt, codes, slice_get}
+use Rattle.std.proofs.Common.{◌≡◌, ◌∙◌, ◌<◌, ◌≤◌, ◌+◌, ℕ, zero, suc, List, [], ◌∷◌, ◌++◌, map, filter, length, Bool, true, false, cond, ◌&&◌, ◌==◌, Option, Some, None, refl, sym, ap, subst, arith}
+use Rattle.std.specs.Prelude.{IsTrue, flat_map, is_none, nat_lt, codes, slice_get, slice_index_or}
 use Rattle.std.specs.Fmt.{decimal}
 use Rattle.std.specs.List.{AllByRecursion, IsDistinct, list_all, list_any}
 use Rattle.std.proofs.lemmas.Bool.Decides.{nat_tests}
@@ -14,7 +14,6 @@ use Rattle.mdc_ast.specs.declared.definition.ColumnDef.{ColumnDef}
 use Rattle.mdc_ast.specs.declared.definition.KeyPart.{KeyPart}
 use Rattle.mdc_ast.specs.declared.name.Name.{Name}
 use Rattle.mdc_ast.specs.declared.row.Row.{Row}
-use Rattle.mdc_ast.specs.ValidDatabase.{RiseFrom}
 use Rattle.mdc_ast.proofs.TestsLemmas.{both}
 use Rattle.row_groups.specs.declared.grouping.Grouping.TheVariants.{AllRows, EachRow}
 use Rattle.row_groups.specs.declared.line.Line.{Line}
@@ -26,34 +25,46 @@ use Rattle.row_groups.specs.Ordering.{is_before, ordered, placed}
 use Rattle.row_groups.specs.Shape.{Shape, shape_of}
 use Rattle.statement_meaning.specs.Cause.{Cause, Overflow}
 use Rattle.statement_meaning.specs.Queries.{answered, heading, line, lines_of, lines_text, name_of, shown_text, sum_cause, sum_causes}
-use Rattle.answer_text.specs.Answering.{AreLinesOf, GivesLines, outs_at_once}
+use Rattle.answer_text.specs.Answering.{AreLinesOf, GivesLines, Rise, outs_at_once}
 use Rattle.answer_text.specs.declared.query_lines.QueryLines.{QueryLines}
 use Rattle.answer_text.specs.declared.query_lines.QueryLines.TheVariants.{Grouped, Plain}
 use Rattle.answer_text.specs.Lines.{LinesSoFar, are_outs_within, closed_lines, entry, is_column_out, is_nothing, is_plain_select, lines_shown}
 
 -- ---- rows that rise are by number as they are
 
-placed_first : (row : Row) (rows : List Row) (n next : ℕ) → row.number < n → RiseFrom n rows next → placed is_lower row rows ≡ row ∷ rows
-placed_first row [] n next low rise = refl
-placed_first row (other ∷ rows) n next low rise =
-    let at : nat_lt other.number row.number ≡ false = (let le = rise.0 in grind (arith, nat_tests)) in
+rise_behind : (row : Row) (rows : List Row) → Rise (row ∷ rows) → Rise rows
+rise_behind row rows rise = λ i j d low within. rise (suc i) (suc j) d (omega (arith, low)) (omega (arith, within))
+
+placed_first : (row : Row) (rows : List Row) → Rise (row ∷ rows) → placed is_lower row rows ≡ row ∷ rows
+placed_first row [] rise = refl
+placed_first row (other ∷ rows) rise =
+    let lt : row.number < other.number = rise 0 1 row (omega arith) (omega arith) in
+    let at : nat_lt other.number row.number ≡ false = grind (arith, nat_tests) in
     rw at refl
 
-pub by_number-rising : (n : ℕ) (rows : List Row) (next : ℕ) → RiseFrom n rows next → by_number rows ≡ rows
-by_number-rising n [] next rise = refl
-by_number-rising n (row ∷ rows) next rise =
-    ap (placed is_lower row) (by_number-rising (row.number + 1) rows next rise.1) ∙ placed_first row rows (row.number + 1) next (omega arith) rise.1
+pub by_number-rising : (rows : List Row) → Rise rows → by_number rows ≡ rows
+by_number-rising [] rise = refl
+by_number-rising (row ∷ rows) rise = ap (placed is_lower row) (by_number-rising rows (rise_behind row rows rise)) ∙ placed_first row rows rise
 
-apart_from : (k n : ℕ) (rows : List Row) (next : ℕ) → k < n → RiseFrom n rows next → AllByRecursion (λ m. (k == m) ≡ false) (map (λ row. row.number) rows)
-apart_from k n [] next low rise = tt
-apart_from k n (row ∷ rows) next low rise =
-    let at : (k == row.number) ≡ false = (let le = rise.0 in grind (arith, nat_tests)) in
-    (at, apart_from k (row.number + 1) rows next (omega (arith, low, rise.0)) rise.1)
+each_there : {X : Type 0} (P : X → Type 0) (xs : List X) → ((j : ℕ) (d : X) → j < length xs → P (slice_index_or xs j d)) → AllByRecursion P xs
+each_there P [] at = tt
+each_there P (x ∷ xs) at = (at 0 x (omega arith), each_there P xs (λ j d low. at (suc j) d (omega (arith, low))))
 
-pub rising_differ : (n : ℕ) (rows : List Row) (next : ℕ) → RiseFrom n rows next → DifferInNumber rows
+-- a row has another number than those behind it
+apart_from : (n : ℕ) (rows : List Row) → AllByRecursion (λ row. n < row.number) rows → AllByRecursion (λ m. (n == m) ≡ false) (map (λ row. row.number) rows)
+apart_from n [] above = tt
+apart_from n (row ∷ rows) above =
+    let at : (n == row.number) ≡ false = (let lt = above.0 in grind (arith, nat_tests)) in
+    (at, apart_from n rows above.1)
+
+behind_differ : (row : Row) (rows : List Row) → Rise (row ∷ rows) → AllByRecursion (λ m. (row.number == m) ≡ false) (map (λ row. row.number) rows)
+behind_differ row rows rise =
+    apart_from row.number rows (each_there (λ (other : Row). row.number < other.number) rows (λ j d low. rise 0 (suc j) d (omega arith) (omega (arith, low))))
+
+pub rising_differ : (rows : List Row) → Rise rows → DifferInNumber rows
 unfolding IsDistinct
-rising_differ n [] next rise = tt
-rising_differ n (row ∷ rows) next rise = (apart_from row.number (row.number + 1) rows next (omega arith) rise.1, rising_differ (row.number + 1) rows next rise.1)
+rising_differ [] rise = tt
+rising_differ (row ∷ rows) rise = (behind_differ row rows rise, rising_differ rows (rise_behind row rows rise))
 
 -- ---- a query that shows each row as it comes
 
@@ -160,10 +171,10 @@ plain_select_gives columns select rows text plain is =
 -- ---- groups
 
 -- lines behind the line of the names, and no sum outside BIGINT
-pub answer_gives : (columns : List ColumnDef) (shape : Shape) (rows : List Row) (lines : List Line) (head text : List ℕ) (n next : ℕ) → RiseFrom n rows next → IsAnswer shape rows lines → head ≡ line (map (heading columns) shape.outs)
+pub answer_gives : (columns : List ColumnDef) (shape : Shape) (rows : List Row) (lines : List Line) (head text : List ℕ) → Rise rows → IsAnswer shape rows lines → head ≡ line (map (heading columns) shape.outs)
     → text ≡ head ++ flat_map (λ (one : Line). line (map shown_text one.shows)) lines ++ decimal (length lines) ++ codes " ROWS\n" → GivesLines columns shape rows text
-answer_gives columns shape rows lines head text n next rise is named whole =
-    let same = by_number-rising n rows next rise in
+answer_gives columns shape rows lines head text rise is named whole =
+    let same = by_number-rising rows rise in
     record {
       whole = ap (λ (rs : List Row). map (sum_cause columns) (outgrown_sums shape.outs (made_lines shape (values_of rs)))) (sym same) ∙ ap (map (sum_cause columns)) is.whole;
       text_is = whole ∙ ap (λ front. front ++ flat_map (λ (one : Line). line (map shown_text one.shows)) lines ++ decimal (length lines) ++ codes " ROWS\n") named
@@ -175,19 +186,19 @@ first_named columns [] column is = absurd (none-some column is)
 first_named columns (first ∷ named) column is = (map (sum_cause columns) named, ap (λ c. sum_cause columns c ∷ map (sum_cause columns) named) (cc))
 
 -- the first sum outside BIGINT is the first that is said
-pub outgrown_says : (columns : List ColumnDef) (shape : Shape) (rows : List Row) (column : ℕ) (n next : ℕ) → RiseFrom n rows next
+pub outgrown_says : (columns : List ColumnDef) (shape : Shape) (rows : List Row) (column : ℕ) → Rise rows
     → slice_get (outgrown_sums shape.outs (made_lines shape (values_of (by_number rows)))) 0 ≡ Some column
     → (more : List Cause) × (sum_causes columns shape rows ≡ sum_cause columns column ∷ more)
-outgrown_says columns shape rows column n next rise is =
+outgrown_says columns shape rows column rise is =
     subst (λ (rs : List Row). (more : List Cause) × (map (sum_cause columns) (outgrown_sums shape.outs (made_lines shape (values_of rs))) ≡ sum_cause columns column ∷ more))
-    (by_number-rising n rows next rise) (first_named columns _ column is)
+    (by_number-rising rows rise) (first_named columns _ column is)
 
 -- so it is with the name of its column
-pub overflow_says : (columns : List ColumnDef) (shape : Shape) (rows : List Row) (column : ℕ) (name : Name) (n next : ℕ) → RiseFrom n rows next
+pub overflow_says : (columns : List ColumnDef) (shape : Shape) (rows : List Row) (column : ℕ) (name : Name) → Rise rows
     → slice_get (outgrown_sums shape.outs (made_lines shape (values_of (by_number rows)))) 0 ≡ Some column → name.0 ≡ name_of (slice_get columns column)
     → (more : List Cause) × (sum_causes columns shape rows ≡ Overflow name ∷ more)
-overflow_says columns shape rows column name n next rise is named =
-    let said = outgrown_says columns shape rows column n next rise is in
+overflow_says columns shape rows column name rise is named =
+    let said = outgrown_says columns shape rows column rise is in
     (said.0, said.1 ∙ ap (λ text. Overflow (record { 0 = text }) ∷ said.0) (sym named))
 
 -- ---- rows as they are added

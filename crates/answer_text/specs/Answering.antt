@@ -1,5 +1,5 @@
 -- The lines of any query as far as rows have come, and what they give in the end.
-use Rattle.std.specs.Prelude.{◌≡◌, ℕ, List, [], ◌∷◌, IsTrue, map, Result}
+use Rattle.std.specs.Prelude.{◌≡◌, ◌<◌, AllPairs, List, [], ◌∷◌, IsTrue, map}
 use Rattle.mdc_ast.specs.declared.bound.BoundOut.{BoundOut}
 use Rattle.mdc_ast.specs.declared.bound.BoundSelect.{BoundSelect}
 use Rattle.mdc_ast.specs.declared.definition.ColumnDef.{ColumnDef}
@@ -24,6 +24,10 @@ abbrev pub AreLinesOf : List ColumnDef → BoundSelect → List Row → QueryLin
 AreLinesOf columns select rows (Plain lines) = IsTrue (is_plain_select select) × (lines ≡ lines_shown columns select.outs rows)
 AreLinesOf columns select rows (Grouped of text groups) =
     (of.now ≡ columns) × (text.items ≡ line (map (heading columns) select.outs)) × AreGroupsOf (shape_of select) rows groups
+
+-- row numbers rise
+abbrev pub Rise : List Row → Type 0
+Rise rows = AllPairs (λ a b. a.number < b.number) rows
 
 -- the text of the lines, where no sum is outside BIGINT
 pub record GivesLines (columns : List ColumnDef) (shape : Shape) (rows : List Row) (text : List ℕ) : Type 0 where

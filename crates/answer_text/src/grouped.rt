@@ -3,12 +3,11 @@ ghost use Rattle.std.specs.Prelude.{◌≡◌, ◌++◌, ℕ, List, codes, flat_
 ghost use Rattle.std.specs.Fmt.{decimal};
 ghost use Rattle.mdc_ast.specs.declared.bound.BoundSelect.{BoundSelect};
 ghost use Rattle.mdc_ast.specs.declared.row.Row.{Row};
-ghost use Rattle.mdc_ast.specs.ValidDatabase.{RiseFrom};
 ghost use Rattle.row_groups.specs.Gathering.{AreGroupsOf};
 ghost use Rattle.row_groups.specs.Shape.{shape_of};
 ghost use Rattle.row_groups.specs.declared.line.Line.{Line};
 ghost use Rattle.statement_meaning.specs.Queries.{heading, line, name_of, shown_text};
-ghost use Rattle.answer_text.specs.Answering.{GivesLines, IsFirstOverflow};
+ghost use Rattle.answer_text.specs.Answering.{GivesLines, IsFirstOverflow, Rise};
 
 use crate::appending::append_count;
 use crate::entries::push_shown;
@@ -25,8 +24,8 @@ pub fn grouped_text(
     text: Vec<u8>,
     groups: Groups<'_>,
 ) -> Result<Chars, AnswerFault>
-    ensures { (select : BoundSelect) → (rows : List Row) → (from next : ℕ) → text.items ≡ line (map (heading columns.now) select.outs) → AreGroupsOf (shape_of select) rows groups.entry
-        → RiseFrom from rows next → MatchResult result (GivesLines columns.now (shape_of select) rows) (IsFirstOverflow columns.now (shape_of select) rows) }
+    ensures { (select : BoundSelect) → (rows : List Row) → text.items ≡ line (map (heading columns.now) select.outs) → AreGroupsOf (shape_of select) rows groups.entry
+        → Rise rows → MatchResult result (GivesLines columns.now (shape_of select) rows) (IsFirstOverflow columns.now (shape_of select) rows) }
 {
     match groups.finish(alloc) {
         Ok(lines) => Ok(text_of_lines(text, lines.as_slice())?),

@@ -4,9 +4,8 @@ ghost use Rattle.std.specs.List.{list_all};
 ghost use Rattle.mdc_ast.specs.declared.bound.BoundSelect.{BoundSelect};
 ghost use Rattle.mdc_ast.specs.declared.definition.ColumnDef.{ColumnDef};
 ghost use Rattle.mdc_ast.specs.declared.row.Row.{Row};
-ghost use Rattle.mdc_ast.specs.ValidDatabase.{RiseFrom};
 ghost use Rattle.row_groups.specs.Shape.{shape_of};
-ghost use Rattle.answer_text.specs.Answering.{AreLinesOf, GivesLines, IsFirstOverflow, outs_at_once};
+ghost use Rattle.answer_text.specs.Answering.{AreLinesOf, GivesLines, IsFirstOverflow, Rise, outs_at_once};
 ghost use Rattle.answer_text.specs.Lines.{are_outs_within, is_column_out, is_plain_select};
 
 use crate::entries::push_headings;
@@ -59,7 +58,7 @@ impl<'q> QueryLines<'q> {
 
     /// The text of the lines of rows by rising number, or the first sum outside BIGINT.
     pub fn close(self, alloc: Global) -> Result<Chars, AnswerFault>
-        ensures { (columns : List ColumnDef) → (select : BoundSelect) → (rows : List Row) → (from next : ℕ) → AreLinesOf columns select rows self.entry → RiseFrom from rows next
+        ensures { (columns : List ColumnDef) → (select : BoundSelect) → (rows : List Row) → AreLinesOf columns select rows self.entry → Rise rows
             → MatchResult result (GivesLines columns (shape_of select) rows) (IsFirstOverflow columns (shape_of select) rows) }
     {
         match self {

@@ -1,8 +1,7 @@
 // The answer to a query over rows that were found.
 ghost use Rattle.std.specs.Prelude.{◌≡◌, ℕ, length, IsTrue, MatchResult};
-ghost use Rattle.mdc_ast.specs.ValidDatabase.{RiseFrom};
 ghost use Rattle.row_groups.specs.Shape.{shape_of};
-ghost use Rattle.answer_text.specs.Answering.{GivesLines, IsFirstOverflow};
+ghost use Rattle.answer_text.specs.Answering.{GivesLines, IsFirstOverflow, Rise};
 ghost use Rattle.answer_text.specs.Lines.{are_outs_within, are_rows_wide};
 
 use crate::fault::AnswerFault;
@@ -21,7 +20,7 @@ pub fn select_lines(
 ) -> Result<Chars, AnswerFault>
     requires outs { IsTrue (are_outs_within (length def.now.columns) query.now.outs) }
     requires rows { IsTrue (are_rows_wide (length def.now.columns) rows.now) }
-    ensures { (from next : ℕ) → RiseFrom from rows.now next
+    ensures { Rise rows.now
         → MatchResult result (GivesLines def.now.columns (shape_of query.now) rows.now) (IsFirstOverflow def.now.columns (shape_of query.now) rows.now) }
 {
     let mut lines = QueryLines::new(alloc, query, &def.columns)?;

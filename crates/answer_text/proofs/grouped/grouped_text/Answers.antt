@@ -11,13 +11,13 @@ use Rattle.answer_text.proofs.QueryLinesLemmas.{answer_gives, outgrown_says, ove
 use Rattle.answer_text.proofs.grouped.grouped_text.Goals as goal
 
 pub returns-in-Ok : goal.returns-in-Ok
-returns-in-Ok c = λ select rows from next named are rise.
-    answer_gives c.args.columns.now (shape_of select) rows c.in-Ok.lines c.args.text.items c.in_ok-text_of_lines-in-Ok.field-0 from next rise
-    (c.in-Ok.ensures (shape_of select) rows are (rising_differ from rows next rise)) named
+returns-in-Ok c = λ select rows named are rise.
+    answer_gives c.args.columns.now (shape_of select) rows c.in-Ok.lines c.args.text.items c.in_ok-text_of_lines-in-Ok.field-0 rise
+    (c.in-Ok.ensures (shape_of select) rows are (rising_differ rows rise)) named
     (c.in_ok-text_of_lines-in-Ok.ensures
     ∙ ap (λ lines. c.args.text.items ++ flat_map (λ (one : Line). line (map shown_text one.shows)) lines ++ decimal (length lines) ++ codes " ROWS\n") c.as_slice.ensures)
 
 pub returns-in-Err-Overflow : goal.returns-in-Err-Overflow
-returns-in-Err-Overflow c = λ select rows from next named are rise.
-    overflow_says c.args.columns.now (shape_of select) rows c.in-Err-Overflow.column c.in_ok-name_at-in-Err-Overflow.field-0 from next rise
-    (subst (IsFault (shape_of select) rows) c.in-Err-Overflow.field-0-is (c.in-Err-Overflow.ensures (shape_of select) rows are (rising_differ from rows next rise))) c.in_ok-name_at-in-Err-Overflow.ensures
+returns-in-Err-Overflow c = λ select rows named are rise.
+    overflow_says c.args.columns.now (shape_of select) rows c.in-Err-Overflow.column c.in_ok-name_at-in-Err-Overflow.field-0 rise
+    (subst (IsFault (shape_of select) rows) c.in-Err-Overflow.field-0-is (c.in-Err-Overflow.ensures (shape_of select) rows are (rising_differ rows rise))) c.in_ok-name_at-in-Err-Overflow.ensures
