@@ -4,13 +4,7 @@ use Rattle.std.specs.Prelude.{Bool, Option, filter, not}
 use Rattle.std.proofs.lemmas.List.{append-nil, length-take-le, take_more}
 use Rattle.std.proofs.lemmas.List.Elements.{filter-append}
 use Rattle.std.proofs.lemmas.List.Filters.{length-filter_both}
-use Rattle.mdc_ast.specs.declared.bound.BoundOut.{BoundOut}
-use Rattle.mdc_ast.specs.declared.definition.ColumnDef.{ColumnDef}
-use Rattle.mdc_ast.specs.declared.predicate.Pred.{Pred}
 use Rattle.mdc_ast.specs.declared.row.Row.{Row}
-use Rattle.mdc_ast.specs.Truth.{qualifies}
-use Rattle.answer_text.specs.Lines.{lines_shown, with_line}
-use Rattle.answer_text.proofs.ShownLines.{with_line-lines_shown}
 
 filter_more : {X : Type 0} (test : X → Bool) (xs : List X) (x : X) → test x ≡ true → filter test (xs ++ x ∷ []) ≡ filter test xs ++ x ∷ []
 filter_more test xs x e =
@@ -29,19 +23,6 @@ filter_take-more test xs i x lt is e = ap (filter test) (take_more xs i x lt ∙
 -- one more that doesn't
 pub filter_take-same : {X : Type 0} (test : X → Bool) (xs : List X) (i : ℕ) (x : X) → i < length xs → x ≡ get_or xs i x → test x ≡ false → filter test (take (i + 1) xs) ≡ filter test (take i xs)
 filter_take-same test xs i x lt is e = ap (filter test) (take_more xs i x lt ∙ ap (λ y. take i xs ++ y ∷ []) (sym is)) ∙ filter_same test (take i xs) x e
-
--- the line of one more row
-pub lines_more : (columns : List ColumnDef) (outs : List BoundOut) (pred : Option Pred) (rows : List Row) (i : ℕ) (row : Row) → i < length rows → row ≡ get_or rows i row → qualifies pred row.values ≡ true →
-    with_line row.values (lines_shown columns outs (filter (λ row. qualifies pred row.values) (take i rows))) ≡ lines_shown columns outs (filter (λ row. qualifies pred row.values) (take (i + 1) rows))
-lines_more columns outs pred rows i row lt is e =
-    with_line-lines_shown columns outs (filter (λ row. qualifies pred row.values) (take i rows)) row
-    ∙ ap (lines_shown columns outs) (sym (filter_take-more (λ (row : Row). qualifies pred row.values) rows i row lt is e))
-
--- and none of a row that doesn't qualify
-pub lines_same : (columns : List ColumnDef) (outs : List BoundOut) (pred : Option Pred) (rows : List Row) (i : ℕ) (row : Row) → i < length rows → row ≡ get_or rows i row → qualifies pred row.values ≡ false →
-    lines_shown columns outs (filter (λ row. qualifies pred row.values) (take i rows)) ≡ lines_shown columns outs (filter (λ row. qualifies pred row.values) (take (i + 1) rows))
-lines_same columns outs pred rows i row lt is e =
-    ap (lines_shown columns outs) (sym (filter_take-same (λ (row : Row). qualifies pred row.values) rows i row lt is e))
 
 -- ---- how many there are
 

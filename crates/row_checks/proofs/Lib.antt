@@ -3,6 +3,7 @@ pub mod Causes
 pub mod Changeable
 pub mod Each
 pub mod KindsLemmas
+pub mod QueryLemmas
 pub mod Ready
 pub mod ServedLemmas
 pub mod SetLemmas

@@ -11,15 +11,17 @@ use Rattle.mdc_ast.specs.declared.bound.BoundSelect.{BoundSelect}
 use Rattle.mdc_ast.specs.declared.bound.BoundSet.{BoundSet}
 use Rattle.mdc_ast.specs.declared.definition.ColumnDef.{ColumnDef}
 use Rattle.mdc_ast.specs.declared.definition.TableDef.{TableDef}
+use Rattle.mdc_ast.specs.declared.name.Name.{Name}
 use Rattle.mdc_ast.specs.declared.predicate.Pred.{Pred}
 use Rattle.mdc_ast.specs.declared.reply.Outcome.{Outcome}
 use Rattle.mdc_ast.specs.declared.reply.Outcome.TheVariants as said
 use Rattle.mdc_ast.specs.declared.reply.Reply.TheVariants as reply
 use Rattle.mdc_ast.specs.declared.row.Row.{Row}
-use Rattle.statement_meaning.specs.Cause.{Cause, refusal_of}
+use Rattle.statement_meaning.specs.Cause.{Cause, Overflow, refusal_of}
 use Rattle.mdc_ast.specs.Database.{Database, PlainTable, changed_at, fits_all, table_at, with_place}
 use Rattle.mdc_ast.specs.Definitions.{def_at}
-use Rattle.statement_meaning.specs.Doing.{causes_of_rows, changed_causes, changed_row, changed_table, columns_at, effect, hits, left_table, lines_of}
+use Rattle.statement_meaning.specs.Doing.{causes_of_rows, changed_causes, changed_row, changed_table, columns_at, effect, hits, left_table}
+use Rattle.statement_meaning.specs.Queries.{sum_causes}
 use Rattle.mdc_ast.specs.Truth.{qualifies}
 use Rattle.statement_meaning.specs.Judging.{of_some}
 use Rattle.statement_meaning.specs.Step.{Answer, Refused, Replied, step_by}
@@ -46,7 +48,10 @@ use Rattle.mdc_sound.specs.StandsForDatabase.{PagesStandFor}
 use Rattle.mdc_sound.specs.TableRows.{PlacedRow}
 use Rattle.binder.specs.Saying.{first_of}
 use Rattle.cell_change.proofs.ChangedSpaceLemmas.{shows_spots}
+use Rattle.row_groups.specs.Shape.{shape_of}
+use Rattle.answer_text.specs.Answering.{GivesLines, Rise}
 use Rattle.row_checks.specs.Executing.{answer_of, done}
+use Rattle.row_checks.proofs.QueryLemmas.{qualifying_rise, query_refused, query_replies}
 use Rattle.statement_rows.specs.RowsAndSpace.{TakesRowsBy, TurnsRowsBy}
 use Rattle.statement_rows.specs.RowsOfStatement.{AnyPage, BreaksReady, ChangesRowsOf, HasTheseRows, IsReadyBetween, with_rows, without_rows}
 use Rattle.statement_rows.specs.Turning.{turned_row}
@@ -66,28 +71,49 @@ use Rattle.script_engine.proofs.TurnedRowsLemmas.{each_passes, turned_changed, t
 
 -- ---- a query
 
--- its lines are those of the hits
-lines_are : (found : Option PlainTable) (table : PlainTable) (columns : List ColumnDef) (select : BoundSelect) (rows : List Row) (text : List ℕ) → found ≡ Some table → table.def.columns ≡ columns
-    → rows ≡ hits select.pred (Some table) → text ≡ lines_of columns select.outs rows
-    → ◌≡◌ {A = Answer} (Replied (reply.Lines (lines_of (columns_at found) select.outs (hits select.pred found)))) (Replied (reply.Lines text))
-lines_are found table columns select rows text at same are is =
-    ap (λ t. Replied (reply.Lines (lines_of (columns_at t) select.outs (hits select.pred t)))) at
-    ∙ ap (λ k. Replied (reply.Lines (lines_of k select.outs (hits select.pred (Some table))))) same
-    ∙ ap (λ r. Replied (reply.Lines (lines_of columns select.outs r))) (sym are) ∙ ap (λ t. Replied (reply.Lines t)) (sym is)
+-- the rows that were hit rise
+hits_rise : (db : Database) (select : BoundSelect) (def : TableDef) (found : List Hit) → HasHits db select.table def select.pred found → Rise (map (λ hit. hit.row) found)
+hits_rise db select def found has = subst Rise (sym has.are) (qualifying_rise select has.table.rows has.rising)
 
-pub query_does : {S : Type 0} (g : Ghosts S) (old new : S) (tables : Tables) (select : BoundSelect) (def : TableDef) (found : List Hit) (text : List ℕ) → AreServed tables.catalog
+-- what is said of the rows that were hit is said of those of the plain table
+of_plain : (P : List ColumnDef → List Row → Type 0) (db : Database) (select : BoundSelect) (def : TableDef) (found : List Hit) (has : HasHits db select.table def select.pred found)
+    → P def.columns (map (λ hit. hit.row) found) → P has.table.def.columns (filter (λ row. qualifies select.pred row.values) has.table.rows)
+of_plain P db select def found has of_hits =
+    subst (λ (columns : List ColumnDef). P columns (filter (λ row. qualifies select.pred row.values) has.table.rows)) (sym (ap (λ (d : TableDef). d.columns) has.def_is))
+    (subst (P def.columns) has.are of_hits)
+
+-- its lines are those of the hits
+pub query_gives : (db : Database) (select : BoundSelect) (def : TableDef) (found : List Hit) (text : List ℕ) → HasHits db select.table def select.pred found
+    → (Rise (map (λ hit. hit.row) found) → GivesLines def.columns (shape_of select) (map (λ hit. hit.row) found) text)
+    → ◌≡◌ {A = Database × Answer} (done db (bound.Query select)) (db, Replied (reply.Lines text))
+query_gives db select def found text has gives =
+    query_replies db select has.table has.at text
+    (of_plain (λ columns rows. GivesLines columns (shape_of select) rows text) db select def found has (gives (hits_rise db select def found has)))
+
+-- or it is refused for the first sum outside BIGINT
+pub query_outgrows : (db : Database) (select : BoundSelect) (def : TableDef) (found : List Hit) (name : Name) → HasHits db select.table def select.pred found
+    → (Rise (map (λ hit. hit.row) found) → (more : List Cause) × (sum_causes def.columns (shape_of select) (map (λ hit. hit.row) found) ≡ Overflow name ∷ more))
+    → ◌≡◌ {A = Database × Answer} (done db (bound.Query select)) (db, Refused (refusal_of (Overflow name)))
+query_outgrows db select def found name has says =
+    let said = of_plain (λ columns rows. (more : List Cause) × (sum_causes columns (shape_of select) rows ≡ Overflow name ∷ more)) db select def found has (says (hits_rise db select def found has)) in
+    query_refused db select has.table has.at name said.0 said.1
+
+-- whatever its answer is, where it is that of the plain database
+pub query_does : {S : Type 0} (g : Ghosts S) (old new : S) (tables : Tables) (select : BoundSelect) (def : TableDef) (found : List Hit) (outcome : Outcome) → AreServed tables.catalog
     → def_at tables.catalog select.table ≡ Some def → (g.state new).is_told ≡ (g.state old).is_told → (g.state new).work ≡ (g.state old).work
     → ((owners : List Kind) (forests : TableForests) → StandsTable g tables.ext old def owners forests → FindsRows g tables.ext old def select.pred found forests)
-    → text ≡ lines_of def.columns select.outs (map (λ hit. hit.row) found) → IsReady g old tables → DoesStatement g old new tables tables (bound.Query select) (said.Done (reply.Lines text))
-query_does g old new tables select def found text served at told same finds is ready =
+    → ((db : Database) → HasHits db select.table def select.pred found → ◌≡◌ {A = Database × Answer} (done db (bound.Query select)) (db, answer_of outcome))
+    → IsReady g old tables → DoesStatement g old new tables tables (bound.Query select) outcome
+query_does g old new tables select def found outcome served at told same finds ends ready =
     let st = stands_ready g old tables select.table def served ready at in record {
       ready = ready_still g old new told same tables ready;
       stands = λ db stands.
           let here = stored_table db tables.catalog select.table def (stored_defs tables.ext (pages_of g old) tables.catalog db ready.stored stands) at in
           let has : HasHits db select.table def select.pred found =
-          hits_of g tables.ext old def st.owners st.forests st.stands select.pred found (finds st.owners st.forests st.stands) st.between tables.catalog select.table db here.0 ready.stored at stands here.1 in record {
-            pages_are = subst (λ pages. PagesStandFor tables.ext pages db) (sym same) stands;
-            answers = lines_are _ has.table def.columns select (map (λ (hit : Hit). hit.row) found) text has.at (ap (λ (d : TableDef). d.columns) has.def_is) has.are is;
+          hits_of g tables.ext old def st.owners st.forests st.stands select.pred found (finds st.owners st.forests st.stands) st.between tables.catalog select.table db here.0 ready.stored at stands here.1 in
+          let end_ = ends db has in record {
+            pages_are = subst (λ (e : Database × Answer). PagesStandFor tables.ext (pages_of g new) e.0) (sym end_) (subst (λ pages. PagesStandFor tables.ext pages db) (sym same) stands);
+            answers = ap (λ (e : Database × Answer). e.1) end_;
           };
       places = λ done is_done place other changed there. absurd (cc changed);
       others = keeps_others_itself tables.ext tables.ext (pages_of g old) (pages_of g new) tables.catalog tables.catalog None (shape_none tables.ext) same refl;

@@ -21,8 +21,7 @@ use Rattle.key_codec.specs.Keys.{has_key, type_or_none}
 use Rattle.block_rows.specs.HeldRows.{HasReadValues, HaveReadValues}
 use Rattle.block_rows.specs.declared.hit.Hit.{Hit}
 use Rattle.mdc_table.proofs.ReadValuesLemmas.{read_length}
-use Rattle.answer_text.specs.Lines.{are_outs_within, is_out_within, lines_shown, with_line}
-use Rattle.answer_text.proofs.ShownLines.{with_line-lines_shown}
+use Rattle.answer_text.specs.Lines.{are_outs_within, is_out_within}
 use Rattle.row_filter.specs.Filtering.{may_filter}
 use Rattle.row_checks.specs.Served.{HaveKinds, MayJudge, is_of_kind}
 
@@ -59,7 +58,11 @@ may_judge_read pred def judge row read = judge.judged row.values (read_kinds def
 
 out_wider : (m n : ℕ) (o : BoundOut) → m ≤ n → IsTrue (is_out_within m o) → IsTrue (is_out_within n o)
 out_wider m n (out.Column column) le h = grind (arith, nat_tests, h, le)
-out_wider m n aggregate le h = refl
+out_wider m n out.CountAll le h = refl
+out_wider m n (out.Count column) le h = grind (arith, nat_tests, h, le)
+out_wider m n (out.Sum column) le h = grind (arith, nat_tests, h, le)
+out_wider m n (out.Min column) le h = grind (arith, nat_tests, h, le)
+out_wider m n (out.Max column) le h = grind (arith, nat_tests, h, le)
 
 pub outs_wider : (m n : ℕ) (outs : List BoundOut) → m ≤ n → IsTrue (are_outs_within m outs) → IsTrue (are_outs_within n outs)
 outs_wider m n [] le h = refl
@@ -68,15 +71,13 @@ outs_wider m n (o ∷ outs) le h =
     and_true (is_out_within n o) (are_outs_within n outs) (out_wider m n o le parts.0) (outs_wider m n outs le parts.1)
 
 -- what is shown is there in the next row that was read
-pub outs_in_row : (columns : List ColumnDef) (outs shown : List BoundOut) (hits : List Hit) (i : ℕ) (hit : Hit) → HaveReadValues columns hits → i < length hits → hit ≡ get_or hits i hit
-    → shown ≡ outs → IsTrue (are_outs_within (length columns) outs) → IsTrue (are_outs_within (length hit.row.values) shown)
-outs_in_row columns outs shown hits i hit read low is same within =
+pub outs_in_row : (columns : List ColumnDef) (outs : List BoundOut) (hits : List Hit) (i : ℕ) (hit : Hit) → HaveReadValues columns hits → i < length hits → hit ≡ get_or hits i hit
+    → IsTrue (are_outs_within (length columns) outs) → IsTrue (are_outs_within (length hit.row.values) outs)
+outs_in_row columns outs hits i hit read low is within =
     let here : HasReadValues columns hit.row = subst (λ (h : Hit). HasReadValues columns h.row) (sym is) (All-get_or (λ (h : Hit). HasReadValues columns h.row) hits i hit low read) in
-    subst (λ l. IsTrue (are_outs_within (length hit.row.values) l)) (sym same) (outs_wider (length columns) (length hit.row.values) outs (read_length columns hit.row here) within)
+    outs_wider (length columns) (length hit.row.values) outs (read_length columns hit.row here) within
 
--- the line of the next row
-pub line_of_hit : (columns : List ColumnDef) (outs : List BoundOut) (hits : List Hit) (i : ℕ) (hit : Hit) → i < length hits → hit ≡ get_or hits i hit
-    → with_line hit.row.values (lines_shown columns outs (map (λ h. h.row) (take i hits))) ≡ lines_shown columns outs (map (λ h. h.row) (take (i + 1) hits))
-line_of_hit columns outs hits i hit low is =
-    with_line-lines_shown columns outs (map (λ (h : Hit). h.row) (take i hits)) hit.row
-    ∙ ap (lines_shown columns outs) (sym (ap (map (λ (h : Hit). h.row)) (take_more hits i hit low ∙ ap (λ (h : Hit). take i hits ++ h ∷ []) (sym is)) ∙ map-append (λ (h : Hit). h.row) (take i hits) (hit ∷ [])))
+-- the next row behind those of the hits before
+pub rows_more : (hits : List Hit) (i : ℕ) (hit : Hit) → i < length hits → hit ≡ get_or hits i hit → map (λ h. h.row) (take i hits) ++ hit.row ∷ [] ≡ map (λ h. h.row) (take (i + 1) hits)
+rows_more hits i hit low is =
+    sym (ap (map (λ (h : Hit). h.row)) (take_more hits i hit low ∙ ap (λ (h : Hit). take i hits ++ h ∷ []) (sym is)) ∙ map-append (λ (h : Hit). h.row) (take i hits) (hit ∷ []))

@@ -15,7 +15,7 @@ use Rattle.mdc_ast.specs.declared.statement.ColumnText.{ColumnText}
 use Rattle.mdc_ast.specs.declared.statement.Stmt.{Stmt}
 use Rattle.mdc_ast.specs.declared.statement.Stmt.TheVariants as stmt
 use Rattle.mdc_ast.specs.Reading.{IsItemOf, Item, Statement, nesting_limit}
-use Rattle.statement_meaning.specs.Binding.{bound_column, bound_of, bound_on, bound_set, bound_table, bound_tuple, bound_where, columns_of, on_place, text_place}
+use Rattle.statement_meaning.specs.Binding.{bound_column, bound_of, bound_on, bound_select, bound_set, bound_table, bound_tuple, bound_where, columns_of, on_place, text_place}
 use Rattle.mdc_ast.specs.Definitions.{AllPlacesDiffer, Definitions, IsShort, are_there, def_named, is_good_type, is_short_key, place_of}
 use Rattle.mdc_ast.specs.ValidDatabase.{IsValidDef}
 use Rattle.statement_meaning.specs.Judged.{create_judged, judged_of, targets}
@@ -25,7 +25,6 @@ use Rattle.statement_meaning.proofs.CreateLemmas.{created_is_valid, none_made}
 use Rattle.mdc_ast.proofs.DefinitionsLemmas.{neither}
 use Rattle.statement_meaning.proofs.KeepingLemmas.{IsFaultless, is_faultless}
 use Rattle.mdc_ast.proofs.TestsLemmas.{and_true, both, lt_is_true}
-use Rattle.binder.specs.Bounded.{plain_query}
 use Rattle.mdc_ast.specs.TableLimits.{is_given_name, is_good_column, is_good_dimension}
 use Rattle.script_engine.specs.Defining.{IsNewIfMade, IsPlainNewDef}
 use Rattle.script_engine.specs.Held.{IsWritten}
@@ -165,5 +164,5 @@ written_is_new defs (stmt.DropTable name) written built said = none_made_on defs
 written_is_new defs (stmt.Insert name listed tuples) written built said = none_made_on defs name (λ place columns. bound.Insert place (map (bound_tuple columns (targets columns listed)) tuples)) (λ place. tt)
 written_is_new defs (stmt.Update name sets pred) written built said = none_made_on defs name (λ place columns. bound.Update place (map (bound_set columns) sets) (bound_where columns pred)) (λ place. tt)
 written_is_new defs (stmt.Delete name pred) written built said = none_made_on defs name (λ place columns. bound.Delete place (bound_where columns pred)) (λ place. tt)
-written_is_new defs (stmt.Query select) written built said = none_made_on defs select.table (λ place columns. bound.Query (plain_query place columns select)) (λ place. tt)
+written_is_new defs (stmt.Query select) written built said = none_made_on defs select.table (λ place columns. bound.Query (bound_select place columns select)) (λ place. tt)
 written_is_new defs other written built said = tt

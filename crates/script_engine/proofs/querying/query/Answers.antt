@@ -1,9 +1,14 @@
-use Rattle.std.proofs.Common.{◌∙◌, ap, map}
-use Rattle.statement_meaning.specs.Doing.{lines_of}
+use Rattle.std.proofs.Common.{◌≡◌, ◌∷◌, List, map, subst}
+use Rattle.mdc_ast.specs.declared.reply.Outcome.TheVariants as said
+use Rattle.mdc_ast.specs.declared.reply.Reply.TheVariants as reply
+use Rattle.statement_meaning.specs.Cause.{Cause, Overflow, refusal_of}
+use Rattle.statement_meaning.specs.Queries.{sum_causes}
+use Rattle.row_groups.specs.Shape.{shape_of}
+use Rattle.answer_text.specs.Answering.{GivesLines, Rise}
 use Rattle.block_rows.specs.declared.hit.Hit.{Hit}
 use Rattle.store_api.proofs.RunsOverPagesLemmas.{runs_exit, runs_memory}
 use Rattle.row_checks.specs.Served.{MayShowRows}
-use Rattle.script_engine.proofs.DoneRowsLemmas.{query_does}
+use Rattle.script_engine.proofs.DoneRowsLemmas.{query_does, query_gives, query_outgrows}
 use Rattle.script_engine.proofs.FetchesForQueryLemmas.{fetches_scan}
 use Rattle.script_engine.proofs.ReadRowsLemmas.{may_judge_read}
 use Rattle.script_engine.proofs.ReadyTablesLemmas.{served_def}
@@ -25,9 +30,18 @@ returns-in_err-hits-clause-runs g c =
 
 pub returns-in-Ok-clause-does : goal.returns-in-Ok-clause-does
 returns-in-Ok-clause-does g c ready =
-    query_does g.P.Pages c.args.pages.now c.find_rows.new.pages c.args.tables.now c.args.select.now c.in-Some.def.now c.in_ok-hits.hits.items c.in-Ok.lines c.requires.served
+    query_does g.P.Pages c.args.pages.now c.find_rows.new.pages c.args.tables.now c.args.select.now c.in-Some.def.now c.in_ok-hits.hits.items (said.Done (reply.Lines c.in-Ok.lines)) c.requires.served
     c.in-Some.ensures c.in_ok-hits.ensures.runs.works.steady.is_told c.find_rows.ensures.same c.in_ok-hits.ensures.finds
-    (c.in-Ok.ensures ∙ ap (λ hits. lines_of c.in-Some.def.now.columns c.args.select.now.outs (map (λ (hit : Hit). hit.row) hits)) c.as_slice.ensures.value) ready
+    (λ db has. query_gives db c.args.select.now c.in-Some.def.now c.in_ok-hits.hits.items c.in-Ok.lines has
+    (subst (λ (hits : List Hit). Rise (map (λ hit. hit.row) hits) → GivesLines c.in-Some.def.now.columns (shape_of c.args.select.now) (map (λ hit. hit.row) hits) c.in-Ok.lines) c.as_slice.ensures.value c.in-Ok.ensures)) ready
+
+pub returns-in-Err-Overflow-clause-does : goal.returns-in-Err-Overflow-clause-does
+returns-in-Err-Overflow-clause-does g c ready =
+    query_does g.P.Pages c.args.pages.now c.find_rows.new.pages c.args.tables.now c.args.select.now c.in-Some.def.now c.in_ok-hits.hits.items (said.Refused (refusal_of (Overflow c.in-Err-Overflow.column))) c.requires.served
+    c.in-Some.ensures c.in_ok-hits.ensures.runs.works.steady.is_told c.find_rows.ensures.same c.in_ok-hits.ensures.finds
+    (λ db has. query_outgrows db c.args.select.now c.in-Some.def.now c.in_ok-hits.hits.items c.in-Err-Overflow.column has
+    (subst (λ (hits : List Hit). Rise (map (λ hit. hit.row) hits)
+        → (more : List Cause) × (sum_causes c.in-Some.def.now.columns (shape_of c.args.select.now) (map (λ hit. hit.row) hits) ≡ Overflow c.in-Err-Overflow.column ∷ more)) c.as_slice.ensures.value c.in-Err-Overflow.ensures)) ready
 
 pub returns-in-Ok-clause-runs : goal.returns-in-Ok-clause-runs
 returns-in-Ok-clause-runs g c =
