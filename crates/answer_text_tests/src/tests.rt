@@ -3,9 +3,11 @@ ghost use Rattle.std.specs.Prelude.{◌≡◌, length, IfOk, IsTrue};
 ghost use Rattle.std.specs.List.{list_all};
 ghost use Rattle.answer_text.specs.Lines.{are_outs_within, are_rows_wide, is_column_out, is_plain_select};
 
-use answer_text::{Lines, blocks_line, outcome_bytes, refusal_bytes, reply_bytes, select_lines};
+use answer_text::{
+    AnswerFault, Lines, blocks_line, outcome_bytes, refusal_bytes, reply_bytes, select_lines,
+};
 use mdc_ast::{
-    BoundOut, BoundSelect, ColumnDef, Name, Outcome, Refusal, Reply, Roots, Row, TableDef,
+    BoundOut, BoundSelect, ColumnDef, KeyPart, Name, Outcome, Refusal, Reply, Roots, Row, TableDef,
 };
 use mdc_values::{Chars, ColType, List, Memory, Value};
 use std::alloc::Global;
@@ -216,6 +218,63 @@ fn rows_that_were_found_are_shown(rt: HostRuntime) -> Result<(), Fail> {
     let lines = select_lines(alloc, &query(alloc)?, &table(alloc)?, &one_row(alloc)?)?;
     assert_eq!(rt; lines.bytes(), b"B|A|C\nNULL|7|NULL\n1 ROWS\n".as_slice());
     Ok(())
+}
+
+/// SELECT B, COUNT(*), SUM(A) FROM T GROUP BY B ORDER BY B DESC
+fn counting(alloc: Global) -> Result<BoundSelect, Memory>
+    ensures { IfOk result (λ query. IsTrue (are_outs_within 3 query.outs)) }
+{
+    let outs = [BoundOut::Column(1), BoundOut::CountAll, BoundOut::Sum(0)];
+    let key = KeyPart {
+        column: 1,
+        descending: true,
+    };
+    Ok(BoundSelect {
+        table: 0,
+        outs: List::from_vec(Vec::from_slice(alloc, &outs)?),
+        pred: None,
+        group: List::from_vec(Vec::from_slice(alloc, &[1])?),
+        order: List::from_vec(Vec::from_slice(alloc, &[key])?),
+        first: None,
+    })
+}
+
+/// (a, NULL, NULL), (b, 'x', NULL) and (c, NULL, NULL)
+fn three_rows(alloc: Global, a: i64, b: i64, c: i64) -> Result<List<Row>, Memory>
+    ensures { IfOk result (λ rows. IsTrue (are_rows_wide 3 rows)) }
+{
+    let x = Value::Text(Chars::of(alloc, b"x")?);
+    let first = values(alloc, Value::Int(a), Value::Null, Value::Null)?;
+    let second = values(alloc, Value::Int(b), x, Value::Null)?;
+    let third = values(alloc, Value::Int(c), Value::Null, Value::Null)?;
+    let mut rows = List::new(alloc);
+    rows.push(Row { number: 2, values: first })?;
+    rows.push(Row { number: 3, values: second })?;
+    rows.push(Row { number: 8, values: third })?;
+    Ok(rows)
+}
+
+#[test]
+fn rows_that_share_lines_are_counted(rt: HostRuntime) -> Result<(), Fail> {
+    let alloc = rt.alloc();
+    let rows = three_rows(alloc, 7, 5, -2)?;
+    let lines = select_lines(alloc, &counting(alloc)?, &table(alloc)?, &rows)?;
+    let wanted = b"B|COUNT(*)|SUM(A)\nNULL|2|5\n'x'|1|5\n2 ROWS\n";
+    assert_eq!(rt; lines.bytes(), wanted.as_slice());
+    Ok(())
+}
+
+#[test]
+fn a_sum_outside_bigint_is_named(rt: HostRuntime) -> Result<(), Fail> {
+    let alloc = rt.alloc();
+    let rows = three_rows(alloc, i64::MAX, 5, 1)?;
+    match select_lines(alloc, &counting(alloc)?, &table(alloc)?, &rows) {
+        Err(AnswerFault::Overflow(name)) => {
+            assert_eq!(rt; name.0.bytes(), b"A".as_slice());
+            Ok(())
+        }
+        _ => Err(Fail::new("no overflow")),
+    }
 }
 
 #[test]

@@ -75,7 +75,26 @@ static PREDICATES: [&[u8]; 10] = [
     b" WHERE B = 'a' OR (E = 'a' AND A <= C)",
 ];
 
-static LISTS: [&[u8]; 4] = [b"*", b"A", b"D, B", b"C, A, E"];
+static LISTS: [&[u8]; 8] = [
+    b"*",
+    b"A",
+    b"D, B",
+    b"C, A, E",
+    b"COUNT(*)",
+    b"COUNT(B), SUM(A), MIN(D), MAX(E)",
+    b"A, COUNT(*), SUM(C)",
+    b"E, MIN(C), B, MAX(A)",
+];
+
+// What stands behind a predicate. Some go with no list of columns, and are refused.
+static TAILS: [&[u8]; 6] = [
+    b"",
+    b" ORDER BY B, A DESC",
+    b" ORDER BY D DESC, B FETCH FIRST 3 ROWS ONLY",
+    b" GROUP BY A",
+    b" GROUP BY A ORDER BY A DESC FETCH FIRST ROW ONLY",
+    b" GROUP BY B, E ORDER BY E DESC",
+];
 
 // Appends the pieces of a text.
 fn put_all(script: &mut Vec<u8>, pieces: &[&[u8]]) -> Result<(), Fail> {
@@ -135,7 +154,7 @@ fn put_statement(script: &mut Vec<u8>, dice: &mut Dice) -> Result<(), Fail> {
             let table = dice.pick(&TABLES);
             put_all(
                 script,
-                &[b"SELECT ", list, b" FROM ", table, dice.pick(&PREDICATES)],
+                &[b"SELECT ", list, b" FROM ", table, dice.pick(&PREDICATES), dice.pick(&TAILS)],
             )?;
         }
     }
