@@ -1,5 +1,5 @@
 -- The lines of any query as far as rows have come, and what they give in the end.
-use Rattle.std.specs.Prelude.{◌≡◌, ◌<◌, AllPairs, List, [], ◌∷◌, IsTrue, map}
+use Rattle.std.specs.Prelude.{◌≡◌, ◌<◌, ℕ, AllPairs, List, [], ◌∷◌, IsTrue, map}
 use Rattle.mdc_ast.specs.declared.bound.BoundOut.{BoundOut}
 use Rattle.mdc_ast.specs.declared.bound.BoundSelect.{BoundSelect}
 use Rattle.mdc_ast.specs.declared.definition.ColumnDef.{ColumnDef}
