@@ -248,9 +248,18 @@ fn three_rows(alloc: Global, a: i64, b: i64, c: i64) -> Result<List<Row>, Memory
     let second = values(alloc, Value::Int(b), x, Value::Null)?;
     let third = values(alloc, Value::Int(c), Value::Null, Value::Null)?;
     let mut rows = List::new(alloc);
-    rows.push(Row { number: 2, values: first })?;
-    rows.push(Row { number: 3, values: second })?;
-    rows.push(Row { number: 8, values: third })?;
+    rows.push(Row {
+        number: 2,
+        values: first,
+    })?;
+    rows.push(Row {
+        number: 3,
+        values: second,
+    })?;
+    rows.push(Row {
+        number: 8,
+        values: third,
+    })?;
     Ok(rows)
 }
 

@@ -13,7 +13,9 @@ use crate::insertion::judge_insertion;
 use crate::known_names::KnownNames;
 use crate::literals::Class;
 use crate::objection::Objection;
-use crate::querying::{judge_fetch, judge_order, judge_shown, judge_shown_types, judge_tail_columns};
+use crate::querying::{
+    judge_fetch, judge_order, judge_shown, judge_shown_types, judge_tail_columns,
+};
 use crate::updating::{judge_set_columns, judge_sets};
 use catalog::Catalog;
 use mdc_ast::{ColumnDef, InsertItem, Name, PredText, Select, SetText, Stmt, TableDef};

@@ -91,7 +91,11 @@ fn bound_group(alloc: Global, columns: &[ColumnDef], names: &[Name]) -> Result<L
     Ok(group)
 }
 
-fn bound_order(alloc: Global, columns: &[ColumnDef], keys: &[KeyText]) -> Result<List<KeyPart>, Memory>
+fn bound_order(
+    alloc: Global,
+    columns: &[ColumnDef],
+    keys: &[KeyText],
+) -> Result<List<KeyPart>, Memory>
     requires { length columns.now ≤ 16 }
     ensures { IfOk result (λ order. order ≡ map (binding.bound_key columns.now) keys.now) }
 {

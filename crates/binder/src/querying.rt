@@ -37,11 +37,8 @@ fn judge_out<'a>(columns: &[ColumnDef], out: &'a Out) -> Result<(), Objection<'a
 {
     match out {
         Out::CountAll => Ok(()),
-        Out::Column(name)
-        | Out::Count(name)
-        | Out::Sum(name)
-        | Out::Min(name)
-        | Out::Max(name) => judge_used(columns, name),
+        Out::Column(name) | Out::Count(name) | Out::Sum(name) | Out::Min(name) | Out::Max(name) =>
+            judge_used(columns, name),
     }
 }
 
@@ -116,7 +113,13 @@ pub fn judge_shown_types<'a>(
     match &select.list {
         OutList::Star => judge_all_grouped(columns, shares, group, select.group.as_slice()),
         OutList::Outs(outs) => {
-            judge_out_types(columns, shares, group, select.group.as_slice(), outs.as_slice())
+            judge_out_types(
+                columns,
+                shares,
+                group,
+                select.group.as_slice(),
+                outs.as_slice(),
+            )
         }
     }
 }

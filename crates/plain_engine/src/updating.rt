@@ -97,12 +97,7 @@ fn hits(pred: &Option<Pred>, rows: &[Row]) -> u64
 }
 
 // A row as an UPDATE leaves it.
-fn changed(
-    alloc: Global,
-    sets: &[BoundSet],
-    pred: &Option<Pred>,
-    row: &Row,
-) -> Result<Row, Memory>
+fn changed(alloc: Global, sets: &[BoundSet], pred: &Option<Pred>, row: &Row) -> Result<Row, Memory>
     requires filterable { IsTrue (may_filter pred.now row.now.values) }
     requires changeable { IsTrue (may_change sets.now pred.now row.now) }
     ensures { IfOk result (λ changed. changed ≡ changed_row sets.now pred.now row.now) }

@@ -13,5 +13,7 @@ mod refusals;
 mod row_change;
 
 pub use filtering::qualifies;
-pub use refusals::{file_full, no_table, not_built, not_in_state, numbers_used_up, overflow, unfit};
+pub use refusals::{
+    file_full, no_table, not_built, not_in_state, numbers_used_up, overflow, unfit,
+};
 pub use row_change::{Misfit, changed_values, first_misfit, first_misfit_of_row, first_null_in};

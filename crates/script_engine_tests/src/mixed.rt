@@ -154,7 +154,14 @@ fn put_statement(script: &mut Vec<u8>, dice: &mut Dice) -> Result<(), Fail> {
             let table = dice.pick(&TABLES);
             put_all(
                 script,
-                &[b"SELECT ", list, b" FROM ", table, dice.pick(&PREDICATES), dice.pick(&TAILS)],
+                &[
+                    b"SELECT ",
+                    list,
+                    b" FROM ",
+                    table,
+                    dice.pick(&PREDICATES),
+                    dice.pick(&TAILS),
+                ],
             )?;
         }
     }

@@ -41,7 +41,7 @@ returns-in-Err-Overflow-clause-does g c ready =
     c.in-Some.ensures c.in_ok-hits.ensures.runs.works.steady.is_told c.find_rows.ensures.same c.in_ok-hits.ensures.finds
     (λ db has. query_outgrows db c.args.select.now c.in-Some.def.now c.in_ok-hits.hits.items c.in-Err-Overflow.column has
     (subst (λ (hits : List Hit). Rise (map (λ hit. hit.row) hits)
-        → (more : List Cause) × (sum_causes c.in-Some.def.now.columns (shape_of c.args.select.now) (map (λ hit. hit.row) hits) ≡ Overflow c.in-Err-Overflow.column ∷ more)) c.as_slice.ensures.value c.in-Err-Overflow.ensures)) ready
+    → (more : List Cause) × (sum_causes c.in-Some.def.now.columns (shape_of c.args.select.now) (map (λ hit. hit.row) hits) ≡ Overflow c.in-Err-Overflow.column ∷ more)) c.as_slice.ensures.value c.in-Err-Overflow.ensures)) ready
 
 pub returns-in-Ok-clause-runs : goal.returns-in-Ok-clause-runs
 returns-in-Ok-clause-runs g c =
