@@ -6,9 +6,7 @@ ghost use Rattle.row_page.specs.RowPage.{bytes_for_slots, slot_count};
 
 use mdc_ast::ColumnDef;
 use mdc_values::{ColType, List};
-
-/// How many bytes a page has.
-pub const PAGE_BYTES: usize = 4096;
+use store_api::layout::PAGE_BYTES;
 
 /// How many bytes the head of a page has. The bits of the slots stand behind it.
 pub const PAGE_HEAD: usize = 16;
