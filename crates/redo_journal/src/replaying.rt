@@ -16,6 +16,8 @@ use mdc_outside::{Disk, Failed};
 use mdc_values::Memory;
 use page_file::{FIRST_PAGE, GATE, HEADER, PAGE_BYTES, end_of, get, read_number, read_page};
 use std::alloc::Global;
+use store_api::layout::ROOT_PAGE;
+use store_api::rules::ROOT_PAGE_RULE;
 use store_api::{Damage, Page};
 
 /// Why a replay failed.
@@ -52,7 +54,10 @@ impl From<Memory> for ReplayFault {
 }
 
 // The journal lies outside the file, or a page number doesn't rise.
-const DAMAGED: ReplayFault = ReplayFault::Damaged(Damage { page: 0, rule: 1 });
+const DAMAGED: ReplayFault = ReplayFault::Damaged(Damage {
+    page: ROOT_PAGE,
+    rule: ROOT_PAGE_RULE,
+});
 
 // Reads the images whose numbers stand from `index` on, and whose pages from `pages` on.
 fn read_images<D: Disk>(
