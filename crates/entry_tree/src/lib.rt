@@ -43,4 +43,4 @@ pub use entries::{Entries, Entry, Leaf};
 pub use finding::FoundEntry;
 pub use laws::{one_tree, three_levels};
 pub use sweeping::Swept;
-pub use tree::{MAX_WIDTH, TREE_RULE, Tree};
+pub use tree::{MAX_WIDTH, Tree};

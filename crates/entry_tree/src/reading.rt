@@ -13,12 +13,9 @@ ghost use Rattle.entry_tree.specs.Spots.{LendsLeaf, fence_bound};
 
 use crate::spot::{Fence, find_spot};
 use crate::{Entries, Entry, Leaf, Tree};
-use node_page::NodeView;
+use node_page::{HEAD_BYTES, NodeView};
 use std::alloc::AllocError;
 use store_api::{Page, Pages, StoreFault};
-
-/// How many bytes lie before the entries of a node.
-const HEAD_BYTES: usize = 16;
 
 impl Tree {
     /// Entries of one leaf from a bound on, at least one where one is there, and the bound at which the rest begins.

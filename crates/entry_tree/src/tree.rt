@@ -2,10 +2,8 @@
 ghost use Rattle.std.specs.Prelude.{◌≡◌, ◌≤◌};
 
 use std::alloc::Global;
+use store_api::rules::TREES_RULE;
 use store_api::{Damage, StoreFault};
-
-/// The rule that damage of a tree names: its pages are nodes of its width, in order and within their separators.
-pub const TREE_RULE: u16 = 4;
 
 /// The most bytes of an entry.
 pub const MAX_WIDTH: usize = 134;
@@ -39,7 +37,7 @@ impl Tree {
     {
         StoreFault::Damaged(Damage {
             page: self.root,
-            rule: TREE_RULE,
+            rule: TREES_RULE,
         })
     }
 }
