@@ -3,13 +3,9 @@ ghost use Rattle.std.specs.Prelude.{◌≡◌};
 
 use entry_tree::Tree;
 use std::alloc::Global;
+use store_api::layout::BLOCK_MAP_WIDTH;
+use store_api::rules::BLOCK_MAPS_RULE;
 use store_api::{Damage, StoreFault};
-
-/// The rule that damage of a block map names: its states are below 3, and no block is there twice.
-const MAP_RULE: u16 = 6;
-
-/// The width of its tree.
-const MAP_WIDTH: u16 = 7;
 
 /// The blocks of a table, by the tree of their entries.
 #[derive(Clone, Copy)]
@@ -26,7 +22,7 @@ impl BlockMap {
         ensures { result.tree.root ≡ root }
     {
         BlockMap {
-            tree: Tree::at(alloc, root, MAP_WIDTH),
+            tree: Tree::at(alloc, root, BLOCK_MAP_WIDTH),
             alloc,
         }
     }
@@ -37,7 +33,7 @@ impl BlockMap {
     {
         StoreFault::Damaged(Damage {
             page: self.tree.root,
-            rule: MAP_RULE,
+            rule: BLOCK_MAPS_RULE,
         })
     }
 }

@@ -5,9 +5,10 @@ ghost use Rattle.block_map.specs.MapLines.{map_entry};
 ghost use Rattle.block_map.specs.MapRows.{row_entry};
 
 use crate::BlockState;
+use store_api::layout::BLOCK_MAP_WIDTH;
 
 /// How many bytes an entry has.
-pub(crate) const ENTRY_BYTES: usize = 7;
+const ENTRY_BYTES: usize = BLOCK_MAP_WIDTH as usize;
 
 /// A block, its state, and how many rows it has.
 #[derive(Clone, Copy, Debug, PartialEq, Eq)]

@@ -1,6 +1,6 @@
 -- A list of pages, as the contracts of the layers beneath see it: a store that tells that these are its pages.
 use Rattle.std.specs.Prelude.{ℕ, List, true, false, None}
-use Rattle.store_api.specs.StoreState.{StoreState}
+use Rattle.store_api.specs.StoreState.{StoreState, nothing_beside}
 use Rattle.store_api.specs.declared.pages.Pages.{Ghosts}
 use Rattle.entry_tree.specs.Forest.{Forest}
 use Rattle.table_trees.specs.TableTrees.{TreePlace}
@@ -22,7 +22,7 @@ telling pages = record {
   ended = false;
   told = None;
   fetched = None;
-  attached = None;
+  beside = nothing_beside;
 }
 
 -- the pages as such a store

@@ -9,21 +9,13 @@ use entry_tree::Tree;
 use key_codec::key_width;
 use mdc_ast::TableDef;
 use std::alloc::Global;
-
-/// How many bytes an entry of a block map has.
-const MAP_ENTRY_BYTES: u16 = 7;
-
-/// How many bytes stand behind the key in an entry of a block index: a block.
-const BLOCK_BYTES: u16 = 4;
-
-/// The same of a record index: a block and a slot.
-const ROW_PLACE_BYTES: u16 = 6;
+use store_api::layout::{BLOCK_BYTES, BLOCK_MAP_WIDTH, ROW_PLACE_BYTES};
 
 /// The block map of a table.
 pub fn block_map_tree(alloc: Global, def: &TableDef) -> Tree
     ensures { place_of_tree result ≡ map_place def.now }
 {
-    Tree::at(alloc, def.roots.map, MAP_ENTRY_BYTES)
+    Tree::at(alloc, def.roots.map, BLOCK_MAP_WIDTH)
 }
 
 /// The index of a table's blocks by all dimension columns.
