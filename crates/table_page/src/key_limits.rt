@@ -7,12 +7,10 @@ ghost use Rattle.mdc_ast.specs.Definitions.{AllPlacesDiffer, column_types};
 ghost use Rattle.mdc_ast.specs.TableLimits as limits;
 
 use crate::layout::MOST_PARTS;
+use key_codec::KEY_LIMIT;
 use mdc_ast::{ColumnDef, KeyPart};
 use mdc_values::{ColType, List, Memory};
 use std::alloc::Global;
-
-// How many bytes a key has at most.
-const KEY_LIMIT: usize = 128;
 
 // How many bytes the columns of a row have at most, without its head of 10.
 const COLUMNS_LIMIT: usize = 990;
