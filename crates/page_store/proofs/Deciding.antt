@@ -10,7 +10,7 @@ use Rattle.mdc_outside.specs.Disk.{File, IsOutside}
 use Rattle.redo_journal.specs.Images.{Numbered, AreRising}
 use Rattle.page_file.specs.Layout.{file_page, home_start, IsNoPlaceOfJournal}
 use Rattle.redo_journal.specs.Layout.{is_open, start_of, number_of, journal_of, index_pages, IsJournal}
-use Rattle.page_store.specs.declared.shape.Shape.{Shape}
+use Rattle.store_api.specs.declared.shape.Shape.{Shape}
 use Rattle.store_api.specs.Extents.{is_shape}
 use Rattle.page_store.specs.Shape.{IsBirth, birth_page, extents_in, extent_pages_in}
 use Rattle.page_store.specs.Standing.{count_of, is_made, IsFitting, IsFormed, IsFormedAs, FrontAgrees, IsStoreImage}

@@ -5,7 +5,7 @@ use Rattle.mdc_outside.specs.Moments.{Beside}
 use Rattle.page_file.specs.Layout.{FrontStays}
 use Rattle.page_file.specs.Leaving.{Leaves}
 use Rattle.page_file.proofs.LeavesLemmas.{one_file, told_before}
-use Rattle.page_store.specs.declared.shape.Shape.{Shape}
+use Rattle.store_api.specs.declared.shape.Shape.{Shape}
 use Rattle.page_store.specs.Standing.{IsFormed, IsFormedAs, FrontAgrees, IsStoreImage, Reopens}
 
 -- each agrees with itself

@@ -1,4 +1,4 @@
-pub mod AttachedLemmas
+pub mod BesideLemmas
 pub mod Cached
 pub mod Calls
 pub mod Commits

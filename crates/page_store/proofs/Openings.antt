@@ -9,9 +9,9 @@ use Rattle.mdc_outside.specs.Moments.{Beside, IsMoment, WhereTold}
 use Rattle.page_file.specs.Runs.{Runs, IsWithin, IsCovered}
 use Rattle.page_file.proofs.RunsLemmas.{cases_Option, runs_then, runs_within}
 use Rattle.page_store.specs.declared.desk.Desk.{Desk}
-use Rattle.page_store.specs.declared.shape.Shape.{Shape}
+use Rattle.store_api.specs.declared.shape.Shape.{Shape}
 use Rattle.page_file.specs.Leaving.{Leaves}
-use Rattle.page_store.specs.FileStore.{left_of}
+use Rattle.page_store.specs.FileStore.{beside_of, left_of}
 use Rattle.page_store.specs.Shape.{extents_in, extent_pages_in}
 use Rattle.mdc_words.specs.Listed.{listed}
 use Rattle.page_store.specs.Standing.{pages_in, Stands, IsFormedAs, Reopens}
@@ -133,7 +133,7 @@ empty_kept told desk empty rests some few =
 
 -- what a store with an empty desk is seen as
 pub just_opened : (told : Option File) (tape : Option (List ℕ)) (attaches : Option (List (List ℕ × Bool))) (desk : Desk) → IsEmptyDesk desk
-    → IsJustOpened (is_some told) tape attaches (state_of told tape attaches desk)
+    → IsJustOpened (is_some told) tape desk.shape attaches (state_of told tape (beside_of desk.shape attaches) desk)
 just_opened told tape attaches desk empty =
     let work : work_of told desk desk.changes.now ≡ base_of told desk = ap (λ changes. work_of told desk changes.now) empty.changes ∙ unchanged_work told desk empty.halt in
     let marked : desk.changes.marked ≡ None = ap (λ changes. changes.marked) empty.changes in
@@ -144,7 +144,7 @@ just_opened told tape attaches desk empty =
 
 -- the same by what the host told before
 pub shown_as_before : (told : Option File) (tape before : Option (List ℕ)) (attaches listed : Option (List (List ℕ × Bool))) (is_told : Bool) (desk : Desk) → IsEmptyDesk desk
-    → is_some told ≡ is_told → tape ≡ before → attaches ≡ listed → IsJustOpened is_told before listed (state_of told tape attaches desk)
+    → is_some told ≡ is_told → tape ≡ before → attaches ≡ listed → IsJustOpened is_told before desk.shape listed (state_of told tape (beside_of desk.shape attaches) desk)
 shown_as_before told tape before attaches listed is_told desk empty same_told same_tape same_attaches = just_opened told tape attaches desk empty ∙ rw (same_told, same_tape, same_attaches) refl
 
 -- a file that a store serves states its shape

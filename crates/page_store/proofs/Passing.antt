@@ -3,6 +3,7 @@ use Rattle.std.proofs.Common.{◌≡◌, ◌⊎◌, ℕ, Bool, List, [], true, f
 use Rattle.std.proofs.Common.{◌↔◌}
 use Rattle.std.specs.Option.{ForSome}
 use Rattle.store_api.specs.StoreState.{StoreState}
+use Rattle.store_api.specs.StoreState as store
 use Rattle.mdc_words.specs.Time.{OverTime, RestsAt}
 use Rattle.store_api.specs.Moments.{Outcomes, OnlyBase, BaseOrWork, AtRest}
 use Rattle.mdc_outside.specs.Disk.{File, IsImage}
@@ -13,7 +14,7 @@ use Rattle.page_store.specs.Standing.{pages_in, page_of, FrontAgrees, IsStoreIma
 use Rattle.page_file.specs.Layout.{home_page}
 use Rattle.page_file.specs.Leaving.{Leaves}
 use Rattle.page_store.specs.Desk.{IsKept, StandsForEither, CommitLeaves, RestsEither, state_of, base_of, base_in, work_of}
-use Rattle.page_store.specs.FileStore.{HeldStore, left_of}
+use Rattle.page_store.specs.FileStore.{HeldStore, beside_of, left_of}
 use Rattle.page_file.proofs.LeavesLemmas.{nothing_said}
 use Rattle.mdc_outside.proofs.MomentLemmas.{where_told}
 use Rattle.page_store.proofs.FrontAgreesLemmas.{front_agrees_itself, front_agrees_back, front_agrees_stays, reopens_as, agrees_same}
@@ -64,16 +65,16 @@ pub commit_agrees : (told : Option File) (desk : Desk) → IsKept desk told → 
 commit_agrees told desk kept before image is leaves = front_agrees_stays (kept.at_rest before is).formed leaves.1
 
 -- what is left after a commit, done or failed
-pub commit_rests : {T E : Type 0} (result : Result T E) (told : Option File) (tape : Option (List ℕ)) (attaches : Option (List (List ℕ × Bool))) (desk : Desk)
+pub commit_rests : {T E : Type 0} (result : Result T E) (told : Option File) (tape : Option (List ℕ)) (beside : store.Beside) (desk : Desk)
     → OnOk result (desk.halt ≡ None) → OnOk result (IsKept desk told) → OnErr result (IsSome desk.halt) → OnErr result (ForSome told (RestsEither desk))
     → ((after : File) (image : List ℕ) → told ≡ Some after → IsImage after.since image → FrontAgrees after.bytes image)
     → (after : File) (said image : List ℕ) (pages : Option (List (List ℕ))) → told ≡ Some after → tape ≡ Some said → IsImage after.since image → Reopens desk.shape after.bytes image pages
-    → AtRest (state_of told tape attaches desk) pages said
-commit_rests (Ok done) told tape attaches desk going kept halted rests fronts after said image pages is heard left reopens =
-    rests_with_base (state_of told tape attaches desk) pages said (ap (λ halt. is_some halt) going)
+    → AtRest (state_of told tape beside desk) pages said
+commit_rests (Ok done) told tape beside desk going kept halted rests fronts after said image pages is heard left reopens =
+    rests_with_base (state_of told tape beside desk) pages said (ap (λ halt. is_some halt) going)
     (kept_reopens told desk after image pages kept going is left reopens, if_said tape said heard)
-commit_rests (Err e) told tape attaches desk going kept halted rests fronts after said image pages is heard left reopens =
-    rests_with_either (state_of told tape attaches desk) pages said halted
+commit_rests (Err e) told tape beside desk going kept halted rests fronts after said image pages is heard left reopens =
+    rests_with_either (state_of told tape beside desk) pages said halted
     (either_reopens told desk after image pages is (rests after is image left) (fronts after image is left) reopens, if_said tape said heard)
 
 module _ {H : Type 0} {file : H → Option File} {aside : H → Beside} {attaches : H → Option (List (List ℕ × Bool))} {is_attached : H → Bool} {clock : H → ℕ} {moment : H → ℕ → List ℕ → List ℕ → Type 0} where
@@ -104,9 +105,9 @@ module _ {H : Type 0} {file : H → Option File} {aside : H → Beside} {attache
       → Leaves file aside attaches is_attached clock moment (λ before image. IsImage before.since image) old.host new.host
       → file new.host ≡ file old.host → IsKept old.desk (file old.host) → old.desk.halt ≡ None → new.desk.shape ≡ old.desk.shape
       → OverTime (λ (s : HeldStore H). clock s.host) (λ (s : HeldStore H). left_of s.desk.shape (file s.host) (aside s.host).tape (moment s.host))
-      (OnlyBase (state_of (file old.host) (aside old.host).tape (attaches old.host) old.desk)) old new
+      (OnlyBase (state_of (file old.host) (aside old.host).tape (beside_of old.desk.shape (attaches old.host)) old.desk)) old new
   keeps_base old new leaves same kept going shape =
-      passes (OnlyBase (state_of (file old.host) (aside old.host).tape (attaches old.host) old.desk)) old new leaves shape (agrees_same same)
+      passes (OnlyBase (state_of (file old.host) (aside old.host).tape (beside_of old.desk.shape (attaches old.host)) old.desk)) old new leaves shape (agrees_same same)
       (λ before said image pages is tape left reopens. (kept_reopens (file old.host) old.desk before image pages kept going is left reopens, if_said (aside old.host).tape said tape))
 
 -- a call that makes no call of the host leaves what was left
@@ -123,15 +124,15 @@ stays {H} file aside clock moment Within host desk new shape = record {
 pub rests : {H : Type 0} (file : H → Option File) (aside : H → Beside) (attaches : H → Option (List (List ℕ × Bool))) (clock : H → ℕ) (moment : H → ℕ → List ℕ → List ℕ → Type 0) (held : HeldStore H)
     → WhereTold (file held.host) (aside held.host).tape (λ f said. (image tape : List ℕ) → moment held.host (clock held.host) image tape ↔ IsMoment f.since said [] image tape)
     → ((after : File) (said image : List ℕ) (pages : Option (List (List ℕ))) → file held.host ≡ Some after → (aside held.host).tape ≡ Some said → IsImage after.since image → Reopens held.desk.shape after.bytes image pages
-    → AtRest (state_of (file held.host) (aside held.host).tape (attaches held.host) held.desk) pages said)
+    → AtRest (state_of (file held.host) (aside held.host).tape (beside_of held.desk.shape (attaches held.host)) held.desk) pages said)
     → RestsAt (λ (s : HeldStore H). clock s.host) (λ (s : HeldStore H). left_of s.desk.shape (file s.host) (aside s.host).tape (moment s.host))
-    (AtRest (state_of (file held.host) (aside held.host).tape (attaches held.host) held.desk)) held
+    (AtRest (state_of (file held.host) (aside held.host).tape (beside_of held.desk.shape (attaches held.host)) held.desk)) held
 rests {H} file aside attaches clock moment held only_now at_rest = record {
   only_rest = λ pages heard left.
       let Now : File → List ℕ → Type 0 = λ f s. (image tape : List ℕ) → moment held.host (clock held.host) image tape ↔ IsMoment f.since s [] image tape in
       let now = (where_told (file held.host) (aside held.host).tape left.0 left.2 Now left.1 left.3 only_now left.4 heard).0 left.5 in
       let said : heard ≡ left.2 = nothing_said now.said.0 now.said.1 left.2 heard now.said.2 now.said.3 in
-      subst (λ (bytes : List ℕ). AtRest (state_of (file held.host) (aside held.host).tape (attaches held.host) held.desk) pages bytes) (sym said) (at_rest left.0 left.2 left.4 pages left.1 left.3 now.left left.6);
+      subst (λ (bytes : List ℕ). AtRest (state_of (file held.host) (aside held.host).tape (beside_of held.desk.shape (attaches held.host)) held.desk) pages bytes) (sym said) (at_rest left.0 left.2 left.4 pages left.1 left.3 now.left left.6);
 }
 
 -- a store that fits a file at rest leaves its base
@@ -139,7 +140,7 @@ pub rests_kept : {H : Type 0} (file : H → Option File) (aside : H → Beside) 
     → WhereTold (file held.host) (aside held.host).tape (λ f said. (image tape : List ℕ) → moment held.host (clock held.host) image tape ↔ IsMoment f.since said [] image tape)
     → IsKept held.desk (file held.host) → held.desk.halt ≡ None
     → RestsAt (λ (s : HeldStore H). clock s.host) (λ (s : HeldStore H). left_of s.desk.shape (file s.host) (aside s.host).tape (moment s.host))
-    (AtRest (state_of (file held.host) (aside held.host).tape (attaches held.host) held.desk)) held
+    (AtRest (state_of (file held.host) (aside held.host).tape (beside_of held.desk.shape (attaches held.host)) held.desk)) held
 rests_kept {H} file aside attaches clock moment held only_now kept going = rests file aside attaches clock moment held only_now (λ after said image pages is tape left reopens.
-    rests_with_base (state_of (file held.host) (aside held.host).tape (attaches held.host) held.desk) pages said (ap (λ halt. is_some halt) going)
+    rests_with_base (state_of (file held.host) (aside held.host).tape (beside_of held.desk.shape (attaches held.host)) held.desk) pages said (ap (λ halt. is_some halt) going)
     (kept_reopens (file held.host) held.desk after image pages kept going is left reopens, if_said (aside held.host).tape said tape))

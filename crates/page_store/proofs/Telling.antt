@@ -3,12 +3,13 @@ use Rattle.std.proofs.Common.{◌≡◌, ℕ, Bool, List, [], ◌++◌, Option, 
 use Rattle.mdc_words.specs.Time.{OverTime}
 use Rattle.store_api.specs.Calls.{Tells, TellsPart, continued}
 use Rattle.store_api.specs.Moments.{BaseWithFront}
+use Rattle.store_api.specs.StoreState as store
 use Rattle.mdc_outside.specs.Disk.{File}
 use Rattle.mdc_outside.specs.Moments.{Beside, IsMoment, IsWithinCall}
 use Rattle.mdc_outside.specs.Outside.{Takes, TakesPart}
 use Rattle.page_store.specs.declared.desk.Desk.{Desk}
 use Rattle.page_store.specs.Desk.{IsKept, state_of}
-use Rattle.page_store.specs.FileStore.{HeldStore, left_of}
+use Rattle.page_store.specs.FileStore.{HeldStore, beside_of, left_of}
 use Rattle.page_store.proofs.FrontAgreesLemmas.{front_agrees_itself, reopens_as}
 use Rattle.page_store.proofs.Passing.{kept_reopens}
 use Rattle.mdc_outside.proofs.MomentLemmas.{where_told}
@@ -29,18 +30,18 @@ front_said None before part heard is now = tt
 front_said (Some bytes) before part heard is now = let same : bytes ≡ before = cc in now ∙ ap (λ xs. xs ++ part) (sym same)
 
 -- a store with a piece more told
-pub tells_state : (told : Option File) (tape new : Option (List ℕ)) (attaches : Option (List (List ℕ × Bool))) (desk : Desk) (piece : List ℕ) → Takes tape piece new
-    → Tells piece (state_of told tape attaches desk) (state_of told new attaches (record desk { hand = None }))
-tells_state None None new attaches desk piece takes = rw takes refl
-tells_state None (Some before) new attaches desk piece takes = rw takes refl
-tells_state (Some file) None new attaches desk piece takes = rw takes refl
-tells_state (Some file) (Some before) new attaches desk piece takes = rw takes refl
+pub tells_state : (told : Option File) (tape new : Option (List ℕ)) (beside : store.Beside) (desk : Desk) (piece : List ℕ) → Takes tape piece new
+    → Tells piece (state_of told tape beside desk) (state_of told new beside (record desk { hand = None }))
+tells_state None None new beside desk piece takes = rw takes refl
+tells_state None (Some before) new beside desk piece takes = rw takes refl
+tells_state (Some file) None new beside desk piece takes = rw takes refl
+tells_state (Some file) (Some before) new beside desk piece takes = rw takes refl
 
 -- the same with a first part of it
-pub tells_part : (told : Option File) (tape new : Option (List ℕ)) (attaches : Option (List (List ℕ × Bool))) (desk : Desk) (piece : List ℕ) → TakesPart tape piece new
-    → TellsPart piece (state_of told tape attaches desk) (state_of told new attaches (record desk { hand = None }))
-tells_part told None new attaches desk piece takes = ([], (piece, refl), tells_state told None new attaches desk [] takes)
-tells_part told (Some before) new attaches desk piece takes = (takes.0, (takes.1, takes.2), tells_state told (Some before) new attaches desk takes.0 takes.3)
+pub tells_part : (told : Option File) (tape new : Option (List ℕ)) (beside : store.Beside) (desk : Desk) (piece : List ℕ) → TakesPart tape piece new
+    → TellsPart piece (state_of told tape beside desk) (state_of told new beside (record desk { hand = None }))
+tells_part told None new beside desk piece takes = ([], (piece, refl), tells_state told None new beside desk [] takes)
+tells_part told (Some before) new beside desk piece takes = (takes.0, (takes.1, takes.2), tells_state told (Some before) new beside desk takes.0 takes.3)
 
 -- time goes on over a call that says a piece
 pub tells_pass : {H : Type 0} (file : H → Option File) (aside : H → Beside) (attaches : H → Option (List (List ℕ × Bool))) (clock : H → ℕ) (moment : H → ℕ → List ℕ → List ℕ → Type 0)
@@ -49,7 +50,7 @@ pub tells_pass : {H : Type 0} (file : H → Option File) (aside : H → Beside) 
     → OverTime clock moment (IsWithinCall (file old.host) (aside old.host).tape piece) old.host new.host
     → IsKept old.desk (file old.host) → old.desk.halt ≡ None → new.desk.shape ≡ old.desk.shape
     → OverTime (λ (s : HeldStore H). clock s.host) (λ (s : HeldStore H). left_of s.desk.shape (file s.host) (aside s.host).tape (moment s.host))
-    (BaseWithFront piece (state_of (file old.host) (aside old.host).tape (attaches old.host) old.desk)) old new
+    (BaseWithFront piece (state_of (file old.host) (aside old.host).tape (beside_of old.desk.shape (attaches old.host)) old.desk)) old new
 tells_pass {H} file aside attaches clock moment old new piece same takes time kept going shape = record {
   later = time.later;
   keeps = λ t pages heard early left.
@@ -68,13 +69,13 @@ tells_pass {H} file aside attaches clock moment old new piece same takes time ke
 }
 
 -- where the host says it
-pub tells_ok : {T E : Type 0} (result : Result T E) (told : Option File) (tape new : Option (List ℕ)) (attaches : Option (List (List ℕ × Bool))) (desk : Desk) (piece : List ℕ)
-    → OnOk result (Takes tape piece new) → OnOk result (Tells piece (state_of told tape attaches desk) (state_of told new attaches (record desk { hand = None })))
-tells_ok (Ok done) told tape new attaches desk piece takes = tells_state told tape new attaches desk piece takes
-tells_ok (Err e) told tape new attaches desk piece takes = takes
+pub tells_ok : {T E : Type 0} (result : Result T E) (told : Option File) (tape new : Option (List ℕ)) (beside : store.Beside) (desk : Desk) (piece : List ℕ)
+    → OnOk result (Takes tape piece new) → OnOk result (Tells piece (state_of told tape beside desk) (state_of told new beside (record desk { hand = None })))
+tells_ok (Ok done) told tape new beside desk piece takes = tells_state told tape new beside desk piece takes
+tells_ok (Err e) told tape new beside desk piece takes = takes
 
 -- where it doesn't
-pub tells_err : {T E : Type 0} (result : Result T E) (told : Option File) (tape new : Option (List ℕ)) (attaches : Option (List (List ℕ × Bool))) (desk : Desk) (piece : List ℕ)
-    → TakesPart tape piece new → OnErr result (TellsPart piece (state_of told tape attaches desk) (state_of told new attaches (record desk { hand = None })))
-tells_err (Ok done) told tape new attaches desk piece takes = tt
-tells_err (Err e) told tape new attaches desk piece takes = tells_part told tape new attaches desk piece takes
+pub tells_err : {T E : Type 0} (result : Result T E) (told : Option File) (tape new : Option (List ℕ)) (beside : store.Beside) (desk : Desk) (piece : List ℕ)
+    → TakesPart tape piece new → OnErr result (TellsPart piece (state_of told tape beside desk) (state_of told new beside (record desk { hand = None })))
+tells_err (Ok done) told tape new beside desk piece takes = tt
+tells_err (Err e) told tape new beside desk piece takes = tells_part told tape new beside desk piece takes

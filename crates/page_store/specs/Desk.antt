@@ -1,7 +1,7 @@
 -- What a store has in memory beside its file, and what the two together are seen as.
-use Rattle.std.specs.Prelude.{◌≡◌, ◌⊎◌, ◌≤◌, ◌<◌, ℕ, Bool, IsTrue, IsSome, is_some, List, [], length, replicate, slice_get, slice_index_or, Option, Some, None, Result, OnOk, OnErr}
+use Rattle.std.specs.Prelude.{◌≡◌, ◌⊎◌, ◌≤◌, ◌<◌, ℕ, IsTrue, IsSome, is_some, List, [], length, replicate, slice_get, slice_index_or, Option, Some, None, Result, OnOk, OnErr}
 use Rattle.std.specs.Option.{ForSome, option_map}
-use Rattle.store_api.specs.StoreState.{StoreState, stated_count}
+use Rattle.store_api.specs.StoreState.{Beside, StoreState, stated_count}
 use Rattle.mdc_outside.specs.Disk.{File, IsImage}
 use Rattle.redo_journal.specs.Images.{Numbered, AreRising}
 use Rattle.page_file.specs.Layout.{home_page, FrontStays}
@@ -39,8 +39,8 @@ page_at_hand (Some (Changed p)) changes cache = slice_index_or changes p None
 page_at_hand (Some Clean) changes cache = option_map (λ entry. entry.1) (slice_get cache 0)
 
 -- what a store is seen as
-abbrev pub state_of : Option File → Option (List ℕ) → Option (List (List ℕ × Bool)) → Desk → StoreState
-state_of told tape attaches desk = record {
+abbrev pub state_of : Option File → Option (List ℕ) → Beside → Desk → StoreState
+state_of told tape beside desk = record {
   is_told = is_some told;
   base = base_of told desk;
   work = work_of told desk desk.changes.now;
@@ -50,7 +50,7 @@ state_of told tape attaches desk = record {
   ended = is_some desk.halt;
   told = tape;
   fetched = None;
-  attached = attaches;
+  beside = beside;
 }
 
 -- The pages that were written are the images that make the work, in the order of their numbers. Its page 0 states how many
@@ -99,17 +99,17 @@ RestsEither desk file = (image : List ℕ) → IsImage file.since image → Stan
 abbrev pub written_in : Desk → ℕ
 written_in desk = desk.changes.kept
 
--- a step of a store, whatever is told of the tape and the attaches
+-- a step of a store, whatever is told of the tape and lies beside its pages
 abbrev pub Does : (StoreState → StoreState → Type 0) → Option File → Desk → Option File → Desk → Type 0
 Does step before old after new =
-    (tape : Option (List ℕ)) (attaches : Option (List (List ℕ × Bool))) → step (state_of before tape attaches old) (state_of after tape attaches new)
+    (tape : Option (List ℕ)) (beside : Beside) → step (state_of before tape beside old) (state_of after tape beside new)
 
 -- the same where a call succeeds
 abbrev pub DoesOnOk : {T E : Type 0} → Result T E → (StoreState → StoreState → Type 0) → Option File → Desk → Option File → Desk → Type 0
 DoesOnOk result step before old after new =
-    (tape : Option (List ℕ)) (attaches : Option (List (List ℕ × Bool))) → OnOk result (step (state_of before tape attaches old) (state_of after tape attaches new))
+    (tape : Option (List ℕ)) (beside : Beside) → OnOk result (step (state_of before tape beside old) (state_of after tape beside new))
 
 -- the same where it fails
 abbrev pub DoesOnErr : {T E : Type 0} → Result T E → (StoreState → StoreState → Type 0) → Option File → Desk → Option File → Desk → Type 0
 DoesOnErr result step before old after new =
-    (tape : Option (List ℕ)) (attaches : Option (List (List ℕ × Bool))) → OnErr result (step (state_of before tape attaches old) (state_of after tape attaches new))
+    (tape : Option (List ℕ)) (beside : Beside) → OnErr result (step (state_of before tape beside old) (state_of after tape beside new))

@@ -1,10 +1,10 @@
 -- What a store in a file is seen as.
-use Rattle.std.specs.Prelude.{◌≡◌, ◌⊎◌, ◌≤◌, ℕ, Bool, IsTrue, List, [], ◌∷◌, Option, Some, None, is_some}
-use Rattle.std.specs.Option.{unwrap_or}
+use Rattle.std.specs.Prelude.{◌≡◌, ◌⊎◌, ◌≤◌, ℕ, Bool, IsTrue, List, Option, Some, None}
 use Rattle.store_api.specs.Moments.{Outcomes}
+use Rattle.store_api.specs.StoreState.{Beside}
+use Rattle.store_api.specs.declared.shape.Shape.{Shape}
 use Rattle.mdc_outside.specs.Disk.{File}
 use Rattle.page_store.specs.declared.desk.Desk.{Desk}
-use Rattle.page_store.specs.declared.shape.Shape.{Shape}
 use Rattle.page_store.specs.Standing.{Reopens, IsStoreImage, pages_in}
 use Rattle.page_store.specs.Desk.{IsKept}
 
@@ -18,10 +18,9 @@ pub record FitsFile (is_attached : Bool) (told : Option File) (desk : Desk) : Ty
   pub attached : IsTrue is_attached
   pub kept : desk.halt ≡ None → IsKept desk told
 
--- What a store tells of what is attached: first the shape of its file, and whether the host tells its attaches, and then
--- these.
-abbrev pub attached_of : Shape → Option (List (List ℕ × Bool)) → Option (List (List ℕ × Bool))
-attached_of shape attaches = Some ((shape.extents ∷ shape.extent_pages ∷ [], is_some attaches) ∷ unwrap_or attaches [])
+-- what lies beside the pages of a store in a file: the shape that its file states, and the attaches of its host
+abbrev pub beside_of : Shape → Option (List (List ℕ × Bool)) → Beside
+beside_of shape attaches = record { shape = Some shape; attaches = attaches }
 
 -- what a crash may leave: an image and a tape that the host may leave, by what the image reopens to
 abbrev pub left_of : Shape → Option File → Option (List ℕ) → (ℕ → List ℕ → List ℕ → Type 0) → ℕ → Outcomes

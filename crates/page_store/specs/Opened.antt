@@ -3,12 +3,14 @@ use Rattle.std.specs.Prelude.{◌≡◌, ◌≤◌, ℕ, Bool, false, List, [], 
 use Rattle.std.specs.Option.{option_map}
 use Rattle.store_api.specs.StoreState.{StoreState}
 use Rattle.store_api.specs.Moments.{Outcomes}
+use Rattle.store_api.specs.declared.shape.Shape.{Shape}
 use Rattle.mdc_words.specs.Time.{OverTime, RestsAt}
 use Rattle.mdc_outside.specs.Disk.{File, IsImage}
 use Rattle.mdc_outside.specs.Moments.{Beside}
 use Rattle.page_store.specs.declared.desk.Desk.{Desk}
 use Rattle.page_store.specs.Changes.{nothing}
 use Rattle.page_file.specs.Leaving.{LeavesImage}
+use Rattle.page_store.specs.FileStore.{beside_of}
 use Rattle.page_store.specs.Opening.{StandsAs}
 use Rattle.page_store.specs.Standing.{pages_in}
 
@@ -57,9 +59,9 @@ pub record IsEmptyDesk (desk : Desk) : Type 0 where
   pub prepared : desk.prepared ≡ false
   pub halt : desk.halt ≡ None
 
--- a store that was just opened over a host that tells its file or not and this tape, and what it tells of what is attached
-abbrev pub IsJustOpened : Bool → Option (List ℕ) → Option (List (List ℕ × Bool)) → StoreState → Type 0
-IsJustOpened is_told tape attached state =
+-- a store of this shape that was just opened over a host that tells its file or not, and this tape and these attaches
+abbrev pub IsJustOpened : Bool → Option (List ℕ) → Shape → Option (List (List ℕ × Bool)) → StoreState → Type 0
+IsJustOpened is_told tape shape attaches state =
     state ≡ record {
       is_told = is_told;
       base = state.base;
@@ -70,5 +72,5 @@ IsJustOpened is_told tape attached state =
       ended = false;
       told = tape;
       fetched = None;
-      attached = attached;
+      beside = beside_of shape attaches;
     }

@@ -6,7 +6,7 @@ use Rattle.store_api.specs.StoreState.{stated_in}
 use Rattle.redo_journal.specs.Images.{Numbered}
 use Rattle.page_file.specs.Layout.{file_page, home_page, FrontStays, IsNoPlaceOfJournal, home_start}
 use Rattle.redo_journal.specs.Layout.{is_open, start_of, journal_of, IsJournal}
-use Rattle.page_store.specs.declared.shape.Shape.{Shape}
+use Rattle.store_api.specs.declared.shape.Shape.{Shape}
 use Rattle.page_store.specs.Shape.{IsBirth, extents_in, extent_pages_in}
 use Rattle.page_file.specs.declared.layout.TheConstants.{FIRST_PAGE}
 

@@ -14,14 +14,13 @@ ghost use Rattle.page_store.specs.Commit.{ReachesTo};
 ghost use Rattle.page_store.specs.Desk.{IsKept, IsPlaced, Does, DoesOnOk, DoesOnErr, CommitLeaves, RestsEither, page_at_hand, base_of, work_of, written_in};
 
 use crate::page_cache::PageCache;
-use crate::shape::Shape;
 use crate::write_through::{Halt, write_any};
 use dirty_pages::Changes;
 use mdc_outside::Disk;
 use mdc_values::Memory;
 use page_file::FIRST_PAGE;
 use redo_journal::LentImages;
-use store_api::{DeviceFault, Page, PageFault};
+use store_api::{DeviceFault, Page, PageFault, Shape};
 
 // The file page of the store's page 0.
 const FIRST: u32 = FIRST_PAGE as u32;

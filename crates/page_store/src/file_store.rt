@@ -14,8 +14,8 @@ use store_api::{DeviceFault, Mute, Page, PageFault, Pages, Store};
 /// host tells its file, the store tells its pages; it tells no fetches. What a crash leaves of the file reopens to pages
 /// where it is formed, states the store's shape, and has all that isn't the store's as the file has it.
 ///
-/// As what is attached it tells the shape of its file in front of the host's attaches, so that whoever gets a store back
-/// from code over any store knows it.
+/// Beside its pages it tells the shape of its file and the host's attaches, so that whoever gets a store back from code over
+/// any store knows them.
 #[derive(Drop)]
 pub struct FileStore<H: Host> {
     pub(crate) host: H,
@@ -34,9 +34,9 @@ impl<H: Host> Model for FileStore<H> {
 
 impl<H: Host> Pages for FileStore<H> {
     ghost use Rattle.page_store.specs.Desk.{state_of, written_in};
-    ghost use Rattle.page_store.specs.FileStore.{attached_of, left_of, left_of-earlier};
+    ghost use Rattle.page_store.specs.FileStore.{beside_of, left_of, left_of-earlier};
 
-    ghost state = { λ s. state_of (H.file s.host) (H.beside s.host).tape (attached_of s.desk.shape (H.attaches s.host)) s.desk };
+    ghost state = { λ s. state_of (H.file s.host) (H.beside s.host).tape (beside_of s.desk.shape (H.attaches s.host)) s.desk };
 
     ghost written = { λ s. written_in s.desk };
 

@@ -7,19 +7,17 @@ ghost use Rattle.page_store.specs.Fresh.{root_page};
 
 use byteorder::{BigEndian, ByteOrder};
 use page_file::zeros;
+use store_api::layout::{FIRST_MAP_PAGE, MAP_PAGE_EXTENTS};
 use store_api::{Page, blank_page};
 
 // The version of the format.
 pub(crate) const VERSION: u32 = 1;
 
-// How many extents an extent map's page holds.
-const MAPPED: u32 = 512;
-
 /// How many pages an empty database has: the root page, 16 table pages and the extent map.
 pub(crate) fn first_count(extents: u32) -> u32
     ensures { result ≡ first_count extents }
 {
-    17 + extents.div_ceil(MAPPED)
+    FIRST_MAP_PAGE + extents.div_ceil(MAP_PAGE_EXTENTS)
 }
 
 /// The zeros behind the made byte in its page.

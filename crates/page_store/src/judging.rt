@@ -12,9 +12,9 @@ use crate::OpenFault;
 use crate::fresh::VERSION;
 use crate::journal::{Journal, is_behind};
 use crate::root::{count_in, version_in};
-use crate::shape::Shape;
 use page_file::{FIRST_PAGE, PAGE_BYTES};
-use store_api::{Damage, Page};
+use store_api::rules::ROOT_PAGE_RULE;
+use store_api::{Damage, Page, Shape};
 
 /// The page count of a file of so many bytes, or why it can't be served.
 pub(crate) fn judge(
@@ -59,5 +59,8 @@ fn first_missing(end: u64, count: u32) -> Option<u32>
 pub(crate) fn damaged(page: u32) -> OpenFault
     ensures { result ≡ OpenFault.Damaged (record { page = page; rule = 1 }) }
 {
-    OpenFault::Damaged(Damage { page, rule: 1 })
+    OpenFault::Damaged(Damage {
+        page,
+        rule: ROOT_PAGE_RULE,
+    })
 }

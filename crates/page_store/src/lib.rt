@@ -27,4 +27,4 @@ pub use file_store::FileStore;
 pub use laws::formed_is_served;
 pub use making::make;
 pub use opening::Unopened;
-pub use shape::{Shape, is_shape};
+pub use page_cache::CACHED_PAGES;

@@ -10,7 +10,7 @@ ghost use Rattle.page_file.specs.Bound.{LeavesOf};
 ghost use Rattle.page_store.specs.Bound.{OpensOf};
 ghost use Rattle.page_store.specs.Desk.{IsKept, base_of};
 ghost use Rattle.page_store.specs.Faults.{MayComeFirst};
-ghost use Rattle.page_store.specs.FileStore.{IsLeft, attached_of};
+ghost use Rattle.page_store.specs.FileStore.{IsLeft, beside_of};
 ghost use Rattle.page_store.specs.Opened.{CouldBeLeft, LeavesBaseSince, IsEmptyDesk, IsJustOpened, file_bytes};
 ghost use Rattle.page_store.specs.Opening.{IsAtRest, IsServed, Refuses};
 ghost use Rattle.store_api.specs.Extents.{is_shape};
@@ -52,7 +52,7 @@ impl<H: Host> FileStore<H> {
         ensures served { IfOk result (λ store. ForSome (H.file host) (λ file. IsServed file.bytes
             × ((⟦<FileStore<H> as Pages>⟧.state store).base ≡ pages_in file.bytes))) }
         // It tells the shape of its file, and the attaches that the host told.
-        ensures just_opened { IfOk result (λ store. IsJustOpened (is_some (H.file host)) (H.tape host) (attached_of store.desk.shape (H.attaches host))
+        ensures just_opened { IfOk result (λ store. IsJustOpened (is_some (H.file host)) (H.tape host) store.desk.shape (H.attaches host)
             (⟦<FileStore<H> as Pages>⟧.state store)) }
         ensures unwritten { IfOk result (λ store. ⟦<FileStore<H> as Pages>⟧.written store ≡ 0) }
         ensures refused { IfErr result (λ unopened. ForSome (H.file host) (λ file. Refuses unopened.fault file.bytes)) }
@@ -106,7 +106,7 @@ impl<H: Host> FileStore<H> {
         ensures disk_count { H.disk_faults result ≡ ⟦<FileStore<H> as Pages>⟧.disk_faults self }
         ensures say_count { H.say_faults result ≡ ⟦<FileStore<H> as Pages>⟧.say_faults self }
         ensures told { H.tape result ≡ (⟦<FileStore<H> as Pages>⟧.state self).told }
-        ensures attached { attached_of self.desk.shape (H.attaches result) ≡ (⟦<FileStore<H> as Pages>⟧.state self).attached }
+        ensures beside { beside_of self.desk.shape (H.attaches result) ≡ (⟦<FileStore<H> as Pages>⟧.state self).beside }
         ensures left { (file : File) (said : List ℕ) → H.file self.host ≡ Some file → (H.beside self.host).tape ≡ Some said
             → (t : ℕ) (image heard : List ℕ) → H.moment result t image heard
             → IsLeft self.desk.shape file.bytes (⟦<FileStore<H> as Pages>⟧.left self t) image heard }

@@ -22,6 +22,9 @@ use std::mem;
 use std::num::NonZeroUsize;
 use store_api::{Page, PageFault, blank_page};
 
+/// How many clean pages a store keeps in memory, where nothing asks for more or fewer.
+pub const CACHED_PAGES: usize = 1_024;
+
 /// Clean pages, which are as their home pages in the file, the one that was used last first. The box of the page that
 /// left last is kept for the next one that is read.
 #[derive(Drop)]

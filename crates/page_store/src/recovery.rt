@@ -14,11 +14,12 @@ use crate::OpenFault;
 use crate::journal::Journal;
 use crate::judging::{damaged, judge};
 use crate::reading::{read_birth, read_journal, read_root};
-use crate::shape::{Shape, shape_in};
+use crate::shape::shape_in;
 use crate::write_through::bring_home;
 use mdc_outside::Disk;
 use page_file::end_of;
 use std::alloc::Global;
+use store_api::Shape;
 
 /// What a file that was opened is: its shape, and how many pages there are.
 #[derive(Clone, Copy, Debug)]

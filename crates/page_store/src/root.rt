@@ -7,8 +7,7 @@ ghost use Rattle.store_api.specs.declared.pages.TheConstants.{MAX_PAGES};
 
 use crate::fresh::first_count;
 use crate::number::number_at;
-use crate::shape::Shape;
-use store_api::{Page, stated_count};
+use store_api::{Page, Shape, stated_count};
 
 /// The page count that page 0 states, or nothing where the page hasn't its form.
 pub(crate) fn count_in(page: &Page, shape: Shape) -> Option<u32>

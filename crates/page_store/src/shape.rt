@@ -1,34 +1,10 @@
-// How large a database may grow, and the page that states it.
-ghost use Rattle.std.specs.Prelude.{◌≡◌, IsFalse, IsTrue, MatchOption};
-ghost use Rattle.store_api.specs.Extents.{is_extent_size, is_shape};
+// The shape that a birth page states.
+ghost use Rattle.std.specs.Prelude.{◌≡◌, MatchOption};
 ghost use Rattle.page_store.specs.Shape.{IsBirth, extents_in, extent_pages_in};
 
 use crate::fresh::birth_page;
 use crate::number::number_at;
-use store_api::Page;
-
-/// How many extents a database may have, and how many pages each has. The two are within the limits.
-#[derive(Clone, Copy, Debug, PartialEq, Eq)]
-pub struct Shape {
-    pub extents: u32,
-    pub extent_pages: u32,
-    ghost within: { IsTrue (is_shape extents extent_pages) },
-}
-
-impl Shape {
-    /// So many extents of so many pages, or nothing where that isn't within the limits.
-    pub fn new(extents: u32, extent_pages: u32) -> Option<Shape>
-        ensures { MatchOption result (IsFalse (is_shape extents extent_pages)) (λ shape. (shape.extents ≡ extents) × (shape.extent_pages ≡ extent_pages)) }
-    {
-        if !is_shape(extents, extent_pages) {
-            return None;
-        }
-        Some(Shape {
-            extents,
-            extent_pages,
-        })
-    }
-}
+use store_api::{Page, Shape};
 
 /// What a birth page states, or nothing where the page isn't one.
 pub(crate) fn shape_in(page: &Page) -> Option<Shape>
@@ -36,29 +12,9 @@ pub(crate) fn shape_in(page: &Page) -> Option<Shape>
 {
     let extents = number_at(page, 8);
     let extent_pages = number_at(page, 12);
-    if !is_shape(extents, extent_pages) || *page != birth_page(extents, extent_pages) {
+    let shape = Shape::new(extents, extent_pages)?;
+    if *page != birth_page(shape.extents, shape.extent_pages) {
         return None;
     }
-    Some(Shape {
-        extents,
-        extent_pages,
-    })
-}
-
-/// Whether a database may have so many extents of so many pages: 4 to 65,536 extents of 2, 4, 8, 16 or 32 pages, which
-/// are 262,144 pages at most.
-pub fn is_shape(extents: u32, extent_pages: u32) -> bool
-    ensures { result ≡ is_shape extents extent_pages }
-{
-    extents >= 4
-        && extents <= 65536
-        && is_extent_size(extent_pages)
-        && u64::from(extents) * u64::from(extent_pages) <= 262_144
-}
-
-// Whether an extent may have so many pages.
-fn is_extent_size(pages: u32) -> bool
-    ensures { result ≡ is_extent_size pages }
-{
-    pages == 2 || pages == 4 || pages == 8 || pages == 16 || pages == 32
+    Some(shape)
 }

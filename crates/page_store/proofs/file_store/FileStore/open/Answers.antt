@@ -2,7 +2,6 @@
 use Rattle.std.proofs.Common.{ap, subst, ◌∙◌}
 use Rattle.mdc_outside.specs.Disk.{File}
 use Rattle.page_file.proofs.LeavesLemmas.{one_file}
-use Rattle.page_store.specs.FileStore.{attached_of}
 use Rattle.page_store.specs.Opening.{StandsAs}
 use Rattle.page_store.proofs.Openings.{shown_as_before, still_told, states_shape, leaves_base_since}
 use Rattle.page_store.proofs.Passing.{rests_kept}
@@ -12,7 +11,7 @@ pub returns-in-Ok-clause-just_opened : goal.returns-in-Ok-clause-just_opened
 returns-in-Ok-clause-just_opened g c =
     let opened = c.in-Ok.ensures.opens in
     shown_as_before _ _ _ _ _ _ c.in-Ok.desk c.in-Ok.ensures.empty (still_told opened)
-    (ap (λ b. b.tape) opened.beside ∙ (g.met.H.Host.lies_beside c.args.host).0) (ap (attached_of c.in-Ok.desk.shape) opened.listed)
+    (ap (λ b. b.tape) opened.beside ∙ (g.met.H.Host.lies_beside c.args.host).0) opened.listed
 
 pub returns-in-Ok-clause-base_since : goal.returns-in-Ok-clause-base_since
 returns-in-Ok-clause-base_since g c = λ file is said.

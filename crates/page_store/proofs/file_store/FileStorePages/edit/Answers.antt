@@ -7,8 +7,8 @@ use Rattle.store_api.specs.declared.fault.PageFault.TheVariants.{Device}
 use Rattle.page_file.proofs.RunsLemmas.{runs_within}
 use Rattle.page_file.proofs.LeavesLemmas.{runs_leave, sound_image}
 use Rattle.page_store.specs.Desk.{state_of, work_of}
-use Rattle.page_store.specs.FileStore.{attached_of}
-use Rattle.page_store.proofs.AttachedLemmas.{attached_of-same}
+use Rattle.page_store.specs.FileStore.{beside_of}
+use Rattle.page_store.proofs.BesideLemmas.{same_beside}
 use Rattle.page_store.proofs.Lent.{kept_same, edits_does, keeps_does, lost_writes, lost_twice, changed_page, counts_passed}
 use Rattle.page_store.proofs.Passing.{keeps_base}
 use Rattle.page_store.proofs.Wholes.{still_going, held_pages, whole_again}
@@ -30,7 +30,7 @@ returns-in-Ok g c =
       (
         refl,
         (λ w ok. record {
-          ok = rw (← c.self.view_is, c.admit.ensures.runs.beside, c.admit.ensures.runs.listed, attached_of-same (g.H.Disk.attaches c.self.inside.host) (c.edit.follows.holds w).0.shape, attached_of-same (g.H.Disk.attaches c.self.inside.host) c.admit.ensures.shape) (lost_writes (state_of (g.H.Disk.file c.self.inside.host) (g.H.Disk.beside c.self.inside.host).tape (attached_of c.self.inside.desk.shape (g.H.Disk.attaches c.self.inside.host)) c.self.inside.desk) (state_of (g.H.Disk.file c.admit.new.disk) (g.H.Disk.beside c.self.inside.host).tape (attached_of c.self.inside.desk.shape (g.H.Disk.attaches c.self.inside.host)) c.admit.new.self) (state_of (g.H.Disk.file c.admit.new.disk) (g.H.Disk.beside c.self.inside.host).tape (attached_of c.self.inside.desk.shape (g.H.Disk.attaches c.self.inside.host)) (c.edit.follows.lender w)) c.args.p w (c.admit.ensures.does _ _)
+          ok = rw (← c.self.view_is, c.admit.ensures.runs.beside, c.admit.ensures.runs.listed, same_beside (g.H.Disk.attaches c.self.inside.host) (c.edit.follows.holds w).0.shape, same_beside (g.H.Disk.attaches c.self.inside.host) c.admit.ensures.shape) (lost_writes (state_of (g.H.Disk.file c.self.inside.host) (g.H.Disk.beside c.self.inside.host).tape (beside_of c.self.inside.desk.shape (g.H.Disk.attaches c.self.inside.host)) c.self.inside.desk) (state_of (g.H.Disk.file c.admit.new.disk) (g.H.Disk.beside c.self.inside.host).tape (beside_of c.self.inside.desk.shape (g.H.Disk.attaches c.self.inside.host)) c.admit.new.self) (state_of (g.H.Disk.file c.admit.new.disk) (g.H.Disk.beside c.self.inside.host).tape (beside_of c.self.inside.desk.shape (g.H.Disk.attaches c.self.inside.host)) (c.edit.follows.lender w)) c.args.p w (c.admit.ensures.does _ _)
               (edits_does (g.H.Disk.file c.admit.new.disk) c.admit.new.self (c.edit.follows.lender w) c.args.p w (c.edit.follows.holds w).0 ((c.edit.follows.holds w).1 ok) c.admit.ensures.bare.0 c.admit.ensures.bare.1 _ _));
           written = rw (← c.self.view_is) (omega (arith, c.admit.ensures.written, (c.edit.follows.holds w).0.changes.kept));
           disk_faults = rw (← c.self.view_is) (c.admit.ensures.cause.still (λ device. let wrong = subst (λ r. IsErrOf r Device) c.in-Ok.is device in absurd (cc)));
@@ -38,7 +38,7 @@ returns-in-Ok g c =
           time = rw (← c.self.view_is) (keeps_base (record { host = c.self.inside.host; desk = c.self.inside.desk }) (record { host = c.admit.new.disk; desk = (c.edit.follows.lender w) }) (runs_leave (runs_within c.admit.ensures.runs) (λ f is. sound_image _ f (g.met.H.Disk.sound c.admit.new.disk) is) (λ before image is left. left)) c.admit.ensures.same (c.self.invariant.kept going) going ((c.edit.follows.holds w).0.shape ∙ c.admit.ensures.shape));
         }),
         on_err_weaker c.edit.result (λ (now : (c.edit.follows.lender-at-none).changes.now ≡ c.admit.new.self.changes.now). record {
-          err = rw (← c.self.view_is, c.admit.ensures.runs.beside, c.admit.ensures.runs.listed, attached_of-same (g.H.Disk.attaches c.self.inside.host) c.edit.follows.holds-at-none.0.shape, attached_of-same (g.H.Disk.attaches c.self.inside.host) c.admit.ensures.shape) (lost_twice (state_of (g.H.Disk.file c.self.inside.host) (g.H.Disk.beside c.self.inside.host).tape (attached_of c.self.inside.desk.shape (g.H.Disk.attaches c.self.inside.host)) c.self.inside.desk) (state_of (g.H.Disk.file c.admit.new.disk) (g.H.Disk.beside c.self.inside.host).tape (attached_of c.self.inside.desk.shape (g.H.Disk.attaches c.self.inside.host)) c.admit.new.self) (state_of (g.H.Disk.file c.admit.new.disk) (g.H.Disk.beside c.self.inside.host).tape (attached_of c.self.inside.desk.shape (g.H.Disk.attaches c.self.inside.host)) c.edit.follows.lender-at-none) (c.admit.ensures.does _ _)
+          err = rw (← c.self.view_is, c.admit.ensures.runs.beside, c.admit.ensures.runs.listed, same_beside (g.H.Disk.attaches c.self.inside.host) c.edit.follows.holds-at-none.0.shape, same_beside (g.H.Disk.attaches c.self.inside.host) c.admit.ensures.shape) (lost_twice (state_of (g.H.Disk.file c.self.inside.host) (g.H.Disk.beside c.self.inside.host).tape (beside_of c.self.inside.desk.shape (g.H.Disk.attaches c.self.inside.host)) c.self.inside.desk) (state_of (g.H.Disk.file c.admit.new.disk) (g.H.Disk.beside c.self.inside.host).tape (beside_of c.self.inside.desk.shape (g.H.Disk.attaches c.self.inside.host)) c.admit.new.self) (state_of (g.H.Disk.file c.admit.new.disk) (g.H.Disk.beside c.self.inside.host).tape (beside_of c.self.inside.desk.shape (g.H.Disk.attaches c.self.inside.host)) c.edit.follows.lender-at-none) (c.admit.ensures.does _ _)
               (keeps_does (g.H.Disk.file c.admit.new.disk) c.admit.new.self c.edit.follows.lender-at-none c.edit.follows.holds-at-none.0 now c.admit.ensures.bare.0 c.admit.ensures.bare.1 _ _));
           written = rw (← c.self.view_is) (omega (arith, c.admit.ensures.written, c.edit.follows.holds-at-none.0.changes.kept));
           disk_faults = rw (← c.self.view_is) (counts_fault_then (c.admit.ensures.cause.still (λ device. let wrong = subst (λ r. IsErrOf r Device) c.in-Ok.is device in absurd (cc))) (counts_fault_none c.edit.ensures.memory));
@@ -54,7 +54,7 @@ returns-in-Ok g c =
             let within : c.args.p < length c.admit.new.self.changes.now = omega (arith, c.requires.within, c.admit.ensures.pages, held_pages g.H.Disk.file c.self.inside.host c.self.inside.desk c.args.self.now c.self.view_is) in
             let told : IsTrue (is_some (g.H.Disk.file c.admit.new.disk)) = subst (λ t. IsTrue (is_some t)) (sym c.admit.ensures.same) shown in
             changed_page (g.H.Disk.file c.admit.new.disk) c.admit.new.self c.args.p page.now c.admit.ensures.going_on within is told
-            ∙ ap (λ (s : StoreState). page_at s.work c.args.p) (c.admit.ensures.does (g.H.Disk.beside c.self.inside.host).tape (attached_of c.self.inside.desk.shape (g.H.Disk.attaches c.self.inside.host)))) c.edit.ensures.page);
+            ∙ ap (λ (s : StoreState). page_at s.work c.args.p) (c.admit.ensures.does (g.H.Disk.beside c.self.inside.host).tape (beside_of c.self.inside.desk.shape (g.H.Disk.attaches c.self.inside.host)))) c.edit.ensures.page);
       },
     )
 
@@ -65,7 +65,7 @@ returns-in-Err g c =
         refl,
         (λ w ok. absurd (cc)),
         record {
-          err = rw (← c.self.view_is, c.admit.ensures.runs.beside, c.admit.ensures.runs.listed, attached_of-same (g.H.Disk.attaches c.self.inside.host) c.admit.ensures.shape) (c.admit.ensures.does _ _);
+          err = rw (← c.self.view_is, c.admit.ensures.runs.beside, c.admit.ensures.runs.listed, same_beside (g.H.Disk.attaches c.self.inside.host) c.admit.ensures.shape) (c.admit.ensures.does _ _);
           written = rw (← c.self.view_is) c.admit.ensures.written;
           disk_faults = rw (← c.self.view_is) (counts_passed c.admit.result c.in-Err.fault (g.H.Disk.disk_faults c.self.inside.host) (g.H.Disk.disk_faults c.admit.new.disk) c.in-Err.is c.admit.ensures.cause);
           say_faults = search rules;

@@ -2,7 +2,7 @@ use Rattle.std.proofs.Common.{arith}
 use Rattle.page_file.proofs.RunsLemmas.{runs_within}
 use Rattle.page_file.proofs.LeavesLemmas.{runs_leave}
 use Rattle.page_file.proofs.LeavesLemmas.{sound_image}
-use Rattle.page_store.proofs.AttachedLemmas.{attached_of-same}
+use Rattle.page_store.proofs.BesideLemmas.{same_beside}
 use Rattle.page_store.proofs.Passing.{keeps_base}
 use Rattle.page_store.proofs.Wholes.{still_going, held_pages}
 use Rattle.page_store.proofs.file_store.FileStorePages.fetch.Goals as goal
@@ -11,10 +11,10 @@ pub fetch-requires-clause-within : goal.fetch-requires-clause-within
 fetch-requires-clause-within g c = omega (arith, c.requires.within, held_pages g.H.Disk.file c.self.inside.host c.self.inside.desk c.args.self.now c.self.view_is)
 
 pub returns-clause-ok : goal.returns-clause-ok
-returns-clause-ok g c = rw (← c.self.view_is, c.fetch.ensures.runs.beside, c.fetch.ensures.runs.listed, attached_of-same (g.H.Disk.attaches c.self.inside.host) c.fetch.ensures.shape) (c.fetch.ensures.ok _ _)
+returns-clause-ok g c = rw (← c.self.view_is, c.fetch.ensures.runs.beside, c.fetch.ensures.runs.listed, same_beside (g.H.Disk.attaches c.self.inside.host) c.fetch.ensures.shape) (c.fetch.ensures.ok _ _)
 
 pub returns-clause-err : goal.returns-clause-err
-returns-clause-err g c = rw (← c.self.view_is, c.fetch.ensures.runs.beside, c.fetch.ensures.runs.listed, attached_of-same (g.H.Disk.attaches c.self.inside.host) c.fetch.ensures.shape) (c.fetch.ensures.err _ _)
+returns-clause-err g c = rw (← c.self.view_is, c.fetch.ensures.runs.beside, c.fetch.ensures.runs.listed, same_beside (g.H.Disk.attaches c.self.inside.host) c.fetch.ensures.shape) (c.fetch.ensures.err _ _)
 
 pub returns-clause-time : goal.returns-clause-time
 returns-clause-time g c =

@@ -1,4 +1,4 @@
-use Rattle.page_store.proofs.AttachedLemmas.{attached_of-same}
+use Rattle.page_store.proofs.BesideLemmas.{same_beside}
 use Rattle.page_store.proofs.Passing.{stays}
 use Rattle.page_store.proofs.Wholes.{still_going, whole_again}
 use Rattle.page_store.proofs.file_store.FileStorePages.keep.Goals as goal
@@ -11,7 +11,7 @@ invariant_of-self g c =
 pub returns-clause-ok : goal.returns-clause-ok
 returns-clause-ok g c =
     let going = still_going c.self.inside.host c.self.inside.desk c.args.self.now c.self.view_is c.requires.going in
-    rw (← c.self.view_is, attached_of-same (g.H.Disk.attaches c.self.inside.host) c.keep.ensures.shape) (c.keep.ensures.does _ _ _)
+    rw (← c.self.view_is, same_beside (g.H.Disk.attaches c.self.inside.host) c.keep.ensures.shape) (c.keep.ensures.does _ _ _)
 
 pub returns-clause-time : goal.returns-clause-time
 returns-clause-time g c =

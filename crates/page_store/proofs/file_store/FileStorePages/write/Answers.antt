@@ -1,5 +1,5 @@
 use Rattle.std.proofs.Common.{arith}
-use Rattle.page_store.proofs.AttachedLemmas.{attached_of-same}
+use Rattle.page_store.proofs.BesideLemmas.{same_beside}
 use Rattle.page_store.proofs.Passing.{stays}
 use Rattle.page_store.proofs.Wholes.{still_going, held_pages, whole_again}
 use Rattle.page_store.proofs.file_store.FileStorePages.write.Goals as goal
@@ -15,12 +15,12 @@ invariant_of-self g c =
 pub returns-clause-ok : goal.returns-clause-ok
 returns-clause-ok g c =
     let going = still_going c.self.inside.host c.self.inside.desk c.args.self.now c.self.view_is c.requires.going in
-    rw (← c.self.view_is, attached_of-same (g.H.Disk.attaches c.self.inside.host) c.write.ensures.shape) (c.write.ensures.ok _ (c.self.invariant.kept going) _ _)
+    rw (← c.self.view_is, same_beside (g.H.Disk.attaches c.self.inside.host) c.write.ensures.shape) (c.write.ensures.ok _ (c.self.invariant.kept going) _ _)
 
 pub returns-clause-err : goal.returns-clause-err
 returns-clause-err g c =
     let going = still_going c.self.inside.host c.self.inside.desk c.args.self.now c.self.view_is c.requires.going in
-    rw (← c.self.view_is, attached_of-same (g.H.Disk.attaches c.self.inside.host) c.write.ensures.shape) (c.write.ensures.err _ _ _)
+    rw (← c.self.view_is, same_beside (g.H.Disk.attaches c.self.inside.host) c.write.ensures.shape) (c.write.ensures.err _ _ _)
 
 pub returns-clause-time : goal.returns-clause-time
 returns-clause-time g c =

@@ -1,22 +1,23 @@
 use Rattle.store_api.specs.Moments.{BaseOrWork}
 use Rattle.page_store.specs.Desk.{state_of}
-use Rattle.page_store.proofs.AttachedLemmas.{attached_of-same}
+use Rattle.page_store.specs.FileStore.{beside_of}
+use Rattle.page_store.proofs.BesideLemmas.{same_beside}
 use Rattle.page_store.proofs.FrontAgreesLemmas.{agrees_after, agrees_at_rest}
 use Rattle.page_store.proofs.Passing.{passes, rests, commit_rests, commit_agrees, either_reopens, if_said}
 use Rattle.page_store.proofs.Wholes.{still_going}
 use Rattle.page_store.proofs.file_store.FileStoreStore.commit.Goals as goal
 
 pub returns-clause-ok : goal.returns-clause-ok
-returns-clause-ok g c = rw (← c.self.view_is, c.commit.ensures.leaves.beside, c.commit.ensures.leaves.listed, attached_of-same (g.H.Disk.attaches c.self.inside.host) c.commit.ensures.shape) (c.commit.ensures.ok _ _)
+returns-clause-ok g c = rw (← c.self.view_is, c.commit.ensures.leaves.beside, c.commit.ensures.leaves.listed, same_beside (g.H.Disk.attaches c.self.inside.host) c.commit.ensures.shape) (c.commit.ensures.ok _ _)
 
 pub returns-clause-err : goal.returns-clause-err
-returns-clause-err g c = rw (← c.self.view_is, c.commit.ensures.leaves.beside, c.commit.ensures.leaves.listed, attached_of-same (g.H.Disk.attaches c.self.inside.host) c.commit.ensures.shape) (c.commit.ensures.err _ _)
+returns-clause-err g c = rw (← c.self.view_is, c.commit.ensures.leaves.beside, c.commit.ensures.leaves.listed, same_beside (g.H.Disk.attaches c.self.inside.host) c.commit.ensures.shape) (c.commit.ensures.err _ _)
 
 pub returns-clause-time : goal.returns-clause-time
 returns-clause-time g c =
     let going = still_going c.self.inside.host c.self.inside.desk c.args.self.now c.self.view_is c.requires.going in
     let fronts = commit_agrees (g.H.Disk.file c.self.inside.host) c.self.inside.desk (c.self.invariant.kept going) in
-    rw (← c.self.view_is) (passes (BaseOrWork (state_of (g.H.Disk.file c.self.inside.host) (g.H.Disk.beside c.self.inside.host).tape (g.H.Disk.attaches c.self.inside.host) c.self.inside.desk))
+    rw (← c.self.view_is) (passes (BaseOrWork (state_of (g.H.Disk.file c.self.inside.host) (g.H.Disk.beside c.self.inside.host).tape (beside_of c.self.inside.desk.shape (g.H.Disk.attaches c.self.inside.host)) c.self.inside.desk))
     (record { host = c.self.inside.host; desk = c.self.inside.desk }) (record { host = c.commit.new.disk; desk = c.commit.new.self })
     c.commit.ensures.leaves c.commit.ensures.shape (agrees_after c.commit.ensures.leaves fronts)
     (λ before said image pages is tape stands reopens. (
@@ -28,6 +29,6 @@ pub returns-clause-rests : goal.returns-clause-rests
 returns-clause-rests g c =
     let going = still_going c.self.inside.host c.self.inside.desk c.args.self.now c.self.view_is c.requires.going in
     rests g.H.Disk.file g.H.Disk.beside g.H.Disk.attaches g.H.Disk.clock g.H.Disk.moment (record { host = c.commit.new.disk; desk = c.commit.new.self }) (g.met.H.Disk.only_now c.commit.new.disk)
-    (commit_rests c.commit.result (g.H.Disk.file c.commit.new.disk) (g.H.Disk.beside c.commit.new.disk).tape (g.H.Disk.attaches c.commit.new.disk) c.commit.new.self
+    (commit_rests c.commit.result (g.H.Disk.file c.commit.new.disk) (g.H.Disk.beside c.commit.new.disk).tape (beside_of c.commit.new.self.shape (g.H.Disk.attaches c.commit.new.disk)) c.commit.new.self
     c.commit.ensures.going_on c.commit.ensures.still_kept c.commit.ensures.halted c.commit.ensures.rests
     (agrees_at_rest c.commit.ensures.leaves (commit_agrees (g.H.Disk.file c.self.inside.host) c.self.inside.desk (c.self.invariant.kept going))))

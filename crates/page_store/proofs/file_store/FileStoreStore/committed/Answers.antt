@@ -2,7 +2,7 @@ use Rattle.std.proofs.Common.{arith}
 use Rattle.page_file.proofs.RunsLemmas.{runs_within}
 use Rattle.page_file.proofs.LeavesLemmas.{runs_leave}
 use Rattle.page_file.proofs.LeavesLemmas.{sound_image}
-use Rattle.page_store.proofs.AttachedLemmas.{attached_of-same}
+use Rattle.page_store.proofs.BesideLemmas.{same_beside}
 use Rattle.page_store.proofs.Passing.{keeps_base}
 use Rattle.page_store.proofs.Wholes.{still_going, length-base_of}
 use Rattle.page_store.proofs.file_store.FileStoreStore.committed.Goals as goal
@@ -14,10 +14,10 @@ committed-requires-clause-within g c =
     omega (arith, within, length-base_of (g.H.Disk.file c.self.inside.host) c.self.inside.desk going)
 
 pub returns-clause-ok : goal.returns-clause-ok
-returns-clause-ok g c = rw (← c.self.view_is, c.committed.ensures.runs.beside, c.committed.ensures.runs.listed, attached_of-same (g.H.Disk.attaches c.self.inside.host) c.committed.ensures.shape) (c.committed.ensures.ok _ _)
+returns-clause-ok g c = rw (← c.self.view_is, c.committed.ensures.runs.beside, c.committed.ensures.runs.listed, same_beside (g.H.Disk.attaches c.self.inside.host) c.committed.ensures.shape) (c.committed.ensures.ok _ _)
 
 pub returns-clause-err : goal.returns-clause-err
-returns-clause-err g c = rw (← c.self.view_is, c.committed.ensures.runs.beside, c.committed.ensures.runs.listed, attached_of-same (g.H.Disk.attaches c.self.inside.host) c.committed.ensures.shape) (c.committed.ensures.err _ _)
+returns-clause-err g c = rw (← c.self.view_is, c.committed.ensures.runs.beside, c.committed.ensures.runs.listed, same_beside (g.H.Disk.attaches c.self.inside.host) c.committed.ensures.shape) (c.committed.ensures.err _ _)
 
 pub returns-clause-time : goal.returns-clause-time
 returns-clause-time g c =

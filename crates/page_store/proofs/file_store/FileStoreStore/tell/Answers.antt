@@ -1,6 +1,6 @@
 use Rattle.std.proofs.Common.{None, refl}
 use Rattle.page_store.specs.Desk.{IsKept}
-use Rattle.page_store.specs.FileStore.{attached_of}
+use Rattle.page_store.specs.FileStore.{beside_of}
 use Rattle.page_store.proofs.Desks.{kept_with}
 use Rattle.page_store.proofs.Passing.{rests_kept}
 use Rattle.page_store.proofs.Telling.{tells_ok, tells_err, tells_pass}
@@ -16,12 +16,12 @@ invariant_of-self g c =
 pub returns-clause-ok : goal.returns-clause-ok
 returns-clause-ok g c =
     rw (← c.self.view_is, c.say.ensures.file, c.say.ensures.listed)
-    (tells_ok c.say.result (g.H.Disk.file c.self.inside.host) (g.H.Disk.beside c.self.inside.host).tape (g.H.Disk.beside c.say.new.host).tape (attached_of c.self.inside.desk.shape (g.H.Disk.attaches c.self.inside.host)) c.self.inside.desk c.args.bytes.now c.say.ensures.said)
+    (tells_ok c.say.result (g.H.Disk.file c.self.inside.host) (g.H.Disk.beside c.self.inside.host).tape (g.H.Disk.beside c.say.new.host).tape (beside_of c.self.inside.desk.shape (g.H.Disk.attaches c.self.inside.host)) c.self.inside.desk c.args.bytes.now c.say.ensures.said)
 
 pub returns-clause-err : goal.returns-clause-err
 returns-clause-err g c =
     rw (← c.self.view_is, c.say.ensures.file, c.say.ensures.listed)
-    (tells_err c.say.result (g.H.Disk.file c.self.inside.host) (g.H.Disk.beside c.self.inside.host).tape (g.H.Disk.beside c.say.new.host).tape (attached_of c.self.inside.desk.shape (g.H.Disk.attaches c.self.inside.host)) c.self.inside.desk c.args.bytes.now c.say.ensures.part)
+    (tells_err c.say.result (g.H.Disk.file c.self.inside.host) (g.H.Disk.beside c.self.inside.host).tape (g.H.Disk.beside c.say.new.host).tape (beside_of c.self.inside.desk.shape (g.H.Disk.attaches c.self.inside.host)) c.self.inside.desk c.args.bytes.now c.say.ensures.part)
 
 pub returns-clause-time : goal.returns-clause-time
 returns-clause-time g c =
