@@ -18,11 +18,9 @@ use entry_tree::Tree;
 use extent_map::{Extents, SpaceFault};
 use mdc_ast::{Cell, TableDef};
 use std::alloc::Global;
+use store_api::rules::BLOCK_INDEXES_RULE;
 use store_api::{Damage, Pages, StoreFault};
 use table_trees::block_index_tree;
-
-/// The rule that damage of a block index names: it is exactly the blocks under their cells' values.
-const INDEX_RULE: u16 = 10;
 
 /// Lists a block under the values of its cell: in the composite index, and then in that of each dimension. It claims no more
 /// pages than these entries ask for, and `Full` says that one of them asks for more than there are. Where an index has the entry
@@ -89,6 +87,6 @@ pub(crate) fn misplaced(tree: &Tree) -> StoreFault
 {
     StoreFault::Damaged(Damage {
         page: tree.root,
-        rule: INDEX_RULE,
+        rule: BLOCK_INDEXES_RULE,
     })
 }

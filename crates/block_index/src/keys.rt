@@ -1,18 +1,15 @@
 // The values of a cell as bytes of a key.
-ghost use Rattle.std.specs.Prelude.{◌≡◌, ◌+◌, ◌≤◌, ◌++◌, drop, false, length, take, IsTrue, IfErr, IfOk, OnOk};
-ghost use Rattle.key_codec.specs.Keys.{ArePartsOf, has_key, key_bytes, part_bytes};
+ghost use Rattle.std.specs.Prelude.{◌≡◌, ◌+◌, ◌≤◌, ◌++◌, drop, length, take, IfErr, IfOk, OnOk};
+ghost use Rattle.key_codec.specs.Keys.{ArePartsOf, key_bytes};
 ghost use Rattle.table_trees.specs.RowCells.{cell_places};
 ghost use Rattle.table_trees.specs.TableTrees.{cell_parts, rising_parts};
 ghost use Rattle.block_index.specs.Cells.{FitPlaces, FitsCell, HaveKeys, key_of_values};
 
-use key_codec::{part_width, put_part};
+use key_codec::{KEY_LIMIT, part_width, push_key_part, put_part};
 use mdc_ast::{Cell, ColumnDef, TableDef};
-use mdc_values::{ColType, List, Value};
+use mdc_values::{List, Value};
 use std::alloc::Global;
 use store_api::StoreFault;
-
-/// How many bytes a key has at most.
-const KEY_BYTES: usize = 128;
 
 /// The key of the cell of a row: that of its values in all dimension columns. It makes no list of these values.
 pub fn cell_key(alloc: Global, def: &TableDef, values: &List<Value>) -> Result<Vec<u8>, StoreFault>
@@ -21,7 +18,7 @@ pub fn cell_key(alloc: Global, def: &TableDef, values: &List<Value>) -> Result<V
     ensures key { IfOk result (λ key. key.items ≡ key_bytes def.now.columns (cell_parts def.now) values.now) }
     ensures memory { IfErr result (λ fault. fault ≡ StoreFault.Memory) }
 {
-    let mut key = [0; KEY_BYTES];
+    let mut key = [0; KEY_LIMIT];
     let mut end = 0;
     for dim in def.dims.as_slice() {
         end = put_row_key(&mut key, end, &def.columns, dim, values);
@@ -84,19 +81,7 @@ pub(crate) fn push_key<'v>(
 {
     for i in 0..places.len() {
         let ty = columns.at(*places.at(i) as usize).ty;
-        push_part(key, ty, &values[i])?;
+        push_key_part(key, ty, false, &values[i])?;
     }
     Ok(&values[places.len()..])
-}
-
-/// Puts a value as a part of a key last.
-fn push_part(key: &mut Vec<u8>, ty: ColType, value: &Value) -> Result<(), StoreFault>
-    requires { IsTrue (has_key ty value.now) }
-    ensures part { OnOk result (key.new.items ≡ key.old.items ++ part_bytes ty false value.now) }
-    ensures memory { IfErr result (λ fault. fault ≡ StoreFault.Memory) }
-{
-    let at = key.len();
-    key.resize(at + part_width(ty) as usize, 0)?;
-    put_part(&mut key[at..], ty, false, value);
-    Ok(())
 }

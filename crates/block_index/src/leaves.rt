@@ -10,7 +10,8 @@ ghost use Rattle.entry_tree.specs.HeldTrees.{BreaksTree, HoldsTree, IsTreePage};
 ghost use Rattle.entry_tree.specs.Reading.{BoundFits, entries_from};
 ghost use Rattle.block_index.specs.Reading.{entries_left, room_above};
 
-use entry_tree::{Entry, Leaf, MAX_WIDTH, TREE_RULE, Tree};
+use entry_tree::{Entry, Leaf, MAX_WIDTH, Tree};
+use store_api::rules::TREES_RULE;
 use store_api::{Damage, Pages, StoreFault};
 
 /// The lowest entry of a width: zeros.
@@ -73,6 +74,6 @@ pub fn out_of_order(tree: &Tree) -> StoreFault
 {
     StoreFault::Damaged(Damage {
         page: tree.root,
-        rule: TREE_RULE,
+        rule: TREES_RULE,
     })
 }

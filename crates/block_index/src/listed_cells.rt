@@ -86,10 +86,7 @@ fn take_leaf(
     ensures taken { OnOk result ((more : List Entry) (all : List CellBlock) → IsListedTo def.now (leaf.now ++ more) found.old all → IsListedTo def.now more found.new all) }
     ensures memory { IfErr result (λ fault. fault ≡ StoreFault.Memory) }
 {
-    match take_cells(alloc, def, leaf, found) {
-        Ok(()) => Ok(()),
-        Err(_) => Err(StoreFault::Memory),
-    }
+    Ok(take_cells(alloc, def, leaf, found)?)
 }
 
 /// Puts the cells of some entries last.

@@ -136,8 +136,5 @@ pub(crate) fn push_block(blocks: &mut Blocks, block: u32) -> Result<(), StoreFau
     ensures pushed { OnOk result (blocks.new ≡ blocks.old ++ block ∷ []) }
     ensures fault { IfErr result (λ fault. fault ≡ StoreFault.Memory) }
 {
-    match blocks.push(block) {
-        Ok(()) => Ok(()),
-        Err(_) => Err(StoreFault::Memory),
-    }
+    Ok(blocks.push(block)?)
 }

@@ -18,10 +18,8 @@ use mdc_values::Rid;
 use row_filter::RowFilter;
 use row_page::{RowShape, RowView};
 use std::alloc::Global;
+use store_api::rules::ROW_PAGES_RULE;
 use store_api::{Damage, Page, Pages, StoreFault, bring};
-
-/// The rule that damage of a row page names.
-const ROW_PAGE_RULE: u16 = 7;
 
 /// Page p isn't a row page.
 pub(crate) fn no_row_page(p: u32) -> StoreFault
@@ -29,7 +27,7 @@ pub(crate) fn no_row_page(p: u32) -> StoreFault
 {
     StoreFault::Damaged(Damage {
         page: p,
-        rule: ROW_PAGE_RULE,
+        rule: ROW_PAGES_RULE,
     })
 }
 

@@ -11,16 +11,9 @@ ghost use Rattle.block_rows.specs.HeldRows.{BreaksExtent};
 use extent_map::Extents;
 use mdc_values::Rid;
 use row_page::RowShape;
+use store_api::layout::{FIRST_MAP_PAGE, MAP_PAGE_EXTENTS};
+use store_api::rules::EXTENTS_RULE;
 use store_api::{Damage, Pages, StoreFault};
-
-/// The rule that damage of the extent map names: an extent in use lies within the pages that there are.
-const EXTENT_RULE: u16 = 2;
-
-/// The first page of the extent map, behind the root page and the table pages.
-const FIRST_MAP_PAGE: u32 = 17;
-
-/// How many extents stand on a page of the map.
-const PAGE_EXTENTS: u32 = 512;
 
 /// A slot of a page.
 #[derive(Clone, Copy, Debug)]
@@ -51,8 +44,8 @@ fn past_the_pages(block: u32) -> Damage
     ensures rule { result.rule ≡ 2 }
 {
     Damage {
-        page: FIRST_MAP_PAGE + block / PAGE_EXTENTS,
-        rule: EXTENT_RULE,
+        page: FIRST_MAP_PAGE + block / MAP_PAGE_EXTENTS,
+        rule: EXTENTS_RULE,
     }
 }
 

@@ -18,14 +18,9 @@ use extent_map::Extents;
 use mdc_ast::TableDef;
 use row_page::capacity;
 use std::alloc::Global;
+use store_api::rules::{BLOCK_INDEXES_RULE, BLOCK_MAPS_RULE};
 use store_api::{Damage, Pages, StoreFault};
 use table_trees::cell_width;
-
-/// The rule that damage of a block map names: it names blocks of the table alone.
-const MAP_RULE: u16 = 6;
-
-/// The rule that damage of a block index names: it has exactly the Used blocks.
-const INDEX_RULE: u16 = 10;
 
 /// The lowest Used block from a number on that is of the cell with this key and has an empty slot, with its row in the block map.
 /// None where there is none.
@@ -84,13 +79,13 @@ fn used_row<P: Pages>(
 {
     let map = BlockMap::at(alloc, def.roots.map);
     let Some(row) = map.get(pages, block)? else {
-        return Err(damaged(def.roots.composite, INDEX_RULE));
+        return Err(damaged(def.roots.composite, BLOCK_INDEXES_RULE));
     };
     if row.state != BlockState::Used {
-        return Err(damaged(def.roots.composite, INDEX_RULE));
+        return Err(damaged(def.roots.composite, BLOCK_INDEXES_RULE));
     }
     if block >= ext.cap {
-        return Err(damaged(def.roots.map, MAP_RULE));
+        return Err(damaged(def.roots.map, BLOCK_MAPS_RULE));
     }
     Ok(row)
 }

@@ -2,10 +2,8 @@
 ghost use Rattle.std.specs.Prelude.{◌≡◌};
 
 use mdc_ast::TableDef;
+use store_api::rules::BLOCK_MAPS_RULE;
 use store_api::{Damage, StoreFault};
-
-/// The rule that damage of a block map names: it names each block of the table once, and nothing else.
-const MAP_RULE: u16 = 6;
 
 /// The block map doesn't say of a block what it should.
 pub(crate) fn unmapped(def: &TableDef) -> StoreFault
@@ -13,6 +11,6 @@ pub(crate) fn unmapped(def: &TableDef) -> StoreFault
 {
     StoreFault::Damaged(Damage {
         page: def.roots.map,
-        rule: MAP_RULE,
+        rule: BLOCK_MAPS_RULE,
     })
 }

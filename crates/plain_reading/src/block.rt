@@ -16,10 +16,8 @@ use mdc_ast::{Row, TableDef};
 use mdc_values::Memory;
 use row_page::{RowPageView, capacity};
 use std::alloc::Global;
+use store_api::rules::ROW_PAGES_RULE;
 use store_api::{Damage, Pages, StoreFault};
-
-/// The rule that damage of a row page names: it is one, of the columns of its table.
-const ROW_PAGE_RULE: u16 = 7;
 
 /// Puts copies of the rows of a block last, by rising slot.
 pub fn rows_of_block<P: Pages>(
@@ -64,7 +62,7 @@ fn rows_of_page<P: Pages>(
 {
     let no_row_page = Damage {
         page: p,
-        rule: ROW_PAGE_RULE,
+        rule: ROW_PAGES_RULE,
     };
     bring_page(pages, no_row_page)?;
     let slots = capacity(&def.columns);

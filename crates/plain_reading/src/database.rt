@@ -13,11 +13,9 @@ use extent_map::Extents;
 use mdc_sound::pages_stand_for_one;
 use mdc_values::List;
 use std::alloc::Global;
+use store_api::layout::TABLE_PLACES;
 use store_api::{Pages, StoreFault};
 use table_page::page_is_of_one_definition;
-
-/// How many places for tables there are.
-const PLACES: u8 = 16;
 
 /// The tables of all 16 places. Where the pages are told, they are those of the one database that the pages stand for, and
 /// each page of a Used block is a row page: one that isn't is named.
@@ -38,7 +36,7 @@ pub fn read_database<P: Pages>(
     pages_stand_for_one();
     page_is_of_one_definition();
     let mut tables = List::new(alloc);
-    for t in 0..PLACES {
+    for t in 0..TABLE_PLACES {
         let table = read_table(alloc, ext, pages, t)?;
         push_table(&mut tables, table)?;
     }
@@ -53,8 +51,5 @@ fn push_table(
     ensures pushed { OnOk result (tables.new ≡ tables.old ++ table ∷ []) }
     ensures memory { IfErr result (λ fault. fault ≡ StoreFault.Memory) }
 {
-    match tables.push(table) {
-        Ok(()) => Ok(()),
-        Err(_) => Err(StoreFault::Memory),
-    }
+    Ok(tables.push(table)?)
 }

@@ -12,11 +12,10 @@ use crate::page::bring_page;
 use extent_map::Extents;
 use mdc_ast::TableDef;
 use std::alloc::Global;
+use store_api::layout::FIRST_TABLE_PAGE;
+use store_api::rules::TABLE_PAGES_RULE;
 use store_api::{Damage, Pages, StoreFault};
 use table_page::{DefFault, def_of};
-
-/// The rule that damage of a table page names: it has zeros alone, or is that of a definition.
-const TABLE_RULE: u16 = 3;
 
 /// The definition of a table, or None where its page has zeros alone.
 pub fn read_definition<P: Pages>(
@@ -34,8 +33,8 @@ pub fn read_definition<P: Pages>(
     ensures runs { RunsOverPages P.Pages NoPage (OnlyPage (1 + t)) (BreaksDefinition ext.now (P.state pages.old)) pages.old pages.new (fault_of result) }
 {
     let undefined = Damage {
-        page: 1 + u32::from(t),
-        rule: TABLE_RULE,
+        page: FIRST_TABLE_PAGE + u32::from(t),
+        rule: TABLE_PAGES_RULE,
     };
     bring_page(pages, undefined)?;
     match def_of(alloc, pages.page(), t) {

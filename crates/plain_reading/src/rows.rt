@@ -17,10 +17,8 @@ use extent_map::Extents;
 use mdc_ast::{Row, TableDef};
 use mdc_sound::told_stores_hold_their_pages;
 use std::alloc::Global;
+use store_api::rules::BLOCK_MAPS_RULE;
 use store_api::{Damage, Pages, StoreFault};
-
-/// The rule that damage of a block map names: each of its blocks is an extent.
-const MAP_RULE: u16 = 6;
 
 /// Copies of the rows in the Used blocks of a table, by rising block and slot.
 pub fn rows_of_table<P: Pages>(
@@ -56,6 +54,6 @@ fn no_extent(def: &TableDef) -> StoreFault
 {
     StoreFault::Damaged(Damage {
         page: def.roots.map,
-        rule: MAP_RULE,
+        rule: BLOCK_MAPS_RULE,
     })
 }

@@ -13,10 +13,9 @@ use extent_map::Extents;
 use mdc_ast::{Row, TableDef};
 use mdc_values::List;
 use std::alloc::Global;
+use store_api::layout::FIRST_TABLE_PAGE;
+use store_api::rules::KEYS_RULE;
 use store_api::{Damage, Pages, StoreFault};
-
-/// The rule that damage of row numbers names: none is there twice.
-const NUMBERS_RULE: u16 = 12;
 
 /// A table that was read: its definition, and its rows by rising number.
 #[derive(Debug, Drop)]
@@ -58,7 +57,7 @@ fn number_twice(t: u8) -> StoreFault
     ensures { result ≡ StoreFault.Damaged (record { page = 1 + t; rule = 12 }) }
 {
     StoreFault::Damaged(Damage {
-        page: 1 + u32::from(t),
-        rule: NUMBERS_RULE,
+        page: FIRST_TABLE_PAGE + u32::from(t),
+        rule: KEYS_RULE,
     })
 }

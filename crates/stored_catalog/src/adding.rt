@@ -34,14 +34,9 @@ use extent_map::{Extents, SpaceFault};
 use mdc_ast::{Roots, TableDef};
 use mdc_values::List;
 use std::alloc::Global;
+use store_api::layout::{BLOCK_BYTES, BLOCK_MAP_WIDTH};
 use store_api::{Pages, StoreFault};
 use table_trees::{cell_width, places_width};
-
-/// How many bytes an entry of a block map has.
-const MAP_ENTRY_BYTES: u16 = 7;
-
-/// How many bytes stand behind the key in an entry of a block index: a block.
-const BLOCK_BYTES: u16 = 4;
 
 /// Makes a table of this definition in the lowest empty place, and answers that place: its trees, without entries, and its table
 /// page. It claims no more pages than its trees ask for. `Full` says that a CREATE TABLE of it runs full. After a fault the
@@ -135,7 +130,7 @@ fn make_trees<P: Pages>(
     ensures runs { RunsOverPages P.Pages (IsMapSpace P.Pages ext.old pages.old) (IsMapSpace P.Pages ext.old pages.old)
         (BreaksMaking P.Pages ext.old pages.old) pages.old pages.new (store_fault_in store_part_of result) }
 {
-    let map = make_tree(alloc, ext, pages, MAP_ENTRY_BYTES)?;
+    let map = make_tree(alloc, ext, pages, BLOCK_MAP_WIDTH)?;
     let composite = make_tree(alloc, ext, pages, cell_width(def) + BLOCK_BYTES)?;
     let dims = make_dimensions(alloc, ext, pages, def)?;
     Ok(Roots {
@@ -201,8 +196,5 @@ fn push_root(roots: &mut List<u32>, root: u32) -> Result<(), SpaceFault>
     ensures pushed { OnOk result (roots.new ≡ roots.old ++ root ∷ []) }
     ensures memory { IfErr result (λ fault. fault ≡ SpaceFault.Store StoreFault.Memory) }
 {
-    match roots.push(root) {
-        Ok(()) => Ok(()),
-        Err(_) => Err(SpaceFault::Store(StoreFault::Memory)),
-    }
+    Ok(roots.push(root)?)
 }

@@ -29,11 +29,9 @@ use catalog::Catalog;
 use extent_map::Extents;
 use mdc_ast::TableDef;
 use std::alloc::Global;
+use store_api::rules::BLOCK_MAPS_RULE;
 use store_api::{Damage, Pages, StoreFault};
 use table_trees::{block_index_tree, block_map_tree};
-
-/// The rule that damage of a block map names: each of its blocks is an extent.
-const MAP_RULE: u16 = 6;
 
 /// Drops the table in a place: its blocks and the pages of its trees are given back, and its table page is zeros. Rows aren't
 /// looked at. Damaged names a part of the table. After a fault the catalog is as it was, `undo` goes back to a mark, and the
@@ -174,6 +172,6 @@ fn no_extent(def: &TableDef) -> StoreFault
 {
     StoreFault::Damaged(Damage {
         page: def.roots.map,
-        rule: MAP_RULE,
+        rule: BLOCK_MAPS_RULE,
     })
 }

@@ -11,14 +11,10 @@ use crate::saving::no_table_page;
 use catalog::Catalog;
 use mdc_ast::TableDef;
 use std::alloc::Global;
+use store_api::layout::{FIRST_TABLE_PAGE, TABLE_PLACES};
+use store_api::rules::TABLE_PAGES_RULE;
 use store_api::{Damage, Pages, StoreFault, bring};
 use table_page::{DefFault, def_of};
-
-/// How many places for tables there are.
-const PLACES: u8 = 16;
-
-/// The rule that damage of a table page names: it has zeros alone, or is that of a definition, and no two are of one name.
-const TABLE_RULE: u16 = 3;
 
 /// The catalog of the definitions that the table pages have, no two of which are of one name. Damaged names page 0 where a table
 /// page isn't there, a table page that has neither zeros alone nor a definition, or the lower one of two tables of one name.
@@ -31,7 +27,7 @@ pub fn load_catalog<P: Pages>(alloc: Global, pages: &mut P) -> Result<Catalog, S
     ensures runs { RunsOverPages P.Pages NoPage IsAnyTablePage (BreaksTablePages P.Pages pages.old) pages.old pages.new (fault_of result) }
 {
     let mut catalog = empty_catalog(alloc)?;
-    for t in 0..PLACES {
+    for t in 0..TABLE_PLACES {
         let def = load_def(alloc, pages, t)?;
         put_def(&mut catalog, t, def)?;
     }
@@ -47,7 +43,7 @@ fn load_def<P: Pages>(alloc: Global, pages: &mut P, t: u8) -> Result<Option<Tabl
     ensures same { (P.state pages.new).work ≡ (P.state pages.old).work }
     ensures runs { RunsOverPages P.Pages NoPage (OnlyPage (1 + t)) (BreaksTablePage P.Pages pages.old t) pages.old pages.new (fault_of result) }
 {
-    let page = 1 + u32::from(t);
+    let page = FIRST_TABLE_PAGE + u32::from(t);
     if page >= pages.count() {
         return Err(no_table_page());
     }
@@ -56,7 +52,7 @@ fn load_def<P: Pages>(alloc: Global, pages: &mut P, t: u8) -> Result<Option<Tabl
         Ok(def) => Ok(def),
         Err(DefFault::Form) => Err(StoreFault::Damaged(Damage {
             page,
-            rule: TABLE_RULE,
+            rule: TABLE_PAGES_RULE,
         })),
         Err(DefFault::Memory) => Err(StoreFault::Memory),
     }
@@ -76,8 +72,8 @@ fn put_def(catalog: &mut Catalog, t: u8, def: Option<TableDef>) -> Result<(), St
     };
     if let Some(earlier) = catalog.table(&def.name) {
         return Err(StoreFault::Damaged(Damage {
-            page: 1 + u32::from(earlier.number),
-            rule: TABLE_RULE,
+            page: FIRST_TABLE_PAGE + u32::from(earlier.number),
+            rule: TABLE_PAGES_RULE,
         }));
     }
     catalog.put(t, def);
@@ -89,8 +85,5 @@ fn empty_catalog(alloc: Global) -> Result<Catalog, StoreFault>
     ensures empty { IfOk result (λ catalog. catalog ≡ no_tables) }
     ensures memory { IfErr result (λ fault. fault ≡ StoreFault.Memory) }
 {
-    match Catalog::empty(alloc) {
-        Ok(catalog) => Ok(catalog),
-        Err(_) => Err(StoreFault::Memory),
-    }
+    Ok(Catalog::empty(alloc)?)
 }

@@ -12,6 +12,7 @@ ghost use Rattle.stored_catalog.specs.StoredDefinitions.{AreStored, LacksTablePa
 
 use crate::saving::no_table_page;
 use catalog::Catalog;
+use store_api::layout::FIRST_TABLE_PAGE;
 use store_api::{Pages, StoreFault};
 use table_page::set_next;
 
@@ -44,7 +45,7 @@ fn write_next<P: Pages>(pages: &mut P, table: u8, next: u64) -> Result<(), Store
     ensures count { length (P.state pages.new).work ≡ length (P.state pages.old).work }
     ensures runs { RunsOverPages P.Pages (OnlyPage (1 + table)) (OnlyPage (1 + table)) (LacksTablePage P.Pages pages.old table) pages.old pages.new (fault_of result) }
 {
-    let page = 1 + u32::from(table);
+    let page = FIRST_TABLE_PAGE + u32::from(table);
     if page >= pages.count() {
         return Err(no_table_page());
     }

@@ -9,11 +9,10 @@ ghost use Rattle.stored_catalog.specs.StoredDefinitions.{AreStored, LacksTablePa
 
 use catalog::Catalog;
 use mdc_ast::TableDef;
+use store_api::layout::{FIRST_TABLE_PAGE, ROOT_PAGE};
+use store_api::rules::ROOT_PAGE_RULE;
 use store_api::{Damage, Page, Pages, StoreFault, blank_page, write_page};
 use table_page::def_page;
-
-/// The rule that damage of the root page names: it states how many pages there are.
-const COUNT_RULE: u16 = 1;
 
 /// Writes the page of a place of the catalog: that of the definition there, or zeros. Damaged names page 0 where there is no such
 /// page.
@@ -73,7 +72,7 @@ fn write_table_page<P: Pages>(pages: &mut P, table: u8, bytes: &Page) -> Result<
     ensures count { length (P.state pages.new).work ≡ length (P.state pages.old).work }
     ensures runs { RunsOverPages P.Pages (OnlyPage (1 + table)) NoPage (LacksTablePage P.Pages pages.old table) pages.old pages.new (fault_of result) }
 {
-    let page = 1 + u32::from(table);
+    let page = FIRST_TABLE_PAGE + u32::from(table);
     if page >= pages.count() {
         return Err(no_table_page());
     }
@@ -85,7 +84,7 @@ pub(crate) fn no_table_page() -> StoreFault
     ensures { result ≡ StoreFault.Damaged (record { page = 0; rule = 1 }) }
 {
     StoreFault::Damaged(Damage {
-        page: 0,
-        rule: COUNT_RULE,
+        page: ROOT_PAGE,
+        rule: ROOT_PAGE_RULE,
     })
 }

@@ -44,9 +44,7 @@ fn push_values(
 {
     let _columns = columns;
     for place in places.as_slice() {
-        let Ok(value) = values.at(usize::from(*place)).copy(alloc) else {
-            return Err(StoreFault::Memory);
-        };
+        let value = values.at(usize::from(*place)).copy(alloc)?;
         cell.push(value)?;
     }
     Ok(())

@@ -4,13 +4,8 @@ ghost use Rattle.store_api.specs.Extents.{first_page_of};
 
 use extent_map::Extents;
 use mdc_ast::TableDef;
+use store_api::rules::{BLOCK_MAPS_RULE, ROW_COUNTS_RULE};
 use store_api::{Damage, StoreFault};
-
-/// The rule that damage of a block map names: it names each block of the table once, and nothing else.
-const MAP_RULE: u16 = 6;
-
-/// The rule that damage of a count names: a Used block has as many rows as its line says.
-const COUNT_RULE: u16 = 8;
 
 /// The block map doesn't say of a block what it should.
 pub(crate) fn unmapped(def: &TableDef) -> StoreFault
@@ -18,7 +13,7 @@ pub(crate) fn unmapped(def: &TableDef) -> StoreFault
 {
     StoreFault::Damaged(Damage {
         page: def.roots.map,
-        rule: MAP_RULE,
+        rule: BLOCK_MAPS_RULE,
     })
 }
 
@@ -29,6 +24,6 @@ pub(crate) fn miscounted(ext: &Extents, block: u32) -> StoreFault
 {
     StoreFault::Damaged(Damage {
         page: ext.first_page(block),
-        rule: COUNT_RULE,
+        rule: ROW_COUNTS_RULE,
     })
 }
