@@ -18,6 +18,7 @@ use extent_map::Extents;
 use file_check::{Verdict, check};
 use mdc_ast::TableDef;
 use std::alloc::Global;
+use store_api::layout::FIRST_TABLE_PAGE;
 use store_api::{Damage, Pages, StoreFault, blank_page, write_page};
 use table_page::def_page;
 
@@ -99,7 +100,7 @@ fn write_definition<P: Pages>(def: &TableDef, pages: &mut P) -> Result<(), Store
     ensures writes { OnOk result (IsTrue (P.state pages.old).is_told → pages_of P.Pages pages.new ≡ with_table_page def.now (pages_of P.Pages pages.old)) }
     ensures runs { RunsOverPages P.Pages (OnlyPage (1 + def.now.number)) NoPage NoDamage pages.old pages.new (fault_of result) }
 {
-    let page = 1 + u32::from(def.number);
+    let page = FIRST_TABLE_PAGE + u32::from(def.number);
     if page >= pages.count() {
         return Ok(());
     }

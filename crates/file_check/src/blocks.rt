@@ -19,10 +19,8 @@ use mdc_ast::TableDef;
 use mdc_sound::told_stores_hold_their_pages;
 use mdc_values::Blocks;
 use std::alloc::Global;
+use store_api::rules::BLOCK_MAPS_RULE;
 use store_api::{Damage, Pages, StoreFault};
-
-/// The rule that damage of a block map names: each of its blocks is an extent.
-const MAP_RULE: u16 = 6;
 
 /// The blocks to which the block map of a table gives a state. Each is an extent.
 pub(crate) fn blocks_in_state<P: Pages>(
@@ -73,6 +71,6 @@ pub(crate) fn no_extent(def: &TableDef) -> StoreFault
 {
     StoreFault::Damaged(Damage {
         page: def.roots.map,
-        rule: MAP_RULE,
+        rule: BLOCK_MAPS_RULE,
     })
 }

@@ -21,20 +21,10 @@ use crate::verdict::Verdict;
 use extent_map::Extents;
 use mdc_ast::TableDef;
 use std::alloc::Global;
+use store_api::rules::{
+    BLOCK_MAPS_RULE, EXTENTS_RULE, ROOT_PAGE_RULE, TABLE_PAGES_RULE, TREE_PAGES_RULE, TREES_RULE,
+};
 use store_api::{Damage, PageFault, Pages, StoreFault};
-
-/// The numbers of the first rules.
-const ROOT_RULE: u16 = 1;
-
-const EXTENTS_RULE: u16 = 2;
-
-const TABLE_PAGES_RULE: u16 = 3;
-
-const TREES_RULE: u16 = 4;
-
-const TREE_PAGES_RULE: u16 = 5;
-
-const BLOCK_MAPS_RULE: u16 = 6;
 
 /// Judges all pages of a database by the twelve rules. Where they aren't sound, the first rule that is broken is named, with the
 /// lowest page that breaks it.
@@ -61,7 +51,7 @@ fn judge_rules<P: Pages>(alloc: Global, ext: &Extents, pages: &mut P) -> Result<
     ensures runs { RunsOverPages P.Pages NoPage AnyPage (UnlessTold P.Pages pages.old) pages.old pages.new (fault_of result) }
 {
     if let Some(page) = judge_root(ext, pages)? {
-        return Ok(broken(ROOT_RULE, page));
+        return Ok(broken(ROOT_PAGE_RULE, page));
     }
     if let Some(page) = judge_extents(ext, pages)? {
         return Ok(broken(EXTENTS_RULE, page));

@@ -15,14 +15,9 @@ use crate::roots::judge_roots;
 use extent_map::Extents;
 use mdc_ast::TableDef;
 use std::alloc::Global;
+use store_api::layout::{FIRST_TABLE_PAGE, TABLE_PLACES};
 use store_api::{Pages, StoreFault, bring};
 use table_page::{DefFault, def_of};
-
-/// How many tables a database may have.
-pub(crate) const TABLES: u8 = 16;
-
-/// The first table page.
-pub(crate) const FIRST_TABLE_PAGE: u32 = 1;
 
 /// What judging the table pages answers.
 #[derive(Debug, Drop)]
@@ -68,7 +63,7 @@ pub(crate) fn judge_table_pages<P: Pages>(
 {
     let mut defs = Vec::new(alloc);
     let mut lowest = None;
-    for t in 0..TABLES {
+    for t in 0..TABLE_PLACES {
         let page = judge_table_page(alloc, ext, pages, t)?;
         lowest = lower(lowest, page.broken);
         defs.push(page.def)?;

@@ -10,16 +10,17 @@ ghost use Rattle.file_check.specs.Judging.{JudgesRule};
 ghost use Rattle.file_check.specs.Looking.{AnyPage, Unless};
 ghost use Rattle.file_check.specs.MapPagesJudged.{TellTables};
 
-use crate::definitions::{FIRST_TABLE_PAGE, TABLES};
 use crate::map_pages::is_map_page_sound;
 use extent_map::Extents;
+use store_api::layout::{FIRST_MAP_PAGE, FIRST_TABLE_PAGE, ROOT_PAGE, TABLE_PLACES};
+use store_api::rules::ROOT_PAGE_RULE;
 use store_api::{Damage, Page, Pages, StoreFault, blank_page, bring};
 
-/// The first page of the extent map.
-const FIRST_MAP_PAGE: u32 = 17;
-
 /// There are fewer pages than stand before the extents.
-const TOO_FEW_PAGES: Damage = Damage { page: 0, rule: 1 };
+const TOO_FEW_PAGES: Damage = Damage {
+    page: ROOT_PAGE,
+    rule: ROOT_PAGE_RULE,
+};
 
 /// Judges the extent map: None where each of its pages has an entry of its form for each extent, blocks are those of tables that
 /// are there, and extents in use lie within the count; else the lowest of its pages that doesn't.
@@ -49,15 +50,15 @@ pub(crate) fn judge_extents<P: Pages>(
 }
 
 /// Whether each table is there: its page has more than zeros.
-fn tables_there<P: Pages>(pages: &mut P) -> Result<[bool; TABLES as usize], StoreFault>
+fn tables_there<P: Pages>(pages: &mut P) -> Result<[bool; TABLE_PLACES as usize], StoreFault>
     requires going { (P.state pages.old).ended ≡ false }
     requires there { 17 ≤ length (P.state pages.old).work }
     ensures told { IfOk result (λ tables. IsTrue (P.state pages.old).is_told → TellTables (P.state pages.old).work tables) }
     ensures same { (P.state pages.new).work ≡ (P.state pages.old).work }
     ensures runs { RunsOverPages P.Pages NoPage AnyPage NoDamage pages.old pages.new (fault_of result) }
 {
-    let mut tables = [false; TABLES as usize];
-    for t in 0..TABLES as usize {
+    let mut tables = [false; TABLE_PLACES as usize];
+    for t in 0..TABLE_PLACES as usize {
         bring(pages, FIRST_TABLE_PAGE + t as u32)?;
         tables[t] = !is_blank(pages.page());
     }

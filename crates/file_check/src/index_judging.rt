@@ -27,10 +27,8 @@ use extent_map::Extents;
 use mdc_ast::TableDef;
 use mdc_values::Blocks;
 use std::alloc::Global;
+use store_api::layout::BLOCK_BYTES;
 use store_api::{Pages, StoreFault};
-
-/// How many bytes a block has in an entry.
-const BLOCK_BYTES: usize = 4;
 
 /// Judges the indexes of a kind of a table: each has the entry of each row, and no other but those that name spare blocks. Else the
 /// lowest root of one that isn't so.
@@ -170,7 +168,7 @@ fn block_in_entry(index: &TableIndex, entry: &[u8]) -> u32
     ensures { result ≡ number_within (index.now.tree.width - bytes_behind_key index.now.kind) 4 entry.now }
 {
     let key = entry.len() - index.kind.bytes_behind_key();
-    BigEndian::read_u32(&entry[key..key + BLOCK_BYTES])
+    BigEndian::read_u32(&entry[key..key + usize::from(BLOCK_BYTES)])
 }
 
 /// Whether a block is one of these.

@@ -9,12 +9,7 @@ ghost use Rattle.file_check.specs.MapPagesJudged.{AreEntriesSound, IsEntrySound,
 
 use extent_map::{Extents, Kind, stated_kind};
 use store_api::Page;
-
-/// How many extents stand on a page of the map.
-const PAGE_EXTENTS: u32 = 512;
-
-/// How many bytes each has there.
-const ENTRY_BYTES: usize = 8;
+use store_api::layout::{EXTENT_ENTRY_BYTES, MAP_PAGE_EXTENTS};
 
 /// Whether page i of the extent map is sound, where there are so many pages, and these tables.
 pub(crate) fn is_map_page_sound(
@@ -38,8 +33,8 @@ fn are_entries_sound(ext: &Extents, page: &Page, i: u32, count: u32, tables: &[b
     requires { i < map_pages ext.now.cap }
     ensures { IsTrue result ↔ AreEntriesSound ext.now count tables.now page.now i }
 {
-    let first = i * PAGE_EXTENTS;
-    for e in first..first + PAGE_EXTENTS {
+    let first = i * MAP_PAGE_EXTENTS;
+    for e in first..first + MAP_PAGE_EXTENTS {
         if !is_entry_sound(ext, page, e, count, tables) {
             return false;
         }
@@ -52,8 +47,8 @@ fn is_entry_sound(ext: &Extents, page: &Page, e: u32, count: u32, tables: &[bool
     requires { e < 131072 }
     ensures { IsTrue result ↔ IsEntrySound ext.now count tables.now e (kind_on ext.now page.now e) }
 {
-    let at = ENTRY_BYTES * (e % PAGE_EXTENTS) as usize;
-    let Some(kind) = stated_kind(&page[at..at + ENTRY_BYTES], ext.extent_pages) else {
+    let at = EXTENT_ENTRY_BYTES * (e % MAP_PAGE_EXTENTS) as usize;
+    let Some(kind) = stated_kind(&page[at..at + EXTENT_ENTRY_BYTES], ext.extent_pages) else {
         return false;
     };
     match kind {

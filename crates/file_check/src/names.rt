@@ -4,15 +4,15 @@ ghost use Rattle.std.specs.Prelude.{◌≡◌, length};
 ghost use Rattle.mdc_ast.specs.Definitions as definitions;
 ghost use Rattle.file_check.specs.TablePagesJudged.{first_shared, has_index_named, share_names, shares_later, shares_with};
 
-use crate::definitions::{FIRST_TABLE_PAGE, TABLES};
 use mdc_ast::{IndexDef, Name, TableDef};
+use store_api::layout::{FIRST_TABLE_PAGE, TABLE_PLACES};
 
 /// The lowest page of a table that shares a name with a later one: their own, or that of an index of each.
 pub(crate) fn lowest_shared(defs: &[Option<TableDef>]) -> Option<u32>
     requires places { length defs.now ≡ 16 }
     ensures { result ≡ first_shared 1 defs.now }
 {
-    for t in 0..TABLES {
+    for t in 0..TABLE_PLACES {
         let place = usize::from(t);
         if shares_later(&defs[place], &defs[place + 1..]) {
             return Some(FIRST_TABLE_PAGE + u32::from(t));

@@ -12,10 +12,8 @@ ghost use Rattle.file_check.specs.Judging.{JudgesRule};
 ghost use Rattle.file_check.specs.Looking.{AnyPage, UnlessTold};
 
 use extent_map::Extents;
+use store_api::layout::ROOT_PAGE;
 use store_api::{Page, Pages, StoreFault, blank_page, bring, stated_count};
-
-/// The number of the root page.
-const ROOT_PAGE: u32 = 0;
 
 /// How many bytes of the root page say something: `ROOT`, the version and the page count.
 const ROOT_BYTES: usize = 12;

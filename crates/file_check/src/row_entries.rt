@@ -3,7 +3,7 @@ ghost use Rattle.std.specs.Prelude.{◌≡◌, ◌<◌, ◌++◌, map, false, Co
 ghost use Rattle.store_api.specs.Causes.{fault_of};
 ghost use Rattle.store_api.specs.Frame.{NoPage};
 ghost use Rattle.store_api.specs.RunsOverPages.{RunsOverPages};
-ghost use Rattle.key_codec.specs.Keys.{ArePartsOf, has_key, key_bytes, part_bytes};
+ghost use Rattle.key_codec.specs.Keys.{ArePartsOf, key_bytes};
 ghost use Rattle.entry_tree.specs.Forest.{Forest, leaf_entries};
 ghost use Rattle.table_trees.specs.TableTrees.{place_of_tree};
 ghost use Rattle.table_trees.specs.ToldPages.{HasTree};
@@ -14,9 +14,9 @@ ghost use Rattle.file_check.specs.TableIndexes.{FitsTable, LacksOne, NotesEntrie
 use crate::entry_set::EntrySet;
 use crate::table_index::{IndexKind, TableIndex};
 use block_rows::Hit;
-use key_codec::{part_width, put_part};
+use key_codec::push_key_part;
 use mdc_ast::{ColumnDef, KeyPart, Row, TableDef};
-use mdc_values::{ColType, List, Value};
+use mdc_values::List;
 use std::alloc::Global;
 use store_api::{Pages, StoreFault};
 
@@ -91,24 +91,7 @@ fn push_key(
     for part in parts.as_slice() {
         let place = usize::from(part.column);
         let ty = columns.at(place).ty;
-        push_part(key, ty, part.descending, row.values.at(place))?;
+        push_key_part(key, ty, part.descending, row.values.at(place))?;
     }
-    Ok(())
-}
-
-/// Puts a value as a part of a key last.
-fn push_part(
-    key: &mut Vec<u8>,
-    ty: ColType,
-    descending: bool,
-    value: &Value,
-) -> Result<(), StoreFault>
-    requires { IsTrue (has_key ty value.now) }
-    ensures part { OnOk result (key.new.items ≡ key.old.items ++ part_bytes ty descending value.now) }
-    ensures memory { IfErr result (λ fault. fault ≡ StoreFault.Memory) }
-{
-    let at = key.len();
-    key.resize(at + usize::from(part_width(ty)), 0)?;
-    put_part(&mut key[at..], ty, descending, value);
     Ok(())
 }

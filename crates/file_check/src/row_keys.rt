@@ -1,15 +1,15 @@
 // Row numbers and keys of rows, as rows give them.
-ghost use Rattle.std.specs.Prelude.{◌≡◌, ◌++◌, ◌<◌, List, map, IfErr, IfOk, OnOk, IsTrue};
+ghost use Rattle.std.specs.Prelude.{◌≡◌, ◌++◌, ◌<◌, List, map, IfErr, IfOk, OnOk};
 ghost use Rattle.mdc_ast.specs.declared.row.Row.{Row};
-ghost use Rattle.key_codec.specs.Keys.{ArePartsOf, HasByteText, HasByteTexts, has_key, key_bytes, part_bytes};
+ghost use Rattle.key_codec.specs.Keys.{ArePartsOf, HasByteTexts, key_bytes};
 ghost use Rattle.block_rows.specs.HeldRows.{HasReadValues, HaveReadValues, placed_row};
 ghost use Rattle.mdc_sound.specs.TableRows.{PlacedRow};
 ghost use Rattle.file_check.specs.KeysJudged.{AreKeysOf, AreNumbersOf};
 
 use block_rows::Hit;
-use key_codec::{part_width, put_part};
+use key_codec::push_key_part;
 use mdc_ast::{ColumnDef, KeyPart, Row};
-use mdc_values::{ColType, List, Value};
+use mdc_values::List;
 use std::alloc::Global;
 use store_api::StoreFault;
 
@@ -62,25 +62,7 @@ fn key_of_row(
     for part in parts.as_slice() {
         let place = usize::from(part.column);
         let ty = columns.at(place).ty;
-        push_part(&mut key, ty, part.descending, row.values.at(place))?;
+        push_key_part(&mut key, ty, part.descending, row.values.at(place))?;
     }
     Ok(key)
-}
-
-/// Puts a value as a part of a key last.
-fn push_part(
-    key: &mut Vec<u8>,
-    ty: ColType,
-    descending: bool,
-    value: &Value,
-) -> Result<(), StoreFault>
-    requires { IsTrue (has_key ty value.now) }
-    ensures part { OnOk result (key.new.items ≡ key.old.items ++ part_bytes ty descending value.now) }
-    ensures texts { OnOk result (HasByteText value.now) }
-    ensures memory { IfErr result (λ fault. fault ≡ StoreFault.Memory) }
-{
-    let at = key.len();
-    key.resize(at + usize::from(part_width(ty)), 0)?;
-    put_part(&mut key[at..], ty, descending, value);
-    Ok(())
 }

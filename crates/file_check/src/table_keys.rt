@@ -12,7 +12,6 @@ ghost use Rattle.file_check.specs.KeysJudged.{AreKeysOf, AreNumbersOf, AreTableK
 ghost use Rattle.file_check.specs.Looking.{AnyPage, Unless};
 
 use crate::blocks::blocks_in_state;
-use crate::definitions::FIRST_TABLE_PAGE;
 use crate::differing::{are_apart_below, do_keys_differ};
 use crate::row_keys::{push_keys, push_numbers};
 use crate::rows::rows_of_block;
@@ -20,6 +19,7 @@ use block_map::BlockState;
 use extent_map::Extents;
 use mdc_ast::{IndexDef, TableDef};
 use std::alloc::Global;
+use store_api::layout::FIRST_TABLE_PAGE;
 use store_api::{Pages, StoreFault};
 
 /// Judges row numbers and unique keys of one table: its page, where they aren't sound.

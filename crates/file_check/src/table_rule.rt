@@ -4,6 +4,9 @@ ghost use Rattle.file_check.specs.RulesOfTables.{rule_number};
 
 use crate::block_rule::BlockRule;
 use crate::table_index::IndexKind;
+use store_api::rules::{
+    BLOCK_INDEXES_RULE, CELLS_RULE, KEYS_RULE, RECORD_INDEXES_RULE, ROW_COUNTS_RULE, ROW_PAGES_RULE,
+};
 
 /// A rule that is judged table by table.
 #[derive(Clone, Copy, Debug)]
@@ -32,12 +35,12 @@ impl TableRule {
         ensures { result ≡ rule_number self }
     {
         match self {
-            TableRule::Block(BlockRule::RowPages) => 7,
-            TableRule::Block(BlockRule::Counts) => 8,
-            TableRule::Block(BlockRule::Cells) => 9,
-            TableRule::Index(IndexKind::Blocks) => 10,
-            TableRule::Index(IndexKind::Rows) => 11,
-            TableRule::Keys => 12,
+            TableRule::Block(BlockRule::RowPages) => ROW_PAGES_RULE,
+            TableRule::Block(BlockRule::Counts) => ROW_COUNTS_RULE,
+            TableRule::Block(BlockRule::Cells) => CELLS_RULE,
+            TableRule::Index(IndexKind::Blocks) => BLOCK_INDEXES_RULE,
+            TableRule::Index(IndexKind::Rows) => RECORD_INDEXES_RULE,
+            TableRule::Keys => KEYS_RULE,
         }
     }
 }
