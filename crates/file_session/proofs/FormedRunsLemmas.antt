@@ -14,7 +14,7 @@ use Rattle.page_store.specs.Opened.{CouldBeLeft, LeavesBaseSince, StandsSince}
 use Rattle.page_store.specs.Opening.{StandsAs}
 use Rattle.page_store.specs.Shape.{extents_in, extent_pages_in}
 use Rattle.page_store.specs.Standing.{IsFormed, pages_in}
-use Rattle.page_store.specs.declared.shape.Shape.{Shape}
+use Rattle.store_api.specs.declared.shape.Shape.{Shape}
 use Rattle.script_session.specs.Leaving.{ReopensAlways}
 use Rattle.file_verdict.specs.Resting.{LeavesSince, StaysFormed}
 use Rattle.file_verdict.proofs.JudgingLemmas.{formed_left}

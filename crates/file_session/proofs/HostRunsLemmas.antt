@@ -14,7 +14,7 @@ use Rattle.table_trees.specs.ToldPages.{PageList}
 use Rattle.mdc_sound.specs.SoundDatabase.{IsSoundDatabase}
 use Rattle.mdc_sound.specs.StandsForDatabase.{PagesStandFor}
 use Rattle.page_store.specs.FileStore.{IsLeft}
-use Rattle.page_store.specs.declared.shape.Shape.{Shape}
+use Rattle.store_api.specs.declared.shape.Shape.{Shape}
 use Rattle.page_store.specs.Standing.{pages_in}
 use Rattle.script_engine.specs.Held.{HeldPages, StandsForSession}
 use Rattle.script_session.specs.Going.{GoesOnPages, Stage}

@@ -4,6 +4,7 @@ use Rattle.mdc_ast.specs.declared.reply.Outcome.{Outcome}
 use Rattle.mdc_ast.specs.Reading.{Item}
 use Rattle.mdc_outside.specs.Disk.{File, IsImage, all_synced}
 use Rattle.store_api.specs.declared.pages.Pages.{Ghosts}
+use Rattle.store_api.specs.declared.shape.Shape.{Shape}
 use Rattle.extent_map.specs.declared.extents.Extents.{Extents}
 use Rattle.table_trees.specs.ToldPages.{PageList}
 use Rattle.mdc_sound.specs.SoundDatabase.{KeepAllRules}
@@ -46,9 +47,9 @@ stop_of_well fault stop bytes served refuses stops = elim (refused_served fault 
 -- ---- what stands for the pages of a well file
 
 -- a store that was just opened on a well file tells sound pages
-pub sound_opened : {S : Type 0} (g : Ghosts S) (s : S) (bytes : List ℕ) (is_told : Bool) (tape : Option (List ℕ)) (attaches : Option (List (List ℕ × Bool))) (well : IsWell bytes) → is_told ≡ true → IsJustOpened is_told tape attaches (g.state s)
+pub sound_opened : {S : Type 0} (g : Ghosts S) (s : S) (bytes : List ℕ) (is_told : Bool) (tape : Option (List ℕ)) (shape : Shape) (attaches : Option (List (List ℕ × Bool))) (well : IsWell bytes) → is_told ≡ true → IsJustOpened is_told tape shape attaches (g.state s)
     → (g.state s).base ≡ pages_in bytes → IsSoundStore g well.ext s
-sound_opened g s bytes is_told tape attaches well tells just base =
+sound_opened g s bytes is_told tape shape attaches well tells just base =
     let work : (g.state s).work ≡ pages_in bytes = ap (λ state. state.work) just ∙ base in
     record {
       told = ap (λ state. state.is_told) just ∙ tells;

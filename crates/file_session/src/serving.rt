@@ -27,14 +27,11 @@ ghost use Rattle.file_session.specs.Well.{AreWell, IsWell};
 use crate::stop::FileStop;
 use extent_map::Extents;
 use mdc_outside::{Host, Source};
-use page_store::{FileStore, OpenFault, Unopened};
+use page_store::{CACHED_PAGES, FileStore, OpenFault, Unopened};
 use script_engine::{Engine, Stopped, sound_pages_stand};
 use script_session::{Served, SessionStop, goes_on_lists, serve};
 use std::alloc::Global;
 use store_api::{Pages, Store};
-
-/// How many clean pages are kept in memory.
-const CACHE: usize = 1_024;
 
 /// How serving a script on a file ended, and the host.
 #[derive(Drop)]
@@ -82,7 +79,7 @@ pub fn serve_file<I: Source, H: Host>(alloc: Global, input: &mut I, host: H) -> 
     // A run over sound pages is one over lists of rows, also one of no item.
     goes_on_lists();
     sound_pages_stand();
-    match FileStore::open(alloc, host, CACHE) {
+    match FileStore::open(alloc, host, CACHED_PAGES) {
         Ok(store) => serve_store(alloc, input, store),
         Err(Unopened { fault, host }) => Ended {
             end: Err(stop_of_opening(fault)),
@@ -152,7 +149,7 @@ fn serve_pages<I: Source, S: Store>(
     ensures reads { CountsFault (result.end ≡ Err SessionStop.Unread) (I.read_faults input.old) (I.read_faults input.new) }
     ensures unsaid { CountsFault (result.end ≡ Err SessionStop.Unsaid) (S.say_faults store) (S.say_faults result.store) }
     ensures device { CountsFault (result.end ≡ Err SessionStop.Device) (S.disk_faults store) (S.disk_faults result.store) }
-    ensures attached { (S.state result.store).attached ≡ (S.state store).attached }
+    ensures beside { (S.state result.store).beside ≡ (S.state store).beside }
     ensures is_told { (S.state result.store).is_told ≡ (S.state store).is_told }
     ensures takes { IfSome (I.left input.old) (λ script. TakesScript script (I.left input.new) result.end) }
     ensures replies { RepliesTo (I.left input.old) (I.left input.new) (S.state store).told (S.state result.store).told result.end }

@@ -21,7 +21,7 @@ use Rattle.page_store.specs.FileStore.{IsLeft}
 use Rattle.page_store.specs.Opening.{IsServed}
 use Rattle.page_store.specs.Shape.{extents_in, extent_pages_in}
 use Rattle.page_store.specs.Standing.{IsStoreImage, Stands, pages_in}
-use Rattle.page_store.specs.declared.shape.Shape.{Shape}
+use Rattle.store_api.specs.declared.shape.Shape.{Shape}
 use Rattle.file_check.specs.Verdicts.{IsVerdictOf}
 use Rattle.file_check.specs.declared.verdict.Verdict.{Verdict}
 use Rattle.file_check.specs.declared.verdict.Verdict.TheVariants.{Broken, Sound}

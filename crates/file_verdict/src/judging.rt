@@ -19,12 +19,9 @@ use crate::unjudged::Unjudged;
 use extent_map::Extents;
 use file_check::{Verdict, check, sound_pages_break_no_rule};
 use mdc_outside::Host;
-use page_store::{FileStore, OpenFault, Unopened};
+use page_store::{CACHED_PAGES, FileStore, OpenFault, Unopened};
 use std::alloc::Global;
 use store_api::{PageFault, Pages};
-
-/// How many clean pages are kept in memory.
-const CACHE: usize = 1_024;
 
 /// The verdict on a file, or why it has none, and the host.
 #[derive(Drop)]
@@ -59,7 +56,7 @@ pub fn judge_file<H: Host>(alloc: Global, host: H) -> Judged<H>
     ensures later { H.clock host ≤ H.clock result.host }
 {
     sound_pages_break_no_rule();
-    match FileStore::open(alloc, host, CACHE) {
+    match FileStore::open(alloc, host, CACHED_PAGES) {
         Ok(store) => judge_store(alloc, store),
         Err(Unopened { fault, host }) => Judged {
             verdict: verdict_of_opening(fault),

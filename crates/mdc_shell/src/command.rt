@@ -12,8 +12,8 @@ use crate::plain::{are_plain, is_path};
 use clap::ArgMatches;
 use clap::error::ErrorKind;
 use mdc_values::Memory;
-use page_store::Shape;
 use std::alloc::Global;
+use store_api::Shape;
 
 /// What a command line asks for.
 pub enum Command<'w> {

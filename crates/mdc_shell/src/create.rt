@@ -15,7 +15,8 @@ ghost use Rattle.mdc_shell.specs.Leaving.{LeftByCreate};
 ghost use Rattle.mdc_shell.specs.Status.{status_of_created};
 
 use mdc_outside::{Disk, Failed, Host};
-use page_store::{OpenFault, Shape, make};
+use page_store::{OpenFault, make};
+use store_api::Shape;
 
 const MADE: &[u8] = b"OK\n";
 

@@ -27,8 +27,8 @@ use crate::running::{run_path, run_scratch};
 use crate::status::Status;
 use mdc_outside::{Failed, Host, Source};
 use mdc_values::Memory;
-use page_store::Shape;
 use std::alloc::Global;
+use store_api::Shape;
 
 /// What a call of `run` ends with: its status, and the host that it was given.
 #[derive(Drop)]

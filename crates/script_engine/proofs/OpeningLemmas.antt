@@ -43,7 +43,7 @@ module _ {S : Type 0} (g : Ghosts S) where
     base = reads.steady.base;
     work = reads.work;
     told = reads.steady.told;
-    attached = reads.steady.attached;
+    beside = reads.steady.beside;
     say_faults = reads.steady.say_faults;
     time = reads.steady.time;
   }

@@ -27,7 +27,7 @@ settles_still g engine may = record {
   say_faults = refl;
   is_told = refl;
   told = refl;
-  attached = refl;
+  beside = refl;
   time = over_time_none;
   at_rest = λ back going rests. rests;
 }

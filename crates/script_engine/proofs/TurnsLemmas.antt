@@ -196,7 +196,7 @@ module _ {S : Type 0} (g : Ghosts S) where
     say_faults = steady.say_faults;
     is_told = steady.is_told;
     told = steady.told;
-    attached = steady.attached;
+    beside = steady.beside;
     time = base_or_now-steady steady;
     rests = λ back going was. rests_steady (back new.store) going steady was;
   }
@@ -208,7 +208,7 @@ module _ {S : Type 0} (g : Ghosts S) where
     say_faults = commits.say_faults;
     is_told = commits.is_told;
     told = commits.told;
-    attached = commits.attached;
+    beside = commits.beside;
     time = commits.time;
     rests = λ back going was. rests was;
   }
@@ -221,7 +221,7 @@ module _ {S : Type 0} (g : Ghosts S) where
     say_faults = left.say_faults;
     is_told = left.is_told;
     told = left.told;
-    attached = left.attached;
+    beside = left.beside;
     time = left.time;
     rests = left.rests;
   }
@@ -233,7 +233,7 @@ module _ {S : Type 0} (g : Ghosts S) where
     say_faults = commits.say_faults;
     is_told = commits.is_told;
     told = commits.told;
-    attached = commits.attached;
+    beside = commits.beside;
     time = commits.time;
     rests = λ back going was. rests was;
   }
@@ -247,7 +247,7 @@ module _ {S : Type 0} (g : Ghosts S) where
     say_faults = commits.say_faults ∙ steady.say_faults;
     is_told = commits.is_told ∙ steady.is_told;
     told = commits.told ∙ steady.told;
-    attached = commits.attached ∙ steady.attached;
+    beside = commits.beside ∙ steady.beside;
     time = over_time_then (over_time_wider steady.time (λ pages told only. (inl only.0, only.1)))
         (over_time_wider commits.time (λ pages told either. (
           elim either.0 [ inl base ↦ inl (base ∙ ap Some steady.base) | inr work ↦ inr work ],
@@ -264,7 +264,7 @@ module _ {S : Type 0} (g : Ghosts S) where
     say_faults = left.say_faults;
     is_told = left.is_told;
     told = left.told;
-    attached = left.attached;
+    beside = left.beside;
     time = left.time;
     rests = left.rests;
   }

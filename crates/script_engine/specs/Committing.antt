@@ -54,7 +54,7 @@ pub record CommitsWork {S X : Type 0} (g : Ghosts S) (result : Result X EngineSt
   pub going : OnOk result ((g.state new).ended ≡ false)
   pub is_told : (g.state new).is_told ≡ (g.state old).is_told
   pub told : (g.state new).told ≡ (g.state old).told
-  pub attached : (g.state new).attached ≡ (g.state old).attached
+  pub beside : (g.state new).beside ≡ (g.state old).beside
   pub device : CountsFault (IsErrOf result Device) (g.disk_faults old) (g.disk_faults new)
   pub say_faults : g.say_faults new ≡ g.say_faults old
   pub damaged : (damage : Damage) → result ≡ Err (Damaged damage) → HasSoundRoot g old → ⊥

@@ -27,6 +27,6 @@ pub record KeepsPages {S : Type 0} (g : Ghosts S) (old new : S) : Type 0 where
   pub base : (g.state new).base ≡ (g.state old).base
   pub work : (g.state new).work ≡ (g.state old).work
   pub told : (g.state new).told ≡ (g.state old).told
-  pub attached : (g.state new).attached ≡ (g.state old).attached
+  pub beside : (g.state new).beside ≡ (g.state old).beside
   pub say_faults : g.say_faults new ≡ g.say_faults old
   pub time : OverTime g.clock g.left (OnlyBase (g.state old)) old new

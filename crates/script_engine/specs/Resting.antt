@@ -101,6 +101,6 @@ pub record Settles {S : Type 0} (g : Ghosts S) (result : Result (Unit {0}) Engin
   pub say_faults : g.say_faults new.store ≡ g.say_faults old.store
   pub is_told : (g.state new.store).is_told ≡ (g.state old.store).is_told
   pub told : (g.state new.store).told ≡ (g.state old.store).told
-  pub attached : (g.state new.store).attached ≡ (g.state old.store).attached
+  pub beside : (g.state new.store).beside ≡ (g.state old.store).beside
   pub time : OverTime g.clock g.left (LeftTold (g.state old.store)) old.store new.store
   pub at_rest : KeepsTime g → (g.state old.store).ended ≡ false → Rests g old.store → Rests g new.store

@@ -69,7 +69,7 @@ pub record LeavesOutside {S X : Type 0} (g : Ghosts S) (result : Result X Engine
   pub say_faults : g.say_faults new.store ≡ g.say_faults old.store
   pub is_told : (g.state new.store).is_told ≡ (g.state old.store).is_told
   pub told : (g.state new.store).told ≡ (g.state old.store).told
-  pub attached : (g.state new.store).attached ≡ (g.state old.store).attached
+  pub beside : (g.state new.store).beside ≡ (g.state old.store).beside
   pub time : OverTime g.clock g.left (BaseOrNow (g.state old.store) (g.state new.store)) old.store new.store
   pub rests : KeepsTime g → (g.state old.store).ended ≡ false → Rests g old.store → Rests g new.store
 

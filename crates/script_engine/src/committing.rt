@@ -7,10 +7,15 @@ ghost use Rattle.script_engine.specs.Committing.{CommitsWork, CountsPages};
 use crate::damage::stop_at;
 use crate::stop::EngineStop;
 use crate::tables::Tables;
+use store_api::layout::ROOT_PAGE;
+use store_api::rules::ROOT_PAGE_RULE;
 use store_api::{Damage, Store, stated_count};
 
 /// The damage of a page 0 that doesn't state how many pages there are.
-const WRONG_COUNT: Damage = Damage { page: 0, rule: 1 };
+const WRONG_COUNT: Damage = Damage {
+    page: ROOT_PAGE,
+    rule: ROOT_PAGE_RULE,
+};
 
 /// Makes the work the base. `Damaged` names the damage of the work, where page 0 doesn't state how many pages there are; nothing is
 /// committed then.

@@ -79,7 +79,7 @@ impl<S: Store> Engine<S> {
         ensures say_faults { S.say_faults self.new.store ≡ S.say_faults self.old.store }
         ensures is_told { (S.state self.new.store).is_told ≡ (S.state self.old.store).is_told }
         ensures told { (S.state self.new.store).told ≡ (S.state self.old.store).told }
-        ensures attached { (S.state self.new.store).attached ≡ (S.state self.old.store).attached }
+        ensures beside { (S.state self.new.store).beside ≡ (S.state self.old.store).beside }
         ensures shape { IsSameShape self.old.tables.ext self.new.tables.ext }
         ensures time { OverTime S.clock S.left (BaseOrNow (S.state self.old.store) (S.state self.new.store)) self.old.store self.new.store }
         ensures rests { Rests S.Pages self.old.store → Rests S.Pages self.new.store }

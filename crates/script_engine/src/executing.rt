@@ -72,10 +72,7 @@ fn whole_rows(tables: &Tables, stmt: &Stmt) -> Result<Option<WholeRows>, SpaceFa
     if columns.is_some() {
         return Ok(None);
     }
-    match bind_whole(tables.alloc, table, rows.as_slice(), &tables.catalog) {
-        Ok(found) => Ok(found),
-        Err(Memory) => Err(SpaceFault::Store(StoreFault::Memory)),
-    }
+    Ok(bind_whole(tables.alloc, table, rows.as_slice(), &tables.catalog)?)
 }
 
 /// Executes a statement of any form.

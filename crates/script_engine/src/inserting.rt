@@ -80,10 +80,7 @@ fn null_there(alloc: Global, misfit: Misfit<'_>) -> Result<Option<Refusal>, Spac
     ensures said { IfOk result (λ refusal. refusal ≡ Some (refusal_of (misfit_cause misfit.entry))) }
     ensures memory { IfErr result (λ fault. fault ≡ SpaceFault.Store StoreFault.Memory) }
 {
-    match unfit(alloc, misfit) {
-        Ok(refusal) => Ok(Some(refusal)),
-        Err(_) => Err(SpaceFault::Store(StoreFault::Memory)),
-    }
+    Ok(Some(unfit(alloc, misfit)?))
 }
 
 /// The refusal of tuples for which there are no row numbers left.

@@ -26,9 +26,7 @@ use mdc_ast::{ColumnDef, TableDef};
 use statement_meaning::{Pass, Settings};
 use std::alloc::Global;
 use store_api::Store;
-
-/// How many places for tables there are.
-const PLACES: u8 = 16;
+use store_api::layout::TABLE_PLACES;
 
 /// Why no engine was opened, and the store.
 #[derive(Drop)]
@@ -101,7 +99,7 @@ pub(crate) fn are_served(catalog: &Catalog) -> bool
     requires limits { AreWithinLimits catalog.now }
     ensures { result ≡ are_built catalog.now }
 {
-    for place in 0..PLACES {
+    for place in 0..TABLE_PLACES {
         if !is_served(catalog.def(place)) {
             return false;
         }

@@ -5,9 +5,10 @@ ghost use Rattle.free_space.specs.RoomNotes.{IsForgotten, no_note};
 use mdc_table::Rooms;
 use std::alloc::Global;
 use std::array;
+use store_api::layout::TABLE_PLACES;
 
 /// How many places for tables there are.
-const PLACES: usize = 16;
+const PLACES: usize = TABLE_PLACES as usize;
 
 /// For the table in each of the 16 places, the notes of where its rows find room.
 #[derive(Debug, Drop)]

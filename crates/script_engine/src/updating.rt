@@ -37,11 +37,9 @@ use row_checks::{Misfit, changed_values, first_misfit, unfit};
 use row_fitting::do_fit;
 use statement_rows::{Turned, change_rows};
 use std::alloc::Global;
+use store_api::rules::ROW_PAGES_RULE;
 use store_api::{Damage, Pages, StoreFault};
 use table_scan::find_rows;
-
-/// The rule that damage of a row names: it fits the columns of its table.
-const ROW_PAGE_RULE: u16 = 7;
 
 /// An UPDATE of the rows of a table that qualify. All are judged before one is changed.
 pub fn update<P: Pages>(
@@ -133,7 +131,7 @@ fn unfit_row(ext: &Extents, hit: &Hit) -> Damage
     };
     Damage {
         page,
-        rule: ROW_PAGE_RULE,
+        rule: ROW_PAGES_RULE,
     }
 }
 
@@ -161,10 +159,7 @@ fn refused(alloc: Global, misfit: Misfit<'_>) -> Result<Outcome, SpaceFault>
     ensures said { IfOk result (λ outcome. outcome ≡ Outcome.Refused (refusal_of (misfit_cause misfit.entry))) }
     ensures memory { IfErr result (λ fault. fault ≡ SpaceFault.Store StoreFault.Memory) }
 {
-    match unfit(alloc, misfit) {
-        Ok(refusal) => Ok(Outcome::Refused(refusal)),
-        Err(_) => Err(SpaceFault::Store(StoreFault::Memory)),
-    }
+    Ok(Outcome::Refused(unfit(alloc, misfit)?))
 }
 
 // The rows, each with the one that it becomes. It needs that no new number is too large for 64 bits.

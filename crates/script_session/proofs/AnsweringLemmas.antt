@@ -162,7 +162,7 @@ module _ {S : Type 0} (g : Ghosts S) where
     say_faults = refl;
     is_told = refl;
     told = refl;
-    attached = refl;
+    beside = refl;
     time = over_time_none;
     rests = λ law going rests. rests;
   }

@@ -98,7 +98,7 @@ module _ {S : Type 0} (g : Ghosts S) where
     breaks = λ damage e. inl (answers.breaks damage (ap Err (names_damage stop damage (cc))), answers.outside.told);
     opens = tt;
     keeps = tt;
-    attached = answers.outside.attached;
+    beside = answers.outside.beside;
     is_told = answers.outside.is_told;
     tells = same-tells_more _ _ answers.outside.told;
     replies = tt;
@@ -153,7 +153,7 @@ module _ {S : Type 0} (g : Ghosts S) where
           breaks = λ damage e. absurd (no_damage stop damage tells.cause (cc));
           opens = tt;
           keeps = tt;
-          attached = ap (λ s. s.attached) tells.err.2 ∙ answers.outside.attached;
+          beside = ap (λ s. s.beside) tells.err.2 ∙ answers.outside.beside;
           is_told = ap (λ s. s.is_told) tells.err.2 ∙ answers.outside.is_told;
           tells = tells_more_then _ _ _ (same-tells_more _ _ answers.outside.told) (tells.err.0, takes);
           replies = tt;
@@ -194,7 +194,7 @@ module _ {S : Type 0} (g : Ghosts S) where
           breaks = λ damage e. absurd (cc);
           opens = ap (λ (e : Engine S). e.is_open) tells.stays ∙ answers.opens;
           keeps = λ all. subst IsAllCommitted (sym tells.held) (answers.keeps all);
-          attached = ap (λ s. s.attached) tells.ok ∙ answers.outside.attached;
+          beside = ap (λ s. s.beside) tells.ok ∙ answers.outside.beside;
           is_told = ap (λ s. s.is_told) tells.ok ∙ answers.outside.is_told;
           tells = tells_more_then _ _ _ (same-tells_more _ _ answers.outside.told) (_, takes);
           replies = record {
@@ -249,7 +249,7 @@ module _ {S : Type 0} (g : Ghosts S) where
         breaks = λ damage e. absurd (cc);
         opens = settles.opens ∙ turns.opens;
         keeps = λ all. settles.keeps (turns.keeps all);
-        attached = settles.attached ∙ turns.attached;
+        beside = settles.beside ∙ turns.beside;
         is_told = settles.is_told ∙ turns.is_told;
         tells = tells_more_then _ _ _ turns.tells (same-tells_more _ _ settles.told);
         replies = subst (HasReply item refused (g.state old.store).told) (sym settles.told) turns.replies;
@@ -287,7 +287,7 @@ module _ {S : Type 0} (g : Ghosts S) where
             inr (breaks_then g (item ∷ []) [] old mid new damage turns.shape turns.is_told turns.keeps turns.opens (breaks_resting g (Err stop) mid new damage settles named), refused, reply);
         opens = tt;
         keeps = tt;
-        attached = settles.attached ∙ turns.attached;
+        beside = settles.beside ∙ turns.beside;
         is_told = settles.is_told ∙ turns.is_told;
         tells = tells_more_then _ _ _ turns.tells (same-tells_more _ _ settles.told);
         replies = tt;

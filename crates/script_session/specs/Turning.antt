@@ -72,7 +72,7 @@ pub record TurnsItem {S : Type 0} (g : Ghosts S) (item : Item) (result : Result 
   pub breaks : (damage : Damage) → result ≡ Err (Damaged damage) → BreaksTurn g item old new damage
   pub opens : OnOk result (new.is_open ≡ opened_by_item item old.is_open)
   pub keeps : OnOk result (IsAllCommitted (held_by g old) → IsAllCommitted (held_by g new))
-  pub attached : (g.state new.store).attached ≡ (g.state old.store).attached
+  pub beside : (g.state new.store).beside ≡ (g.state old.store).beside
   pub is_told : (g.state new.store).is_told ≡ (g.state old.store).is_told
   pub tells : TellsMore (g.state old.store).told (g.state new.store).told
   pub replies : IfOk result (λ refused. HasReply item refused (g.state old.store).told (g.state new.store).told)

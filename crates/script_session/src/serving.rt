@@ -40,7 +40,7 @@ pub fn serve<I: Source, S: Store>(
     // Damage is that of the pages that are held behind the items that were answered.
     ensures breaks { (damage : Damage) → result ≡ Err (SessionStop.Damaged damage) → (replies : RepliesTo (I.left input.old) (I.left input.new) (S.state engine.old.store).told (S.state engine.new.store).told result)
         × BreaksAtStop S.Pages replies.items engine.old engine.new damage }
-    ensures attached { (S.state engine.new.store).attached ≡ (S.state engine.old.store).attached }
+    ensures beside { (S.state engine.new.store).beside ≡ (S.state engine.old.store).beside }
     ensures is_told { (S.state engine.new.store).is_told ≡ (S.state engine.old.store).is_told }
     ensures takes { IfSome (I.left input.old) (λ script. TakesScript script (I.left input.new) result) }
     ensures tells { TellsMore (S.state engine.old.store).told (S.state engine.new.store).told }

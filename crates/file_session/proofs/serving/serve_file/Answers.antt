@@ -4,7 +4,6 @@ use Rattle.mdc_words.proofs.FaultsLemmas.{counts_fault_then}
 use Rattle.page_file.proofs.LeavesLemmas.{sound_image}
 use Rattle.page_store.proofs.Judged.{served_formed}
 use Rattle.page_store.specs.Faults.{MayComeFirst}
-use Rattle.page_store.specs.FileStore.{attached_of}
 use Rattle.page_store.specs.Standing.{pages_in}
 use Rattle.script_session.specs.Told.{TellsMore}
 use Rattle.script_session.proofs.ToldLemmas.{same-tells_more, told_behind}
@@ -30,7 +29,7 @@ returns-in-Ok-clause-runs g c = λ before said is told well.
     let base = (opened.served before is).1 in
     let states = states_standing before.bytes after.0.bytes (pages_in before.bytes) well.ext (after.2.1 well.formed) well.states in
     let tells = test_by_told (g.H.Disk.file c.args.host) before is in
-    let sound = sound_opened _ store before.bytes _ (g.H.Host.tape c.args.host) (attached_of store.desk.shape (g.H.Disk.attaches c.args.host)) well tells opened.just_opened base in
+    let sound = sound_opened _ store before.bytes _ (g.H.Host.tape c.args.host) store.desk.shape (g.H.Disk.attaches c.args.host) well tells opened.just_opened base in
     let serves = c.serve_store.ensures.runs after.0 said after.1 (ap (λ b. b.tape) opened.opens.beside ∙ told) well.ext states sound in
     run_on_file g.H.Disk _ store before said (g.I.Source.left c.args.input.now) (g.I.Source.left c.serve_store.new.input) c.args.host store.host c.serve_store.result.host well.ext c.serve_store.result.end
     well.states serves base (g.met.H.Disk.only_now c.args.host) is told (opened.opens.crash before said is told) refl c.serve_store.ensures.later (λ t pages heard left. (left.4, left.5)) (opened.base_since before is said)
@@ -62,7 +61,7 @@ returns-in-Ok-clause-cause g c = λ before is.
     let session = c.serve_store.ensures.takes in
     cause_of_session before.bytes session.0 c.serve_store.result.end (opened.served before is).0 session.1 (λ damage ends well.
     c.serve_store.ensures.damaged damage ends after.0 after.1 well.ext (states_standing before.bytes after.0.bytes (pages_in before.bytes) well.ext (after.2.1 well.formed) well.states)
-    (sound_opened _ c.in-Ok.store before.bytes _ (g.H.Host.tape c.args.host) (attached_of c.in-Ok.store.desk.shape (g.H.Disk.attaches c.args.host)) well tells opened.just_opened (opened.served before is).1))
+    (sound_opened _ c.in-Ok.store before.bytes _ (g.H.Host.tape c.args.host) c.in-Ok.store.desk.shape (g.H.Disk.attaches c.args.host) well tells opened.just_opened (opened.served before is).1))
 
 pub returns-in-Ok-clause-unopened : goal.returns-in-Ok-clause-unopened
 returns-in-Ok-clause-unopened g c = λ file is unserved. absurd (unserved (c.in-Ok.ensures.served file is).0)

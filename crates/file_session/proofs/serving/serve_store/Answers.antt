@@ -6,7 +6,7 @@ use Rattle.script_session.proofs.ToldLemmas.{told_behind}
 use Rattle.script_session.specs.declared.stop.SessionStop.TheVariants as session
 use Rattle.extent_map.specs.Owners.{IsSameShape}
 use Rattle.page_store.specs.FileStore.{left_of}
-use Rattle.page_store.proofs.AttachedLemmas.{attached_of-attaches, attached_of-shape}
+use Rattle.page_store.proofs.BesideLemmas.{beside_of-attaches, beside_of-shape}
 use Rattle.file_session.specs.Breaking.{BreaksInFile}
 use Rattle.file_session.proofs.BreaksLemmas.{breaks_closed}
 use Rattle.file_session.proofs.EndOfSessionLemmas.{end_counted, end_counted_as, stop_of_end}
@@ -17,11 +17,11 @@ use Rattle.file_verdict.proofs.ToldLemmas.{stays_by_test, told_by_test}
 use Rattle.file_session.proofs.serving.serve_store.Given.{Over}
 use Rattle.file_session.proofs.serving.serve_store.Goals as goal
 
--- no call changes the shape of a store: it is told as what is attached
+-- no call changes the shape of a store: it lies beside its pages
 kept_shape : (g : Over) (c : goal.After-close g) → c.serve_pages-answered.result.store.desk.shape ≡ c.args.store.desk.shape
 kept_shape g c =
     let last = c.serve_pages-answered.result.store in
-    attached_of-shape last.desk.shape c.args.store.desk.shape (g.H.Disk.attaches last.host) (g.H.Disk.attaches c.args.store.host) c.serve_pages-answered.ensures.attached
+    beside_of-shape last.desk.shape c.args.store.desk.shape (g.H.Disk.attaches last.host) (g.H.Disk.attaches c.args.store.host) c.serve_pages-answered.ensures.beside
 
 pub returns-clause-runs : goal.returns-clause-runs
 returns-clause-runs g c = λ file said is told ext states sound.
@@ -72,7 +72,7 @@ pub returns-clause-attaches : goal.returns-clause-attaches
 returns-clause-attaches g c =
     let last = c.serve_pages-answered.result.store in
     ap (λ host. g.H.Disk.attaches host) c.close.ensures.same
-    ∙ attached_of-attaches last.desk.shape c.args.store.desk.shape (g.H.Disk.attaches last.host) (g.H.Disk.attaches c.args.store.host) c.serve_pages-answered.ensures.attached
+    ∙ beside_of-attaches last.desk.shape c.args.store.desk.shape (g.H.Disk.attaches last.host) (g.H.Disk.attaches c.args.store.host) c.serve_pages-answered.ensures.beside
 
 pub returns-clause-replies : goal.returns-clause-replies
 returns-clause-replies g c =

@@ -1,17 +1,17 @@
 -- What is said of the store, said of its host.
 use Rattle.std.proofs.Common.{◌≡◌, ◌≤◌, is_some, subst, sym, ◌∙◌, ap}
 use Rattle.std.proofs.lemmas.Result.{IfOk-weaker}
-use Rattle.page_store.proofs.AttachedLemmas.{attached_of-attaches, attached_of-shape}
+use Rattle.page_store.proofs.BesideLemmas.{beside_of-attaches, beside_of-shape}
 use Rattle.file_verdict.proofs.JudgingLemmas.{found_counted, found_on_pages, left_base, same_beside}
 use Rattle.file_verdict.proofs.ToldLemmas.{stays_by_test, told_by_test}
 use Rattle.file_verdict.proofs.judging.judge_store.Given.{Over}
 use Rattle.file_verdict.proofs.judging.judge_store.Goals as goal
 
--- no call changes the shape of a store: it is told as what is attached
+-- no call changes the shape of a store: it lies beside its pages
 kept_shape : (g : Over) (c : goal.After-close g) → c.check-verdict.new.pages.desk.shape ≡ c.args.store.desk.shape
 kept_shape g c =
     let last = c.check-verdict.new.pages in
-    attached_of-shape last.desk.shape c.args.store.desk.shape (g.H.Disk.attaches last.host) (g.H.Disk.attaches c.args.store.host) c.check-verdict.ensures.runs.works.steady.attached
+    beside_of-shape last.desk.shape c.args.store.desk.shape (g.H.Disk.attaches last.host) (g.H.Disk.attaches c.args.store.host) c.check-verdict.ensures.runs.works.steady.beside
 
 pub returns-clause-judges : goal.returns-clause-judges
 returns-clause-judges g c = λ file is.
@@ -50,7 +50,7 @@ pub returns-clause-attaches : goal.returns-clause-attaches
 returns-clause-attaches g c =
     let last = c.check-verdict.new.pages in
     ap (λ host. g.H.Disk.attaches host) c.close.ensures.same
-    ∙ attached_of-attaches last.desk.shape c.args.store.desk.shape (g.H.Disk.attaches last.host) (g.H.Disk.attaches c.args.store.host) c.check-verdict.ensures.runs.works.steady.attached
+    ∙ beside_of-attaches last.desk.shape c.args.store.desk.shape (g.H.Disk.attaches last.host) (g.H.Disk.attaches c.args.store.host) c.check-verdict.ensures.runs.works.steady.beside
 
 pub returns-clause-told : goal.returns-clause-told
 returns-clause-told g c =

@@ -36,7 +36,7 @@ returns-in-Stmt g c =
               say_faults = call.say_faults;
               is_told = call.is_told;
               told = call.told;
-              attached = call.attached;
+              beside = call.beside;
               time = call.time;
               rests = λ law going. call.rests;
             };

@@ -31,7 +31,7 @@ invariant-loop-reply g l =
       reads : g.I.Source.read_faults l.input ≡ g.I.Source.read_faults l.fn.input;
       unsaid : g.S.Pages.say_faults l.engine.store ≡ g.S.Pages.say_faults l.fn.engine.store;
       device : g.S.Pages.disk_faults l.engine.store ≡ g.S.Pages.disk_faults l.fn.engine.store;
-      attached : (state l.engine.store).attached ≡ (state l.fn.engine.store).attached;
+      beside : (state l.engine.store).beside ≡ (state l.fn.engine.store).beside;
       is_told : (state l.engine.store).is_told ≡ (state l.fn.engine.store).is_told;
       told : TellsMore (state l.fn.engine.store).told (state l.engine.store).told;
       reopens : OverTime g.S.Pages.clock g.S.Pages.left ReopensAlways l.fn.engine.store l.engine.store;
