@@ -55,19 +55,13 @@ module _ {X : Type 0} (P : X → Type 0) (c j : ℕ) (slots : List X) where
       (lowest-append P (take (j * c) slots) (drop (j * c) slots) (j * c) k x (length-take-le (j * c) slots within) front rest)
 
 -- the rows of one page more
-rows_more : (block c j : ℕ) (slots : List (Option Row)) → j * c ≤ length slots
+pub rows_more : (block c j : ℕ) (slots : List (Option Row)) → j * c ≤ length slots
     → rows_from_slot block 0 (take ((j + 1) * c) slots) ≡ rows_from_slot block 0 (take (j * c) slots) ++ rows_from_slot block (j * c) (part c j slots)
 rows_more block c j slots within =
     let behind : 0 + length (take (j * c) slots) ≡ j * c = omega (arith, length-take-le (j * c) slots within) in
     ap (rows_from_slot block 0) (take-parts c j slots)
     ∙ (rows_from_slot-append block 0 (take (j * c) slots) (part c j slots)
     ∙ ap (λ k. rows_from_slot block 0 (take (j * c) slots) ++ rows_from_slot block k (part c j slots)) behind)
-
--- no hit before the first page
-pub none_pushed : (pred : Option Pred) (block c : ℕ) (hits : List PlacedRow) (slots : List (Option Row)) → hits ≡ hits ++ qualifying pred (rows_from_slot block 0 (take (0 * c) slots))
-none_pushed pred block c hits slots =
-    let no_slots : 0 ≡ 0 * c = omega arith in
-    sym (append-nil hits) ∙ ap (λ k. hits ++ qualifying pred (rows_from_slot block 0 (take k slots))) no_slots
 
 -- so many parts are within
 pub parts_within : (n c j length_of : ℕ) → length_of ≡ n * c → j ≤ n → j * c ≤ length_of
@@ -254,35 +248,6 @@ module _ {S : Type 0} (g : Ghosts S) (ext : Extents) (def : TableDef) (block : �
   full_block j slots end holds full =
       let all : ext.extent_pages * c ≤ j * c = mul-le-mul_right c end in
       nowhere-contains slots (subst (HoldsNowhere IsEmptySlot) (take_all (j * c) slots (omega (arith, length_of_rows holds, all))) full)
-
-  -- ---- all rows
-
-  -- the rows of one page more
-  pub rows_of_page_more : {columns : List ColumnDef} {old mid : S} (pred : Option Pred) (p j first_slot : ℕ) (initial hits now : List PlacedRow)
-      → columns ≡ def.columns → p ≡ first ext block + j → j < ext.extent_pages → first_slot ≡ j * slot_count columns
-      → (g.state mid).is_told ≡ (g.state old).is_told → (g.state mid).work ≡ (g.state old).work
-      → ((slots : List (Option Row)) → HoldsRows g ext old def block slots → hits ≡ initial ++ qualifying pred (rows_from_slot block 0 (take (j * c) slots)))
-      → ((slots : List (Option Row)) → HoldsRowPage g columns mid p slots → now ≡ hits ++ qualifying pred (rows_from_slot block first_slot slots))
-      → (slots : List (Option Row)) → HoldsRows g ext old def block slots → now ≡ initial ++ qualifying pred (rows_from_slot block 0 (take ((j + 1) * c) slots))
-  rows_of_page_more {columns} {old} {mid} pred p j first_slot initial hits now of at less begins told same so_far rows slots holds =
-      let page : HoldsRowPage g columns mid p (part c j slots) =
-      subst (λ k. HoldsRowPage g k mid p (part c j slots)) (sym of)
-      (subst (λ q. HoldsRowPage g def.columns mid q (part c j slots)) (sym at) (rows_along told same (page_of_rows j less holds))) in
-      let before = rows_from_slot block 0 (take (j * c) slots) in
-      let here = rows_from_slot block (j * c) (part c j slots) in
-      rows (part c j slots) page
-      ∙ (ap (λ k. hits ++ qualifying pred (rows_from_slot block k (part c j slots))) (begins ∙ ap (λ k. j * slot_count k) of)
-      ∙ (ap (λ l. l ++ qualifying pred here) (so_far slots holds)
-      ∙ (append_assoc initial (qualifying pred before) (qualifying pred here)
-      ∙ ap (λ l. initial ++ l)
-      (sym (filter-append (λ placed. qualifies pred placed.row.values) before here)
-      ∙ ap (qualifying pred) (sym (rows_more block c j slots (parts_within ext.extent_pages c j (length slots) (length_of_rows holds) (omega (arith, less)))))))))
-
-  -- the rows of all pages
-  pub rows_of_all : {s : S} (j : ℕ) (slots : List (Option Row)) → ext.extent_pages ≤ j → HoldsRows g ext s def block slots → rows_from_slot block 0 (take (j * c) slots) ≡ rows_from_slot block 0 slots
-  rows_of_all j slots end holds =
-      let all : ext.extent_pages * c ≤ j * c = mul-le-mul_right c end in
-      ap (rows_from_slot block 0) (take_all (j * c) slots (omega (arith, length_of_rows holds, all)))
 
   -- ---- one slot
 

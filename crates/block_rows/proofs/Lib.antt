@@ -1,6 +1,9 @@
 pub mod HeldRowsLemmas
+pub mod CellColumnsLemmas
 pub mod KeptRowsLemmas
+pub mod MetRowsLemmas
 pub mod PageRowsLemmas
 pub mod PartsLemmas
 pub mod PlacedRowsLemmas
 pub mod ReadValuesLemmas
+pub mod SeenPagesLemmas

@@ -1,5 +1,5 @@
 -- One page of a block: its slots by its bits, and what a call on its bytes makes of the page in the store.
-use Rattle.std.proofs.Common.{◌≡◌, ◌<◌, ◌≤◌, ◌+◌, ℕ, zero, suc, List, [], ◌∷◌, length, get_or, set, drop, Option, Some, None, Bool, IsTrue, true, false, cond, not, Result, Ok, Err, IfErr, refl, ap, sym, ◌∙◌, arith, subst}
+use Rattle.std.proofs.Common.{◌≡◌, ◌<◌, ◌≤◌, ◌+◌, ℕ, zero, suc, List, [], ◌∷◌, ◌++◌, length, get_or, set, take, drop, Option, Some, None, Bool, IsTrue, true, false, cond, not, Result, Ok, Err, IfErr, refl, ap, sym, ◌∙◌, arith, subst}
 use Rattle.std.specs.Prelude.{MatchOption, is_some}
 use Rattle.std.proofs.lemmas.List.{get_or-set_same, length-set}
 use Rattle.std.proofs.lemmas.List.Sums.{count_by-le-length, sum_by-cons}
@@ -17,13 +17,14 @@ use Rattle.store_api.specs.declared.fault.StoreFault.TheVariants.{Device, Damage
 use Rattle.store_api.specs.declared.pages.Pages.{Ghosts}
 use Rattle.store_api.proofs.FrameLemmas.{holds_along}
 use Rattle.store_api.proofs.RunsOverPagesLemmas.{runs_damage, runs_memory, runs_on, runs_then, runs_wider}
-use Rattle.row_page.specs.RowPage.{IsFirstSlot, IsRowPage, count_rows, is_slot_filled, rows_of, slot_bytes, slot_count, slot_row}
+use Rattle.row_page.specs.RowPage.{IsFirstSlot, IsRowPage, StartsAsRowPage, count_rows, is_slot_filled, rows_of, slot_bytes, slot_count, slot_row, stated_rows}
 use Rattle.row_page.specs.Row.{row_in}
 use Rattle.mdc_sound.specs.Placing.{HoldsNowhere, IsEmptySlot}
 use Rattle.mdc_sound.specs.TableRows.{rows_from_slot}
-use Rattle.block_rows.proofs.PlacedRowsLemmas.{rows_from_slot-end, rows_from_slot-next}
+use Rattle.block_rows.proofs.PlacedRowsLemmas.{rows_from_slot-all, rows_from_slot-so_far}
 use Rattle.block_rows.specs.HeldRows.{IsFilledSlot}
 use Rattle.block_rows.specs.PageRows.{HoldsRowPage, IsFaultOfBytes, IsLowestEmpty, RefusesPage}
+use Rattle.block_rows.specs.SeenRows.{IsSeenPage}
 
 -- ---- the slots of a page
 
@@ -98,17 +99,17 @@ module _ (columns view_columns : List ColumnDef) (page view_page : List ℕ) (sa
       (subst (λ b. IsFirstSlot (λ slot. not (is_slot_filled b slot)) 0 (slot_count view_columns) found) same first))
 
   pub empty-view : (slot : ℕ) → slot < slot_count columns → is_slot_filled view_page slot ≡ false
-      → (slots : List (Option Row)) → IsRowPage columns page slots → None ≡ get_or slots slot None
-  empty-view slot below empty slots is =
-      sym (slot-at columns page slots slot None is.has below ∙ is_empty columns page (is_slot_filled page slot) _ (ap (λ b. is_slot_filled b slot) (sym same) ∙ empty))
+      → (slots : List (Option Row)) → rows_of columns page ≡ slots → None ≡ get_or slots slot None
+  empty-view slot below empty slots has =
+      sym (slot-at columns page slots slot None has below ∙ is_empty columns page (is_slot_filled page slot) _ (ap (λ b. is_slot_filled b slot) (sym same) ∙ empty))
 
   pub filled-view : (slot : ℕ) (row : Row) (row_columns : List ColumnDef) (bytes : List ℕ) → slot < slot_count columns → is_slot_filled view_page slot ≡ true
       → row_columns ≡ view_columns → bytes ≡ slot_bytes view_columns view_page slot → row ≡ row_in row_columns bytes
-      → (slots : List (Option Row)) → IsRowPage columns page slots → Some row ≡ get_or slots slot None
+      → (slots : List (Option Row)) → rows_of columns page ≡ slots → Some row ≡ get_or slots slot None
   filled-view slot row row_columns bytes below filled of are is slots has =
       let here : row_in row_columns bytes ≡ row_in columns (slot_bytes columns page slot) =
       ap (λ k. row_in k bytes) (of ∙ alike) ∙ ap (row_in columns) (are ∙ (ap (λ k. slot_bytes k view_page slot) alike ∙ ap (λ b. slot_bytes columns b slot) same)) in
-      ap Some (is ∙ here) ∙ sym (slot-at columns page slots slot None has.has below ∙ filled_is (is_slot_filled page slot) _ (ap (λ b. is_slot_filled b slot) (sym same) ∙ filled))
+      ap Some (is ∙ here) ∙ sym (slot-at columns page slots slot None has below ∙ filled_is (is_slot_filled page slot) _ (ap (λ b. is_slot_filled b slot) (sym same) ∙ filled))
     where
       filled_is : (b : Bool) (row : Row) → b ≡ true → cond b (Some row) None ≡ Some row
       filled_is true row is = refl
@@ -125,32 +126,49 @@ module _ (columns view_columns : List ColumnDef) (page view_page : List ℕ) (sa
 
   -- the next slot with a row, and the empty ones before it
   pub passed-view : (from end : ℕ) → end ≤ slot_count columns → ((k : ℕ) → from ≤ k → k < end → is_slot_filled view_page k ≡ false)
-      → (slots : List (Option Row)) → IsRowPage columns page slots → (k : ℕ) → from ≤ k → k < end → get_or slots k None ≡ None
-  passed-view from end most empty slots is k late early = sym (empty-view k (omega (arith, most, early)) (empty k late early) slots is)
+      → (slots : List (Option Row)) → rows_of columns page ≡ slots → (k : ℕ) → from ≤ k → k < end → get_or slots k None ≡ None
+  passed-view from end most empty slots has k late early = sym (empty-view k (omega (arith, most, early)) (empty k late early) slots has)
 
-  -- the rows that are left are the next one and those behind it
-  pub next-view : (block base from slot : ℕ) (row_columns : List ColumnDef) (bytes : List ℕ)
+  -- the rows so far, with the next one
+  pub next-view : (block base from slot : ℕ) (row_columns : List ColumnDef) (bytes : List ℕ) → from ≤ slot_count columns
       → IsFirstSlot (is_slot_filled view_page) from (slot_count view_columns) (Some slot)
       → row_columns ≡ view_columns → bytes ≡ slot_bytes view_columns view_page slot
-      → (slots : List (Option Row)) → IsRowPage columns page slots
-      → rows_from_slot block (base + from) (drop from slots)
-      ≡ record { rid = record { block = block; slot = base + slot }; row = row_in row_columns bytes } ∷ rows_from_slot block (base + (slot + 1)) (drop (slot + 1) slots)
-  next-view block base from slot row_columns bytes first of are slots has =
+      → rows_from_slot block base (take (slot + 1) (rows_of columns page))
+      ≡ rows_from_slot block base (take from (rows_of columns page)) ++ record { rid = record { block = block; slot = base + slot }; row = row_in row_columns bytes } ∷ []
+  next-view block base from slot row_columns bytes within first of are =
+      let slots = rows_of columns page in
+      let long : length slots ≡ slot_count columns = length-slots columns page slots refl in
       let below : slot < slot_count columns = omega (arith, first.1, ap slot_count alike) in
-      rows_from_slot-next block base from slots slot (row_in row_columns bytes) first.0 (omega (arith, below, length-slots columns page slots has.has))
-      (passed-view from slot (omega (arith, below)) first.3 slots has)
-      (sym (filled-view slot (row_in row_columns bytes) row_columns bytes below first.2 of are refl slots has))
+      rows_from_slot-so_far block base from slots slot (row_in row_columns bytes) first.0 (omega (arith, below, long))
+      (passed-view from slot (omega (arith, below)) first.3 slots refl)
+      (sym (filled-view slot (row_in row_columns bytes) row_columns bytes below first.2 of are refl slots refl))
 
   -- no row is left
   pub ends-view : (block base from : ℕ) → from ≤ slot_count columns → IsFirstSlot (is_slot_filled view_page) from (slot_count view_columns) None
-      → (slots : List (Option Row)) → IsRowPage columns page slots → rows_from_slot block (base + from) (drop from slots) ≡ []
-  ends-view block base from within none slots has =
-      let all : length slots ≡ slot_count columns = length-slots columns page slots has.has in
+      → rows_from_slot block base (take from (rows_of columns page)) ≡ rows_from_slot block base (rows_of columns page)
+  ends-view block base from within none =
+      let slots = rows_of columns page in
+      let long : length slots ≡ slot_count columns = length-slots columns page slots refl in
       let most : slot_count view_columns ≡ slot_count columns = ap slot_count alike in
-      rows_from_slot-end block base from slots (omega (arith, within, all)) (λ k late early.
-      passed-view from (slot_count columns) (omega arith) (λ i behind before. none i behind (omega (arith, before, most))) slots has k late (omega (arith, early, all)))
+      rows_from_slot-all block base from slots (omega (arith, within, long)) (λ k late early.
+      passed-view from (slot_count columns) (omega arith) (λ i behind before. none i behind (omega (arith, before, most))) slots refl k late (omega (arith, early, long)))
+
+  -- it has as many rows as its head says
+  pub seen-view : (rows counted : ℕ) → StartsAsRowPage columns page → rows ≡ stated_rows view_page → counted ≡ count_rows (rows_of columns page) → counted ≡ rows → IsSeenPage columns page
+  seen-view rows counted starts stated is equal = record { starts = starts; counted = ap stated_rows (sym same) ∙ (sym stated ∙ (sym equal ∙ is)) }
+
+  -- or it is no row page
+  pub unheaded-view : (rows counted : ℕ) → ((slots : List (Option Row)) → IsRowPage view_columns view_page slots → rows ≡ count_rows slots) → counted ≡ count_rows (rows_of columns page) → (counted ≡ rows → ⊥)
+      → (slots : List (Option Row)) → IsRowPage columns page slots → ⊥
+  unheaded-view rows counted stated is other slots has =
+      let there : IsRowPage view_columns view_page slots = subst (λ k. IsRowPage k view_page slots) (sym alike) (subst (λ b. IsRowPage columns b slots) (sym same) has) in
+      other (is ∙ (ap count_rows has.has ∙ sym (stated slots there)))
 
 -- ---- the page in the store
+
+-- the page at hand is the one that was told
+pub at_hand : {S : Type 0} {g : Ghosts S} {s : S} {hand : Option (List ℕ)} {page bytes : List ℕ} (p : ℕ) → ((bytes : List ℕ) → HoldsPage g s p bytes → hand ≡ Some bytes) → hand ≡ Some page → HoldsPage g s p bytes → page ≡ bytes
+at_hand {bytes = bytes} p told lent holds = let same = sym lent ∙ told bytes holds in cc
 
 module _ {S : Type 0} {g : Ghosts S} {columns : List ColumnDef} {p : ℕ} where
   -- the page at hand

@@ -1,12 +1,12 @@
 -- Rows by their places, and the lowest empty slot, over two lists one behind the other.
-use Rattle.std.proofs.Common.{◌≡◌, ◌<◌, ◌≤◌, ◌+◌, ◌-◌, ℕ, zero, suc, List, [], ◌∷◌, ◌++◌, length, get_or, drop, Option, Some, None, refl, ap, sym, ◌∙◌, inl, inr, arith, length-append, subst}
+use Rattle.std.proofs.Common.{◌≡◌, ◌<◌, ◌≤◌, ◌+◌, ◌-◌, ℕ, zero, suc, List, [], ◌∷◌, ◌++◌, length, get_or, take, drop, Option, Some, None, refl, ap, sym, ◌∙◌, inl, inr, arith, length-append, append-nil, append_assoc, subst}
 use Rattle.std.specs.Prelude.{Contains}
 use Rattle.std.proofs.lemmas.Bool.{cases_lt}
 use Rattle.std.proofs.Math.Seq.{drop-cons, drop-length}
-use Rattle.std.proofs.lemmas.List.{get_or_append_left, get_or-append_right}
+use Rattle.std.proofs.lemmas.List.{append_cancel_right, get_or_append_left, get_or-append_right, length-take-le, take-append-drop}
 use Rattle.mdc_ast.specs.declared.row.Row.{Row}
 use Rattle.mdc_sound.specs.Placing.{HoldsNowhere, IsEmptySlot, IsLowestAt}
-use Rattle.mdc_sound.specs.TableRows.{rows_from_slot}
+use Rattle.mdc_sound.specs.TableRows.{PlacedRow, rows_from_slot}
 
 -- ---- rows by rising slot
 
@@ -48,7 +48,7 @@ rows_from_slot-row block base slot slots row within is =
 
 module _ (block base from : ℕ) (slots : List (Option Row)) where
   -- the next row, and those behind it
-  pub rows_from_slot-next : (slot : ℕ) (row : Row) → from ≤ slot → slot < length slots → ((k : ℕ) → from ≤ k → k < slot → get_or slots k None ≡ None) → get_or slots slot None ≡ Some row
+  rows_from_slot-next : (slot : ℕ) (row : Row) → from ≤ slot → slot < length slots → ((k : ℕ) → from ≤ k → k < slot → get_or slots k None ≡ None) → get_or slots slot None ≡ Some row
       → rows_from_slot block (base + from) (drop from slots) ≡ record { rid = record { block = block; slot = base + slot }; row = row } ∷ rows_from_slot block (base + (slot + 1)) (drop (slot + 1) slots)
   rows_from_slot-next slot row behind within none is =
       let end : from + (slot - from) ≡ slot = omega arith in
@@ -56,11 +56,44 @@ module _ (block base from : ℕ) (slots : List (Option Row)) where
       ∙ (ap (λ k. rows_from_slot block (base + k) (drop k slots)) end ∙ rows_from_slot-row block base slot slots row within is)
 
   -- no row is left
-  pub rows_from_slot-end : from ≤ length slots → ((k : ℕ) → from ≤ k → k < length slots → get_or slots k None ≡ None) → rows_from_slot block (base + from) (drop from slots) ≡ []
+  rows_from_slot-end : from ≤ length slots → ((k : ℕ) → from ≤ k → k < length slots → get_or slots k None ≡ None) → rows_from_slot block (base + from) (drop from slots) ≡ []
   rows_from_slot-end within none =
       let end : from + (length slots - from) ≡ length slots = omega arith in
       rows_from_slot-skip block base from (length slots - from) slots (λ k late early. none k late (omega arith)) (omega arith)
       ∙ (ap (λ k. rows_from_slot block (base + k) (drop k slots)) end ∙ ap (rows_from_slot block (base + length slots)) (drop-length slots))
+
+-- ---- the rows so far
+
+-- the rows of the first slots, and those that are left
+rows_from_slot-split : (block base n : ℕ) (slots : List (Option Row)) → n ≤ length slots
+    → rows_from_slot block base slots ≡ rows_from_slot block base (take n slots) ++ rows_from_slot block (base + n) (drop n slots)
+rows_from_slot-split block base n slots within =
+    ap (rows_from_slot block base) (sym (take-append-drop n slots))
+    ∙ (rows_from_slot-append block base (take n slots) (drop n slots)
+    ∙ ap (λ k. rows_from_slot block base (take n slots) ++ rows_from_slot block (base + k) (drop n slots)) (length-take-le n slots within))
+
+module _ (block base from : ℕ) (slots : List (Option Row)) where
+  -- with the next one
+  pub rows_from_slot-so_far : (slot : ℕ) (row : Row) → from ≤ slot → slot < length slots → ((k : ℕ) → from ≤ k → k < slot → get_or slots k None ≡ None) → get_or slots slot None ≡ Some row
+      → rows_from_slot block base (take (slot + 1) slots)
+      ≡ rows_from_slot block base (take from slots) ++ record { rid = record { block = block; slot = base + slot }; row = row } ∷ []
+  rows_from_slot-so_far slot row behind within none is =
+      let placed : PlacedRow = record { rid = record { block = block; slot = base + slot }; row = row } in
+      let front = rows_from_slot block base (take from slots) in
+      let left = rows_from_slot block (base + (slot + 1)) (drop (slot + 1) slots) in
+      append_cancel_right (rows_from_slot block base (take (slot + 1) slots)) (front ++ placed ∷ []) left
+      (sym (rows_from_slot-split block base (slot + 1) slots (omega (arith, within)))
+      ∙ (rows_from_slot-split block base from slots (omega (arith, behind, within))
+      ∙ (ap (λ l. front ++ l) (rows_from_slot-next block base from slots slot row behind within none is)
+      ∙ sym (append_assoc front (placed ∷ []) left))))
+
+  -- all of them
+  pub rows_from_slot-all : from ≤ length slots → ((k : ℕ) → from ≤ k → k < length slots → get_or slots k None ≡ None)
+      → rows_from_slot block base (take from slots) ≡ rows_from_slot block base slots
+  rows_from_slot-all within none =
+      sym (rows_from_slot-split block base from slots within
+      ∙ (ap (λ l. rows_from_slot block base (take from slots) ++ l) (rows_from_slot-end block base from slots within none)
+      ∙ append-nil (rows_from_slot block base (take from slots))))
 
 -- ---- the lowest empty slot
 

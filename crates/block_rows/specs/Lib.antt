@@ -1,2 +1,4 @@
+pub mod CellColumns
 pub mod HeldRows
 pub mod PageRows
+pub mod SeenRows

@@ -9,13 +9,18 @@
 //! words of `mdc_sound`.
 #![tactic(auto)]
 
+mod cell_columns;
 mod changing;
 mod hit;
+mod met_rows;
 mod page_changing;
 mod page_reading;
 mod places;
 mod reading;
+mod seen_rows;
 
+pub use cell_columns::CellColumns;
 pub use changing::{clear_slot, put_first, put_slot, wipe_block};
 pub use hit::Hit;
-pub use reading::{push_rows_of_block, row_in_slot};
+pub use reading::{push_rows_in_cell, push_rows_of_block, row_in_slot};
+pub use seen_rows::SeenRows;

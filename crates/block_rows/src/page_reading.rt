@@ -1,19 +1,23 @@
 // What one page of a block holds.
-ghost use Rattle.std.specs.Prelude.{◌≡◌, ◌<◌, ◌+◌, [], ◌∷◌, ◌++◌, List, Option, Some, None, false, map, length, slice_index_or, IsTrue, IfOk, IfErr, IfSome, OnOk};
+ghost use Rattle.std.specs.Prelude.{◌≡◌, ◌≤◌, ◌<◌, ◌+◌, [], ◌∷◌, ◌++◌, List, Option, Some, None, false, map, length, slice_index_or, IsTrue, IfOk, IfErr, IfSome, OnOk};
 ghost use Rattle.mdc_ast.specs.declared.row.Row.{Row};
 ghost use Rattle.store_api.specs.Causes.{fault_of};
 ghost use Rattle.store_api.specs.Fetching.{BringsOnce};
 ghost use Rattle.store_api.specs.Frame.{NoPage, OnlyPage};
 ghost use Rattle.store_api.specs.RunsOverPages.{RunsOverPages};
+ghost use Rattle.store_api.specs.StoreState.{page_at};
 ghost use Rattle.row_page.specs.Row.{row_in};
 ghost use Rattle.row_page.specs.RowPage.{slot_count, IsRowPage};
-ghost use Rattle.mdc_sound.specs.TableRows.{rows_from_slot};
 ghost use Rattle.row_filter.specs.Filtering.{may_filter};
+ghost use Rattle.block_rows.specs.CellColumns.{AreCellColumns, places_of};
 ghost use Rattle.block_rows.specs.HeldRows.{placed_row, qualifying, HasReadValues, HaveReadValues};
 ghost use Rattle.block_rows.specs.PageRows.{HoldsRowPage, IsFaultOfBytes, IsLowestEmpty, RefusesPage};
+ghost use Rattle.block_rows.specs.SeenRows.{SeesPage};
 
 use crate::Hit;
-use mdc_ast::Row;
+use crate::cell_columns::CellColumns;
+use crate::met_rows::MetRows;
+use mdc_ast::{Cell, Row};
 use mdc_values::Rid;
 use row_filter::RowFilter;
 use row_page::{RowShape, RowView};
@@ -123,23 +127,30 @@ fn copy_of(alloc: Global, row: &RowView) -> Result<Row, StoreFault>
     }
 }
 
-/// Puts copies of the rows of page p that a filter takes last, by rising slot. Its first slot is that of the block which is given.
+/// Puts copies of the rows of page p that a filter takes last, by rising slot, and meets each row. Its first slot is that of the
+/// block which is given. Damaged where it isn't a row page, or doesn't have as many rows as its head says.
 pub(crate) fn push_rows_of_page<P: Pages>(
     alloc: Global,
     shape: &RowShape<'_>,
+    cells: &CellColumns,
+    given: &Option<Cell>,
     pages: &mut P,
     p: u32,
     first: Rid,
     filter: &mut RowFilter,
+    met: &mut MetRows,
     hits: &mut Vec<Hit>,
 ) -> Result<(), StoreFault>
     requires room { first.slot + slot_count shape.now.columns.now < 65536 }
+    requires few { met.old.rows ≤ first.slot }
+    requires are { AreCellColumns shape.now.columns.now cells.now }
     requires wide { length shape.now.columns.now ≡ length filter.old.values }
     requires judged { (row : Row) → HasReadValues shape.now.columns.now row → IsTrue (may_filter filter.old.pred.now row.values) }
     requires going { (P.state pages.old).ended ≡ false }
     requires within { p < length (P.state pages.old).work }
-    ensures rows { OnOk result ((slots : List (Option Row)) → HoldsRowPage P.Pages shape.now.columns.now pages.old p slots
-        → map placed_row hits.new.items ≡ map placed_row hits.old.items ++ qualifying filter.old.pred.now (rows_from_slot first.block first.slot slots)) }
+    ensures sees { OnOk result (IsTrue (P.state pages.old).is_told → SeesPage shape.now.columns.now (places_of cells.now.columns.items) given.now (page_at (P.state pages.old).work p) first.block first.slot filter.old.pred.now
+        (map placed_row hits.old.items) (map placed_row hits.new.items) met.old met.new) }
+    ensures few { OnOk result (met.new.rows ≤ first.slot + slot_count shape.now.columns.now) }
     ensures keyed { OnOk result (HaveReadValues shape.now.columns.now hits.old.items → HaveReadValues shape.now.columns.now hits.new.items) }
     ensures pred { filter.new.pred.now ≡ filter.old.pred.now }
     ensures width { length filter.new.values ≡ length filter.old.values }
@@ -148,27 +159,44 @@ pub(crate) fn push_rows_of_page<P: Pages>(
     ensures runs { RunsOverPages P.Pages NoPage (OnlyPage p) (RefusesPage P.Pages shape.now.columns.now pages.old p) pages.old pages.new (fault_of result) }
 {
     bring(pages, p)?;
-    match push_rows(alloc, shape, pages.page(), p, first, filter, hits) {
+    match push_rows(
+        alloc,
+        shape,
+        cells,
+        given,
+        pages.page(),
+        p,
+        first,
+        filter,
+        met,
+        hits,
+    ) {
         Ok(()) => Ok(()),
         Err(fault) => Err(fault),
     }
 }
 
-/// Puts copies of the rows in the bytes of page p that a filter takes last.
+/// Puts copies of the rows in the bytes of page p that a filter takes last, and meets each row.
 fn push_rows(
     alloc: Global,
     shape: &RowShape<'_>,
+    cells: &CellColumns,
+    given: &Option<Cell>,
     page: &Page,
     p: u32,
     first: Rid,
     filter: &mut RowFilter,
+    met: &mut MetRows,
     hits: &mut Vec<Hit>,
 ) -> Result<(), StoreFault>
     requires room { first.slot + slot_count shape.now.columns.now < 65536 }
+    requires few { met.old.rows ≤ first.slot }
+    requires are { AreCellColumns shape.now.columns.now cells.now }
     requires wide { length shape.now.columns.now ≡ length filter.old.values }
     requires judged { (row : Row) → HasReadValues shape.now.columns.now row → IsTrue (may_filter filter.old.pred.now row.values) }
-    ensures rows { OnOk result ((slots : List (Option Row)) → IsRowPage shape.now.columns.now page.now slots
-        → map placed_row hits.new.items ≡ map placed_row hits.old.items ++ qualifying filter.old.pred.now (rows_from_slot first.block first.slot slots)) }
+    ensures sees { OnOk result (SeesPage shape.now.columns.now (places_of cells.now.columns.items) given.now page.now first.block first.slot filter.old.pred.now
+        (map placed_row hits.old.items) (map placed_row hits.new.items) met.old met.new) }
+    ensures few { OnOk result (met.new.rows ≤ first.slot + slot_count shape.now.columns.now) }
     ensures keyed { OnOk result (HaveReadValues shape.now.columns.now hits.old.items → HaveReadValues shape.now.columns.now hits.new.items) }
     ensures pred { filter.new.pred.now ≡ filter.old.pred.now }
     ensures width { length filter.new.values ≡ length filter.old.values }
@@ -177,6 +205,7 @@ fn push_rows(
     let Some(view) = shape.look(page) else {
         return Err(no_row_page(p));
     };
+    let rows_before = met.rows;
     let mut from = 0;
     'slots: while let Some(slot) = view.next_filled(from) {
         let row = view.filled_row(slot);
@@ -184,8 +213,13 @@ fn push_rows(
             block: first.block,
             slot: first.slot + slot,
         };
+        let bytes = cells.bytes_of_slot(shape, page, slot);
+        met.meet(alloc, shape, cells, given, &row, bytes)?;
         push_if_taken(alloc, &row, rid, filter, hits)?;
         from = slot + 1;
+    }
+    if met.rows != rows_before + u32::from(view.rows()) {
+        return Err(no_row_page(p));
     }
     Ok(())
 }

@@ -33,6 +33,7 @@ names_at before mid def damage s (NamesTablePart.tree_page rule) = NamesTablePar
 names_at before mid def damage s (NamesTablePart.block_map rule page) = NamesTablePart.block_map rule page
 names_at before mid def damage s (NamesTablePart.row_page block rule page) = NamesTablePart.row_page block rule (page_of_block_at before mid block damage.page s page)
 names_at before mid def damage s (NamesTablePart.row_count block rule page) = NamesTablePart.row_count block rule (page ∙ first_page_at before mid block s)
+names_at before mid def damage s (NamesTablePart.row_cell block rule page) = NamesTablePart.row_cell block rule (page ∙ first_page_at before mid block s)
 names_at before mid def damage s (NamesTablePart.block_index rule page) = NamesTablePart.block_index rule page
 names_at before mid def damage s (NamesTablePart.record_index rule page) = NamesTablePart.record_index rule page
 
@@ -47,5 +48,6 @@ names_next ext def next damage (NamesTablePart.tree_page rule) = NamesTablePart.
 names_next ext def next damage (NamesTablePart.block_map rule page) = NamesTablePart.block_map rule page
 names_next ext def next damage (NamesTablePart.row_page block rule page) = NamesTablePart.row_page block rule page
 names_next ext def next damage (NamesTablePart.row_count block rule page) = NamesTablePart.row_count block rule page
+names_next ext def next damage (NamesTablePart.row_cell block rule page) = NamesTablePart.row_cell block rule page
 names_next ext def next damage (NamesTablePart.block_index rule page) = NamesTablePart.block_index rule page
 names_next ext def next damage (NamesTablePart.record_index rule page) = NamesTablePart.record_index rule page

@@ -149,7 +149,7 @@ roots_in places = map (λ place. place.root) places
 
 -- What damage met by a call on a table names: the count of pages, a page of the extent map, a root by the rules on trees, block
 -- maps, block indexes and record indexes, a page of a tree that isn't a used one, a row page, or the first page of a block whose
--- count isn't right.
+-- count isn't right or whose rows aren't of its cell.
 pub data NamesTablePart (ext : Extents) (def : TableDef) (damage : Damage) : Type 0 where
   count : damage.rule ≡ 1 → damage.page ≡ 0 → NamesTablePart ext def damage
   map_page : damage.rule ≡ 2 → IsMapPage ext damage.page → NamesTablePart ext def damage
@@ -158,6 +158,7 @@ pub data NamesTablePart (ext : Extents) (def : TableDef) (damage : Damage) : Typ
   block_map : damage.rule ≡ 6 → damage.page ≡ def.roots.map → NamesTablePart ext def damage
   row_page : (block : ℕ) → damage.rule ≡ 7 → IsPageOfBlock ext block damage.page → NamesTablePart ext def damage
   row_count : (block : ℕ) → damage.rule ≡ 8 → damage.page ≡ first_page_of ext.cap ext.extent_pages block → NamesTablePart ext def damage
+  row_cell : (block : ℕ) → damage.rule ≡ 9 → damage.page ≡ first_page_of ext.cap ext.extent_pages block → NamesTablePart ext def damage
   block_index : damage.rule ≡ 10 → Contains (roots_in (block_index_places def)) damage.page → NamesTablePart ext def damage
   record_index : damage.rule ≡ 11 → Contains (roots_in (record_places def)) damage.page → NamesTablePart ext def damage
 

@@ -1,8 +1,10 @@
-// The damage that a block map may show.
-ghost use Rattle.std.specs.Prelude.{◌≡◌};
+// The damage that a table's blocks may show.
+ghost use Rattle.std.specs.Prelude.{◌≡◌, ◌<◌};
+ghost use Rattle.store_api.specs.Extents.{first_page_of};
 
+use extent_map::Extents;
 use mdc_ast::TableDef;
-use store_api::rules::BLOCK_MAPS_RULE;
+use store_api::rules::{BLOCK_MAPS_RULE, CELLS_RULE};
 use store_api::{Damage, StoreFault};
 
 /// The block map doesn't say of a block what it should.
@@ -12,5 +14,16 @@ pub(crate) fn unmapped(def: &TableDef) -> StoreFault
     StoreFault::Damaged(Damage {
         page: def.roots.map,
         rule: BLOCK_MAPS_RULE,
+    })
+}
+
+/// A row of a block isn't of the block's cell.
+pub(crate) fn strayed(ext: &Extents, block: u32) -> StoreFault
+    requires { block < ext.now.cap }
+    ensures { result ≡ StoreFault.Damaged (record { page = first_page_of ext.now.cap ext.now.extent_pages block; rule = 9 }) }
+{
+    StoreFault::Damaged(Damage {
+        page: ext.first_page(block),
+        rule: CELLS_RULE,
     })
 }

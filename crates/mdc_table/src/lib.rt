@@ -13,15 +13,17 @@
 
 mod account;
 mod faults;
+mod listed;
 mod overwriting;
 mod placing;
 mod reading;
 mod taking;
 
 pub use account::{Account, account_of};
-pub use block_rows::Hit;
+pub use block_rows::{CellColumns, Hit};
 pub use free_space::Rooms;
+pub use listed::{ListedBlock, push_rows_of_listed_block};
 pub use overwriting::overwrite_row;
 pub use placing::place_row;
-pub use reading::{push_rows_of_used_block, row_at, used_blocks};
+pub use reading::{push_rows_of_used_block, row_at, rows_of_line, used_blocks};
 pub use taking::take_row;

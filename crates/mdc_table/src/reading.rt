@@ -1,5 +1,5 @@
 // The rows of a table, read.
-ghost use Rattle.std.specs.Prelude.{◌≡◌, ◌<◌, ◌++◌, List, Contains, false, map, length, IsTrue, IfOk, IfSome, OnOk};
+ghost use Rattle.std.specs.Prelude.{◌≡◌, ◌<◌, ◌++◌, ℕ, List, Contains, false, map, length, IsTrue, IfOk, IfSome, OnOk};
 ghost use Rattle.mdc_ast.specs.declared.row.Row.{Row};
 ghost use Rattle.store_api.specs.Causes.{fault_of};
 ghost use Rattle.store_api.specs.Fetching.{BringsOnce};
@@ -7,15 +7,17 @@ ghost use Rattle.store_api.specs.Frame.{NoPage};
 ghost use Rattle.store_api.specs.RunsOverPages.{RunsOverPages};
 ghost use Rattle.extent_map.specs.declared.kind.Kind.{Kind};
 ghost use Rattle.mdc_ast.specs.TableLimits.{IsTableDef};
-ghost use Rattle.block_map.specs.MapLines.{used_blocks};
+ghost use Rattle.entry_tree.specs.Forest.{Forest};
+ghost use Rattle.block_map.specs.MapLines.{map_lines, used_blocks};
 ghost use Rattle.block_rows.specs.HeldRows.{HasReadValues, HaveReadValues, placed_row, qualifying};
+ghost use Rattle.block_rows.specs.SeenRows.{HasSeenRows};
 ghost use Rattle.row_filter.specs.Filtering.{may_filter};
 ghost use Rattle.row_page.specs.Row.{AreRowColumns};
 ghost use Rattle.mdc_sound.specs.Placing.{block_slot_count, row_at_spot};
 ghost use Rattle.mdc_sound.specs.StandingTable.{BreaksExpected, BreaksTable, IsPageOfBlock, StandsTable, TableForests, pages_of, spots_of};
 ghost use Rattle.mdc_sound.specs.TableRows.{rows_in_block};
 ghost use Rattle.table_trees.specs.TableTrees.{map_place};
-ghost use Rattle.table_trees.specs.TreesBeside.{IsTreePageAt};
+ghost use Rattle.table_trees.specs.TreesBeside.{HoldsTreeAt, IsTreePageAt};
 ghost use Rattle.mdc_table.specs.TableReading.{HasUsedBlock, IsRowLook};
 
 use crate::faults::unmapped;
@@ -67,7 +69,8 @@ pub(crate) fn block_slots(def: &TableDef, ext: &Extents) -> u32
 }
 
 /// Puts copies of the rows of a Used block that a filter takes last, by rising slot. Each of its pages comes to hand once, and no
-/// other row page. Damaged where there is no such extent.
+/// other row page. Damaged where there is no such extent, and where a page isn't a row page or doesn't have as many rows as its head
+/// says.
 pub fn push_rows_of_used_block<P: Pages>(
     alloc: Global,
     def: &TableDef,
@@ -83,6 +86,7 @@ pub fn push_rows_of_used_block<P: Pages>(
     requires going { (P.state pages.old).ended ≡ false }
     ensures rows { OnOk result ((owners : List Kind) (forests : TableForests) → StandsTable P.Pages ext.now pages.old def.now owners forests → Contains (used_blocks forests.map) block
         → map placed_row hits.new.items ≡ map placed_row hits.old.items ++ qualifying filter.old.pred.now (rows_in_block ext.now (pages_of P.Pages pages.old) def.now block)) }
+    ensures seen { OnOk result (IsTrue (P.state pages.old).is_told → (count : ℕ) × HasSeenRows ext.now (pages_of P.Pages pages.old) def.now block count) }
     ensures keyed { OnOk result (HaveReadValues def.now.columns hits.old.items → HaveReadValues def.now.columns hits.new.items) }
     ensures pred { filter.new.pred.now ≡ filter.old.pred.now }
     ensures width { length filter.new.values ≡ length filter.old.values }
@@ -93,7 +97,35 @@ pub fn push_rows_of_used_block<P: Pages>(
     if block >= ext.cap {
         return Err(unmapped(def));
     }
-    push_rows_of_block(alloc, def, ext, pages, block, filter, hits)
+    match push_rows_of_block(alloc, def, ext, pages, block, filter, hits) {
+        Ok(_) => Ok(()),
+        Err(fault) => Err(fault),
+    }
+}
+
+/// How many rows the line of a Used block says that it has. Damaged where the block map doesn't have the block as a Used one. It
+/// looks at no row page.
+pub fn rows_of_line<P: Pages>(
+    alloc: Global,
+    def: &TableDef,
+    ext: &Extents,
+    pages: &mut P,
+    block: u32,
+) -> Result<u16, StoreFault>
+    requires going { (P.state pages.old).ended ≡ false }
+    ensures line { IfOk result (λ rows. (t : Forest) → HoldsTreeAt P.Pages pages.old (map_place def.now) t → Contains (map_lines t) (record { block = block; state = 1; rows = rows })) }
+    ensures same { (P.state pages.new).work ≡ (P.state pages.old).work }
+    ensures runs { RunsOverPages P.Pages NoPage (IsTreePageAt P.Pages pages.old (map_place def.now)) (BreaksExpected P.Pages ext.now pages.old def.now (HasUsedBlock block)) pages.old pages.new (fault_of result) }
+{
+    let _ext = ext;
+    let map = BlockMap::at(alloc, def.roots.map);
+    let Some(line) = map.get(pages, block)? else {
+        return Err(unmapped(def));
+    };
+    if line.state != BlockState::Used {
+        return Err(unmapped(def));
+    }
+    Ok(line.rows)
 }
 
 /// The Used blocks, by rising number. It looks at no row page.

@@ -18,7 +18,7 @@ pub(crate) fn unmapped(def: &TableDef) -> StoreFault
 }
 
 /// A block hasn't as many rows as its line says.
-pub(crate) fn miscounted(ext: &Extents, block: u32) -> StoreFault
+pub fn miscounted(ext: &Extents, block: u32) -> StoreFault
     requires { block < ext.now.cap }
     ensures { result ≡ StoreFault.Damaged (record { page = first_page_of ext.now.cap ext.now.extent_pages block; rule = 8 }) }
 {

@@ -22,6 +22,7 @@ mod releasing;
 mod taking;
 
 pub use beginning::{begin_free_block, begin_new_block};
+pub use faults::miscounted;
 pub use filling::{put_if_room, put_in_block};
 pub use overwriting::{overwrite_row, overwrite_row_of_used};
 pub use releasing::release_block;

@@ -1,5 +1,6 @@
 // The blocks in which a row may qualify.
-ghost use Rattle.std.specs.Prelude.{◌≡◌, ◌≤◌, List, AllPairs, Some, false, IfOk};
+ghost use Rattle.std.specs.Prelude.{◌≡◌, ◌≤◌, List, AllPairs, Some, None, false, map, IfOk};
+ghost use Rattle.std.specs.List.{AllByRecursion};
 ghost use Rattle.store_api.specs.Causes.{fault_of};
 ghost use Rattle.store_api.specs.Frame.{NoPage};
 ghost use Rattle.store_api.specs.RunsOverPages.{RunsOverPages};
@@ -7,98 +8,158 @@ ghost use Rattle.extent_map.specs.declared.kind.Kind.{Kind};
 ghost use Rattle.mdc_ast.specs.TableLimits.{IsTableDef};
 ghost use Rattle.mdc_values.specs.Rising.{IsLower, IsRising};
 ghost use Rattle.mdc_sound.specs.StandingTable.{BreaksTable, StandsTable, TableForests};
-ghost use Rattle.table_scan.specs.Choices.{ChoosesBlocks, HaveSameMembers};
+ghost use Rattle.table_scan.specs.Choices.{ChoosesBlocks, HaveSameMembers, IsChoiceOf, blocks_chosen};
 ghost use Rattle.table_scan.specs.FoundRows.{HaveQualifying, IsChoicePage};
+ghost use Rattle.table_scan.specs.SeenTable.{AreListedSo, ListsBlocks, blocks_listed};
 
+use crate::copying::copy_of_cell;
 use block_index::{CellBlock, cells};
 use cell_filter::may_hold;
 use extent_map::Extents;
 use mdc_ast::{Pred, TableDef};
-use mdc_table::used_blocks;
-use mdc_values::{Blocks, Memory};
+use mdc_table::{ListedBlock, rows_of_line, used_blocks};
+use mdc_values::Memory;
 use std::alloc::Global;
 use store_api::{Pages, StoreFault};
 
-/// The Used blocks of a table in whose cells a row may qualify, by rising number: all of them without a predicate, and else those
-/// that the composite index lists under such a cell. No row page is looked at.
-pub(crate) fn chosen_blocks<P: Pages>(
+/// The Used blocks of a table in whose cells a row may qualify, by rising number, with what the trees say of each: all of the block
+/// map without a predicate, and else those that the composite index lists under such a cell. No row page is looked at. Damaged where
+/// the block map doesn't have one of these as a Used block.
+pub(crate) fn listed_blocks<P: Pages>(
     alloc: Global,
     def: &TableDef,
     ext: &Extents,
     pages: &mut P,
     pred: &Option<Pred>,
-) -> Result<Blocks, StoreFault>
+) -> Result<Vec<ListedBlock>, StoreFault>
     requires defined { IsTableDef def.now.number def.now }
     requires going { (P.state pages.old).ended ≡ false }
-    ensures chosen { IfOk result (λ blocks. (owners : List Kind) (forests : TableForests) → StandsTable P.Pages ext.now pages.old def.now owners forests
-        → HaveQualifying P.Pages ext.now pages.old def.now pred.now blocks forests) }
+    ensures lists { IfOk result (λ listed. ListsBlocks P.Pages pages.old def.now pred.now listed.items) }
+    ensures chosen { IfOk result (λ listed. (owners : List Kind) (forests : TableForests) → StandsTable P.Pages ext.now pages.old def.now owners forests
+        → HaveQualifying P.Pages ext.now pages.old def.now pred.now (blocks_listed listed.items) forests) }
+    ensures listed { IfOk result (λ listed. (owners : List Kind) (forests : TableForests) → StandsTable P.Pages ext.now pages.old def.now owners forests
+        → AreListedSo P.Pages ext.now pages.old def.now owners forests listed.items) }
     ensures same { (P.state pages.new).work ≡ (P.state pages.old).work }
     ensures runs { RunsOverPages P.Pages NoPage (IsChoicePage P.Pages ext.now pages.old def.now) (BreaksTable P.Pages ext.now pages.old def.now) pages.old pages.new (fault_of result) }
 {
     match pred {
-        Some(pred) => blocks_by_cell(alloc, def, ext, pages, pred),
-        None => used_blocks(alloc, def, ext, pages),
+        Some(pred) => listed_by_cell(alloc, def, ext, pages, pred),
+        None => listed_by_map(alloc, def, ext, pages),
     }
 }
 
-/// The same by a predicate.
-fn blocks_by_cell<P: Pages>(
+/// All Used blocks.
+fn listed_by_map<P: Pages>(
+    alloc: Global,
+    def: &TableDef,
+    ext: &Extents,
+    pages: &mut P,
+) -> Result<Vec<ListedBlock>, StoreFault>
+    requires going { (P.state pages.old).ended ≡ false }
+    ensures lists { IfOk result (λ listed. ListsBlocks P.Pages pages.old def.now None listed.items) }
+    ensures chosen { IfOk result (λ listed. (owners : List Kind) (forests : TableForests) → StandsTable P.Pages ext.now pages.old def.now owners forests
+        → HaveQualifying P.Pages ext.now pages.old def.now None (blocks_listed listed.items) forests) }
+    ensures listed { IfOk result (λ listed. (owners : List Kind) (forests : TableForests) → StandsTable P.Pages ext.now pages.old def.now owners forests
+        → AreListedSo P.Pages ext.now pages.old def.now owners forests listed.items) }
+    ensures same { (P.state pages.new).work ≡ (P.state pages.old).work }
+    ensures runs { RunsOverPages P.Pages NoPage (IsChoicePage P.Pages ext.now pages.old def.now) (BreaksTable P.Pages ext.now pages.old def.now) pages.old pages.new (fault_of result) }
+{
+    let blocks = used_blocks(alloc, def, ext, pages)?;
+    let mut listed = Vec::new(alloc);
+    for block in blocks.as_slice() {
+        listed.push(ListedBlock {
+            block: *block,
+            rows: rows_of_line(alloc, def, ext, pages, *block)?,
+            cell: None,
+        })?;
+    }
+    Ok(listed)
+}
+
+/// The blocks that the composite index lists under a cell in which the predicate may hold.
+fn listed_by_cell<P: Pages>(
     alloc: Global,
     def: &TableDef,
     ext: &Extents,
     pages: &mut P,
     pred: &Pred,
-) -> Result<Blocks, StoreFault>
+) -> Result<Vec<ListedBlock>, StoreFault>
     requires defined { IsTableDef def.now.number def.now }
     requires going { (P.state pages.old).ended ≡ false }
-    ensures chosen { IfOk result (λ blocks. (owners : List Kind) (forests : TableForests) → StandsTable P.Pages ext.now pages.old def.now owners forests
-        → HaveQualifying P.Pages ext.now pages.old def.now (Some pred.now) blocks forests) }
+    ensures lists { IfOk result (λ listed. ListsBlocks P.Pages pages.old def.now (Some pred.now) listed.items) }
+    ensures chosen { IfOk result (λ listed. (owners : List Kind) (forests : TableForests) → StandsTable P.Pages ext.now pages.old def.now owners forests
+        → HaveQualifying P.Pages ext.now pages.old def.now (Some pred.now) (blocks_listed listed.items) forests) }
+    ensures listed { IfOk result (λ listed. (owners : List Kind) (forests : TableForests) → StandsTable P.Pages ext.now pages.old def.now owners forests
+        → AreListedSo P.Pages ext.now pages.old def.now owners forests listed.items) }
     ensures same { (P.state pages.new).work ≡ (P.state pages.old).work }
     ensures runs { RunsOverPages P.Pages NoPage (IsChoicePage P.Pages ext.now pages.old def.now) (BreaksTable P.Pages ext.now pages.old def.now) pages.old pages.new (fault_of result) }
 {
-    let _ext = ext;
-    let listed = cells(alloc, def, pages)?;
-    match blocks_of_cells(alloc, def, pred, listed.as_slice()) {
-        Ok(blocks) => Ok(blocks),
-        Err(Memory) => Err(StoreFault::Memory),
+    let entries = cells(alloc, def, pages)?;
+    let Ok(chosen) = chosen_entries(alloc, def, pred, entries.as_slice()) else {
+        return Err(StoreFault::Memory);
+    };
+    let mut listed = Vec::new(alloc);
+    for one in &chosen {
+        let rows = rows_of_line(alloc, def, ext, pages, one.block)?;
+        let Ok(cell) = copy_of_cell(alloc, &entries.at(one.at).cell) else {
+            return Err(StoreFault::Memory);
+        };
+        listed.push(ListedBlock {
+            block: one.block,
+            rows,
+            cell: Some(cell),
+        })?;
     }
+    Ok(listed)
 }
 
-/// The blocks that are listed under a cell in which the predicate may hold, by rising number.
-fn blocks_of_cells(
+/// An entry of the composite index that was chosen: the block that it lists, and its place among the entries.
+#[derive(Clone, Copy, Debug)]
+pub(crate) struct ChosenEntry {
+    pub(crate) block: u32,
+    pub(crate) at: usize,
+}
+
+/// The entries of cells in which the predicate may hold, by rising block, one for each block.
+fn chosen_entries(
     alloc: Global,
     def: &TableDef,
     pred: &Pred,
-    listed: &[CellBlock],
-) -> Result<Blocks, Memory>
-    ensures chosen { IfOk result (ChoosesBlocks def.now pred.now listed.now) }
+    entries: &[CellBlock],
+) -> Result<Vec<ChosenEntry>, Memory>
+    ensures chosen { IfOk result (λ chosen. ChoosesBlocks def.now pred.now entries.now (blocks_chosen chosen.items)) }
+    ensures entries { IfOk result (λ chosen. AllByRecursion (IsChoiceOf def.now pred.now entries.now) chosen.items) }
 {
-    let mut blocks = Vec::new(alloc);
-    for one in listed {
+    let mut chosen = Vec::new(alloc);
+    for (at, one) in entries.iter().enumerate() {
         if !may_hold(pred, def, &one.cell) {
             continue;
         }
-        blocks.push(one.block)?;
+        chosen.push(ChosenEntry {
+            block: one.block,
+            at,
+        })?;
     }
-    blocks.sort_unstable_by_key(|block| *block);
-    rising(alloc, blocks.as_slice())
+    chosen.sort_unstable_by_key(|one| one.block);
+    each_once(alloc, chosen.as_slice())
 }
 
-/// Numbers that rise, or stand still, each once.
-fn rising(alloc: Global, numbers: &[u32]) -> Result<Blocks, Memory>
-    requires sorted { AllPairs (λ a b. a ≤ b) numbers.now }
-    ensures same { IfOk result (λ blocks. HaveSameMembers numbers.now blocks) }
-    ensures rising { IfOk result (IsRising IsLower) }
+/// Of entries whose blocks rise, or stand still, one for each block.
+fn each_once(alloc: Global, entries: &[ChosenEntry]) -> Result<Vec<ChosenEntry>, Memory>
+    requires sorted { AllPairs (λ a b. a.block ≤ b.block) entries.now }
+    ensures same { IfOk result (λ once. HaveSameMembers (blocks_chosen entries.now) (blocks_chosen once.items)) }
+    ensures rising { IfOk result (λ once. IsRising IsLower (blocks_chosen once.items)) }
+    ensures some { IfOk result (λ once. (entry : ChosenEntry) → Contains once.items entry → Contains entries.now entry) }
 {
-    let mut blocks = Blocks::new(alloc);
-    // The lowest number that may come next.
+    let mut once = Vec::new(alloc);
+    // The lowest block that may come next.
     let mut next = 0;
-    for number in numbers {
-        if u64::from(*number) < next {
+    for one in entries {
+        if u64::from(one.block) < next {
             continue;
         }
-        blocks.push(*number)?;
-        next = u64::from(*number) + 1;
+        once.push(*one)?;
+        next = u64::from(one.block) + 1;
     }
-    Ok(blocks)
+    Ok(once)
 }

@@ -1,9 +1,9 @@
-// Predicates, copied.
+// Predicates and cells, copied.
 ghost use Rattle.std.specs.Prelude.{◌≡◌, List, IfOk};
 ghost use Rattle.mdc_ast.specs.declared.predicate.Pred.{Pred};
 ghost use Rattle.mdc_ast.specs.declared.predicate.Pred.TheVariants.{All, Any};
 
-use mdc_ast::{Atom, Pred, Right, Test};
+use mdc_ast::{Atom, Cell, Pred, Right, Test};
 use mdc_values::{Boxed, List, Memory, Value};
 use std::alloc::Global;
 
@@ -68,4 +68,13 @@ fn copy_of_values(alloc: Global, values: &[Value]) -> Result<List<Value>, Memory
         copies.push(value.copy(alloc)?)?;
     }
     Ok(copies)
+}
+
+/// A copy of a cell.
+pub(crate) fn copy_of_cell(alloc: Global, cell: &Cell) -> Result<Cell, Memory>
+    ensures { IfOk result (λ copy. copy ≡ cell.now) }
+{
+    Ok(Cell {
+        values: copy_of_values(alloc, cell.values.as_slice())?,
+    })
 }

@@ -1,17 +1,23 @@
-use Rattle.std.proofs.Common.{◌≡◌, ◌≤◌, ◌+◌, ◌-◌, ◌++◌, List, Option, drop, length, map}
-use Rattle.mdc_ast.specs.declared.row.Row.{Row}
-use Rattle.row_page.specs.RowPage.{IsRowPage, slot_count}
-use Rattle.mdc_sound.specs.TableRows.{rows_from_slot}
-use Rattle.block_rows.specs.HeldRows.{placed_row, qualifying, HaveReadValues}
+use Rattle.std.proofs.Common.{◌≡◌, ◌≤◌, ◌+◌, ◌-◌, ◌++◌, List, Option, length, map, take}
+use Rattle.std.specs.List.{AllByRecursion}
+use Rattle.row_page.specs.RowPage.{rows_of, slot_count}
+use Rattle.mdc_sound.specs.TableRows.{PlacedRow, rows_from_slot}
+use Rattle.block_rows.specs.CellColumns.{places_of}
+use Rattle.block_rows.specs.HeldRows.{HasReadValues, HaveReadValues, placed_row, qualifying}
+use Rattle.block_rows.specs.SeenRows.{HasMet}
 use Rattle.block_rows.proofs.page_reading.push_rows.Given as goal
 
--- what was pushed, and what qualifies in the slots that are left, are the rows of the page that qualify behind those that were there
+-- the rows of the slots so far were met, and those that qualify put behind what was there
 abbrev pub invariant-slots : goal.invariant-slots
 invariant-slots l = record {
   within : l.from ≤ slot_count l.shape.columns.now;
-  rows : (slots : List (Option Row)) → IsRowPage l.shape.columns.now l.page slots
-      → map placed_row l.hits.items ++ qualifying l.initial.filter.pred.now (rows_from_slot l.first.block (l.first.slot + l.from) (drop l.from slots))
-      ≡ map placed_row l.initial.hits.items ++ qualifying l.initial.filter.pred.now (rows_from_slot l.first.block l.first.slot slots);
+  hits : map placed_row l.hits.items
+      ≡ map placed_row l.initial.hits.items ++ qualifying l.initial.filter.pred.now (rows_from_slot l.first.block l.first.slot (take l.from (rows_of l.shape.columns.now l.page)));
+  read : AllByRecursion (λ placed. HasReadValues l.shape.columns.now placed.row) (rows_from_slot l.first.block l.first.slot (take l.from (rows_of l.shape.columns.now l.page)));
+  counted : l.met.rows ≡ l.initial.met.rows + length (rows_from_slot l.first.block l.first.slot (take l.from (rows_of l.shape.columns.now l.page)));
+  few : l.met.rows ≤ l.first.slot + l.from;
+  meets : (rows : List PlacedRow) → HasMet (places_of l.cells.columns.items) l.given l.initial.met rows
+      → HasMet (places_of l.cells.columns.items) l.given l.met (rows ++ rows_from_slot l.first.block l.first.slot (take l.from (rows_of l.shape.columns.now l.page)));
   keyed : HaveReadValues l.shape.columns.now l.initial.hits.items → HaveReadValues l.shape.columns.now l.hits.items;
   pred : l.filter.pred.now ≡ l.initial.filter.pred.now;
   width : length l.filter.values ≡ length l.initial.filter.values;

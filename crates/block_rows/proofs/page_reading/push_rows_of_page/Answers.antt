@@ -1,10 +1,16 @@
-use Rattle.std.proofs.Common.{Err}
-use Rattle.block_rows.proofs.PageRowsLemmas.{page_fault_runs, rows_at_hand}
+use Rattle.std.proofs.Common.{Err, map, subst}
+use Rattle.store_api.proofs.FrameLemmas.{holds_here}
+use Rattle.block_rows.specs.CellColumns.{places_of}
+use Rattle.block_rows.specs.HeldRows.{placed_row}
+use Rattle.block_rows.specs.SeenRows.{SeesPage}
+use Rattle.block_rows.proofs.PageRowsLemmas.{at_hand, page_fault_runs, rows_at_hand}
 use Rattle.block_rows.proofs.page_reading.push_rows_of_page.Goals as goal
 
-pub returns-in-Ok-clause-rows : goal.returns-in-Ok-clause-rows
-returns-in-Ok-clause-rows g c = λ slots holds.
-    c.in-Ok.ensures.rows slots (rows_at_hand c.in_ok-bring.ensures.hand c.page.ensures holds)
+pub returns-in-Ok-clause-sees : goal.returns-in-Ok-clause-sees
+returns-in-Ok-clause-sees g c = λ told.
+    subst (λ page. SeesPage c.args.shape.now.columns.now (places_of c.args.cells.now.columns.items) c.args.given.now page c.args.first.block c.args.first.slot c.args.filter.now.pred.now
+    (map placed_row c.args.hits.now.items) (map placed_row c.push_rows.new.hits.items) c.args.met.now c.push_rows.new.met)
+    (at_hand c.args.p c.in_ok-bring.ensures.hand c.page.ensures (holds_here c.args.p told c.requires.within)) c.in-Ok.ensures.sees
 
 pub returns-in-Err-clause-runs : goal.returns-in-Err-clause-runs
 returns-in-Err-clause-runs g c =

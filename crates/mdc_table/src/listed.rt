@@ -1,0 +1,86 @@
+// A block as the trees of its table list it, and its rows.
+ghost use Rattle.std.specs.Prelude.{◌≡◌, ◌++◌, map, length, false, IsTrue, OnOk};
+ghost use Rattle.mdc_ast.specs.declared.row.Row.{Row};
+ghost use Rattle.mdc_ast.specs.TableLimits.{IsTableDef};
+ghost use Rattle.store_api.specs.Causes.{fault_of};
+ghost use Rattle.store_api.specs.Fetching.{BringsOnce};
+ghost use Rattle.store_api.specs.Frame.{NoPage};
+ghost use Rattle.store_api.specs.RunsOverPages.{RunsOverPages};
+ghost use Rattle.row_filter.specs.Filtering.{may_filter};
+ghost use Rattle.block_rows.specs.CellColumns.{AreCellColumns, places_of};
+ghost use Rattle.block_rows.specs.HeldRows.{HasReadValues, HaveReadValues, placed_row, qualifying};
+ghost use Rattle.table_trees.specs.RowCells.{cell_places};
+ghost use Rattle.mdc_sound.specs.StandingTable.{BreaksExpected, IsPageOfBlock, pages_of};
+ghost use Rattle.mdc_sound.specs.TableRows.{rows_in_block};
+ghost use Rattle.mdc_table.specs.SeenBlocks.{HasSeenBlock, IsListedSo};
+
+use crate::faults::{strayed, unmapped};
+use block_rows::{CellColumns, Hit, push_rows_in_cell};
+use extent_map::Extents;
+use mdc_ast::{Cell, TableDef};
+use row_filter::RowFilter;
+use std::alloc::Global;
+use store_api::{Pages, StoreFault};
+use table_blocks::miscounted;
+
+/// A Used block as the trees of its table list it: how many rows its line in the block map says that it has, and the cell under
+/// which the composite index lists it, where it was found there.
+#[derive(Debug, Drop)]
+pub struct ListedBlock {
+    pub block: u32,
+    pub rows: u16,
+    pub cell: Option<Cell>,
+}
+
+/// Puts copies of the rows of a Used block that a filter takes last, by rising slot, as `push_rows_of_used_block` does. Damaged too
+/// where it doesn't have as many rows as its line says, and where a row isn't of its cell, or its rows not of one where no cell is
+/// given.
+pub fn push_rows_of_listed_block<P: Pages>(
+    alloc: Global,
+    def: &TableDef,
+    ext: &Extents,
+    pages: &mut P,
+    cells: &CellColumns,
+    listed: &ListedBlock,
+    filter: &mut RowFilter,
+    hits: &mut Vec<Hit>,
+) -> Result<(), StoreFault>
+    requires defined { IsTableDef def.now.number def.now }
+    requires are { AreCellColumns def.now.columns cells.now }
+    requires places { places_of cells.now.columns.items ≡ cell_places def.now }
+    requires wide { length def.now.columns ≡ length filter.old.values }
+    requires judged { (row : Row) → HasReadValues def.now.columns row → IsTrue (may_filter filter.old.pred.now row.values) }
+    requires going { (P.state pages.old).ended ≡ false }
+    ensures rows { OnOk result (IsTrue (P.state pages.old).is_told
+        → map placed_row hits.new.items ≡ map placed_row hits.old.items ++ qualifying filter.old.pred.now (rows_in_block ext.now (pages_of P.Pages pages.old) def.now listed.now.block)) }
+    ensures seen { OnOk result (IsTrue (P.state pages.old).is_told → HasSeenBlock ext.now (pages_of P.Pages pages.old) def.now listed.now) }
+    ensures keyed { OnOk result (HaveReadValues def.now.columns hits.old.items → HaveReadValues def.now.columns hits.new.items) }
+    ensures pred { filter.new.pred.now ≡ filter.old.pred.now }
+    ensures width { length filter.new.values ≡ length filter.old.values }
+    ensures same { (P.state pages.new).work ≡ (P.state pages.old).work }
+    ensures once { BringsOnce P.Pages (IsPageOfBlock ext.now listed.now.block) pages.old pages.new }
+    ensures runs { RunsOverPages P.Pages NoPage (IsPageOfBlock ext.now listed.now.block) (BreaksExpected P.Pages ext.now pages.old def.now (IsListedSo P.Pages ext.now pages.old def.now listed.now)) pages.old pages.new (fault_of result) }
+{
+    let block = listed.block;
+    if block >= ext.cap {
+        return Err(unmapped(def));
+    }
+    let seen = push_rows_in_cell(
+        alloc,
+        def,
+        ext,
+        pages,
+        block,
+        cells,
+        &listed.cell,
+        filter,
+        hits,
+    )?;
+    if seen.rows != u32::from(listed.rows) {
+        return Err(miscounted(ext, block));
+    }
+    if !seen.in_cell {
+        return Err(strayed(ext, block));
+    }
+    Ok(())
+}
