@@ -14,7 +14,7 @@ use Rattle.mdc_ast.specs.declared.definition.ColumnDef.{ColumnDef}
 use Rattle.mdc_ast.specs.declared.definition.KeyPart.{KeyPart}
 use Rattle.mdc_ast.specs.declared.definition.TableDef.{TableDef}
 use Rattle.mdc_ast.specs.declared.span.Span.{Span}
-use Rattle.key_codec.specs.Keys.{ArePartsOf, HasByteText, has_key, part_bytes, part_width, type_of_column, type_or_none, width_of_parts}
+use Rattle.key_codec.specs.Keys.{ArePartsOf, has_key, part_bytes, part_width, type_of_column, type_or_none, width_of_parts}
 use Rattle.key_codec.specs.Spans.{IsRangeOf, first_column, is_first_descending, is_in_range}
 use Rattle.key_codec.proofs.KeyLemmas.{first_there, width_of_parts-cons}
 use Rattle.key_codec.proofs.PartLemmas.{length-part_bytes}
@@ -79,15 +79,6 @@ part_of_column columns (place ∷ places) (value ∷ values) column rest there f
               ∙ (next.part ∙ ap (λ v. part_bytes (type_of_column columns column) false v ++ next.more) (sym there_is))));
           key = subst (λ v. IsTrue (has_key (type_of_column columns column) v)) (sym there_is) next.key;
         }
-
-text_beside : (places : List ℕ) (values : List Value) (column : ℕ) → AllByRecursion HasByteText values → HasByteText (value_beside places values column)
-text_beside [] values column texts = tt
-text_beside (place ∷ places) [] column texts = tt
-text_beside (place ∷ places) (value ∷ values) column texts = go (place == column) (text_beside places values column texts.1)
-  where
-    go : (b : Bool) → HasByteText (value_beside places values column) → HasByteText (if b then value else value_beside places values column)
-    go true later = texts.0
-    go false later = later
 
 -- the first place of an index is that of the column exactly where nothing stands before its part
 pub first_at_zero : (columns : List ColumnDef) (places : List ℕ) (column : ℕ) → IsFirstPlace places column → offset_of columns places column ≡ 0
@@ -207,7 +198,7 @@ module _ (columns : List ColumnDef) (places : List ℕ) (column : ℕ) (span : S
   part_tells values block listed =
       let part = part_of_column columns places values column (big_bytes 4 block) there listed.fit in
       ap (is_in_range range.low range.high) (ap (λ n. drop n (entry_under (key_of_values columns places values) block)) at ∙ part.part)
-      ∙ tells (value_beside places values column) part.more part.key (text_beside places values column listed.texts)
+      ∙ tells (value_beside places values column) part.more part.key
 
   module _ (width : ℕ) (within : length range.low ≤ width) (wide : AreOfWidth width all) (rises : Rises None None all) where
     pub blocks_found : (numbers blocks : List ℕ) → numbers ≡ blocks_in_range range (walked width range all) → ((block : ℕ) → Contains blocks block ↔ Contains numbers block) → AreBlocksInSpan columns places column span all blocks

@@ -1,13 +1,11 @@
 -- What is found in the block indexes.
 use Rattle.std.specs.Prelude.{◌≡◌, ◌<◌, ◌≤◌, ◌+◌, ◌-◌, ◌^◌, ◌==◌, ℕ, Bool, IsTrue, List, [], ◌∷◌, length, count_by, Option, Some, None, Contains, if◌then◌else◌}
-use Rattle.std.specs.List.{AllByRecursion}
 use Rattle.std.specs.Slice.Scan.{big_endian}
 use Rattle.mdc_words.specs.ByteOrder.{Entry}
 use Rattle.mdc_values.specs.declared.value.Value.{Value}
 use Rattle.mdc_values.specs.declared.value.Value.TheVariants.{Null}
 use Rattle.mdc_ast.specs.declared.definition.ColumnDef.{ColumnDef}
 use Rattle.mdc_ast.specs.declared.span.Span.{Span}
-use Rattle.key_codec.specs.Keys.{HasByteText}
 use Rattle.key_codec.specs.Spans.{lies_in_span}
 use Rattle.entry_tree.specs.EntryBounds.{Bound, IsEntryOf}
 use Rattle.entry_tree.specs.Reading.{entries_from}
@@ -33,11 +31,10 @@ FindsUnder key entries from (Some block) = IsLowestUnder key entries from block
 
 -- ---- listed under values
 
--- an index of the columns in these places lists a block under values, whose texts are of bytes
+-- an index of the columns in these places lists a block under values, which have keys there
 pub record IsListed (columns : List ColumnDef) (places : List ℕ) (entries : List Entry) (values : List Value) (block : ℕ) : Type 0 where
   pub fit : FitPlaces columns places values
   pub many : length values ≡ length places
-  pub texts : AllByRecursion HasByteText values
   pub small : block < 2 ^ 32
   pub there : IsEntryOf (entry_under (key_of_values columns places values) block) entries
 

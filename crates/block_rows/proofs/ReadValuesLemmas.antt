@@ -12,11 +12,13 @@ use Rattle.mdc_values.specs.declared.value.ColType.{ColType}
 use Rattle.mdc_values.specs.declared.value.ColType.TheVariants.{Integer, Bigint, Char, Date}
 use Rattle.mdc_values.specs.declared.value.Value.TheVariants.{Null}
 use Rattle.mdc_values.specs.Fitting.{in_bigint, in_integer}
-use Rattle.mdc_values.specs.Value.{trimmed}
+use Rattle.mdc_values.specs.Value.{are_bytes, trimmed}
+use Rattle.mdc_values.proofs.ValueLemmas.{are_bytes-from, are_bytes-trimmed}
 use Rattle.mdc_ast.specs.declared.definition.ColumnDef.{ColumnDef}
 use Rattle.mdc_ast.specs.declared.row.Row.{Row}
 use Rattle.mdc_ast.specs.Truth.{value_at}
 use Rattle.mdc_ast.specs.Definitions.{width}
+use Rattle.mdc_ast.proofs.TestsLemmas.{and_true}
 use Rattle.key_codec.specs.Keys.{has_key, type_of_column}
 use Rattle.row_page.specs.Row.{column_value, columns_values, nulls_in, row_in, row_width_of, value_or_null}
 use Rattle.row_page.specs.RowPage.{slot_bytes, slot_start}
@@ -55,7 +57,9 @@ has_key-column_value : (ty : ColType) (bytes : List ℕ) → length bytes ≤ wi
 unfolding column_value
 has_key-column_value Integer bytes le are = in_32_bits (big_number 4 bytes) (big_from-lt 0 4 bytes are)
 has_key-column_value Bigint bytes le are = in_64_bits (big_number 8 bytes) (big_from-lt 0 8 bytes are)
-has_key-column_value (Char n) bytes le are = no_longer (length (trimmed bytes)) n (omega (arith, length-trimmed bytes, le))
+has_key-column_value (Char n) bytes le are =
+    let short = no_longer (length (trimmed bytes)) n (omega (arith, length-trimmed bytes, le)) in
+    and_true (nat_le (length (trimmed bytes)) n) (are_bytes (trimmed bytes)) short (are_bytes-trimmed bytes (are_bytes-from bytes are))
 has_key-column_value Date bytes le are = below (big_number 4 bytes) 4294967296 (big_from-lt 0 4 bytes are)
 
 has_key-null : (ty : ColType) → IsTrue (has_key ty Null)

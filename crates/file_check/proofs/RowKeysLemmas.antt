@@ -10,7 +10,7 @@ use Rattle.mdc_ast.specs.declared.definition.ColumnDef.{ColumnDef}
 use Rattle.mdc_ast.specs.declared.definition.KeyPart.{KeyPart}
 use Rattle.mdc_ast.specs.declared.row.Row.{Row}
 use Rattle.mdc_ast.specs.Truth.{value_at}
-use Rattle.key_codec.specs.Keys.{HasByteText, HasByteTexts, has_key, key_bytes, part_bytes, type_of_column, type_or_none}
+use Rattle.key_codec.specs.Keys.{has_key, key_bytes, part_bytes, type_of_column, type_or_none}
 use Rattle.block_rows.specs.HeldRows.{HasReadValues}
 use Rattle.mdc_sound.specs.TableRows.{PlacedRow}
 use Rattle.file_check.specs.KeysJudged.{AreKeysOf, AreNumbersOf}
@@ -18,22 +18,20 @@ use Rattle.file_check.proofs.JudgingLemmas.{all_next}
 
 -- ---- the parts of a key
 
--- What was written of a key, before the parts that are left: with them it is whole, and its texts are of bytes if theirs are.
+-- What was written of a key, before the parts that are left: with them it is whole.
 pub record IsKeySoFar (columns : List ColumnDef) (parts : List KeyPart) (values : List Value) (left : List KeyPart) (out : List ℕ) : Type 0 where
   pub bytes : out ++ key_bytes columns left values ≡ key_bytes columns parts values
-  pub texts : HasByteTexts left values → HasByteTexts parts values
 
 pub no_part_yet : (columns : List ColumnDef) (parts items : List KeyPart) (values : List Value) (out : List ℕ) → items ≡ parts → out ≡ [] → IsKeySoFar columns parts values items out
 no_part_yet columns parts items values out is none = record {
   bytes = ap (λ o. o ++ key_bytes columns items values) none ∙ ap (λ ps. key_bytes columns ps values) is;
-  texts = λ h. subst (λ ps. HasByteTexts ps values) is h;
 }
 
 pub part_more : (columns : List ColumnDef) (parts items : List KeyPart) (values : List Value) (out new : List ℕ) (i : ℕ) (d : KeyPart) (ty : ColType) (value : Value)
     → IsKeySoFar columns parts values (drop i items) out → i < length items
     → ty ≡ type_of_column columns (slice_index_or items i d).column → slice_get values (slice_index_or items i d).column ≡ Some value
-    → new ≡ out ++ part_bytes ty (slice_index_or items i d).descending value → HasByteText value → IsKeySoFar columns parts values (drop (i + 1) items) new
-part_more columns parts items values out new i d ty value so low ty_is value_is new_is text =
+    → new ≡ out ++ part_bytes ty (slice_index_or items i d).descending value → IsKeySoFar columns parts values (drop (i + 1) items) new
+part_more columns parts items values out new i d ty value so low ty_is value_is new_is =
     let part = slice_index_or items i d in
     let more = drop (i + 1) items in
     let left : drop i items ≡ part ∷ more = rw (add-one i) (drop-cons items i d low) in
@@ -45,15 +43,11 @@ part_more columns parts items values out new i d ty value so low ty_is value_is 
     record {
       bytes = ap (λ o. o ++ key_bytes columns more values) new_is ∙ (append_assoc out (part_bytes ty part.descending value) (key_bytes columns more values)
           ∙ (ap (λ b. out ++ b) (sym key_left) ∙ so.bytes));
-      texts = λ h. so.texts (subst (λ ps. HasByteTexts ps values) (sym left) (subst HasByteText (sym v_is) text, h));
     }
 
 pub whole_key : (columns : List ColumnDef) (parts : List KeyPart) (values : List Value) (left : List KeyPart) (out : List ℕ) → IsKeySoFar columns parts values left out → left ≡ [] → out ≡ key_bytes columns parts values
 whole_key columns parts values left out so none =
     sym (append-nil out) ∙ (ap (λ ps. out ++ key_bytes columns ps values) (sym none) ∙ so.bytes)
-
-pub whole_texts : (columns : List ColumnDef) (parts : List KeyPart) (values : List Value) (left : List KeyPart) (out : List ℕ) → IsKeySoFar columns parts values left out → left ≡ [] → HasByteTexts parts values
-whole_texts columns parts values left out so none = so.texts (subst (λ ps. HasByteTexts ps values) (sym none) tt)
 
 -- ---- rows
 
@@ -71,12 +65,10 @@ module _ {H : Type 0} (placed : H → PlacedRow) where
 
   pub key_more : (columns : List ColumnDef) (parts : List KeyPart) (rows : List H) (i : ℕ) (d : H) (done : List PlacedRow) (now new : List (List ℕ)) → i < length rows
       → AreKeysOf columns parts now (done ++ map placed (take i rows)) → new ≡ now ++ key_bytes columns parts (placed (get_or rows i d)).row.values ∷ []
-      → HasByteTexts parts (placed (get_or rows i d)).row.values → AreKeysOf columns parts new (done ++ map placed (take (i + 1) rows))
-  key_more columns parts rows i d done now new low so pushed texts = record {
-    bytes = pushed ∙ (ap (λ ks. ks ++ key_bytes columns parts (placed (get_or rows i d)).row.values ∷ []) so.bytes
-        ∙ (sym (map-append (λ p. key_bytes columns parts p.row.values) (done ++ map placed (take i rows)) (placed (get_or rows i d) ∷ [])) ∙ ap (map (λ p. key_bytes columns parts p.row.values)) (sym (one_more rows i d done low))));
-    texts = subst (AllByRecursion (λ p. HasByteTexts parts p.row.values)) (sym (one_more rows i d done low)) (all_next (λ p. HasByteTexts parts p.row.values) (done ++ map placed (take i rows)) (placed (get_or rows i d)) so.texts texts);
-  }
+      → AreKeysOf columns parts new (done ++ map placed (take (i + 1) rows))
+  key_more columns parts rows i d done now new low so pushed =
+      pushed ∙ (ap (λ ks. ks ++ key_bytes columns parts (placed (get_or rows i d)).row.values ∷ []) so
+      ∙ (sym (map-append (λ p. key_bytes columns parts p.row.values) (done ++ map placed (take i rows)) (placed (get_or rows i d) ∷ [])) ∙ ap (map (λ p. key_bytes columns parts p.row.values)) (sym (one_more rows i d done low))))
 
 -- ---- values
 

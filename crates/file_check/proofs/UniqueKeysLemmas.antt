@@ -10,9 +10,9 @@ use Rattle.mdc_ast.specs.declared.definition.KeyPart.{KeyPart}
 use Rattle.mdc_ast.specs.declared.definition.TableDef.{TableDef}
 use Rattle.mdc_ast.specs.Database.{fits_all}
 use Rattle.extent_map.specs.declared.extents.Extents.{Extents}
-use Rattle.key_codec.specs.Keys.{ArePartsOf, HasByteTexts, key_bytes}
+use Rattle.key_codec.specs.Keys.{ArePartsOf, key_bytes}
 use Rattle.mdc_ast.specs.ValidDatabase.{AreSameAtParts}
-use Rattle.key_codec.proofs.KeyLemmas.{AreTurnable-HasByteTexts, same-key_bytes}
+use Rattle.key_codec.proofs.KeyLemmas.{same-key_bytes}
 use Rattle.entry_tree.specs.Forest.{Forest}
 use Rattle.block_map.specs.MapLines.{used_blocks}
 use Rattle.table_trees.specs.ToldPages.{PageList}
@@ -35,33 +35,31 @@ rows_fit ext pages def map_tree has = each_row (λ placed. RowFits def placed.ro
 
 module _ (columns : List ColumnDef) (parts : List KeyPart) (are : ArePartsOf columns parts) where
   -- two rows have one key exactly where they are the same at its parts
-  one_key : (rows : List PlacedRow) (i j : ℕ) (d : PlacedRow) → AllByRecursion (λ placed. IsTrue (fits_all columns placed.row.values)) rows → AllByRecursion (λ placed. HasByteTexts parts placed.row.values) rows
+  one_key : (rows : List PlacedRow) (i j : ℕ) (d : PlacedRow) → AllByRecursion (λ placed. IsTrue (fits_all columns placed.row.values)) rows
       → i < length rows → j < length rows
       → (key_bytes columns parts (get_or rows i d).row.values ≡ key_bytes columns parts (get_or rows j d).row.values) ↔ AreSameAtParts parts (get_or rows i d).row.values (get_or rows j d).row.values
-  one_key rows i j d fit texts low high =
+  one_key rows i j d fit low high =
       let a = (get_or rows i d).row.values in
       let b = (get_or rows j d).row.values in
       same-key_bytes columns parts a b are
       (each_of (λ placed. IsTrue (fits_all columns placed.row.values)) rows (get_or rows i d) fit (Contains-get_or rows i d low))
       (each_of (λ placed. IsTrue (fits_all columns placed.row.values)) rows (get_or rows j d) fit (Contains-get_or rows j d high))
-      (AreTurnable-HasByteTexts parts a (each_of (λ placed. HasByteTexts parts placed.row.values) rows (get_or rows i d) texts (Contains-get_or rows i d low)))
-      (AreTurnable-HasByteTexts parts b (each_of (λ placed. HasByteTexts parts placed.row.values) rows (get_or rows j d) texts (Contains-get_or rows j d high)))
 
-  keys_differ : (rows : List PlacedRow) → AllByRecursion (λ placed. IsTrue (fits_all columns placed.row.values)) rows → AllByRecursion (λ placed. HasByteTexts parts placed.row.values) rows
+  keys_differ : (rows : List PlacedRow) → AllByRecursion (λ placed. IsTrue (fits_all columns placed.row.values)) rows
       → AllPairs (λ a b. a ≢ b) (map (λ placed. key_bytes columns parts placed.row.values) rows) ↔ AllPairs (λ a b. AreSameAtParts parts a.row.values b.row.values → ⊥) rows
-  keys_differ [] fit texts = (λ differ i j d below high same. omega (arith, high), λ differ i j d below high same. omega (arith, high))
-  keys_differ (x ∷ rows) fit texts =
+  keys_differ [] fit = (λ differ i j d below high same. omega (arith, high), λ differ i j d below high same. omega (arith, high))
+  keys_differ (x ∷ rows) fit =
       let key : PlacedRow → List ℕ = λ placed. key_bytes columns parts placed.row.values in
       let long : length (map key (x ∷ rows)) ≡ length (x ∷ rows) = length-map (x ∷ rows) key in (
         λ differ i j d below high same.
             let low : i < length (x ∷ rows) = omega (arith, below, high) in
             differ i j (key d) below (omega (arith, long, high))
-            (get_or-map key (x ∷ rows) i d (key d) low ∙ ((one_key (x ∷ rows) i j d fit texts low high).1 same ∙ sym (get_or-map key (x ∷ rows) j d (key d) high))),
+            (get_or-map key (x ∷ rows) i d (key d) low ∙ ((one_key (x ∷ rows) i j d fit low high).1 same ∙ sym (get_or-map key (x ∷ rows) j d (key d) high))),
         λ differ i j d below high same.
             let there : j < length (x ∷ rows) = omega (arith, long, high) in
             let low : i < length (x ∷ rows) = omega (arith, below, there) in
             differ i j x below there
-            ((one_key (x ∷ rows) i j x fit texts low there).0 (sym (get_or-map key (x ∷ rows) i x d low) ∙ (same ∙ get_or-map key (x ∷ rows) j x d there))),
+            ((one_key (x ∷ rows) i j x fit low there).0 (sym (get_or-map key (x ∷ rows) i x d low) ∙ (same ∙ get_or-map key (x ∷ rows) j x d there))),
       )
 
 -- whether the keys of a table's rows differ is whether its UNIQUE index is sound
@@ -72,7 +70,7 @@ unique_if_differ ext pages def map_tree index keys parts unique has are =
     let rows = rows_in_table ext pages def map_tree in
     let fit : AllByRecursion (λ placed. IsTrue (fits_all def.columns placed.row.values)) rows =
     each_as (λ placed. RowFits def placed.row) (λ placed. IsTrue (fits_all def.columns placed.row.values)) rows (λ placed there fits. fits.values) (rows_fit ext pages def map_tree has) in
-    let both = keys_differ def.columns index.parts parts rows fit are.texts in (
-      λ differ is. both.0 (subst (λ (ks : List (List ℕ)). AllPairs (λ a b. a ≢ b) ks) are.bytes differ),
-      λ sound. subst (λ (ks : List (List ℕ)). AllPairs (λ a b. a ≢ b) ks) (sym are.bytes) (both.1 (sound unique)),
+    let both = keys_differ def.columns index.parts parts rows fit in (
+      λ differ is. both.0 (subst (λ (ks : List (List ℕ)). AllPairs (λ a b. a ≢ b) ks) are differ),
+      λ sound. subst (λ (ks : List (List ℕ)). AllPairs (λ a b. a ≢ b) ks) (sym are) (both.1 (sound unique)),
     )

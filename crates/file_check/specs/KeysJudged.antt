@@ -7,7 +7,7 @@ use Rattle.mdc_ast.specs.declared.definition.KeyPart.{KeyPart}
 use Rattle.mdc_ast.specs.declared.definition.TableDef.{TableDef}
 use Rattle.store_api.specs.StoreState.{StoreState}
 use Rattle.extent_map.specs.declared.extents.Extents.{Extents}
-use Rattle.key_codec.specs.Keys.{HasByteTexts, key_bytes}
+use Rattle.key_codec.specs.Keys.{key_bytes}
 use Rattle.entry_tree.specs.Forest.{Forest}
 use Rattle.block_map.specs.MapLines.{used_blocks}
 use Rattle.table_trees.specs.ToldPages.{PageList}
@@ -32,10 +32,9 @@ TellsRows ext def pages = (map_tree : Forest) × HasTableRows ext pages def map_
 abbrev pub AreNumbersOf : List ℕ → List PlacedRow → Type 0
 AreNumbersOf numbers rows = numbers ≡ map (λ placed. placed.row.number) rows
 
--- these are the keys of the rows, whose texts are of bytes there
-pub record AreKeysOf (columns : List ColumnDef) (parts : List KeyPart) (keys : List (List ℕ)) (rows : List PlacedRow) : Type 0 where
-  pub bytes : keys ≡ map (λ placed. key_bytes columns parts placed.row.values) rows
-  pub texts : AllByRecursion (λ placed. HasByteTexts parts placed.row.values) rows
+-- these are the keys of the rows
+abbrev pub AreKeysOf : List ColumnDef → List KeyPart → List (List ℕ) → List PlacedRow → Type 0
+AreKeysOf columns parts keys rows = keys ≡ map (λ placed. key_bytes columns parts placed.row.values) rows
 
 -- numbers that lie below the next one, and differ
 pub record AreApartBelow (next : ℕ) (numbers : List ℕ) : Type 0 where

@@ -1,7 +1,7 @@
 // Row numbers and keys of rows, as rows give them.
 ghost use Rattle.std.specs.Prelude.{◌≡◌, ◌++◌, ◌<◌, List, map, IfErr, IfOk, OnOk};
 ghost use Rattle.mdc_ast.specs.declared.row.Row.{Row};
-ghost use Rattle.key_codec.specs.Keys.{ArePartsOf, HasByteTexts, key_bytes};
+ghost use Rattle.key_codec.specs.Keys.{ArePartsOf, key_bytes};
 ghost use Rattle.block_rows.specs.HeldRows.{HasReadValues, HaveReadValues, placed_row};
 ghost use Rattle.mdc_sound.specs.TableRows.{PlacedRow};
 ghost use Rattle.file_check.specs.KeysJudged.{AreKeysOf, AreNumbersOf};
@@ -55,7 +55,6 @@ fn key_of_row(
     requires parts { ArePartsOf columns.now parts.now }
     requires keyed { HasReadValues columns.now row.now }
     ensures key { IfOk result (λ key. key.items ≡ key_bytes columns.now parts.now row.now.values) }
-    ensures texts { OnOk result (HasByteTexts parts.now row.now.values) }
     ensures memory { IfErr result (λ fault. fault ≡ StoreFault.Memory) }
 {
     let mut key = Vec::new(alloc);

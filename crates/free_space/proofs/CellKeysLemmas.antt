@@ -10,7 +10,7 @@ use Rattle.mdc_ast.specs.Truth.{value_at}
 use Rattle.mdc_ast.specs.declared.definition.TableDef.{TableDef}
 use Rattle.mdc_ast.specs.Database.{fits_all}
 use Rattle.mdc_ast.specs.ValidDatabase.{AreSameAtParts}
-use Rattle.key_codec.specs.Keys.{ArePartsOf, AreTurnable}
+use Rattle.key_codec.specs.Keys.{ArePartsOf}
 use Rattle.key_codec.proofs.KeyLemmas.{same-key_bytes}
 use Rattle.table_trees.specs.TableTrees.{cell_parts, rising_parts}
 use Rattle.table_trees.specs.RowCells.{AreOfOneCell, cell_places}
@@ -21,17 +21,13 @@ same_values : (places : List ℕ) (a b : List Value) → AreSameAtParts (rising_
 same_values [] a b same = refl
 same_values (place ∷ places) a b same = let rest = same_values places a b same.1 in let first = same.0 in cc
 
-turnable : (places : List ℕ) (values : List Value) → AreTurnable (rising_parts places) values
-turnable [] values = tt
-turnable (place ∷ places) values = (tt, turnable places values)
-
 pub cell_key_of-same : (def : TableDef) (a b : List Value) → AreOfOneCell def a b → cell_key_of def a ≡ cell_key_of def b
 cell_key_of-same def a b one = cell_key-same def a b one
 
 pub one_cell : (def : TableDef) (a b : List Value) → ArePartsOf def.columns (cell_parts def) → IsTrue (fits_all def.columns a) → IsTrue (fits_all def.columns b) → cell_key_of def a ≡ cell_key_of def b
     → AreOfOneCell def a b
 one_cell def a b are fa fb same =
-    same_values (cell_places def) a b ((same-key_bytes def.columns (cell_parts def) a b are fa fb (turnable (cell_places def) a) (turnable (cell_places def) b)).0 same)
+    same_values (cell_places def) a b ((same-key_bytes def.columns (cell_parts def) a b are fa fb).0 same)
 
 -- ---- entries
 

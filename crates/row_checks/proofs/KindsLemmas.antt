@@ -28,7 +28,7 @@ use Rattle.statement_meaning.specs.Judging.{atoms_of}
 use Rattle.statement_meaning.proofs.BindingLemmas.{AreBound, may_judge-bound_where}
 use Rattle.mdc_ast.proofs.KindsLemmas as value
 use Rattle.mdc_ast.proofs.KindsLemmas.{are_alike-same_kind, same_kind-refl}
-use Rattle.mdc_ast.proofs.FitsLemmas.{fits_all-at, length-fits_all}
+use Rattle.mdc_ast.proofs.FitsLemmas.{fits_all-at, is_of_type-text, length-fits_all}
 use Rattle.mdc_ast.proofs.TestsLemmas.{and_true, both, some_is}
 use Rattle.row_checks.proofs.Changeable.{there_is}
 use Rattle.row_filter.specs.Filtering.{may_filter}
@@ -71,10 +71,7 @@ samples columns = map (λ column. sample column.ty) columns
 sample_type : (ty : ColType) → IsTrue (is_of_type ty (sample ty))
 sample_type Integer = refl
 sample_type Bigint = refl
-sample_type (Char n) = and_true (nat_le 0 n) _ least refl
-  where
-    least : IsTrue (nat_le 0 n)
-    least = grind (arith, nat_tests)
+sample_type (Char n) = is_of_type-text n [] (record { short = omega arith; ends = refl; bytes = refl })
 sample_type Date = refl
 
 no_null : (ty : ColType) (not_null : Bool) → IsTrue (not (not_null && is_null (sample ty)))

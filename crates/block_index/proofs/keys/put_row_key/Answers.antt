@@ -44,7 +44,7 @@ loop-place-preserved c =
     let wide = length-part_bytes ty false c.at-in-loop-place.result.now fits in
     let put : take (c.loop-place.end + c.from-end.result) out ≡ take c.loop-place.end c.loop-place.out ++ part_bytes ty false c.at-in-loop-place.result.now =
     ap (λ w. take (c.loop-place.end + w) out) (c.from-end.ensures ∙ c.part_width.ensures)
-    ∙ put_behind c.loop-place.out c.put_part.new.out (part_bytes ty false c.at-in-loop-place.result.now) c.loop-place.end (part_width ty) c.loop-place.invariant.1 wide c.put_part.ensures.bytes in (
+    ∙ put_behind c.loop-place.out c.put_part.new.out (part_bytes ty false c.at-in-loop-place.result.now) c.loop-place.end (part_width ty) c.loop-place.invariant.1 wide c.put_part.ensures in (
       row_keyed_next c.args.columns.now c.args.values.now (take c.args.start c.args.out.now ++ key) c.as_slice-place-items.result.now c.loop-place.place-index (take c.loop-place.end c.loop-place.out) c.loop-place.invariant.0 c.loop-place-test.true
           c.at.result.now c.at-in-loop-place.result.now column value (take (c.loop-place.end + c.from-end.result) out) put,
       omega (

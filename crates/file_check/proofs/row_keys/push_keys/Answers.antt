@@ -1,6 +1,6 @@
-use Rattle.std.proofs.Common.{◌∷◌, ◌++◌, [], ◌∙◌, ap, map, subst}
+use Rattle.std.proofs.Common.{◌∷◌, ◌++◌, [], ◌∙◌, ap, map}
 use Rattle.std.proofs.lemmas.List.{map-append}
-use Rattle.key_codec.specs.Keys.{HasByteTexts, key_bytes}
+use Rattle.key_codec.specs.Keys.{key_bytes}
 use Rattle.block_rows.specs.HeldRows.{placed_row}
 use Rattle.block_rows.specs.declared.hit.Hit.{Hit}
 use Rattle.file_check.proofs.RowKeysLemmas.{key_more}
@@ -13,4 +13,3 @@ loop-hit-preserved c done before =
     (ap (map (λ key. key.items)) c.in_ok-push.ensures.items
     ∙ (map-append (λ key. key.items) c.loop-hit.keys.items (c.in_ok-key.key ∷ [])
     ∙ ap (λ bytes. map (λ key. key.items) c.loop-hit.keys.items ++ bytes ∷ []) (c.in_ok-key.ensures.key ∙ ap (λ (hit : Hit). key_bytes c.args.columns.now c.args.parts.now hit.row.values) c.hit-item.is)))
-    (subst (λ (hit : Hit). HasByteTexts c.args.parts.now hit.row.values) c.hit-item.is c.in_ok-key.ensures.texts)

@@ -23,7 +23,7 @@ returns-in_err-blocks-clause-runs g c = runs_exit c.from_residual.result c.from_
 
 pub loop-block-init : goal.loop-block-init
 loop-block-init g c = record {
-  keys = λ told map_tree rows. record { bytes = ap (map (λ key. key.items)) c.new-keys.ensures.items; texts = tt };
+  keys = λ told map_tree rows. ap (map (λ key. key.items)) c.new-keys.ensures.items;
   same = c.blocks_in_state.ensures.same;
   going = c.in_ok-blocks.ensures.runs.works.steady.ended ∙ c.requires.going;
   runs = runs_listing {fault = None} c.args.ext.now c.args.def.now c.in_ok-blocks.ensures.runs;
