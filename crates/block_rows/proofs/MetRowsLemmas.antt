@@ -23,7 +23,7 @@ module _ {X : Type 0} (P : X → Type 0) where
   each_back [] ys all = all
   each_back (x ∷ xs) ys all = each_back xs ys all.1
 
-  each_at : (xs : List X) (k : ℕ) (d : X) → AllByRecursion P xs → k < length xs → P (get_or xs k d)
+  pub each_at : (xs : List X) (k : ℕ) (d : X) → AllByRecursion P xs → k < length xs → P (get_or xs k d)
   each_at [] k d all low = absurd (omega (arith, low))
   each_at (x ∷ xs) zero d all low = all.0
   each_at (x ∷ xs) (suc k) d all low = each_at xs k d all.1 (omega (arith, low))

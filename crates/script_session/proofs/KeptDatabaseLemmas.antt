@@ -20,13 +20,12 @@ stands_last (GoesOnLists.nothing stands) = stands
 stands_last (GoesOnLists.one stands meets within after goes) = stands_last goes
 
 -- the pages of the last commit that is held within a stage stand for what the session keeps
-pub KeepsStage : Extents → Stage → Session → Type 0
+abbrev pub KeepsStage : Extents → Stage → Session → Type 0
 KeepsStage ext stage session = (within : HeldPages) → IsHeldIn stage within → PagesStandFor ext within.base session.kept
 
 -- what is held after some of the items stands so for the session after these, where what is held before them all does
 keeps_at : {ext : Extents} {held : HeldPages} {session : Session} {items : List Item} {outcomes : List Outcome} {stages : List Stage} {sessions : List Session} (first : Stage)
     → GoesOnLists ext held session items outcomes stages sessions → KeepsStage ext first session → (n : ℕ) → KeepsStage ext (stage_after first stages n) (session_at session sessions n)
-unfolding KeepsStage
 keeps_at first (GoesOnLists.nothing stands) keeps n = keeps
 keeps_at first (GoesOnLists.one stands meets within after goes) keeps zero = keeps
 keeps_at {ext} first (GoesOnLists.one {stage = stage} stands meets within after goes) keeps (suc n) =
@@ -53,10 +52,9 @@ pub record StandForKept (ext : Extents) (session : Session) (sessions : List Ses
 -- so the pages of the last commit do after so many items
 pub kept_stand : {ext : Extents} {held : HeldPages} {session : Session} {items : List Item} {outcomes : List Outcome} {stages : List Stage} {sessions : List Session} {in_hand : List Item} {pages : PageList} {n : ℕ}
     → GoesOnLists ext held session items outcomes stages sessions → AreKept ext held stages in_hand pages n → StandForKept ext session sessions in_hand pages n
-unfolding KeepsStage
 kept_stand {ext} {held} {session} {stages = stages} {sessions = sessions} {n = n} lists (AreKept.done few within is same) =
     let db = (session_at session sessions n).kept in
-    let first = λ (at : HeldPages) at_is. subst (λ (h : HeldPages). PagesStandFor ext h.base session.kept) (sym at_is) (stands_first lists).kept in
+    let first : KeepsStage ext (still held) session = λ at at_is. subst (λ (h : HeldPages). PagesStandFor ext h.base session.kept) (sym at_is) (stands_first lists).kept in
     record {
       db = db;
       kept = IsKeptDatabase.done (omega (arith, few, length-sessions lists)) refl;

@@ -13,6 +13,6 @@ pub mod RunsLemmas
 pub mod ScriptItemsLemmas
 pub mod ServingLemmas
 pub mod ToldLemmas
+pub mod TurnEndsLemmas
 pub mod TurningLemmas
-pub mod TurnsLemmas
 pub mod WrittenLemmas

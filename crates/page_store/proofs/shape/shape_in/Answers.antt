@@ -24,5 +24,5 @@ returns-then-ne c = λ birth. (
     let same : page ≡ c.birth_page.result = birth.bytes ∙ (first ∙ (second ∙ sym c.birth_page.ensures)) in
     let equal = (slice_eq-Decides Decides-eqb page c.birth_page.result _ refl).1 same in
     let is = c.ne.ensures ∙ ap not equal in
-    let no = c.then-ne.branch in
+    let no = c.if-ne.true in
     cc)

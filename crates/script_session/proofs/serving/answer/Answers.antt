@@ -1,9 +1,9 @@
 use Rattle.script_session.proofs.HandedLemmas.{handed}
-use Rattle.script_session.proofs.TurnsLemmas.{turns_settled, turns_unsettled}
+use Rattle.script_session.proofs.TurnEndsLemmas.{turns_settled, turns_unsettled}
 use Rattle.script_session.proofs.serving.answer.Goals as goal
 
 pub returns-in_err-refused : goal.returns-in_err-refused
-returns-in_err-refused g c = rw (handed c.from_residual.result _ c.from_residual.ensures.1) c.in_err-refused.ensures
+returns-in_err-refused g c = rw (handed c.from_residual.result _ c.from_residual.ensures.1) (record { turns = c.in_err-refused.ensures.turns })
 
 pub returns-in_err-settle : goal.returns-in_err-settle
 returns-in_err-settle g c =

@@ -1,7 +1,7 @@
 use Rattle.std.proofs.Common.{◌≡◌, Err, sym, subst, rules}
 use Rattle.script_session.specs.Stops.{stop_of_engine}
 use Rattle.script_session.proofs.HandedLemmas.{handed}
-use Rattle.script_session.proofs.TurnsLemmas.{turns_told, turns_unanswered, turns_untold}
+use Rattle.script_session.proofs.TurnEndsLemmas.{turns_told, turns_unanswered, turns_untold}
 use Rattle.script_session.proofs.serving.answer_item.Goals as goal
 
 pub returns-in_err-outcome : goal.returns-in_err-outcome
