@@ -1,6 +1,6 @@
 -- The names of columns, and where they stand.
 use Rattle.std.proofs.Common.{◌≡◌, ℕ, zero, suc, ◌+◌, ◌<◌, ◌≤◌, inl, inr, Bool, true, false, not, ◌||◌, List, [], ◌∷◌, ◌++◌, Option, Some, None, add-one, arith, ap, bytes_eq, drop, drop-cons, eqb, get_or, is_some, length, map, option_and_then, refl, sym, take, ◌∙◌}
-use Rattle.std.specs.Prelude.{slice_get}
+use Rattle.std.specs.Prelude.{flat_map, slice_get}
 use Rattle.std.specs.List.{list_any, position_from}
 use Rattle.std.proofs.lemmas.Bool.{cases_Bool}
 use Rattle.std.proofs.lemmas.Bool.Decides.{nat_tests}
@@ -26,6 +26,22 @@ slice_get-column_names (first ∷ columns) (suc i) column lt = slice_get-column_
 pub map-column_names : {Y : Type 0} (f : Name → Y) (columns : List ColumnDef) → map f (column_names columns) ≡ map (λ column. f column.name) columns
 map-column_names f [] = refl
 map-column_names f (column ∷ columns) = ap (λ rest. f column.name ∷ rest) (map-column_names f columns)
+
+pub flat_map-column_names : {Y : Type 0} (f : Name → List Y) (columns : List ColumnDef) → flat_map f (column_names columns) ≡ flat_map (λ column. f column.name) columns
+flat_map-column_names f [] = refl
+flat_map-column_names f (column ∷ columns) = ap (λ rest. f column.name ++ rest) (flat_map-column_names f columns)
+
+-- ---- names among others
+
+either_way : (a b : Bool) → (a || b) ≡ (b || (a || false))
+either_way true true = refl
+either_way true false = refl
+either_way false true = refl
+either_way false false = refl
+
+-- it says nothing whether a name stands first or last
+pub is_among-moved : (name : Name) (names : List Name) (other : Name) → is_among other (name ∷ names) ≡ is_among other (names ++ name ∷ [])
+is_among-moved name names other = either_way (is_same other name) (is_among other names) ∙ sym (list_any-append (is_same other) names (name ∷ []))
 
 -- ---- columns by name
 
