@@ -31,18 +31,6 @@ pub flat_map-column_names : {Y : Type 0} (f : Name → List Y) (columns : List C
 flat_map-column_names f [] = refl
 flat_map-column_names f (column ∷ columns) = ap (λ rest. f column.name ++ rest) (flat_map-column_names f columns)
 
--- ---- names among others
-
-either_way : (a b : Bool) → (a || b) ≡ (b || (a || false))
-either_way true true = refl
-either_way true false = refl
-either_way false true = refl
-either_way false false = refl
-
--- it says nothing whether a name stands first or last
-pub is_among-moved : (name : Name) (names : List Name) (other : Name) → is_among other (name ∷ names) ≡ is_among other (names ++ name ∷ [])
-is_among-moved name names other = either_way (is_same other name) (is_among other names) ∙ sym (list_any-append (is_same other) names (name ∷ []))
-
 -- ---- columns by name
 
 eqb-sym : (a b : ℕ) → eqb a b ≡ eqb b a
