@@ -20,6 +20,7 @@ ghost use Rattle.mdc_sound.specs.StandingTable.{BreaksExpected, IsPageOfBlock, S
 ghost use Rattle.mdc_sound.specs.TableRows.{rows_in_block};
 ghost use Rattle.mdc_table.specs.TableReading.{CountsBlocks, HasUsedBlock, IsRowLook};
 ghost use Rattle.table_scan.specs.FoundRows.{FindsRows, IsChoicePage, IsChosenRowPage, IsScannedPage, ScansOnce};
+ghost use Rattle.table_scan.specs.SeenTable.{HasSeenTable};
 ghost use Rattle.checked_table.specs.ExactDamage.{AnswersExactly, HasUsedIfStanding};
 
 use crate::judging::exact_fault;
@@ -181,6 +182,7 @@ pub fn find_rows<P: Pages>(
     requires unmarked { (P.state pages.old).marked ≡ None }
     ensures finds { IfOk result (λ hits. (owners : List Kind) (forests : TableForests) → StandsTable P.Pages ext.now pages.old def.now owners forests
         → FindsRows P.Pages ext.now pages.old def.now pred.now hits.items forests) }
+    ensures seen { IfOk result (λ hits. IsTrue (P.state pages.old).is_told → HasSeenTable P.Pages ext.now pages.old def.now pred.now hits.items) }
     ensures keyed { IfOk result (λ hits. HaveReadValues def.now.columns hits.items) }
     ensures exact { AnswersExactly P.Pages ext.now def.now pages.old (fault_of result) }
     ensures same { (P.state pages.new).work ≡ (P.state pages.old).work }

@@ -16,8 +16,8 @@ use Rattle.extent_map.specs.declared.extents.Extents.{Extents}
 use Rattle.extent_map.proofs.ExtentsLemmas.{extent_limits, page_of-parts, place_below}
 use Rattle.row_page.specs.RowPage.{IsRowPage, row_page_head, rows_of}
 use Rattle.table_trees.specs.ToldPages.{PageList}
-use Rattle.block_rows.specs.HeldRows.{BreaksRows, HoldsRows, qualifying}
-use Rattle.mdc_sound.specs.TableRows.{PlacedRow, block_slots}
+use Rattle.block_rows.specs.HeldRows.{BreaksRows, qualifying}
+use Rattle.mdc_sound.specs.TableRows.{PlacedRow}
 use Rattle.file_check.specs.Known.{BlockHasRowPages}
 use Rattle.file_check.specs.Looking.{Unless}
 
@@ -51,17 +51,7 @@ block_there ext pages def block has =
     omega (arith, some, last)
 
 module _ {S : Type 0} {g : Ghosts S} where
-  -- where pages are told, a block of row pages holds its rows
-  pub holds_rows : (ext : Extents) (s : S) (def : TableDef) (block : ℕ) → IsTrue (g.state s).is_told → BlockHasRowPages ext (g.state s).work def block
-      → HoldsRows g ext s def block (block_slots ext (g.state s).work def block)
-  holds_rows ext s def block told has = record {
-    told = told;
-    there = block_there ext (g.state s).work def block has;
-    forms = has;
-    slots_are = refl;
-  }
-
-  -- and no call finds it broken
+  -- no call finds a block of row pages broken
   pub reading_breaks_none : (ext : Extents) (s : S) (def : TableDef) (block : ℕ) (damage : Damage) → BreaksRows g ext s def block damage → Unless g s (λ pages. BlockHasRowPages ext pages def block) damage
   reading_breaks_none ext s def block damage (inl b) told has =
       let there = block_there ext (g.state s).work def block has in

@@ -2,6 +2,7 @@ pub mod KeptBlocksLemmas
 pub mod KeptRoomsLemmas
 pub mod KnownBlocksLemmas
 pub mod LaterPlacesLemmas
+pub mod ListedBlocksLemmas
 pub mod NextBlocksLemmas
 pub mod PlacingRowsLemmas
 pub mod ReadValuesLemmas

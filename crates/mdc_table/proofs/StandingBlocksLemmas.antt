@@ -212,10 +212,3 @@ module _ {S : Type 0} {g : Ghosts S} where
       ∙ ap (λ (pages : PageList). slice_index_or (block_slots ext pages def rid.block) rid.slot None) same
       ∙ sym (row_of_used ext old def owners forests st rid there)
   row_found ext old mid def rid (Err fault) told same used found = tt
-
--- what is said of the rows of all slots that a block may hold is so of those of a Used block
-pub rows_found : {S : Type 0} (g : Ghosts S) (ext : Extents) (s : S) (def : TableDef) (block : ℕ) (Said : List PlacedRow → Type 0) (result : Result (Unit {0}) StoreFault)
-    → OnOk result ((slots : List (Option Row)) → HoldsRows g ext s def block slots → Said (rows_from_slot block 0 slots))
-    → OnOk result ((owners : List Kind) (forests : TableForests) → StandsTable g ext s def owners forests → Contains (used_blocks forests.map) block → Said (rows_in_block ext (pages_of g s) def block))
-rows_found g ext s def block Said (Ok done) found = λ owners forests st used. found (block_slots ext (pages_of g s) def block) (rows_held ext s def owners forests st block used)
-rows_found g ext s def block Said (Err fault) found = tt

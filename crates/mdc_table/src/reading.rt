@@ -1,5 +1,5 @@
 // The rows of a table, read.
-ghost use Rattle.std.specs.Prelude.{◌≡◌, ◌<◌, ◌++◌, ℕ, List, Contains, false, map, length, IsTrue, IfOk, IfSome, OnOk};
+ghost use Rattle.std.specs.Prelude.{◌≡◌, ◌<◌, ◌++◌, ◌^◌, ℕ, List, Contains, false, map, length, IsTrue, IfOk, IfSome, OnOk};
 ghost use Rattle.mdc_ast.specs.declared.row.Row.{Row};
 ghost use Rattle.store_api.specs.Causes.{fault_of};
 ghost use Rattle.store_api.specs.Fetching.{BringsOnce};
@@ -21,7 +21,7 @@ ghost use Rattle.table_trees.specs.TreesBeside.{HoldsTreeAt, IsTreePageAt};
 ghost use Rattle.mdc_table.specs.TableReading.{HasUsedBlock, IsRowLook};
 
 use crate::faults::unmapped;
-use block_map::{BlockMap, BlockState};
+use block_map::{BlockMap, BlockRow, BlockState};
 use block_rows::{Hit, push_rows_of_block, row_in_slot};
 use extent_map::Extents;
 use mdc_ast::{Row, TableDef};
@@ -125,7 +125,15 @@ pub fn rows_of_line<P: Pages>(
     if line.state != BlockState::Used {
         return Err(unmapped(def));
     }
-    Ok(line.rows)
+    Ok(stated(&line))
+}
+
+/// How many rows a line says.
+fn stated(line: &BlockRow) -> u16
+    ensures value { result ≡ line.now.rows }
+    ensures few { result < 2 ^ 16 }
+{
+    line.rows
 }
 
 /// The Used blocks, by rising number. It looks at no row page.
@@ -137,6 +145,7 @@ pub fn used_blocks<P: Pages>(
 ) -> Result<Blocks, StoreFault>
     requires going { (P.state pages.old).ended ≡ false }
     ensures listed { IfOk result (λ blocks. (owners : List Kind) (forests : TableForests) → StandsTable P.Pages ext.now pages.old def.now owners forests → blocks ≡ used_blocks forests.map) }
+    ensures of_tree { IfOk result (λ blocks. (t : Forest) → HoldsTreeAt P.Pages pages.old (map_place def.now) t → blocks ≡ used_blocks t) }
     ensures same { (P.state pages.new).work ≡ (P.state pages.old).work }
     ensures runs { RunsOverPages P.Pages NoPage (IsTreePageAt P.Pages pages.old (map_place def.now)) (BreaksTable P.Pages ext.now pages.old def.now) pages.old pages.new (fault_of result) }
 {

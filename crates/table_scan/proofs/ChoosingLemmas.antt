@@ -310,6 +310,16 @@ module _ {S : Type 0} (g : Ghosts S) (ext : Extents) (s : S) (def : TableDef) (o
       (each_of (AreBlockRowsSound ext (pages_of g s) def) (used_blocks forests.map) placed.rid.block st.rows mine.used).rows mine.within in
       is_cell_entry def placed there fit.values (omega (arith, small, (named_owned ext owners def forests.map 1 placed.rid.block st.map mine.used).0))
 
+  -- an entry that was read has the cell of a row of its block
+  pub listed_cell : (found : List CellBlock) → ((all : List CellBlock) → AreCellEntries def (leaf_entries forests.composite) all → found ≡ all) → (one : CellBlock) → Contains found one
+      → (placed : PlacedRow) × Contains (rows_in_block ext (pages_of g s) def one.block) placed × (one.cell.values ≡ cell_values def placed.row.values)
+  unfolding rows
+  listed_cell found listed one in_found =
+      let all = cells_of_rows def rows row_entry_is (leaf_entries forests.composite) st.indexes.composite.only in
+      let (placed, in_rows, is) = all.each one (subst (λ l. Contains l one) (listed all.all all.are) in_found) in
+      let mine = of_used placed in_rows in
+      (placed, subst (λ b. Contains (rows_in_block ext (pages_of g s) def b) placed) (ap (λ (c : CellBlock). c.block) is) mine.within, sym (ap (λ (c : CellBlock). c.cell.values) is))
+
   module _ (pred : Pred) (found : List CellBlock) (blocks : List ℕ)
       (listed : (all : List CellBlock) → AreCellEntries def (leaf_entries forests.composite) all → found ≡ all) (chooses : ChoosesBlocks def pred found blocks) where
     may : CellBlock → Bool

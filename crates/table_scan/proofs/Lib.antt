@@ -1,5 +1,6 @@
 mod BlocksThatMayLemmas
 mod ChoosingLemmas
+mod ListingLemmas
 mod RisingNumbersLemmas
 pub mod ScannedRowsLemmas
 pub mod ScanningLemmas

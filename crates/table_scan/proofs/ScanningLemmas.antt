@@ -1,10 +1,9 @@
 -- What a scan has found and brought to hand so far.
 use Rattle.std.proofs.Common.{◌≡◌, ◌<◌, ◌≤◌, ◌+◌, ℕ, zero, suc, List, [], ◌∷◌, ◌++◌, Bool, true, false, length, get_or, take, refl, inl, inr, ap, arith, sym, ◌∙◌, subst}
-use Rattle.std.specs.Prelude.{Contains, Err, IfOk, IsPermutation, Ok, Option, None, Result, filter, flat_map, map}
+use Rattle.std.specs.Prelude.{Contains, IsPermutation, Option, Some, None, filter, flat_map, map}
 use Rattle.std.specs.List.Sorted.{IsNonDecreasingBy}
 use Rattle.std.proofs.lemmas.Bool.{cases_Bool}
-use Rattle.std.proofs.lemmas.List.{flat_map_more, take_all, take_more}
-use Rattle.std.proofs.lemmas.List.Elements.{Contains-get_or, filter-append}
+use Rattle.std.proofs.lemmas.List.Elements.{Contains-get_or}
 use Rattle.std.proofs.lemmas.List.Sorted.{IsPermutation-map, IsPermutation-refl, IsPermutation-trans}
 use Rattle.mdc_values.specs.Rising.{IsLower, IsRising}
 use Rattle.store_api.specs.Fetching.{BringsOnce, BringsOnly}
@@ -30,7 +29,10 @@ use Rattle.mdc_sound.proofs.ElementsLemmas.{each_in}
 use Rattle.mdc_sound.proofs.StandingTableLemmas.{stands_same}
 use Rattle.table_trees.specs.TableTrees.{composite_place, map_place}
 use Rattle.table_trees.specs.TreesBeside.{BreaksTreeAt, IsTreePageAt}
-use Rattle.mdc_table.specs.TableReading.{HasUsedBlock}
+use Rattle.mdc_table.specs.SeenBlocks.{IsListedSo}
+use Rattle.mdc_table.specs.declared.listed.ListedBlock.{ListedBlock}
+use Rattle.mdc_ast.specs.declared.row.Cell.{Cell}
+use Rattle.table_trees.specs.RowCells.{IsCellOf}
 use Rattle.table_scan.specs.FoundRows.{FindsRows, HaveQualifying, IsChoicePage, IsChosenBlock, IsChosenRowPage, IsScannedPage, ScansOnce}
 
 -- ---- the elements of a list that pass a test, one after the other
@@ -50,13 +52,7 @@ map_kept f q (x ∷ xs) = elim (cases_Bool (q (f x))) [
   | inr fails ↦ ap (map f) (filter_past (λ x. q (f x)) x xs fails) ∙ map_kept f q xs ∙ sym (filter_past q (f x) (map f xs) fails)
 ]
 
--- ---- the rows of one block more
-
-pub filter_flat_more : {X : Type 0} (p : X → Bool) (rows_at : ℕ → List X) (items : List ℕ) (i : ℕ) → i < length items
-    → filter p (flat_map rows_at (take i items)) ++ filter p (rows_at (get_or items i 0)) ≡ filter p (flat_map rows_at (take (i + 1) items))
-filter_flat_more p rows_at items i low =
-    sym (filter-append p (flat_map rows_at (take i items)) (rows_at (get_or items i 0)))
-    ∙ ap (filter p) (flat_map_more rows_at [] (take i items) (get_or items i 0) ∙ ap (flat_map rows_at) (sym (take_more items i 0 low)))
+-- ---- blocks that were chosen
 
 -- a block that was chosen, at its place
 pub is_chosen : {S : Type 0} {g : Ghosts S} (ext : Extents) (s : S) (def : TableDef) (pred : Option Pred) (items : List ℕ) (forests : TableForests) (i : ℕ)
@@ -120,29 +116,23 @@ module _ {S : Type 0} {g : Ghosts S} (ext : Extents) (def : TableDef) where
   -- a table that stands is the same one where the work stayed
   module _ (old now : S) (pred : Option Pred) (items : List ℕ) (i : ℕ) (told : (g.state now).is_told ≡ (g.state old).is_told) (same : (g.state now).work ≡ (g.state old).work)
       (chosen : (owners : List Kind) (forests : TableForests) → StandsTable g ext old def owners forests → HaveQualifying g ext old def pred items forests) (low : i < length items) where
-    -- the rows of one block more
-    pub rows_more : (hits new : List Hit)
-        → ((owners : List Kind) (forests : TableForests) → StandsTable g ext old def owners forests
-        → map placed_row hits ≡ qualifying pred (flat_map (rows_in_block ext (pages_of g old) def) (take i items)))
-        → ((owners : List Kind) (forests : TableForests) → StandsTable g ext now def owners forests → Contains (used_blocks forests.map) (get_or items i 0)
-        → map placed_row new ≡ map placed_row hits ++ qualifying pred (rows_in_block ext (pages_of g now) def (get_or items i 0)))
-        → (owners : List Kind) (forests : TableForests) → StandsTable g ext old def owners forests
-        → map placed_row new ≡ qualifying pred (flat_map (rows_in_block ext (pages_of g old) def) (take (i + 1) items))
-    rows_more hits new so_far pushed owners forests st =
-        pushed owners forests (stands_same ext old now def owners forests told same st) (is_chosen ext old def pred items forests i (chosen owners forests st) low).used
-        ∙ (ap (λ pages. map placed_row hits ++ qualifying pred (rows_in_block ext pages def (get_or items i 0))) same
-        ∙ (ap (λ front. front ++ qualifying pred (rows_in_block ext (pages_of g old) def (get_or items i 0))) (so_far owners forests st)
-        ∙ filter_flat_more (λ placed. qualifies pred placed.row.values) (rows_in_block ext (pages_of g old) def) items i low))
-
     -- the run on its pages, one of which may be damaged only where the table doesn't stand
-    pub runs_block : {new : S} {fault : Option StoreFault} → RunsOverPages g NoPage (IsScannedPage g ext old def pred) (BreaksTable g ext old def) old now None
-        → RunsOverPages g NoPage (IsPageOfBlock ext (get_or items i 0)) (BreaksExpected g ext now def (HasUsedBlock (get_or items i 0))) now new fault
+    pub runs_listed : {new : S} {fault : Option StoreFault} (one : ListedBlock) → get_or items i 0 ≡ one.block
+        → ((owners : List Kind) (forests : TableForests) → StandsTable g ext old def owners forests → IsListedSo g ext old def one owners forests)
+        → RunsOverPages g NoPage (IsScannedPage g ext old def pred) (BreaksTable g ext old def) old now None
+        → RunsOverPages g NoPage (IsPageOfBlock ext one.block) (BreaksExpected g ext now def (IsListedSo g ext now def one)) now new fault
         → RunsOverPages g NoPage (IsScannedPage g ext old def pred) (BreaksTable g ext old def) old new fault
-    runs_block first second =
+    runs_listed one is so first second =
         let here : (owners : List Kind) (forests : TableForests) → StandsTable g ext old def owners forests → IsChosenBlock g ext old def pred forests (get_or items i 0) =
         λ owners forests st. is_chosen ext old def pred items forests i (chosen owners forests st) low in
-        runs_then first second (λ p there none. absurd none) (λ p is. inr (λ owners forests st. (get_or items i 0, here owners forests st, is)))
-        (λ damage b. record { names = b.names; broken = λ owners forests st. b.broken owners forests (stands_same ext old now def owners forests told same st) (record { used = (here owners forests st).used }) })
+        runs_then first second (λ p there none. absurd none) (λ p page. inr (λ owners forests st. (get_or items i 0, here owners forests st, subst (λ b. IsPageOfBlock ext b p) (sym is) page)))
+        (λ damage b. record { names = b.names; broken = λ owners forests st. b.broken owners forests (stands_same ext old now def owners forests told same st) (listed_same one owners forests (so owners forests st)) })
+      where
+        listed_same : (one : ListedBlock) (owners : List Kind) (forests : TableForests) → IsListedSo g ext old def one owners forests → IsListedSo g ext now def one owners forests
+        listed_same one owners forests so = record {
+          line = so.line;
+          cell = subst (λ pages. (cell : Cell) → one.cell ≡ Some cell → (placed : PlacedRow) × Contains (rows_in_block ext pages def one.block) placed × IsCellOf def cell placed.row.values) (sym same) so.cell;
+        }
 
   -- the run that chooses the blocks
   pub runs_choice : {pred : Option Pred} {old new : S} {fault : Option StoreFault} → RunsOverPages g NoPage (IsChoicePage g ext old def) (BreaksTable g ext old def) old new fault
@@ -160,29 +150,21 @@ module _ {S : Type 0} {g : Ghosts S} (ext : Extents) (def : TableDef) where
       (λ damage b. record { names = tree b.rule (1, omega arith, sym b.page); broken = λ owners forests st. b.broken forests.composite st.trees.held.1.0 })
 
   -- all blocks were gone over, and what was found was brought in order
-  pub found_all : (s : S) (pred : Option Pred) (items : List ℕ) (n : ℕ) (hits sorted : List Hit) (forests : TableForests)
-      → HaveQualifying g ext s def pred items forests → length items ≤ n
-      → map placed_row hits ≡ qualifying pred (flat_map (rows_in_block ext (pages_of g s) def) (take n items))
+  pub found_all : (s : S) (pred : Option Pred) (items : List ℕ) (hits sorted : List Hit) (forests : TableForests)
+      → HaveQualifying g ext s def pred items forests → map placed_row hits ≡ qualifying pred (flat_map (rows_in_block ext (pages_of g s) def) items)
       → IsPermutation hits sorted → IsNonDecreasingBy (λ (hit : Hit). hit.row.number) sorted → FindsRows g ext s def pred sorted forests
-  found_all s pred items n hits sorted forests have all found moved rising =
+  found_all s pred items hits sorted forests have found moved rising =
       let those : List PlacedRow = qualifying pred (flat_map (rows_in_block ext (pages_of g s) def) items) in
-      let found_those : map placed_row hits ≡ those = found ∙ ap (λ blocks. qualifying pred (flat_map (rows_in_block ext (pages_of g s) def) blocks)) (take_all n items all) in
       record {
         found = IsPermutation-trans (qualifying pred (rows_in_table ext (pages_of g s) def forests.map)) those (map placed_row sorted) have.whole
-            (subst (λ rows. IsPermutation rows (map placed_row sorted)) found_those (IsPermutation-map placed_row hits sorted moved));
+            (subst (λ rows. IsPermutation rows (map placed_row sorted)) found (IsPermutation-map placed_row hits sorted moved));
         in_order = λ i j d below within. rising i j d (omega (arith, below)) within;
       }
 
   -- without a predicate all Used blocks are chosen
-  all_chosen : (s : S) (blocks : List ℕ) (forests : TableForests) → blocks ≡ used_blocks forests.map → HaveQualifying g ext s def None blocks forests
+  pub all_chosen : (s : S) (blocks : List ℕ) (forests : TableForests) → blocks ≡ used_blocks forests.map → HaveQualifying g ext s def None blocks forests
   all_chosen s blocks forests are = record {
     chosen = each_in (IsChosenBlock g ext s def None forests) blocks (λ block is_in. record { used = subst (λ l. Contains l block) are is_in; may = tt });
     whole = subst (λ l. IsPermutation (qualifying None (rows_in_table ext (pages_of g s) def forests.map)) (qualifying None (flat_map (rows_in_block ext (pages_of g s) def) l))) (sym are)
         (IsPermutation-refl (qualifying None (rows_in_table ext (pages_of g s) def forests.map)));
   }
-
-pub all_if_ok : {S E : Type 0} (g : Ghosts S) (ext : Extents) (def : TableDef) (s : S) (pred : Option Pred) (result : Result (List ℕ) E) → pred ≡ None
-    → IfOk result (λ blocks. (owners : List Kind) (forests : TableForests) → StandsTable g ext s def owners forests → blocks ≡ used_blocks forests.map)
-    → IfOk result (λ blocks. (owners : List Kind) (forests : TableForests) → StandsTable g ext s def owners forests → HaveQualifying g ext s def pred blocks forests)
-all_if_ok g ext def s pred (Ok blocks) none listed = λ owners forests st. subst (λ p. HaveQualifying g ext s def p blocks forests) (sym none) (all_chosen ext def s blocks forests (listed owners forests st))
-all_if_ok g ext def s pred (Err e) none listed = tt

@@ -1,3 +1,4 @@
 pub mod Choices
 pub mod FoundRows
+pub mod SeenTable
 pub mod Settled

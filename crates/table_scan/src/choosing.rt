@@ -1,5 +1,5 @@
 // The blocks in which a row may qualify.
-ghost use Rattle.std.specs.Prelude.{◌≡◌, ◌≤◌, List, AllPairs, Some, None, false, map, IfOk};
+ghost use Rattle.std.specs.Prelude.{◌≡◌, ◌≤◌, [], ◌∷◌, ◌++◌, List, AllPairs, Contains, Some, None, false, IfOk, IfErr, OnOk};
 ghost use Rattle.std.specs.List.{AllByRecursion};
 ghost use Rattle.store_api.specs.Causes.{fault_of};
 ghost use Rattle.store_api.specs.Frame.{NoPage};
@@ -7,8 +7,15 @@ ghost use Rattle.store_api.specs.RunsOverPages.{RunsOverPages};
 ghost use Rattle.extent_map.specs.declared.kind.Kind.{Kind};
 ghost use Rattle.mdc_ast.specs.TableLimits.{IsTableDef};
 ghost use Rattle.mdc_values.specs.Rising.{IsLower, IsRising};
-ghost use Rattle.mdc_sound.specs.StandingTable.{BreaksTable, StandsTable, TableForests};
-ghost use Rattle.table_scan.specs.Choices.{ChoosesBlocks, HaveSameMembers, IsChoiceOf, blocks_chosen};
+ghost use Rattle.entry_tree.specs.Forest.{Forest};
+ghost use Rattle.block_map.specs.MapLines.{map_lines};
+ghost use Rattle.table_trees.specs.TableTrees.{map_place};
+ghost use Rattle.table_trees.specs.TreesBeside.{HoldsTreeAt, IsTreePageAt};
+ghost use Rattle.mdc_sound.specs.StandingTable.{BreaksExpected, BreaksTable, StandsTable, TableForests};
+ghost use Rattle.mdc_table.specs.SeenBlocks.{used_line_of};
+ghost use Rattle.mdc_table.specs.TableReading.{HasUsedBlock};
+ghost use Rattle.table_scan.specs.Choices.{ChoosesBlocks, HaveSameMembers, IsChoiceOf, IsOfEntry, blocks_chosen};
+ghost use Rattle.table_scan.specs.declared.choosing.ChosenEntry.{ChosenEntry};
 ghost use Rattle.table_scan.specs.FoundRows.{HaveQualifying, IsChoicePage};
 ghost use Rattle.table_scan.specs.SeenTable.{AreListedSo, ListsBlocks, blocks_listed};
 
@@ -67,11 +74,13 @@ fn listed_by_map<P: Pages>(
     let blocks = used_blocks(alloc, def, ext, pages)?;
     let mut listed = Vec::new(alloc);
     for block in blocks.as_slice() {
-        listed.push(ListedBlock {
+        let rows = rows_of_line(alloc, def, ext, pages, *block)?;
+        let one = ListedBlock {
             block: *block,
-            rows: rows_of_line(alloc, def, ext, pages, *block)?,
+            rows,
             cell: None,
-        })?;
+        };
+        push_listed(&mut listed, one)?;
     }
     Ok(listed)
 }
@@ -99,18 +108,50 @@ fn listed_by_cell<P: Pages>(
         return Err(StoreFault::Memory);
     };
     let mut listed = Vec::new(alloc);
-    for one in &chosen {
-        let rows = rows_of_line(alloc, def, ext, pages, one.block)?;
-        let Ok(cell) = copy_of_cell(alloc, &entries.at(one.at).cell) else {
-            return Err(StoreFault::Memory);
-        };
-        listed.push(ListedBlock {
-            block: one.block,
-            rows,
-            cell: Some(cell),
-        })?;
+    for one in chosen.as_slice() {
+        let block = listed_block(alloc, def, ext, pages, pred, entries.as_slice(), one)?;
+        push_listed(&mut listed, block)?;
     }
     Ok(listed)
+}
+
+/// The block of an entry that was chosen, with its line in the block map and its cell.
+fn listed_block<P: Pages>(
+    alloc: Global,
+    def: &TableDef,
+    ext: &Extents,
+    pages: &mut P,
+    pred: &Pred,
+    entries: &[CellBlock],
+    chosen: &ChosenEntry,
+) -> Result<ListedBlock, StoreFault>
+    requires choice { IsChoiceOf def.now pred.now entries.now chosen.now }
+    requires going { (P.state pages.old).ended ≡ false }
+    ensures block { IfOk result (λ one. one.block ≡ chosen.now.block) }
+    ensures line { IfOk result (λ one. (t : Forest) → HoldsTreeAt P.Pages pages.old (map_place def.now) t → Contains (map_lines t) (used_line_of one)) }
+    ensures entry { IfOk result (IsOfEntry def.now pred.now entries.now) }
+    ensures same { (P.state pages.new).work ≡ (P.state pages.old).work }
+    ensures runs { RunsOverPages P.Pages NoPage (IsTreePageAt P.Pages pages.old (map_place def.now)) (BreaksExpected P.Pages ext.now pages.old def.now (HasUsedBlock chosen.now.block)) pages.old pages.new (fault_of result) }
+{
+    let _pred = pred;
+    let Ok(cell) = copy_of_cell(alloc, &entries[chosen.at].cell) else {
+        return Err(StoreFault::Memory);
+    };
+    let rows = rows_of_line(alloc, def, ext, pages, chosen.block)?;
+    Ok(ListedBlock {
+        block: chosen.block,
+        rows,
+        cell: Some(cell),
+    })
+}
+
+/// Puts a block last.
+fn push_listed(listed: &mut Vec<ListedBlock>, one: ListedBlock) -> Result<(), StoreFault>
+    ensures pushed { OnOk result (listed.new.items ≡ listed.old.items ++ one ∷ []) }
+    ensures memory { IfErr result (λ fault. fault ≡ StoreFault.Memory) }
+{
+    listed.push(one)?;
+    Ok(())
 }
 
 /// An entry of the composite index that was chosen: the block that it lists, and its place among the entries.
@@ -131,7 +172,8 @@ fn chosen_entries(
     ensures entries { IfOk result (λ chosen. AllByRecursion (IsChoiceOf def.now pred.now entries.now) chosen.items) }
 {
     let mut chosen = Vec::new(alloc);
-    for (at, one) in entries.iter().enumerate() {
+    for at in 0..entries.len() {
+        let one = &entries[at];
         if !may_hold(pred, def, &one.cell) {
             continue;
         }

@@ -10,19 +10,22 @@ ghost use Rattle.block_rows.specs.HeldRows.{HasReadValues, HaveReadValues};
 ghost use Rattle.mdc_sound.specs.StandingTable.{BreaksTable, StandsTable, TableForests};
 ghost use Rattle.row_filter.specs.Filtering.{may_filter};
 ghost use Rattle.table_scan.specs.FoundRows.{FindsRows, IsChoicePage, IsChosenRowPage, IsScannedPage, ScansOnce};
+ghost use Rattle.table_scan.specs.SeenTable.{HasSeenTable};
 
-use crate::choosing::chosen_blocks;
+use crate::choosing::listed_blocks;
 use crate::settling::unsettled;
 use extent_map::Extents;
 use mdc_ast::{Pred, TableDef};
-use mdc_table::{Hit, push_rows_of_used_block};
+use mdc_table::{CellColumns, Hit, push_rows_of_listed_block};
 use row_filter::RowFilter;
 use std::alloc::Global;
 use store_api::{Pages, StoreFault};
 
 /// Copies of the rows of a table that qualify, each with its place, by rising row number. Of row pages only those of blocks come to
 /// hand in whose cells a row may qualify, each once. It needs a predicate that may be judged on each row that was read. What a cell
-/// settles isn't judged on its rows.
+/// settles isn't judged on its rows. Damaged where a page of such a block isn't a row page or doesn't have as many rows as its head
+/// says, where the block doesn't have as many as its line in the block map says, and where a row isn't of the cell under which the
+/// block is listed, or those of a block not of one where there is no predicate.
 pub fn find_rows<P: Pages>(
     alloc: Global,
     def: &TableDef,
@@ -35,6 +38,7 @@ pub fn find_rows<P: Pages>(
     requires going { (P.state pages.old).ended ≡ false }
     ensures finds { IfOk result (λ hits. (owners : List Kind) (forests : TableForests) → StandsTable P.Pages ext.now pages.old def.now owners forests
         → FindsRows P.Pages ext.now pages.old def.now pred.now hits.items forests) }
+    ensures seen { IfOk result (λ hits. IsTrue (P.state pages.old).is_told → HasSeenTable P.Pages ext.now pages.old def.now pred.now hits.items) }
     ensures keyed { IfOk result (λ hits. HaveReadValues def.now.columns hits.items) }
     ensures same { (P.state pages.new).work ≡ (P.state pages.old).work }
     ensures once { ScansOnce P.Pages (IsChoicePage P.Pages ext.now pages.old def.now) (IsChosenRowPage P.Pages ext.now pages.old def.now pred.now) pages.old pages.new }
@@ -46,10 +50,13 @@ pub fn find_rows<P: Pages>(
     let Ok(mut filter) = RowFilter::new(alloc, &left, def.columns.len()) else {
         return Err(StoreFault::Memory);
     };
+    let Ok(cells) = CellColumns::of(alloc, def) else {
+        return Err(StoreFault::Memory);
+    };
     let mut hits = Vec::new(alloc);
-    let blocks = chosen_blocks(alloc, def, ext, pages, pred)?;
-    for block in blocks.as_slice() {
-        push_rows_of_used_block(alloc, def, ext, pages, *block, &mut filter, &mut hits)?;
+    let listed = listed_blocks(alloc, def, ext, pages, pred)?;
+    for one in listed.as_slice() {
+        push_rows_of_listed_block(alloc, def, ext, pages, &cells, one, &mut filter, &mut hits)?;
     }
     hits.sort_unstable_by_key(|hit| hit.row.number);
     Ok(hits)

@@ -2,8 +2,8 @@ use Rattle.std.proofs.Common.{◌∙◌, ◌++◌, List, ap, map}
 use Rattle.store_api.proofs.RunsOverPagesLemmas.{runs_exit, runs_memory, runs_none, runs_wider}
 use Rattle.block_rows.specs.declared.hit.Hit.{Hit}
 use Rattle.block_rows.specs.HeldRows.{placed_row, qualifying}
-use Rattle.mdc_sound.specs.TableRows.{block_slots, rows_in_block}
-use Rattle.file_check.proofs.BlockHitsLemmas.{holds_rows, qualifying-all, reading_breaks_none}
+use Rattle.mdc_sound.specs.TableRows.{rows_in_block}
+use Rattle.file_check.proofs.BlockHitsLemmas.{qualifying-all, reading_breaks_none}
 use Rattle.file_check.proofs.rows.rows_of_block.Goals as goal
 
 pub returns-in_default-clause-runs : goal.returns-in_default-clause-runs
@@ -18,8 +18,7 @@ returns-in_err-push_rows_of_block-clause-runs g c =
 pub returns-clause-rows : goal.returns-clause-rows
 returns-clause-rows g c told has =
     let rows = rows_in_block c.args.ext.now (g.P.Pages.state c.args.pages.now).work c.args.def.now c.args.block in
-    c.in_ok-push_rows_of_block.ensures.rows (block_slots c.args.ext.now (g.P.Pages.state c.args.pages.now).work c.args.def.now c.args.block)
-    (holds_rows c.args.ext.now c.args.pages.now c.args.def.now c.args.block told has)
+    c.in_ok-push_rows_of_block.ensures.rows told
     ∙ (ap (λ (hits : List Hit). map placed_row hits ++ qualifying c.in-Ok.filter.pred.now rows) c.new-hits.ensures.items ∙ qualifying-all c.in-Ok.filter.pred.now rows c.in-Ok.ensures.pred)
 
 pub returns-clause-runs : goal.returns-clause-runs

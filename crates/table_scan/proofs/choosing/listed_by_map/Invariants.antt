@@ -1,0 +1,19 @@
+use Rattle.std.proofs.Common.{◌≡◌, None, false, take}
+use Rattle.std.specs.List.{AllByRecursion}
+use Rattle.store_api.specs.Frame.{NoPage}
+use Rattle.store_api.specs.RunsOverPages.{RunsOverPages}
+use Rattle.mdc_sound.specs.StandingTable.{BreaksTable}
+use Rattle.table_scan.specs.FoundRows.{IsChoicePage}
+use Rattle.table_scan.specs.SeenTable.{HasCellThatMay}
+use Rattle.table_scan.proofs.ListingLemmas.{AreListedTo}
+use Rattle.table_scan.proofs.choosing.listed_by_map.Given as goal
+
+-- the blocks so far were listed
+abbrev pub invariant-loop-block : goal.invariant-loop-block
+invariant-loop-block g l = record {
+  to : AreListedTo g.P.Pages l.fn.pages l.def l.listed.items (take l.block-index l.block-items);
+  cells : AllByRecursion (HasCellThatMay l.def None) l.listed.items;
+  same : (g.P.Pages.state l.pages).work ≡ (g.P.Pages.state l.fn.pages).work;
+  going : (g.P.Pages.state l.pages).ended ≡ false;
+  runs : RunsOverPages g.P.Pages NoPage (IsChoicePage g.P.Pages l.ext l.fn.pages l.def) (BreaksTable g.P.Pages l.ext l.fn.pages l.def) l.fn.pages l.pages None;
+}
