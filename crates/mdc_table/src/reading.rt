@@ -119,13 +119,13 @@ pub fn rows_of_line<P: Pages>(
 {
     let _ext = ext;
     let map = BlockMap::at(alloc, def.roots.map);
-    let Some(line) = map.get(pages, block)? else {
+    let Some(row) = map.get(pages, block)? else {
         return Err(unmapped(def));
     };
-    if line.state != BlockState::Used {
+    if row.state != BlockState::Used {
         return Err(unmapped(def));
     }
-    Ok(stated(&line))
+    Ok(stated(&row))
 }
 
 /// How many rows a line says.
