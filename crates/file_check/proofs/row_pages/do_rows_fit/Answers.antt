@@ -1,5 +1,6 @@
 use Rattle.std.proofs.Common.{List, ap, ◌∙◌, arith}
 use Rattle.mdc_ast.specs.declared.definition.ColumnDef.{ColumnDef}
+use Rattle.row_fitting.proofs.MadeValuesLemmas.{defined_divisors}
 use Rattle.row_page.specs.Row.{row_in}
 use Rattle.row_page.specs.RowPage.{slot_bytes}
 use Rattle.file_check.proofs.FittingRowsLemmas.{fits_empty, fits_filled}
@@ -7,6 +8,10 @@ use Rattle.file_check.proofs.row_pages.do_rows_fit.Goals as goal
 
 pub loop-slot-preserved-in_default : goal.loop-slot-preserved-in_default
 loop-slot-preserved-in_default c = fits_empty c.args.def.now c.args.view.now.page.now c.loop-slot.slot c.loop-slot.invariant c.in_default.ensures
+
+-- what divides in a definition is at least 1
+pub does_row_fit-requires : goal.does_row_fit-requires
+does_row_fit-requires c = record { divisors = defined_divisors c.args.def.now c.requires.defined }
 
 pub loop-slot-preserved : goal.loop-slot-preserved
 loop-slot-preserved c =
