@@ -1,12 +1,13 @@
 // Row pages by bytes worked by hand: what is written, what a view lends, and what is no row page.
 ghost use Rattle.std.specs.Prelude.{◌<◌, IfOk, IsTrue};
-ghost use Rattle.mdc_ast.specs.Database.{fits, fits_all};
+ghost use Rattle.mdc_ast.specs.Database.{fits_all};
 ghost use Rattle.row_page.specs.Row.{AreRowColumns};
 
 use mdc_ast::{ColumnDef, Name, Row};
 use mdc_values::ColType::{Char, Date, Integer};
 use mdc_values::Value::{Day, Int, Null, Text};
-use mdc_values::{Chars, ColType, List, Value, print, trim};
+use mdc_values::{Chars, ColType, List, Value, print};
+use row_fitting::do_fit;
 use row_page::{RowPageView, RowShape, RowView, capacity, row_width};
 use std::alloc::Global;
 use std::process::Abort;
@@ -37,33 +38,6 @@ fn are_within(columns: &List<ColumnDef>) -> bool
     ensures { IsTrue result → AreRowColumns columns.now }
 {
     columns.len() <= 16 && row_width(columns.as_slice()) <= 1000
-}
-
-/// Whether values fit columns, of those that these tests write.
-fn fit(columns: &[ColumnDef], values: &[Value]) -> bool
-    ensures { IsTrue result → IsTrue (fits_all columns.now values.now) }
-{
-    match (columns, values) {
-        ([], []) => true,
-        ([column, columns @ ..], [value, values @ ..]) => {
-            fits(column, value) && fit(columns, values)
-        }
-        _ => false,
-    }
-}
-
-fn fits(column: &ColumnDef, value: &Value) -> bool
-    ensures { IsTrue result → IsTrue (fits column.now value.now) }
-{
-    match (column.ty, value) {
-        (_, Null) => !column.not_null,
-        (Integer, Int(number)) => i32::try_from(*number).is_ok(),
-        (Char(limit), Text(text)) => {
-            text.bytes().len() <= limit as usize && trim(text.bytes()) == text.bytes()
-        }
-        (Date, Day(20_030_115)) => true,
-        _ => false,
-    }
 }
 
 /// A page of two INTEGER columns with row 0 in slot 0, of the values 2 and 10, byte by byte.
@@ -97,7 +71,7 @@ fn row_of(
     ensures { IfOk result (λ row. IsTrue (fits_all columns.now row.values)) }
 {
     let values = List::from_vec(vec![in alloc; first, second]?);
-    if !fit(columns.as_slice(), values.as_slice()) {
+    if !do_fit(columns.as_slice(), values.as_slice()) {
         return Err("values that don't fit")?;
     }
     Ok(Row { number, values })
