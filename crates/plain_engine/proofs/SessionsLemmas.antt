@@ -99,4 +99,3 @@ pub executed_steps : (working new : Database) (kept : Option Database) (settings
 executed_steps working new kept settings pass statement said is =
     step_ends working new kept settings pass statement said (step working statement) is
     (λ refusal says. sym (ap (λ end_. end_.0) is) ∙ laws.refused_stays working statement refusal (ap (λ end_. end_.1) is ∙ ap answer_of says))
-

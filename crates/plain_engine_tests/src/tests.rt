@@ -193,7 +193,8 @@ fn a_rollback_brings_back_the_rows_of_the_last_commit(rt: HostRuntime) -> Result
     told.run(&Stmt::Rollback)?;
     told.run(&query(alloc)?)?;
     told.run(&Stmt::Rollback)?;
-    let text = b"OK\n1 ROWS INSERTED\nOK\n1 ROWS INSERTED\n2 ROWS UPDATED\nOK\nA|B\n1|2\n1 ROWS\nERROR 12 transaction state\n";
+    let text =
+        b"OK\n1 ROWS INSERTED\nOK\n1 ROWS INSERTED\n2 ROWS UPDATED\nOK\nA|B\n1|2\n1 ROWS\nERROR 12 transaction state\n";
     assert_eq!(rt; told.text.as_slice(), text.as_slice());
     Ok(())
 }
@@ -209,7 +210,8 @@ fn a_commit_keeps_the_rows(rt: HostRuntime) -> Result<(), Fail> {
     told.run(&query(alloc)?)?;
     told.run(&Stmt::ListBlocks(named(alloc, b"T")?))?;
     told.run(&Stmt::ListBlocks(named(alloc, b"U")?))?;
-    let text = b"OK\n1 ROWS INSERTED\nOK\nERROR 12 transaction state\n1 ROWS UPDATED\nOK\nA|B\n2|1\n1 ROWS\nBLOCKS\nERROR 21 no table U\n";
+    let text =
+        b"OK\n1 ROWS INSERTED\nOK\nERROR 12 transaction state\n1 ROWS UPDATED\nOK\nA|B\n2|1\n1 ROWS\nBLOCKS\nERROR 21 no table U\n";
     assert_eq!(rt; told.text.as_slice(), text.as_slice());
     Ok(())
 }

@@ -12,6 +12,7 @@ ghost use Rattle.script_engine.specs.Breaking.{IsExactDamage};
 ghost use Rattle.script_engine.specs.NotedRooms.{AreForgotten};
 ghost use Rattle.script_engine.specs.Opening.{IsSoundStore, KeepsPages};
 ghost use Rattle.statement_meaning.specs.Built.{are_built, is_built_place};
+ghost use Rattle.statement_meaning.specs.Session.{first_settings};
 ghost use Rattle.script_engine.specs.Serving.{IsReadyEngine, MayCall};
 ghost use Rattle.script_engine.specs.Turns.{IsServedByForms};
 

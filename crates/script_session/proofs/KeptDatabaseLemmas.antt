@@ -17,7 +17,7 @@ use Rattle.script_session.proofs.ListsLemmas.{statement_meets}
 stands_last : {ext : Extents} {held : HeldPages} {session : Session} {items : List Item} {outcomes : List Outcome} {stages : List Stage} {sessions : List Session}
     → GoesOnLists ext held session items outcomes stages sessions → StandsForSession ext (held_last held stages) (session_last session sessions)
 stands_last (GoesOnLists.nothing stands) = stands
-stands_last (GoesOnLists.one stands meets within after goes) = stands_last goes
+stands_last (GoesOnLists.one met stands meets within after goes) = stands_last goes
 
 -- the pages of the last commit that is held within a stage stand for what the session keeps
 abbrev pub KeepsStage : Extents → Stage → Session → Type 0
@@ -27,21 +27,21 @@ KeepsStage ext stage session = (within : HeldPages) → IsHeldIn stage within �
 keeps_at : {ext : Extents} {held : HeldPages} {session : Session} {items : List Item} {outcomes : List Outcome} {stages : List Stage} {sessions : List Session} (first : Stage)
     → GoesOnLists ext held session items outcomes stages sessions → KeepsStage ext first session → (n : ℕ) → KeepsStage ext (stage_after first stages n) (session_at session sessions n)
 keeps_at first (GoesOnLists.nothing stands) keeps n = keeps
-keeps_at first (GoesOnLists.one stands meets within after goes) keeps zero = keeps
-keeps_at {ext} first (GoesOnLists.one {stage = stage} stands meets within after goes) keeps (suc n) =
+keeps_at first (GoesOnLists.one met stands meets within after goes) keeps zero = keeps
+keeps_at {ext} first (GoesOnLists.one {stage = stage} met stands meets within after goes) keeps (suc n) =
     keeps_at stage goes (λ held is. subst (λ (s : Session). PagesStandFor ext held.base s.kept) (sym after) (within held is).kept) n
 
 -- each stage has its session
 length-sessions : {ext : Extents} {held : HeldPages} {session : Session} {items : List Item} {outcomes : List Outcome} {stages : List Stage} {sessions : List Session}
     → GoesOnLists ext held session items outcomes stages sessions → length sessions ≡ length stages
 length-sessions (GoesOnLists.nothing stands) = refl
-length-sessions (GoesOnLists.one stands meets within after goes) = omega (arith, length-sessions goes)
+length-sessions (GoesOnLists.one met stands meets within after goes) = omega (arith, length-sessions goes)
 
 -- what is held at the start stands for the session there
 stands_first : {ext : Extents} {held : HeldPages} {session : Session} {items : List Item} {outcomes : List Outcome} {stages : List Stage} {sessions : List Session}
     → GoesOnLists ext held session items outcomes stages sessions → StandsForSession ext held session
 stands_first (GoesOnLists.nothing stands) = stands
-stands_first (GoesOnLists.one stands meets within after goes) = stands
+stands_first (GoesOnLists.one met stands meets within after goes) = stands
 
 -- pages stand for a database that a run over lists keeps after so many items
 pub record StandForKept (ext : Extents) (session : Session) (sessions : List Session) (in_hand : List Item) (pages : PageList) (items : ℕ) : Type 0 where

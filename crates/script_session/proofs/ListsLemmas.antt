@@ -93,4 +93,4 @@ goes_on_lists ext held items outcomes stages (GoesOnPages.one {stage = stage} {i
     let within = stand_within met.after meets.rests (stands_rested ext stage.met met.after met.stands) in
     let after = rested met.after (end_of stage).pass in
     let rest = goes_on_lists ext (end_of stage) more others later goes after (within (end_of stage) (end_in_stage stage)) in
-    (after ∷ rest.0, GoesOnLists.one stands met.meets within refl rest.1)
+    (after ∷ rest.0, GoesOnLists.one met.after stands met.meets within refl rest.1)

@@ -32,8 +32,8 @@ StandInStage ext stage session = (held : HeldPages) → IsHeldIn stage held → 
 -- The items have these outcomes over lists, the pages that are held stand for a session, and so do those of each stage.
 pub data GoesOnLists (ext : Extents) : HeldPages → Session → List Item → List Outcome → List Stage → List Session → Type 0 where
   nothing : {held : HeldPages} {session : Session} → StandsForSession ext held session → GoesOnLists ext held session [] [] [] []
-  one : {held : HeldPages} {stage : Stage} {session met after : Session} {item : Item} {outcome : Outcome} {items : List Item} {outcomes : List Outcome} {stages : List Stage} {sessions : List Session}
-      → StandsForSession ext held session → MeetsOnLists ext.cap session item outcome met → StandInStage ext stage met → after ≡ rested met (end_of stage).pass
+  one : {held : HeldPages} {stage : Stage} {session after : Session} {item : Item} {outcome : Outcome} {items : List Item} {outcomes : List Outcome} {stages : List Stage} {sessions : List Session}
+      → (met : Session) → StandsForSession ext held session → MeetsOnLists ext.cap session item outcome met → StandInStage ext stage met → after ≡ rested met (end_of stage).pass
       → GoesOnLists ext (end_of stage) after items outcomes stages sessions
       → GoesOnLists ext held session (item ∷ items) (outcome ∷ outcomes) (stage ∷ stages) (after ∷ sessions)
 
