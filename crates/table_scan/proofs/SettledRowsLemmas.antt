@@ -1,5 +1,5 @@
 -- On the rows of a block that was chosen, what is left of a predicate is true exactly where the predicate is.
-use Rattle.std.proofs.Common.{◌≡◌, ◌∙◌, ◌<◌, ◌+◌, ℕ, suc, List, [], ◌∷◌, ◌++◌, Bool, length, get_or, take, refl, ap, arith, subst, sym, inl, inr, Option, None, Some}
+use Rattle.std.proofs.Common.{◌≡◌, ◌∙◌, ◌≤◌, ◌<◌, ◌+◌, ℕ, suc, List, [], ◌∷◌, ◌++◌, Bool, length, get_or, take, refl, ap, arith, subst, sym, inl, inr, Option, None, Some}
 use Rattle.std.specs.Prelude.{Contains, IsPermutation, IsTrue, filter, flat_map, map}
 use Rattle.std.specs.List.{AllByRecursion}
 use Rattle.std.specs.List.Sorted.{IsNonDecreasingBy}

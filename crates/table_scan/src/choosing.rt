@@ -103,13 +103,14 @@ fn listed_by_cell<P: Pages>(
     ensures same { (P.state pages.new).work ≡ (P.state pages.old).work }
     ensures runs { RunsOverPages P.Pages NoPage (IsChoicePage P.Pages ext.now pages.old def.now) (BreaksTable P.Pages ext.now pages.old def.now) pages.old pages.new (fault_of result) }
 {
-    let entries = cells(alloc, def, pages)?;
-    let Ok(chosen) = chosen_entries(alloc, def, pred, entries.as_slice()) else {
+    let found = cells(alloc, def, pages)?;
+    let entries = found.as_slice();
+    let Ok(chosen) = chosen_entries(alloc, def, pred, entries) else {
         return Err(StoreFault::Memory);
     };
     let mut listed = Vec::new(alloc);
     for one in chosen.as_slice() {
-        let block = listed_block(alloc, def, ext, pages, pred, entries.as_slice(), one)?;
+        let block = listed_block(alloc, def, ext, pages, pred, entries, one)?;
         push_listed(&mut listed, block)?;
     }
     Ok(listed)

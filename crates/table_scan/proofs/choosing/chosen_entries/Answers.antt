@@ -10,7 +10,7 @@ use Rattle.table_scan.proofs.choosing.chosen_entries.Goals as goal
 
 pub loop-at-preserved-then-not-may_hold : goal.loop-at-preserved-then-not-may_hold
 loop-at-preserved-then-not-may_hold c = record {
-  so_far = may_past c.args.def.now c.args.pred.now c.args.entries.now c.loop-at.at c.index-one-at.result c.loop-at-test.true c.index-one-at.is _ c.loop-at.invariant.so_far
+  so_far = may_past c.args.def.now c.args.pred.now c.args.entries.now c.loop-at.at c.index-entries-at.result c.loop-at-test.true c.index-entries-at.is _ c.loop-at.invariant.so_far
       (sym c.may_hold.ensures ∙ c.if-not-may_hold.true);
   each = c.loop-at.invariant.each;
 }
@@ -20,8 +20,8 @@ loop-at-preserved c =
     let holds = sym c.may_hold.ensures ∙ c.if-not-may_hold.false in
     record {
       so_far = ap blocks_chosen c.in_ok-push.ensures.items ∙ (map-append (λ (one : ChosenEntry). one.block) c.loop-at.chosen.items _
-          ∙ may_more c.args.def.now c.args.pred.now c.args.entries.now c.loop-at.at c.index-one-at.result c.loop-at-test.true c.index-one-at.is _ c.loop-at.invariant.so_far holds);
-      each = choice_more c.args.def.now c.args.pred.now c.args.entries.now c.loop-at.at c.index-one-at.result c.loop-at.chosen.items c.push.new.self.items c.loop-at-test.true c.index-one-at.is
+          ∙ may_more c.args.def.now c.args.pred.now c.args.entries.now c.loop-at.at c.index-entries-at.result c.loop-at-test.true c.index-entries-at.is _ c.loop-at.invariant.so_far holds);
+      each = choice_more c.args.def.now c.args.pred.now c.args.entries.now c.loop-at.at c.index-entries-at.result c.loop-at.chosen.items c.push.new.self.items c.loop-at-test.true c.index-entries-at.is
           c.in_ok-push.ensures.items holds c.loop-at.invariant.each;
     }
 

@@ -1,7 +1,6 @@
 use Rattle.std.proofs.Common.{◌≡◌, ◌≤◌, ◌+◌, ◌∷◌, [], ◌++◌, List, ℕ, ap, arith, get_or, length, map, subst, sym, take, ◌∙◌, inl, inr}
 use Rattle.std.specs.Prelude.{AllPairs, Contains}
-use Rattle.std.proofs.lemmas.List.{get_or-map, length-map, map-append}
-use Rattle.std.proofs.lemmas.List.Elements.{Contains-append_cases}
+use Rattle.std.proofs.lemmas.List.{get_or_default, length-map, map-append}
 use Rattle.table_scan.specs.Choices.{blocks_chosen}
 use Rattle.table_scan.specs.declared.choosing.ChosenEntry.{ChosenEntry}
 use Rattle.table_scan.proofs.BlocksThatMayLemmas.{element_at, mapped_in_order, pushed_there}
@@ -20,7 +19,9 @@ loop-one-preserved-then-from-next c =
     let numbers = blocks_chosen entries in
     let i = c.loop-one.one-index in
     let low = c.loop-one-test.true in
-    let at : get_or numbers i 0 ≡ c.one-item.result.block = element_at (λ (one : ChosenEntry). one.block) entries i c.one-item.result 0 low c.one-item.is in
+    let one : ChosenEntry = get_or entries i (record { block = 0; at = 0 }) in
+    let is : one ≡ get_or entries i one = get_or_default entries i (record { block = 0; at = 0 }) one low in
+    let at : get_or numbers i 0 ≡ one.block = element_at (λ (one : ChosenEntry). one.block) entries i one 0 low is in
     record {
       goes = goes_again numbers (blocks_chosen c.loop-one.once.items) i c.loop-one.next (mapped_in_order entries c.requires.sorted) (omega (arith, low, length-map entries (λ (one : ChosenEntry). one.block)))
           (omega (arith, at, c.from.ensures, c.if-from-next.true)) c.loop-one.invariant.goes;
@@ -33,16 +34,18 @@ loop-one-preserved c =
     let numbers = blocks_chosen entries in
     let i = c.loop-one.one-index in
     let low = c.loop-one-test.true in
-    let at : get_or numbers i 0 ≡ c.one-item.result.block = element_at (λ (one : ChosenEntry). one.block) entries i c.one-item.result 0 low c.one-item.is in
+    let one : ChosenEntry = get_or entries i (record { block = 0; at = 0 }) in
+    let is : one ≡ get_or entries i one = get_or_default entries i (record { block = 0; at = 0 }) one low in
+    let at : get_or numbers i 0 ≡ one.block = element_at (λ (one : ChosenEntry). one.block) entries i one 0 low is in
     let pushed : blocks_chosen c.loop-one.once.items ++ get_or numbers i 0 ∷ [] ≡ blocks_chosen c.push.new.self.items =
     ap (λ n. blocks_chosen c.loop-one.once.items ++ n ∷ []) at
-    ∙ sym (ap blocks_chosen c.in_ok-push.ensures.items ∙ map-append (λ (one : ChosenEntry). one.block) c.loop-one.once.items (c.one-item.result ∷ [])) in
+    ∙ sym (ap blocks_chosen c.in_ok-push.ensures.items ∙ map-append (λ (one : ChosenEntry). one.block) c.loop-one.once.items (one ∷ [])) in
     record {
       goes = subst (λ next. GoesTo (take (i + 1) numbers) (blocks_chosen c.push.new.self.items) next) (ap (λ n. n + 1) (at ∙ sym c.from-next.ensures))
           (subst (λ blocks. GoesTo (take (i + 1) numbers) blocks (get_or numbers i 0 + 1)) pushed
           (goes_more numbers (blocks_chosen c.loop-one.once.items) i c.loop-one.next (omega (arith, low, length-map entries (λ (one : ChosenEntry). one.block)))
           (omega (arith, at, c.from.ensures, c.if-from-next.false)) c.loop-one.invariant.goes));
-      some = pushed_there entries c.loop-one.once.items c.push.new.self.items i c.one-item.result low c.one-item.is c.in_ok-push.ensures.items c.loop-one.invariant.some;
+      some = pushed_there entries c.loop-one.once.items c.push.new.self.items i one low is c.in_ok-push.ensures.items c.loop-one.invariant.some;
     }
 
 pub returns-clause-same : goal.returns-clause-same

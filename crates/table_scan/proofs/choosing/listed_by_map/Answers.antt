@@ -1,7 +1,7 @@
 use Rattle.std.proofs.Common.{◌≡◌, ◌∙◌, ◌∷◌, [], ◌++◌, None, Some, ap, arith, get_or, refl, subst, sym, take}
 use Rattle.std.specs.List.{AllByRecursion}
 use Rattle.std.specs.Prelude.{Contains}
-use Rattle.std.proofs.lemmas.List.{take_more}
+use Rattle.std.proofs.lemmas.List.{get_or_default, take_more}
 use Rattle.std.proofs.lemmas.List.Elements.{Contains-get_or}
 use Rattle.store_api.specs.Frame.{NoPage}
 use Rattle.store_api.specs.RunsOverPages.{RunsOverPages}
@@ -33,15 +33,15 @@ pub returns-in_err-rows-clause-runs : goal.returns-in_err-rows-clause-runs
 returns-in_err-rows-clause-runs g c =
     let so = c.loop-block.invariant in
     runs_exit c.from_residual-in_err-rows.result c.from_residual-in_err-rows.ensures.1
-    (runs_line c.args.def.now {fault = Some c.in_err-rows.field-0.0} c.args.ext.now c.block-item.result so.same
-    (λ owners forests st. subst (λ blocks. Contains blocks c.block-item.result) (c.as_slice-block-items.ensures.value ∙ c.in_ok-blocks.ensures.listed owners forests st) (c.loop-block.block-index, c.loop-block-test.true, sym c.block-item.is))
+    (runs_line c.args.def.now {fault = Some c.in_err-rows.field-0.0} c.args.ext.now (get_or c.as_slice-block-items.result.now c.loop-block.block-index 0) so.same
+    (λ owners forests st. subst (λ blocks. Contains blocks (get_or c.as_slice-block-items.result.now c.loop-block.block-index 0)) (c.as_slice-block-items.ensures.value ∙ c.in_ok-blocks.ensures.listed owners forests st) (c.loop-block.block-index, c.loop-block-test.true, get_or_default c.as_slice-block-items.result.now c.loop-block.block-index _ 0 c.loop-block-test.true))
     so.runs c.in_err-rows.ensures.runs)
 
 pub returns-in_err-push_listed-clause-runs : goal.returns-in_err-push_listed-clause-runs
 returns-in_err-push_listed-clause-runs g c =
     let so = c.loop-block.invariant in
-    let run = runs_line c.args.def.now {fault = None} c.args.ext.now c.block-item.result so.same
-    (λ owners forests st. subst (λ blocks. Contains blocks c.block-item.result) (c.as_slice-block-items.ensures.value ∙ c.in_ok-blocks.ensures.listed owners forests st) (c.loop-block.block-index, c.loop-block-test.true, sym c.block-item.is))
+    let run = runs_line c.args.def.now {fault = None} c.args.ext.now (get_or c.as_slice-block-items.result.now c.loop-block.block-index 0) so.same
+    (λ owners forests st. subst (λ blocks. Contains blocks (get_or c.as_slice-block-items.result.now c.loop-block.block-index 0)) (c.as_slice-block-items.ensures.value ∙ c.in_ok-blocks.ensures.listed owners forests st) (c.loop-block.block-index, c.loop-block-test.true, get_or_default c.as_slice-block-items.result.now c.loop-block.block-index _ 0 c.loop-block-test.true))
     so.runs c.in_ok-rows.ensures.runs in
     runs_exit c.from_residual-in_err-push_listed.result c.from_residual-in_err-push_listed.ensures.1
     (subst (λ fault. RunsOverPages g.P.Pages NoPage (IsChoicePage g.P.Pages c.args.ext.now c.args.pages.now c.args.def.now) (BreaksTable g.P.Pages c.args.ext.now c.args.pages.now c.args.def.now) c.args.pages.now c.rows_of_line.new.pages (Some fault))
@@ -51,16 +51,16 @@ pub loop-block-preserved : goal.loop-block-preserved
 loop-block-preserved g c =
     let so = c.loop-block.invariant in
     let items = c.as_slice-block-items.result.now in
-    let one : ListedBlock = record { block = c.block-item.result; rows = c.in_ok-rows.rows; cell = None } in
+    let one : ListedBlock = record { block = (get_or c.as_slice-block-items.result.now c.loop-block.block-index 0); rows = c.in_ok-rows.rows; cell = None } in
     record {
       to = listed_more c.args.def.now c.args.pages.now c.loop-block.pages c.loop-block.listed.items c.push_listed.new.listed.items _ _ one so.runs.works.steady.is_told so.same c.in_ok-push_listed.ensures.pushed
-          (take_more items c.loop-block.block-index c.block-item.result c.loop-block-test.true ∙ ap (λ b. take c.loop-block.block-index items ++ b ∷ []) (sym c.block-item.is))
+          (take_more items c.loop-block.block-index 0 c.loop-block-test.true)
           c.in_ok-rows.ensures.line so.to;
       cells = subst (AllByRecursion (HasCellThatMay c.args.def.now None)) (sym c.in_ok-push_listed.ensures.pushed) (each_append (HasCellThatMay c.args.def.now None) c.loop-block.listed.items (one ∷ []) so.cells (refl, tt));
       same = c.rows_of_line.ensures.same ∙ so.same;
       going = c.in_ok-rows.ensures.runs.works.steady.ended ∙ so.going;
-      runs = runs_line c.args.def.now {fault = None} c.args.ext.now c.block-item.result so.same
-          (λ owners forests st. subst (λ blocks. Contains blocks c.block-item.result) (c.as_slice-block-items.ensures.value ∙ c.in_ok-blocks.ensures.listed owners forests st) (c.loop-block.block-index, c.loop-block-test.true, sym c.block-item.is))
+      runs = runs_line c.args.def.now {fault = None} c.args.ext.now (get_or c.as_slice-block-items.result.now c.loop-block.block-index 0) so.same
+          (λ owners forests st. subst (λ blocks. Contains blocks (get_or c.as_slice-block-items.result.now c.loop-block.block-index 0)) (c.as_slice-block-items.ensures.value ∙ c.in_ok-blocks.ensures.listed owners forests st) (c.loop-block.block-index, c.loop-block-test.true, get_or_default c.as_slice-block-items.result.now c.loop-block.block-index _ 0 c.loop-block-test.true))
           so.runs c.in_ok-rows.ensures.runs;
     }
 
