@@ -176,10 +176,19 @@ fn bound_query(alloc: Global, select: &Select, catalog: &Catalog) -> Result<Boun
     ensures { IfOk result (λ bound. bound ≡ binding.bound_of catalog.now (Stmt.Query select.now)) }
 {
     match table_there(&select.table, catalog) {
-        Some(def) => {
-            let columns = def.columns.as_slice();
-            Ok(Bound::Query(bound_select(alloc, def.number, columns, select)?))
-        }
+        Some(def) => query_of(alloc, def.number, def.columns.as_slice(), select),
         None => Ok(Bound::Begin),
     }
+}
+
+fn query_of(
+    alloc: Global,
+    table: u8,
+    columns: &[ColumnDef],
+    select: &Select,
+) -> Result<Bound, Memory>
+    requires { length columns.now ≤ 16 }
+    ensures { IfOk result (λ bound. bound ≡ Bound.Query (binding.bound_select table columns.now select.now)) }
+{
+    Ok(Bound::Query(bound_select(alloc, table, columns, select)?))
 }
