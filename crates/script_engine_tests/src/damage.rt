@@ -108,7 +108,12 @@ fn what_needs_the_stated_rows_of_a_page_stops(rt: HostRuntime) -> Result<(), Fai
     goes_on(&rt, &one, insert, b"1 ROWS INSERTED\n")?;
     stops(&rt, &one, b"SELECT * FROM T", damage_of(7, 22))?;
     stops(&rt, &one, b"SELECT B FROM T WHERE A = 1", damage_of(7, 22))?;
-    stops(&rt, &one, b"UPDATE T SET B = 0 WHERE B = 99", damage_of(7, 22))?;
+    stops(
+        &rt,
+        &one,
+        b"UPDATE T SET B = 0 WHERE B = 99",
+        damage_of(7, 22),
+    )?;
     stops(&rt, &one, b"DELETE FROM T WHERE B = 99", damage_of(7, 22))?;
     Ok(())
 }
