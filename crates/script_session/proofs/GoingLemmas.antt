@@ -122,7 +122,7 @@ stage_after-front stage (next ∷ stages) others zero few = refl
 stage_after-front stage (next ∷ stages) others (suc n) few = stage_after-front next stages others n (omega (arith, few))
 
 -- the last stage, or the one before all
-pub stage_last : Stage → List Stage → Stage
+abbrev pub stage_last : Stage → List Stage → Stage
 stage_last stage [] = stage
 stage_last stage (next ∷ stages) = stage_last next stages
 
@@ -188,9 +188,8 @@ held_behind-append held [] more = refl
 held_behind-append held (next ∷ rests) more = held_behind-append next rests more
 
 -- a stage with more steps at its end
-pub stage_then : Stage → List HeldPages → Stage
+abbrev pub stage_then : Stage → List HeldPages → Stage
 stage_then stage more = record { met = stage.met; rests = stage.rests ++ more }
 
 pub end_of-stage_then : (stage : Stage) (more : List HeldPages) → end_of (stage_then stage more) ≡ held_behind (end_of stage) more
-unfolding stage_then
 end_of-stage_then stage more = held_behind-append stage.met stage.rests more

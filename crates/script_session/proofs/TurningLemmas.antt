@@ -91,7 +91,6 @@ served_within {ext} served (resting.one {next = next} step steps) within (inr la
 -- a run of one item goes on so by steps after it
 goes_rested : {ext : Extents} {held : HeldPages} {stage : Stage} {item : Item} {outcome : Outcome} {rests : List HeldPages} → GoesOnPages ext held (item ∷ []) (outcome ∷ []) (stage ∷ [])
     → RestsOnPages ext (end_of stage) rests → GoesOnPages ext held (item ∷ []) (outcome ∷ []) (stage_then stage rests ∷ [])
-unfolding stage_then
 goes_rested (one meets nothing) steps = one (record {
   meets = meets.meets;
   refused = meets.refused;
@@ -105,7 +104,6 @@ goes_rested (one meets nothing) steps = one (record {
 -- what was kept before such steps is kept where they are counted too
 held_rested : (held within : HeldPages) (stage : Stage) (rests : List HeldPages) (n : ℕ) → IsHeldIn (stage_after (still held) (stage ∷ []) n) within
     → IsHeldIn (stage_after (still held) (stage_then stage rests ∷ []) n) within
-unfolding stage_then
 held_rested held within stage rests zero is = is
 held_rested held within stage rests (suc n) is = within_front stage.met within stage.rests rests is
 
@@ -187,7 +185,6 @@ module _ {S : Type 0} (g : Ghosts S) where
       → RestsOnPages mid.tables.ext (held_by g mid) rests → (before : List ℕ) → (g.state mid.store).told ≡ Some (before ++ outcome_text outcome)
       → (left : Option PageList) (told : List ℕ) → LeftResting (held_by g mid) rests (g.state mid.store) left told
       → LeftByServing old.tables.ext (held_by g old) (stage_then stage rests ∷ []) (outcome ∷ []) [] before left told
-  unfolding stage_then
   left_resting outcome old mid stage rests at ready shape steps before is left told ((pages, reopens, within, held, same), known) = record {
     pages = pages;
     reopens = reopens;
@@ -211,7 +208,6 @@ module _ {S : Type 0} (g : Ghosts S) where
       → held_by g mid ≡ end_of stage → IsReadyEngine g mid → IsSameShape old.tables.ext mid.tables.ext → RestsOnPages mid.tables.ext (held_by g mid) rests → IsBaseWithin (held_by g mid) rests (g.state new.store).base
       → (g.state new.store).told ≡ (g.state mid.store).told → OverTime g.clock g.left (LeftResting (held_by g mid) rests (g.state mid.store)) mid.store new.store
       → RunsItems g (item ∷ []) [] (outcome ∷ []) (stage_then stage rests ∷ []) (outcome_text outcome) old new
-  unfolding stage_then
   runs_rested {outcome = outcome} {stage = stage} {old = old} {mid = mid} {rests = rests} runs at ready shape steps base same resting = record {
     goes = goes_rested runs.goes (subst (λ (h : HeldPages). RestsOnPages old.tables.ext h rests) at (rests_in_shape shape steps));
     told = subst (Takes (g.state old.store).told (outcome_text outcome)) (sym same) runs.told;
