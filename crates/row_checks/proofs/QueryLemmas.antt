@@ -27,7 +27,7 @@ all_above n m (row ∷ rows) next low rise zero d within = omega (arith, low, ri
 all_above n m (row ∷ rows) next low rise (suc i) d within = all_above n (row.number + 1) rows next (omega (arith, low, rise.0)) rise.1 i d (omega (arith, within))
 
 rise_of : (n : ℕ) (rows : List Row) (next : ℕ) → RiseFrom n rows next → Rise rows
-rise_of n [] next rise i j d low within = absurd (omega (arith, low, within))
+rise_of n [] next rise = λ i j d low within. absurd (omega (arith, low, within))
 rise_of n (row ∷ rows) next rise =
     AllPairs-cons (λ (a b : Row). a.number < b.number) row rows (all_above row.number (row.number + 1) rows next (omega arith) rise.1) (rise_of (row.number + 1) rows next rise.1)
 
