@@ -284,7 +284,7 @@ module _ {S : Type 0} (g : Ghosts S) where
         damaged = λ damage e ready. settles.damaged damage (ap Err (names_damage stop damage (cc))) (turns.ends ready).ready;
         breaks = λ damage e.
             let named = ap Err (names_damage stop damage (cc)) in
-            inr (breaks_then g (item ∷ []) [] old mid new damage turns.shape turns.is_told turns.keeps turns.opens (breaks_resting g (Err stop) mid new damage settles named), refused, reply);
+            inr (breaks_then g (item ∷ []) [] old mid new damage turns.shape turns.is_told turns.keeps turns.opens (breaks_resting g (Err stop) mid new damage settles named), (refused, reply));
         opens = tt;
         keeps = tt;
         beside = settles.beside ∙ turns.beside;

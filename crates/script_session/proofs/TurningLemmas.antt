@@ -112,6 +112,23 @@ kept_rested : {ext : Extents} {held : HeldPages} {stage : Stage} {pages : PageLi
 kept_rested {held = held} {stage = stage} {n = n} rests (done few within is same) = done few within (held_rested held within stage rests n is) same
 kept_rested rests (stopped stmt outcome new none count steps closed same stored) = absurd (cc)
 
+-- so what a crash left before them is left by a run with them
+left_rested : {ext : Extents} {held : HeldPages} {stage : Stage} {outcomes : List Outcome} {before told : List ℕ} {left : Option PageList} (rests : List HeldPages)
+    → LeftByServing ext held (stage ∷ []) outcomes [] before left told → LeftByServing ext held (stage_then stage rests ∷ []) outcomes [] before left told
+left_rested rests was = record {
+  pages = was.pages;
+  reopens = was.reopens;
+  served = was.served;
+  items = was.items;
+  kept = kept_rested rests was.kept;
+  more = was.more;
+  told_is = was.told_is;
+  begun = was.begun;
+  has_begun = was.has_begun;
+  all_begun = was.all_begun;
+  one_more = was.one_more;
+}
+
 module _ {S : Type 0} (g : Ghosts S) where
   -- the pages of the last commit of a sound engine
   served_base : (engine : Engine S) → IsReadyEngine g engine → AreServedPages engine.tables.ext (g.state engine.store).base
@@ -185,7 +202,7 @@ module _ {S : Type 0} (g : Ghosts S) where
       → RestsOnPages mid.tables.ext (held_by g mid) rests → (before : List ℕ) → (g.state mid.store).told ≡ Some (before ++ outcome_text outcome)
       → (left : Option PageList) (told : List ℕ) → LeftResting (held_by g mid) rests (g.state mid.store) left told
       → LeftByServing old.tables.ext (held_by g old) (stage_then stage rests ∷ []) (outcome ∷ []) [] before left told
-  left_resting outcome old mid stage rests at ready shape steps before is left told ((pages, reopens, within, held, same), known) = record {
+  left_resting outcome old mid stage rests at ready shape steps before is left told ((pages, reopens, (within, held, same)), known) = record {
     pages = pages;
     reopens = reopens;
     served = subst (AreServedPages old.tables.ext) (sym same) (served_in_shape shape (served_within (served_base mid ready) steps within held));
@@ -212,7 +229,7 @@ module _ {S : Type 0} (g : Ghosts S) where
     goes = goes_rested runs.goes (subst (λ (h : HeldPages). RestsOnPages old.tables.ext h rests) at (rests_in_shape shape steps));
     told = subst (Takes (g.state old.store).told (outcome_text outcome)) (sym same) runs.told;
     base = (1, done (omega arith) base.0 (within_behind stage.met base.0 stage.rests rests (subst (λ (h : HeldPages). IsHeldWithin h rests base.0) at base.1)) base.2);
-    time = λ before is. over_time_then (over_time_wider (runs.time before is) (λ left told was. record was { kept = kept_rested rests was.kept }))
+    time = λ before is. over_time_then (over_time_wider (runs.time before is) (λ left told was. left_rested rests was))
         (over_time_wider resting (left_resting outcome old mid stage rests at ready shape steps before (told_behind (g.state old.store).told (g.state mid.store).told (outcome_text outcome) before is runs.told)));
   }
 
