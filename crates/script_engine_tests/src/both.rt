@@ -156,7 +156,7 @@ fn compare_seed(alloc: Global, seed: u64) -> Result<(Compared, bool), Fail> {
 
 #[test]
 fn both_engines_answer_alike(rt: HostRuntime) -> Result<(), Fail> {
-    for seed in 1..9 {
+    for seed in 5..13 {
         let (compared, is_kept) = compare_seed(rt.alloc(), seed)?;
         assert_eq!(rt; compared.statements, 155, "with the seed {seed}");
         assert_eq!(rt; compared.alike, 155, "with the seed {seed}");
