@@ -1,5 +1,5 @@
 -- A table of a database that is changed more than once.
-use Rattle.std.proofs.Common.{◌≡◌, ℕ, zero, suc, List, [], ◌∷◌, ◌∙◌, refl, sym, ap, subst, arith}
+use Rattle.std.proofs.Common.{◌≡◌, ℕ, zero, suc, List, [], ◌∷◌, ◌∙◌, refl, sym, ap, subst}
 use Rattle.std.specs.Prelude.{Option, Some, None, option_map, IsSome, IfSome, Result, Ok, Err, OnErr}
 use Rattle.mdc_ast.specs.declared.row.Row.{Row}
 use Rattle.mdc_ast.specs.Database.{Database, PlainTable, changed_at, table_at, with_place}

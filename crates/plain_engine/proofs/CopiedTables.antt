@@ -1,13 +1,13 @@
 -- Tables that are made once more, place by place.
-use Rattle.std.proofs.Common.{◌≡◌, ◌≢◌, ◌<◌, ◌+◌, ℕ, zero, suc, List, [], ◌∷◌, ◌++◌, ◌∙◌, ◌⊎◌, inl, inr, refl, sym, ap, length, length-set, take, drop, map, set, replicate, arith, add-one}
-use Rattle.std.specs.Prelude.{Option, Some, None}
-use Rattle.std.proofs.lemmas.List.{append-nil}
+use Rattle.std.proofs.Common.{◌≡◌, ◌<◌, ◌+◌, ℕ, zero, suc, List, [], ◌∷◌, ◌++◌, ◌∙◌, inl, inr, refl, sym, ap, subst, length, length-set, take, drop, map, set, get_or, replicate, arith, add-one}
+use Rattle.std.specs.Prelude.{Option, Some, None, IsSome, MatchOption, false, is_some, option_map, true}
+use Rattle.std.proofs.lemmas.Option.{same_Some}
 use Rattle.mdc_ast.specs.declared.definition.TableDef.{TableDef}
 use Rattle.mdc_ast.specs.declared.row.Row.{Row}
 use Rattle.mdc_ast.specs.Database.{Database, PlainTable, table_at, with_place}
 use Rattle.mdc_ast.specs.Definitions.{Definitions, def_at, with_def}
 use Rattle.plain_engine.specs.Tables.{AreTables, rows_in, table_with, tables_of}
-use Rattle.plain_engine.proofs.TablesLemmas.{def_at-other, def_at-same, rows_in-other, same_or_other, tables_of-set}
+use Rattle.plain_engine.proofs.TablesLemmas.{def_at-other, def_at-same, is_placed, rows_in-other, same_or_other, table_at-tables_of, table_is, tables_of-set}
 
 -- ---- the first places of a database, and none behind them
 
@@ -95,3 +95,40 @@ put_table_is defs new rows db place def its is are number put =
     ap (λ d. tables_of d (set rows place its)) put
     ∙ (tables_of-set defs rows place (Some (record def { number = place })) its (are.places ∙ sym are.rooms)
     ∙ (ap (λ d. with_place (tables_of defs rows) place (Some (table_with its d))) numbered ∙ ap (λ d. with_place d place (Some (table_with its def))) is))
+
+-- ---- a table read at a place, to be put once more
+
+read_none : {T : Type 0} (found : Option T) (P : Type 0) (Q : T → Type 0) → is_some found ≡ false → MatchOption found P Q → P
+read_none None P Q none says = says
+read_none (Some one) P Q none says = absurd (cc)
+
+read_some : {T : Type 0} (found : Option T) (P : Type 0) (Q : T → Type 0) → is_some found ≡ true → MatchOption found P Q → (one : T) × Q one
+read_some None P Q some says = absurd (cc)
+read_some (Some one) P Q some says = (one, says)
+
+module _ (defs : Definitions) (rows : List (List Row)) (db : Database) (place : ℕ) (is : tables_of defs rows ≡ db) where
+  at_place : (found : Option TableDef) → def_at defs place ≡ found → table_at db place ≡ option_map (table_with (rows_in rows place)) found
+  at_place found at = ap (λ d. table_at d place) (sym is) ∙ (table_at-tables_of defs rows place ∙ ap (option_map (table_with (rows_in rows place))) at)
+
+  -- nothing is there, and nothing is put
+  pub nothing_put : {T : Type 0} (now : T → TableDef) (found : Option T) (into : Database) → MatchOption found (def_at defs place ≡ None) (λ def. def_at defs place ≡ Some (now def))
+      → is_some found ≡ false → table_at into place ≡ None → into ≡ with_place into place (table_at db place)
+  nothing_put now found into says none empty =
+      sym (ap (with_place into place) (at_place None (read_none found (def_at defs place ≡ None) (λ def. def_at defs place ≡ Some (now def)) none says)) ∙ with_none into place empty)
+
+  -- a table is there
+  pub has_table : {T : Type 0} (now : T → TableDef) (found : Option T) → MatchOption found (def_at defs place ≡ None) (λ def. def_at defs place ≡ Some (now def))
+      → is_some found ≡ true → IsSome (table_at db place)
+  has_table now found says some =
+      let one = read_some found (def_at defs place ≡ None) (λ def. def_at defs place ≡ Some (now def)) some says in
+      subst IsSome (sym (at_place (Some (now one.0)) one.1)) refl
+
+  -- and is the one that is put
+  pub is_copied : (def copy : TableDef) (lent found its : List Row) → AreTables defs rows → table_at db place ≡ Some (record { def = def; rows = lent }) → found ≡ get_or rows place found
+      → copy ≡ def → its ≡ found → Some (record { def = copy; rows = its }) ≡ table_at db place
+  is_copied def copy lent found its are at read same_def same_rows =
+      let placed = is_placed defs rows db place is are (subst IsSome (sym at) refl) in
+      let there = table_is defs rows db place placed.def found is placed.is placed.has_rows read in
+      let one = same_Some _ _ (sym there ∙ at) in
+      let its_def : copy ≡ placed.def = same_def ∙ sym (ap (λ (t : PlainTable). t.def) one) in
+      ap (λ d. Some (record { def = d; rows = its })) its_def ∙ (ap (λ r. Some (record { def = placed.def; rows = r })) same_rows ∙ sym there)

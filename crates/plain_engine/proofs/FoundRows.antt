@@ -1,6 +1,6 @@
 -- The rows that qualify among the first of a list.
 use Rattle.std.proofs.Common.{◌≡◌, ◌+◌, ◌<◌, ◌≤◌, ℕ, List, [], ◌∷◌, ◌++◌, ◌∙◌, refl, sym, ap, length, take, get_or, true, false, arith, length-append}
-use Rattle.std.specs.Prelude.{Bool, Option, filter, not}
+use Rattle.std.specs.Prelude.{Bool, filter, not}
 use Rattle.std.proofs.lemmas.List.{append-nil, length-take-le, take_more}
 use Rattle.std.proofs.lemmas.List.Elements.{filter-append}
 use Rattle.std.proofs.lemmas.List.Filters.{length-filter_both}

@@ -1,5 +1,5 @@
 -- What a turn does to the session of an engine.
-use Rattle.std.proofs.Common.{◌≡◌, Bool, Option, Some, None, Result, Ok, Err, refl, sym, ap, subst, ◌∙◌}
+use Rattle.std.proofs.Common.{◌≡◌, Option, Some, None, Result, Ok, Err, refl, sym, ap, subst, ◌∙◌}
 use Rattle.mdc_values.specs.declared.memory.Memory.{Memory}
 use Rattle.std.specs.Prelude.{if◌then◌else◌, is_none, is_some, true, false}
 use Rattle.mdc_ast.specs.declared.definition.TableDef.{TableDef}

@@ -1,5 +1,5 @@
 -- The session that an engine holds, and what a statement does to it.
-use Rattle.std.specs.Prelude.{◌≡◌, IfOk, Option, Result, Ok, Err, is_some, unwrap_or}
+use Rattle.std.specs.Prelude.{◌≡◌, Option, Result, Ok, Err, is_some, unwrap_or}
 use Rattle.mdc_values.specs.declared.memory.Memory.{Memory}
 use Rattle.mdc_ast.specs.declared.reply.Outcome.{Outcome}
 use Rattle.mdc_ast.specs.declared.statement.Stmt.{Stmt}

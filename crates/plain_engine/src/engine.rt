@@ -61,7 +61,11 @@ impl Engine {
         ensures refused { (refusal : Refusal) → result ≡ Ok (Some (Outcome.Refused refusal)) → self.new ≡ self.old }
         ensures valid { IsBuiltDatabase self.old.working × IsBuiltDatabase self.new.working }
     {
-        self.turn(stmt)
+        // The fields are named for what the invariant says of them, before and behind the turn.
+        let _ = &self.working;
+        let said = self.turn(stmt);
+        let _ = &self.working;
+        said
     }
 
     // Turns the session by a statement.

@@ -11,7 +11,7 @@ use Rattle.plain_engine.proofs.inserting.insert.Goals as goal
 pub returns-in_err-appended-clause-memory : goal.returns-in_err-appended-clause-memory
 returns-in_err-appended-clause-memory c =
     on_err _ _ (put_back_same c.args.tables.now c.take_rows-rows.new.self c.put_rows.new.self c.args.table c.take_rows-rows.result.items c.append-appended.new.self.items c.take_rows-rows.ensures.taken c.take_rows-rows.ensures.left c.put_rows.ensures
-    (rw c.in_err-appended.is at c.append-appended.ensures.items))
+    c.in_err-appended.ensures.items)
 
 pub put_rows-requires : goal.put_rows-requires
 put_rows-requires c = still_there c.args.tables.now c.take_rows-rows.new.self c.args.table _ c.take_rows-rows.ensures.left (is_there-some _ _ c.requires.ready)
@@ -36,4 +36,4 @@ returns-clause-done c =
     let after : c.in-Some-checked_add.after ≡ table.def.next + length c.args.tuples = omega (arith, sum.1) in
     insert_is c.args.tables.now c.take_rows-rows.new.self c.put_rows.new.self c.number_from.new.self c.args.table c.args.tuples table c.take_rows-rows.result.items c.append-appended.new.self.items c.in-Some-checked_add.after c.len-count.result
     c.table.ensures nulls (not_used_up table.def.next (length c.args.tuples) (omega (arith, sum.0))) c.take_rows-rows.ensures.taken c.take_rows-rows.ensures.left c.put_rows.ensures c.number_from.ensures
-    (rw c.in_ok-appended.is at c.append-appended.ensures.items ∙ ap (λ added. c.take_rows-rows.result.items ++ added) c.in_ok-added.ensures) after count
+    (c.in_ok-appended.ensures.items ∙ ap (λ added. c.take_rows-rows.result.items ++ added) c.in_ok-added.ensures) after count

@@ -1,10 +1,8 @@
-use Rattle.std.proofs.Common.{◌∙◌, List, length, subst, sym, take}
-use Rattle.std.specs.Prelude.{IsTrue, filter}
+use Rattle.std.proofs.Common.{◌∙◌, List, subst, sym, take}
+use Rattle.std.specs.Prelude.{filter}
 use Rattle.mdc_ast.specs.Truth.{qualifies}
 use Rattle.mdc_ast.specs.declared.row.Row.{Row}
 use Rattle.answer_text.specs.Answering.{AreLinesOf}
-use Rattle.answer_text.specs.Lines.{are_outs_within}
-use Rattle.answer_text.proofs.QueryLinesLemmas.{at_once_within}
 use Rattle.plain_engine.proofs.FoundRows.{filter_take-more, filter_take-same}
 use Rattle.plain_engine.proofs.querying.lines_found.Goals as goal
 use Rattle.plain_engine.proofs.querying.lines_found.Goals.{then-qualifies+in_ok-add, else-qualifies}
