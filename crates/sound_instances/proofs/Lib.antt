@@ -1,0 +1,10 @@
+pub mod BrokenBlocksLemmas
+pub mod BrokenIndexesLemmas
+pub mod BrokenSpaceLemmas
+pub mod InstancesLemmas
+pub mod ShownSalesLemmas
+pub mod WorkedDatabaseLemmas
+pub mod WorkedIndexesLemmas
+pub mod WorkedRowsLemmas
+pub mod WorkedSpaceLemmas
+pub mod WorkedTreesLemmas

@@ -1,0 +1,5 @@
+pub mod ChangedPages
+pub mod WorkedDatabase
+pub mod WorkedEntries
+pub mod WorkedPages
+pub mod WorkedTables
