@@ -1,16 +1,13 @@
 -- The slots of a block by its pages: page j of it has part j of them.
-use Rattle.std.proofs.Common.{◌≡◌, ◌<◌, ◌≤◌, ◌+◌, ◌-◌, ◌*◌, ◌/◌, ◌%◌, ℕ, IsTrue, List, ◌++◌, length, get_or, set, take, drop, replicate, Option, Some, None, Bool, refl, ap, sym, ◌∙◌, inl, inr, arith, append_assoc, subst}
+use Rattle.std.proofs.Common.{◌≡◌, ◌<◌, ◌≤◌, ◌+◌, ◌-◌, ◌*◌, ◌/◌, ◌%◌, ℕ, IsTrue, List, ◌++◌, length, get_or, set, take, drop, replicate, Option, Some, None, Bool, refl, ap, sym, ◌∙◌, inl, inr, arith, subst}
 use Rattle.std.specs.Prelude.{Contains, is_some}
 use Rattle.std.proofs.Math.Nat.{div-lt_iff_lt-mul, mul-le-mul_right}
 use Rattle.std.proofs.lemmas.Bool.{cases_eq}
 use Rattle.std.proofs.lemmas.Nat.{div-add-mod'}
-use Rattle.std.proofs.lemmas.List.{append-nil, length-replicate, length-set, length-take, length-take-le, take-append-drop, take_all}
-use Rattle.std.proofs.lemmas.List.Elements.{filter-append}
+use Rattle.std.proofs.lemmas.List.{length-replicate, length-set, length-take, length-take-le, take-append-drop, take_all}
 use Rattle.mdc_ast.specs.declared.definition.ColumnDef.{ColumnDef}
 use Rattle.mdc_ast.specs.declared.definition.TableDef.{TableDef}
-use Rattle.mdc_ast.specs.declared.predicate.Pred.{Pred}
 use Rattle.mdc_ast.specs.declared.row.Row.{Row}
-use Rattle.mdc_ast.specs.Truth.{qualifies}
 use Rattle.mdc_words.proofs.ListedLemmas.{length-listed}
 use Rattle.store_api.specs.Extents.{first_page_of}
 use Rattle.store_api.specs.Fetching.{BringsOnce, PagesBetween}
@@ -26,11 +23,13 @@ use Rattle.store_api.proofs.RunsOverPagesLemmas.{runs_then, runs_wider}
 use Rattle.extent_map.specs.declared.extents.Extents.{Extents}
 use Rattle.extent_map.proofs.ExtentsLemmas.{extent_of-page, is_extent_page}
 use Rattle.row_page.specs.RowPage.{IsRowPage, rows_of, slot_count, slot_row}
+use Rattle.table_trees.specs.ToldPages.{PageList}
 use Rattle.mdc_sound.specs.Placing.{HoldsNowhere, IsEmptySlot, IsLowestAt}
 use Rattle.mdc_sound.specs.StandingTable.{IsPageOfBlock, pages_of}
-use Rattle.mdc_sound.specs.TableRows.{PlacedRow, block_page, rows_from_slot}
-use Rattle.block_rows.specs.HeldRows.{BreaksExtent, BreaksRows, HoldsRows, IsFilledSlot, PutsFirst, qualifying}
+use Rattle.mdc_sound.specs.TableRows.{block_page, block_slots, rows_from_slot}
+use Rattle.block_rows.specs.HeldRows.{BreaksExtent, BreaksRows, HoldsRows, IsFilledSlot, PutsFirst}
 use Rattle.block_rows.specs.PageRows.{HoldsRowPage, PutsInPage, RefusesPage}
+use Rattle.block_rows.specs.SeenRows.{SeesIfRow, SeesSlot, SeesSlotOfPage}
 use Rattle.block_rows.proofs.PageRowsLemmas.{rows_along}
 use Rattle.block_rows.proofs.PartsLemmas.{get_or-part, length-parts, part, part-parts, part-replicate, part-set, part-set_other, parts-part, take-parts}
 use Rattle.block_rows.proofs.PlacedRowsLemmas.{lowest-append, lowest-front, nowhere-append, nowhere-contains, rows_from_slot-append}
@@ -83,6 +82,13 @@ module _ (ext : Extents) (block : ℕ) where
   pub between_pages_of_block : (p j : ℕ) → block < ext.cap → j ≤ ext.extent_pages → PagesBetween first (first + j) p → IsPageOfBlock ext block p
   between_pages_of_block p j below most between = only_page_of_block p (p - first) below (omega (arith, between.0, between.1, most)) (omega (arith, between.0))
 
+-- its slots on a page of it
+pub part_of_page : (ext : Extents) (pages : PageList) (def : TableDef) (block j : ℕ) → j < ext.extent_pages → part (slot_count def.columns) j (block_slots ext pages def block) ≡ rows_of def.columns (block_page ext pages block j)
+part_of_page ext pages def block j less =
+    let at : ℕ → List (Option Row) = λ i. rows_of def.columns (block_page ext pages block i) in
+    let here : 0 + j ≡ j = omega arith in
+    part-parts (slot_count def.columns) at 0 ext.extent_pages j (λ i. length-listed (slot_count def.columns) (slot_row def.columns (block_page ext pages block i))) less ∙ ap at here
+
 -- a row page, by the slots that it has
 its_own : (columns : List ColumnDef) (bytes : List ℕ) (slots : List (Option Row)) → IsRowPage columns bytes slots → IsRowPage columns bytes (rows_of columns bytes)
 its_own columns bytes slots is = subst (IsRowPage columns bytes) (sym is.has) is
@@ -109,9 +115,7 @@ module _ {S : Type 0} (g : Ghosts S) (ext : Extents) (def : TableDef) (block : �
   -- page j
   pub page_of_rows : {s : S} {slots : List (Option Row)} (j : ℕ) → j < ext.extent_pages → HoldsRows g ext s def block slots → HoldsRowPage g def.columns s (first ext block + j) (part c j slots)
   page_of_rows {s} {slots} j less holds =
-      let here : 0 + j ≡ j = omega arith in
-      let parts : part c j slots ≡ slots_of_page s j =
-      ap (part c j) (sym holds.slots_are) ∙ (part-parts c (slots_of_page s) 0 ext.extent_pages j (length-page s) less ∙ ap (slots_of_page s) here) in
+      let parts : part c j slots ≡ slots_of_page s j = ap (part c j) (sym holds.slots_are) ∙ part_of_page ext (pages_of g s) def block j less in
       record {
         bytes = block_page ext (pages_of g s) block j;
         page = holds_here (first ext block + j) holds.told (page_within s j holds.there less);
@@ -276,6 +280,22 @@ module _ {S : Type 0} (g : Ghosts S) (ext : Extents) (def : TableDef) (block : �
     pub found_in_block : (row : Option Row) → ((slots : List (Option Row)) → HoldsRowPage g columns s page slots → row ≡ get_or slots place None)
         → (slots : List (Option Row)) → HoldsRows g ext s def block slots → row ≡ get_or slots slot None
     found_in_block row found slots holds = found (part c (slot / c) slots) (page_of_slot slots holds) ∙ slot_of_part slots
+
+    pub seen_in_block : (row : Option Row) → first_page_of ext.cap ext.extent_pages (block + 1) ≤ length (pages_of g s) → SeesSlotOfPage columns (page_at (pages_of g s) page) place row
+        → SeesSlot ext (pages_of g s) def (record { block = block; slot = slot }) row
+    seen_in_block row there sees =
+        let here : SeesSlotOfPage def.columns (block_page ext (pages_of g s) block (slot / c)) place row =
+        subst (λ p. SeesSlotOfPage def.columns (page_at (pages_of g s) p) place row) its_number
+        (subst (λ k. SeesSlotOfPage k (page_at (pages_of g s) page) place row) of sees) in
+        record {
+          there = there;
+          starts = here.starts;
+          row_is = here.row_is ∙ (ap (λ l. get_or l place None) (sym (part_of_page ext (pages_of g s) def block (slot / c) its_page)) ∙ slot_of_part (block_slots ext (pages_of g s) def block));
+        }
+
+    pub seen_if_in_block : (filled : Bool) → first_page_of ext.cap ext.extent_pages (block + 1) ≤ length (pages_of g s) → SeesIfRow (SeesSlotOfPage columns (page_at (pages_of g s) page) place) filled
+        → SeesIfRow (SeesSlot ext (pages_of g s) def (record { block = block; slot = slot })) filled
+    seen_if_in_block filled there sees = record { row = sees.row; sees = seen_in_block sees.row there sees.sees; filled_is = sees.filled_is }
 
     pub changed_in_block : {Kind : ℕ → Type 0} {Breaks : Damage → Type 0} {fault : Option StoreFault} (new : S) (x : Option Row)
         → RunsOverPages g (OnlyPage page) Kind Breaks s new fault → length (g.state new).work ≡ length (g.state s).work

@@ -1,3 +1,4 @@
+pub mod GivingLemmas
 pub mod HeldRowsLemmas
 pub mod CellColumnsLemmas
 pub mod KeptRowsLemmas

@@ -24,7 +24,7 @@ use Rattle.mdc_sound.specs.TableRows.{rows_from_slot}
 use Rattle.block_rows.proofs.PlacedRowsLemmas.{rows_from_slot-all, rows_from_slot-so_far}
 use Rattle.block_rows.specs.HeldRows.{IsFilledSlot}
 use Rattle.block_rows.specs.PageRows.{HoldsRowPage, IsFaultOfBytes, IsLowestEmpty, RefusesPage}
-use Rattle.block_rows.specs.SeenRows.{IsSeenPage}
+use Rattle.block_rows.specs.SeenRows.{IsSeenPage, SeesIfRow, SeesSlotOfPage}
 
 -- ---- the slots of a page
 
@@ -116,13 +116,21 @@ module _ (columns view_columns : List ColumnDef) (page view_page : List ℕ) (sa
       filled_is false row is = absurd cc
 
   -- whether there is a row in a slot
-  pub taken-view : (slot : ℕ) → slot < slot_count columns → (slots : List (Option Row)) → IsRowPage columns page slots → IsFilledSlot slots slot (is_slot_filled view_page slot)
-  taken-view slot below slots is =
-      sym (ap is_some (slot-at columns page slots slot None is.has below) ∙ as_bit (is_slot_filled page slot) _ ∙ ap (λ b. is_slot_filled b slot) (sym same))
+  pub taken-view : (slot : ℕ) → slot < slot_count columns → (slots : List (Option Row)) → rows_of columns page ≡ slots → IsFilledSlot slots slot (is_slot_filled view_page slot)
+  taken-view slot below slots has =
+      sym (ap is_some (slot-at columns page slots slot None has below) ∙ as_bit (is_slot_filled page slot) _ ∙ ap (λ b. is_slot_filled b slot) (sym same))
     where
       as_bit : (b : Bool) (row : Row) → is_some (cond b (Some row) None) ≡ b
       as_bit true row = refl
       as_bit false row = refl
+
+  -- so it was seen
+  pub seen-slot : (slot : ℕ) (filled : Bool) → slot < slot_count columns → StartsAsRowPage columns page → filled ≡ is_slot_filled view_page slot → SeesIfRow (SeesSlotOfPage columns page slot) filled
+  seen-slot slot filled below starts bit = record {
+    row = get_or (rows_of columns page) slot None;
+    sees = record { starts = starts; row_is = refl };
+    filled_is = bit ∙ taken-view slot below (rows_of columns page) refl;
+  }
 
   -- the next slot with a row, and the empty ones before it
   pub passed-view : (from end : ℕ) → end ≤ slot_count columns → ((k : ℕ) → from ≤ k → k < end → is_slot_filled view_page k ≡ false)

@@ -1,37 +1,36 @@
 -- The pages of a block that were seen, one after the other.
-use Rattle.std.proofs.Common.{◌≡◌, ◌<◌, ◌≤◌, ◌+◌, ◌*◌, ℕ, IsTrue, List, [], ◌∷◌, ◌++◌, length, take, map, Option, Some, None, refl, ap, sym, ◌∙◌, inl, inr, arith, append_assoc, append-nil, subst}
+use Rattle.std.proofs.Common.{◌≡◌, ◌<◌, ◌≤◌, ◌+◌, ◌*◌, ℕ, IsTrue, List, [], ◌++◌, length, take, Option, ap, sym, ◌∙◌, inl, inr, arith, subst}
 use Rattle.std.specs.Prelude.{◌↔◌}
 use Rattle.std.specs.List.{AllByRecursion}
 use Rattle.std.proofs.Math.Nat.{mul-le-mul_right}
 use Rattle.std.proofs.lemmas.Bool.{cases_eq}
 use Rattle.std.proofs.lemmas.List.{take_all}
-use Rattle.std.proofs.lemmas.List.Elements.{filter-append}
-use Rattle.mdc_words.proofs.ListedLemmas.{length-listed}
 use Rattle.mdc_ast.specs.declared.definition.ColumnDef.{ColumnDef}
 use Rattle.mdc_ast.specs.declared.definition.TableDef.{TableDef}
 use Rattle.mdc_ast.specs.declared.predicate.Pred.{Pred}
 use Rattle.mdc_ast.specs.declared.row.Cell.{Cell}
 use Rattle.mdc_ast.specs.declared.row.Row.{Row}
-use Rattle.mdc_ast.specs.Truth.{qualifies}
 use Rattle.store_api.specs.Extents.{first_page_of}
 use Rattle.store_api.specs.StoreState.{page_at}
 use Rattle.extent_map.specs.declared.extents.Extents.{Extents}
-use Rattle.row_page.specs.RowPage.{rows_of, slot_count, slot_row}
+use Rattle.row_page.specs.RowPage.{rows_of, slot_count}
 use Rattle.table_trees.specs.ToldPages.{PageList}
 use Rattle.mdc_sound.specs.TableRows.{PlacedRow, block_page, block_slots, rows_from_slot, rows_in_block}
 use Rattle.mdc_sound.proofs.SlotRowsLemmas.{length-block_slots}
+use Rattle.block_rows.specs.Giving.{WasGiven}
 use Rattle.block_rows.specs.HeldRows.{HasReadValues, qualifying}
 use Rattle.block_rows.specs.SeenRows.{AreInCell, HasMet, HasSeenRows, IsSeenPage, SeesPage}
 use Rattle.block_rows.specs.declared.met_rows.MetRows.{MetRows}
-use Rattle.block_rows.proofs.HeldRowsLemmas.{parts_within, rows_more}
+use Rattle.block_rows.specs.declared.row_sink.RowSink.{Ghosts}
+use Rattle.block_rows.proofs.GivingLemmas.{given_more_qualifying, given_none}
+use Rattle.block_rows.proofs.HeldRowsLemmas.{part_of_page, parts_within, rows_more}
 use Rattle.block_rows.proofs.MetRowsLemmas.{all_met, each_append}
-use Rattle.block_rows.proofs.PartsLemmas.{part, part-parts}
 
--- the first pages of a block were seen: their rows were met, and those that qualify put last
-pub record SeesPages (ext : Extents) (pages : PageList) (def : TableDef) (block : ℕ) (places : List ℕ) (given : Option Cell) (pred : Option Pred) (n : ℕ) (before now : List PlacedRow) (met_now : MetRows) : Type 0 where
+-- the first pages of a block were seen: their rows were met, and a sink was given those that qualify
+pub record SeesPages {K : Type 0} (sinks : Ghosts K) (ext : Extents) (pages : PageList) (def : TableDef) (block : ℕ) (places : List ℕ) (given : Option Cell) (pred : Option Pred) (n : ℕ) (old new : K) (met_now : MetRows) : Type 0 where
   pub forms : (j : ℕ) → j < n → IsSeenPage def.columns (block_page ext pages block j)
   pub read : AllByRecursion (λ placed. HasReadValues def.columns placed.row) (rows_from_slot block 0 (take (n * slot_count def.columns) (block_slots ext pages def block)))
-  pub hits : now ≡ before ++ qualifying pred (rows_from_slot block 0 (take (n * slot_count def.columns) (block_slots ext pages def block)))
+  pub given_rows : WasGiven sinks old new (qualifying pred (rows_from_slot block 0 (take (n * slot_count def.columns) (block_slots ext pages def block))))
   pub met : HasMet places given met_now (rows_from_slot block 0 (take (n * slot_count def.columns) (block_slots ext pages def block)))
 
 module _ (ext : Extents) (pages : PageList) (def : TableDef) (block : ℕ) where
@@ -51,38 +50,34 @@ module _ (ext : Extents) (pages : PageList) (def : TableDef) (block : ℕ) where
   -- the rows of one page more
   rows_to_more : (j : ℕ) → j < ext.extent_pages → rows_to (j + 1) ≡ rows_to j ++ rows_from_slot block (j * c) (rows_of def.columns (block_page ext pages block j))
   rows_to_more j less =
-      let at : ℕ → List (Option Row) = λ i. rows_of def.columns (block_page ext pages block i) in
-      let here : 0 + j ≡ j = omega arith in
-      let of_page : part c j slots ≡ at j =
-      part-parts c at 0 ext.extent_pages j (λ i. length-listed (slot_count def.columns) (slot_row def.columns (block_page ext pages block i))) less ∙ ap at here in
       rows_more block c j slots (parts_within ext.extent_pages c j (length slots) (length-block_slots ext pages def block) (omega (arith, less)))
-      ∙ ap (λ l. rows_to j ++ rows_from_slot block (j * c) l) of_page
+      ∙ ap (λ l. rows_to j ++ rows_from_slot block (j * c) l) (part_of_page ext pages def block j less)
 
   rows_to_all : (j : ℕ) → ext.extent_pages ≤ j → rows_to j ≡ rows_in_block ext pages def block
   rows_to_all j end =
       let all : ext.extent_pages * c ≤ j * c = mul-le-mul_right c end in
       ap (rows_from_slot block 0) (take_all (j * c) slots (omega (arith, length-block_slots ext pages def block, all)))
 
-  module _ (places : List ℕ) (given : Option Cell) (pred : Option Pred) where
+  module _ {K : Type 0} (sinks : Ghosts K) (places : List ℕ) (given : Option Cell) (pred : Option Pred) where
     -- none was seen
-    pub sees_none : (hits : List PlacedRow) (met : MetRows) → HasMet places given met [] → SeesPages ext pages def block places given pred 0 hits hits met
-    sees_none hits met none = record {
+    pub sees_none : (sink : K) (met : MetRows) → HasMet places given met [] → SeesPages sinks ext pages def block places given pred 0 sink sink met
+    sees_none sink met none = record {
       forms = λ j less. absurd (omega (arith, less));
       read = subst (AllByRecursion (λ placed. HasReadValues def.columns placed.row)) (sym none_to) tt;
-      hits = sym (append-nil hits) ∙ ap (λ l. hits ++ qualifying pred l) (sym none_to);
+      given_rows = subst (λ rows. WasGiven sinks sink sink (qualifying pred rows)) (sym none_to) (given_none sinks sink);
       met = subst (HasMet places given met) (sym none_to) none;
     }
 
     -- one page more
-    pub sees_more : (columns : List ColumnDef) (p j first : ℕ) (hits mid now : List PlacedRow) (met met_now : MetRows) → columns ≡ def.columns → p ≡ first_page_of ext.cap ext.extent_pages block + j → j < ext.extent_pages
-        → first ≡ j * slot_count columns → SeesPages ext pages def block places given pred j hits mid met → SeesPage columns places given (page_at pages p) block first pred mid now met met_now
-        → SeesPages ext pages def block places given pred (j + 1) hits now met_now
-    sees_more columns p j first hits mid now met met_now of at less begins so_far page =
+    pub sees_more : (columns : List ColumnDef) (p j first : ℕ) (old mid now : K) (met met_now : MetRows) → columns ≡ def.columns → p ≡ first_page_of ext.cap ext.extent_pages block + j → j < ext.extent_pages
+        → first ≡ j * slot_count columns → SeesPages sinks ext pages def block places given pred j old mid met → SeesPage sinks columns places given (page_at pages p) block first pred mid now met met_now
+        → SeesPages sinks ext pages def block places given pred (j + 1) old now met_now
+    sees_more columns p j first old mid now met met_now of at less begins so_far page =
         let first_is : first ≡ j * c = begins ∙ ap (λ k. j * slot_count k) of in
-        let here : SeesPage def.columns places given (block_page ext pages block j) block (j * c) pred mid now met met_now =
-        subst (λ f. SeesPage def.columns places given (block_page ext pages block j) block f pred mid now met met_now) first_is
-        (subst (λ q. SeesPage def.columns places given (page_at pages q) block first pred mid now met met_now) at
-        (subst (λ k. SeesPage k places given (page_at pages p) block first pred mid now met met_now) of page)) in
+        let here : SeesPage sinks def.columns places given (block_page ext pages block j) block (j * c) pred mid now met met_now =
+        subst (λ f. SeesPage sinks def.columns places given (block_page ext pages block j) block f pred mid now met met_now) first_is
+        (subst (λ q. SeesPage sinks def.columns places given (page_at pages q) block first pred mid now met met_now) at
+        (subst (λ k. SeesPage sinks k places given (page_at pages p) block first pred mid now met met_now) of page)) in
         let more = rows_to_more j less in
         let those = rows_from_slot block (j * c) (rows_of def.columns (block_page ext pages block j)) in
         record {
@@ -91,13 +86,11 @@ module _ (ext : Extents) (pages : PageList) (def : TableDef) (block : ℕ) where
             | inr other ↦ so_far.forms i (omega (arith, before, other))
           ];
           read = subst (AllByRecursion (λ placed. HasReadValues def.columns placed.row)) (sym more) (each_append (λ placed. HasReadValues def.columns placed.row) (rows_to j) those so_far.read here.read);
-          hits = here.hits ∙ (ap (λ l. l ++ qualifying pred those) so_far.hits
-              ∙ (append_assoc hits (qualifying pred (rows_to j)) (qualifying pred those)
-              ∙ ap (λ l. hits ++ l) (sym (filter-append (λ placed. qualifies pred placed.row.values) (rows_to j) those) ∙ ap (qualifying pred) (sym more))));
+          given_rows = subst (λ rows. WasGiven sinks old now (qualifying pred rows)) (sym more) (given_more_qualifying sinks pred old mid now (rows_to j) those so_far.given_rows here.given_rows);
           met = subst (HasMet places given met_now) (sym more) (here.meets (rows_to j) so_far.met);
         }
 
-    module _ (j : ℕ) (hits now : List PlacedRow) (met : MetRows) (end : ext.extent_pages ≤ j) (all : SeesPages ext pages def block places given pred j hits now met) where
+    module _ (j : ℕ) (old now : K) (met : MetRows) (end : ext.extent_pages ≤ j) (all : SeesPages sinks ext pages def block places given pred j old now met) where
       -- all were seen
       pub seen_all : first_page_of ext.cap ext.extent_pages (block + 1) ≤ length pages → HasSeenRows ext pages def block met.rows
       seen_all there = record {
@@ -107,8 +100,8 @@ module _ (ext : Extents) (pages : PageList) (def : TableDef) (block : ℕ) where
         read = subst (AllByRecursion (λ placed. HasReadValues def.columns placed.row)) (rows_to_all j end) all.read;
       }
 
-      pub hits_all : now ≡ hits ++ qualifying pred (rows_in_block ext pages def block)
-      hits_all = all.hits ∙ ap (λ rows. hits ++ qualifying pred rows) (rows_to_all j end)
+      pub given_all : WasGiven sinks old now (qualifying pred (rows_in_block ext pages def block))
+      given_all = subst (λ rows. WasGiven sinks old now (qualifying pred rows)) (rows_to_all j end) all.given_rows
 
       pub in_cell_all : IsTrue met.in_cell ↔ AreInCell places given (rows_in_block ext pages def block)
       in_cell_all = all_met places given met (rows_in_block ext pages def block) (subst (HasMet places given met) (rows_to_all j end) all.met)

@@ -1,4 +1,5 @@
 pub mod CellColumns
+pub mod Giving
 pub mod HeldRows
 pub mod PageRows
 pub mod SeenRows

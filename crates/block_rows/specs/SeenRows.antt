@@ -1,19 +1,23 @@
 -- What a call that read the rows of a block has seen of them, whatever its pages hold.
-use Rattle.std.specs.Prelude.{◌≡◌, ◌↔◌, ◌≤◌, ◌<◌, ◌+◌, ◌++◌, ℕ, Bool, IsTrue, List, [], ◌∷◌, length, map, Option, Some, None, AllPairs}
+use Rattle.std.specs.Prelude.{◌≡◌, ◌↔◌, ◌≤◌, ◌<◌, ◌+◌, ◌/◌, ◌++◌, ℕ, Bool, IsTrue, List, [], ◌∷◌, length, map, slice_index_or, Option, Some, None, is_some, AllPairs}
 use Rattle.std.specs.List.{AllByRecursion}
+use Rattle.mdc_values.specs.declared.rid.Rid.{Rid}
 use Rattle.mdc_values.specs.declared.value.Value.{Value}
 use Rattle.mdc_ast.specs.Truth.{value_at}
 use Rattle.mdc_ast.specs.declared.definition.ColumnDef.{ColumnDef}
 use Rattle.mdc_ast.specs.declared.definition.TableDef.{TableDef}
 use Rattle.mdc_ast.specs.declared.predicate.Pred.{Pred}
 use Rattle.mdc_ast.specs.declared.row.Cell.{Cell}
+use Rattle.mdc_ast.specs.declared.row.Row.{Row}
 use Rattle.store_api.specs.Extents.{first_page_of}
 use Rattle.extent_map.specs.declared.extents.Extents.{Extents}
-use Rattle.row_page.specs.RowPage.{StartsAsRowPage, count_rows, rows_of, stated_rows}
+use Rattle.row_page.specs.RowPage.{StartsAsRowPage, count_rows, rows_of, slot_count, stated_rows}
 use Rattle.table_trees.specs.ToldPages.{PageList}
-use Rattle.mdc_sound.specs.TableRows.{PlacedRow, block_page, rows_from_slot, rows_in_block}
+use Rattle.mdc_sound.specs.TableRows.{PlacedRow, block_page, block_slots, rows_from_slot, rows_in_block}
+use Rattle.block_rows.specs.Giving.{WasGiven}
 use Rattle.block_rows.specs.HeldRows.{HasReadValues, qualifying}
 use Rattle.block_rows.specs.declared.met_rows.MetRows.{MetRows}
+use Rattle.block_rows.specs.declared.row_sink.RowSink.{Ghosts}
 
 -- ---- pages
 
@@ -28,6 +32,29 @@ pub record HasSeenRows (ext : Extents) (pages : PageList) (def : TableDef) (bloc
   pub forms : (j : ℕ) → j < ext.extent_pages → IsSeenPage def.columns (block_page ext pages block j)
   pub counted : count ≡ length (rows_in_block ext pages def block)
   pub read : AllByRecursion (λ placed. HasReadValues def.columns placed.row) (rows_in_block ext pages def block)
+
+-- ---- slots
+
+-- a page begins as a row page of these columns, and this is what its bytes say of a slot: a row, or none
+pub record SeesSlotOfPage (columns : List ColumnDef) (page : List ℕ) (slot : ℕ) (row : Option Row) : Type 0 where
+  pub starts : StartsAsRowPage columns page
+  pub row_is : row ≡ slice_index_or (rows_of columns page) slot None
+
+-- The pages of a block are there, and that of a slot begins as a row page does. This is what its bytes say of the slot: a row, or none.
+pub record SeesSlot (ext : Extents) (pages : PageList) (def : TableDef) (rid : Rid) (row : Option Row) : Type 0 where
+  pub there : first_page_of ext.cap ext.extent_pages (rid.block + 1) ≤ length pages
+  pub starts : StartsAsRowPage def.columns (block_page ext pages rid.block (rid.slot / slot_count def.columns))
+  pub row_is : row ≡ slice_index_or (block_slots ext pages def rid.block) rid.slot None
+
+-- something was seen of a slot, a row or none, and this is whether it was a row
+pub record SeesIfRow (Sees : Option Row → Type 0) (filled : Bool) : Type 0 where
+  pub row : Option Row
+  pub sees : Sees row
+  pub filled_is : filled ≡ is_some row
+
+-- a row was seen in a slot
+abbrev pub SeesSomeRow : (Option Row → Type 0) → Type 0
+SeesSomeRow Sees = (row : Row) × Sees (Some row)
 
 -- ---- cells
 
@@ -71,9 +98,9 @@ pub record HasMet (places : List ℕ) (given : Option Cell) (met : MetRows) (row
   pub counted : met.rows ≡ length rows
   pub cell : IsCellSoFar places given met.first met.in_cell rows
 
--- The rows of a page were met, and those that qualify put last.
-pub record SeesPage (columns : List ColumnDef) (places : List ℕ) (given : Option Cell) (page : List ℕ) (block first : ℕ) (pred : Option Pred) (before now : List PlacedRow) (met met_now : MetRows) : Type 0 where
+-- The rows of a page were met, and a sink was given those that qualify.
+pub record SeesPage {K : Type 0} (sinks : Ghosts K) (columns : List ColumnDef) (places : List ℕ) (given : Option Cell) (page : List ℕ) (block first : ℕ) (pred : Option Pred) (old new : K) (met met_now : MetRows) : Type 0 where
   pub form : IsSeenPage columns page
   pub read : AllByRecursion (λ placed. HasReadValues columns placed.row) (rows_from_slot block first (rows_of columns page))
-  pub hits : now ≡ before ++ qualifying pred (rows_from_slot block first (rows_of columns page))
+  pub given_rows : WasGiven sinks old new (qualifying pred (rows_from_slot block first (rows_of columns page)))
   pub meets : (rows : List PlacedRow) → HasMet places given met rows → HasMet places given met_now (rows ++ rows_from_slot block first (rows_of columns page))

@@ -6,8 +6,9 @@ ghost use Rattle.store_api.specs.Causes.{fault_of};
 ghost use Rattle.store_api.specs.RunsOverPages.{RunsOverPages};
 ghost use Rattle.row_page.specs.Row.{AreRowColumns};
 ghost use Rattle.mdc_sound.specs.Placing.{block_slot_count};
-ghost use Rattle.mdc_sound.specs.StandingTable.{IsPageOfBlock};
+ghost use Rattle.mdc_sound.specs.StandingTable.{IsPageOfBlock, pages_of};
 ghost use Rattle.block_rows.specs.HeldRows.{BreaksExtent, BreaksRows, ClearsSlot, HoldsRows, PutsFirst};
+ghost use Rattle.block_rows.specs.SeenRows.{SeesIfRow, SeesSlot};
 
 use crate::page_changing::{clear_in_page, put_first_in_page, put_in_page};
 use crate::places::{first_page, first_slot, place_of_slot};
@@ -44,14 +45,14 @@ pub fn put_first<P: Pages>(
     Ok(None)
 }
 
-/// Puts a row into a slot, in the place of any that is there.
+/// Puts a row into a slot, in the place of any that is there, and answers whether one lay there.
 pub fn put_slot<P: Pages>(
     def: &TableDef,
     ext: &Extents,
     pages: &mut P,
     rid: Rid,
     row: &Row,
-) -> Result<(), StoreFault>
+) -> Result<bool, StoreFault>
     requires columns { AreRowColumns def.now.columns }
     requires fits { IsTrue (fits_all def.now.columns row.now.values) }
     requires below { rid.block < ext.now.cap }
@@ -59,6 +60,7 @@ pub fn put_slot<P: Pages>(
     requires going { (P.state pages.old).ended ≡ false }
     ensures puts { OnOk result ((slots : List (Option Row)) → HoldsRows P.Pages ext.now pages.old def.now rid.block slots
         → HoldsRows P.Pages ext.now pages.new def.now rid.block (slice_set slots rid.slot (Some row.now))) }
+    ensures seen { IfOk result (λ filled. IsTrue (P.state pages.old).is_told → SeesIfRow (SeesSlot ext.now (pages_of P.Pages pages.old) def.now rid) filled) }
     ensures count { length (P.state pages.new).work ≡ length (P.state pages.old).work }
     ensures runs { RunsOverPages P.Pages (IsPageOfBlock ext.now rid.block) (IsPageOfBlock ext.now rid.block) (BreaksRows P.Pages ext.now pages.old def.now rid.block) pages.old pages.new (fault_of result) }
 {
@@ -80,6 +82,7 @@ pub fn clear_slot<P: Pages>(
     requires going { (P.state pages.old).ended ≡ false }
     ensures clears { IfOk result (λ filled. (slots : List (Option Row)) → HoldsRows P.Pages ext.now pages.old def.now rid.block slots
         → ClearsSlot P.Pages ext.now pages.new def.now rid slots filled) }
+    ensures seen { IfOk result (λ filled. IsTrue (P.state pages.old).is_told → SeesIfRow (SeesSlot ext.now (pages_of P.Pages pages.old) def.now rid) filled) }
     ensures count { length (P.state pages.new).work ≡ length (P.state pages.old).work }
     ensures runs { RunsOverPages P.Pages (IsPageOfBlock ext.now rid.block) (IsPageOfBlock ext.now rid.block) (BreaksRows P.Pages ext.now pages.old def.now rid.block) pages.old pages.new (fault_of result) }
 {

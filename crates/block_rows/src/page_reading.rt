@@ -1,5 +1,5 @@
 // What one page of a block holds.
-ghost use Rattle.std.specs.Prelude.{◌≡◌, ◌≤◌, ◌<◌, ◌+◌, [], ◌∷◌, ◌++◌, List, Option, Some, None, false, map, length, slice_index_or, IsTrue, IfOk, IfErr, IfSome, OnOk};
+ghost use Rattle.std.specs.Prelude.{◌≡◌, ◌≤◌, ◌<◌, ◌+◌, [], ◌∷◌, List, Option, Some, None, false, length, slice_index_or, IsTrue, IfOk, IfErr, IfSome, OnOk};
 ghost use Rattle.mdc_ast.specs.declared.row.Row.{Row};
 ghost use Rattle.store_api.specs.Causes.{fault_of};
 ghost use Rattle.store_api.specs.Fetching.{BringsOnce};
@@ -10,13 +10,14 @@ ghost use Rattle.row_page.specs.Row.{row_in};
 ghost use Rattle.row_page.specs.RowPage.{slot_count, IsRowPage};
 ghost use Rattle.row_filter.specs.Filtering.{may_filter};
 ghost use Rattle.block_rows.specs.CellColumns.{AreCellColumns, places_of};
-ghost use Rattle.block_rows.specs.HeldRows.{placed_row, qualifying, HasReadValues, HaveReadValues};
+ghost use Rattle.block_rows.specs.HeldRows.{qualifying, HasReadValues};
+ghost use Rattle.block_rows.specs.Giving.{WasGiven};
 ghost use Rattle.block_rows.specs.PageRows.{HoldsRowPage, IsFaultOfBytes, IsLowestEmpty, RefusesPage};
-ghost use Rattle.block_rows.specs.SeenRows.{SeesPage};
+ghost use Rattle.block_rows.specs.SeenRows.{SeesPage, SeesSlotOfPage};
 
-use crate::Hit;
 use crate::cell_columns::CellColumns;
 use crate::met_rows::MetRows;
+use crate::row_sink::RowSink;
 use mdc_ast::{Cell, Row};
 use mdc_values::Rid;
 use row_filter::RowFilter;
@@ -82,6 +83,7 @@ pub(crate) fn row_in_page<P: Pages>(
     requires going { (P.state pages.old).ended ≡ false }
     requires within { p < length (P.state pages.old).work }
     ensures found { IfOk result (λ row. (slots : List (Option Row)) → HoldsRowPage P.Pages shape.now.columns.now pages.old p slots → row ≡ slice_index_or slots slot None) }
+    ensures seen { IfOk result (λ row. IsTrue (P.state pages.old).is_told → SeesSlotOfPage shape.now.columns.now (page_at (P.state pages.old).work p) slot row) }
     ensures keyed { IfOk result (λ row. IfSome row (HasReadValues shape.now.columns.now)) }
     ensures same { (P.state pages.new).work ≡ (P.state pages.old).work }
     ensures once { BringsOnce P.Pages (OnlyPage p) pages.old pages.new }
@@ -103,7 +105,7 @@ fn copy_row(
     slot: u16,
 ) -> Result<Option<Row>, StoreFault>
     requires slot { slot < slot_count shape.now.columns.now }
-    ensures found { IfOk result (λ row. (slots : List (Option Row)) → IsRowPage shape.now.columns.now page.now slots → row ≡ slice_index_or slots slot None) }
+    ensures seen { IfOk result (SeesSlotOfPage shape.now.columns.now page.now slot) }
     ensures keyed { IfOk result (λ row. IfSome row (HasReadValues shape.now.columns.now)) }
     ensures refuses { IfErr result (IsFaultOfBytes shape.now.columns.now page.now p) }
 {
@@ -127,9 +129,9 @@ fn copy_of(alloc: Global, row: &RowView) -> Result<Row, StoreFault>
     }
 }
 
-/// Puts copies of the rows of page p that a filter takes last, by rising slot, and meets each row. Its first slot is that of the
-/// block which is given. Damaged where it isn't a row page, or doesn't have as many rows as its head says.
-pub(crate) fn push_rows_of_page<P: Pages>(
+/// Gives a sink the rows of page p that a filter takes, by rising slot, and meets each row. Its first slot is that of the block which
+/// is given. Damaged where it isn't a row page, or doesn't have as many rows as its head says.
+pub(crate) fn scan_page<P: Pages, K: RowSink>(
     alloc: Global,
     shape: &RowShape<'_>,
     cells: &CellColumns,
@@ -139,19 +141,20 @@ pub(crate) fn push_rows_of_page<P: Pages>(
     first: Rid,
     filter: &mut RowFilter,
     met: &mut MetRows,
-    hits: &mut Vec<Hit>,
+    sink: &mut K,
 ) -> Result<(), StoreFault>
     requires room { first.slot + slot_count shape.now.columns.now < 65536 }
     requires few { met.old.rows ≤ first.slot }
     requires are { AreCellColumns shape.now.columns.now cells.now }
     requires wide { length shape.now.columns.now ≡ length filter.old.values }
     requires judged { (row : Row) → HasReadValues shape.now.columns.now row → IsTrue (may_filter filter.old.pred.now row.values) }
+    requires fits { K.RowSink.is_for shape.now.columns.now sink.old }
     requires going { (P.state pages.old).ended ≡ false }
     requires within { p < length (P.state pages.old).work }
-    ensures sees { OnOk result (IsTrue (P.state pages.old).is_told → SeesPage shape.now.columns.now (places_of cells.now.columns.items) given.now (page_at (P.state pages.old).work p) first.block first.slot filter.old.pred.now
-        (map placed_row hits.old.items) (map placed_row hits.new.items) met.old met.new) }
+    ensures sees { OnOk result (IsTrue (P.state pages.old).is_told → SeesPage K.RowSink shape.now.columns.now (places_of cells.now.columns.items) given.now (page_at (P.state pages.old).work p) first.block first.slot filter.old.pred.now
+        sink.old sink.new met.old met.new) }
     ensures few { OnOk result (met.new.rows ≤ first.slot + slot_count shape.now.columns.now) }
-    ensures keyed { OnOk result (HaveReadValues shape.now.columns.now hits.old.items → HaveReadValues shape.now.columns.now hits.new.items) }
+    ensures fits { OnOk result (K.RowSink.is_for shape.now.columns.now sink.new) }
     ensures pred { filter.new.pred.now ≡ filter.old.pred.now }
     ensures width { length filter.new.values ≡ length filter.old.values }
     ensures same { (P.state pages.new).work ≡ (P.state pages.old).work }
@@ -159,7 +162,7 @@ pub(crate) fn push_rows_of_page<P: Pages>(
     ensures runs { RunsOverPages P.Pages NoPage (OnlyPage p) (RefusesPage P.Pages shape.now.columns.now pages.old p) pages.old pages.new (fault_of result) }
 {
     bring(pages, p)?;
-    match push_rows(
+    match scan_slots(
         alloc,
         shape,
         cells,
@@ -169,15 +172,15 @@ pub(crate) fn push_rows_of_page<P: Pages>(
         first,
         filter,
         met,
-        hits,
+        sink,
     ) {
         Ok(()) => Ok(()),
         Err(fault) => Err(fault),
     }
 }
 
-/// Puts copies of the rows in the bytes of page p that a filter takes last, and meets each row.
-fn push_rows(
+/// Gives a sink the rows in the bytes of page p that a filter takes, and meets each row.
+fn scan_slots<K: RowSink>(
     alloc: Global,
     shape: &RowShape<'_>,
     cells: &CellColumns,
@@ -187,17 +190,18 @@ fn push_rows(
     first: Rid,
     filter: &mut RowFilter,
     met: &mut MetRows,
-    hits: &mut Vec<Hit>,
+    sink: &mut K,
 ) -> Result<(), StoreFault>
     requires room { first.slot + slot_count shape.now.columns.now < 65536 }
     requires few { met.old.rows ≤ first.slot }
     requires are { AreCellColumns shape.now.columns.now cells.now }
     requires wide { length shape.now.columns.now ≡ length filter.old.values }
     requires judged { (row : Row) → HasReadValues shape.now.columns.now row → IsTrue (may_filter filter.old.pred.now row.values) }
-    ensures sees { OnOk result (SeesPage shape.now.columns.now (places_of cells.now.columns.items) given.now page.now first.block first.slot filter.old.pred.now
-        (map placed_row hits.old.items) (map placed_row hits.new.items) met.old met.new) }
+    requires fits { K.RowSink.is_for shape.now.columns.now sink.old }
+    ensures sees { OnOk result (SeesPage K.RowSink shape.now.columns.now (places_of cells.now.columns.items) given.now page.now first.block first.slot filter.old.pred.now
+        sink.old sink.new met.old met.new) }
     ensures few { OnOk result (met.new.rows ≤ first.slot + slot_count shape.now.columns.now) }
-    ensures keyed { OnOk result (HaveReadValues shape.now.columns.now hits.old.items → HaveReadValues shape.now.columns.now hits.new.items) }
+    ensures fits { OnOk result (K.RowSink.is_for shape.now.columns.now sink.new) }
     ensures pred { filter.new.pred.now ≡ filter.old.pred.now }
     ensures width { length filter.new.values ≡ length filter.old.values }
     ensures refuses { IfErr result (IsFaultOfBytes shape.now.columns.now page.now p) }
@@ -215,7 +219,7 @@ fn push_rows(
         };
         let bytes = cells.bytes_of_slot(shape, page, slot);
         met.meet(alloc, shape, cells, given, &row, bytes)?;
-        push_if_taken(alloc, &row, rid, filter, hits)?;
+        give_if_taken(alloc, &row, rid, filter, sink)?;
         from = slot + 1;
     }
     if met.rows != rows_before + u32::from(view.rows()) {
@@ -224,19 +228,20 @@ fn push_rows(
     Ok(())
 }
 
-/// Puts a copy of a row that is lent last, if a filter takes it.
-fn push_if_taken(
+/// Gives a sink a row that is lent, if a filter takes it.
+fn give_if_taken<K: RowSink>(
     alloc: Global,
     row: &RowView,
     rid: Rid,
     filter: &mut RowFilter,
-    hits: &mut Vec<Hit>,
+    sink: &mut K,
 ) -> Result<(), StoreFault>
     requires wide { length row.now.columns.now ≡ length filter.old.values }
     requires read { HasReadValues row.now.columns.now (row_in row.now.columns.now row.now.bytes.now) }
     requires judged { IsTrue (may_filter filter.old.pred.now (row_in row.now.columns.now row.now.bytes.now).values) }
-    ensures rows { OnOk result (map placed_row hits.new.items ≡ map placed_row hits.old.items ++ qualifying filter.old.pred.now (record { rid = rid; row = row_in row.now.columns.now row.now.bytes.now } ∷ [])) }
-    ensures keyed { OnOk result (HaveReadValues row.now.columns.now hits.old.items → HaveReadValues row.now.columns.now hits.new.items) }
+    requires fits { K.RowSink.is_for row.now.columns.now sink.old }
+    ensures given { OnOk result (WasGiven K.RowSink sink.old sink.new (qualifying filter.old.pred.now (record { rid = rid; row = row_in row.now.columns.now row.now.bytes.now } ∷ []))) }
+    ensures fits { OnOk result (K.RowSink.is_for row.now.columns.now sink.new) }
     ensures pred { filter.new.pred.now ≡ filter.old.pred.now }
     ensures width { length filter.new.values ≡ length filter.old.values }
     ensures memory { IfErr result (λ fault. fault ≡ StoreFault.Memory) }
@@ -247,9 +252,5 @@ fn push_if_taken(
     if !taken {
         return Ok(());
     }
-    hits.push(Hit {
-        rid,
-        row: copy_of(alloc, row)?,
-    })?;
-    Ok(())
+    Ok(sink.take(alloc, row, rid)?)
 }

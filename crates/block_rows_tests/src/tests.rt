@@ -1,13 +1,10 @@
 // Each call on the rows of a block once, over a store in memory: rows without columns, of which a page has 402.
 ghost use Rattle.std.specs.Prelude.{◌≡◌, ◌<◌, [], IfOk, false};
 
-use block_rows::{
-    Hit, clear_slot, push_rows_of_block, put_first, put_slot, row_in_slot, wipe_block,
-};
+use block_rows::{clear_slot, put_first, put_slot, row_in_slot, rows_of_block, wipe_block};
 use extent_map::Extents;
 use mdc_ast::{Name, Roots, Row, TableDef};
 use mdc_values::{Chars, List, Memory, Rid};
-use row_filter::RowFilter;
 use std::alloc::Global;
 use std::test::Fail;
 use store_api::{MemStore, Pages, StoreFault, blank_page};
@@ -80,7 +77,7 @@ fn fill_and_look<P: Pages>(
     let in_second = row_in_slot(alloc, def, ext, pages, rid(402))?;
     let in_emptied = row_in_slot(alloc, def, ext, pages, rid(0))?;
     let third = put_first(def, ext, pages, BLOCK, &row)?;
-    let hits = all_rows(alloc, def, ext, pages)?;
+    let hits = rows_of_block(alloc, def, ext, pages, BLOCK)?;
     let rows = hits.len();
     Ok(Seen {
         put: [first, second, third],
@@ -94,26 +91,6 @@ fn fill_and_look<P: Pages>(
         emptied: number_of(&in_emptied),
         lay: [lay, lay_again],
     })
-}
-
-/// All rows of the block.
-fn all_rows<P: Pages>(
-    alloc: Global,
-    def: &TableDef,
-    ext: &Extents,
-    pages: &mut P,
-) -> Result<Vec<Hit>, StoreFault>
-    requires no_columns { def.now.columns ≡ [] }
-    requires below { BLOCK < ext.now.cap }
-    requires going { (P.state pages.old).ended ≡ false }
-{
-    let all = None;
-    let Ok(mut filter) = RowFilter::new(alloc, &all, def.columns.len()) else {
-        return Err(StoreFault::Memory);
-    };
-    let mut hits = Vec::new(alloc);
-    push_rows_of_block(alloc, def, ext, pages, BLOCK, &mut filter, &mut hits)?;
-    Ok(hits)
 }
 
 /// A row without values.

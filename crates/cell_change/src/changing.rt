@@ -1,5 +1,5 @@
 // A row becomes another.
-ghost use Rattle.std.specs.Prelude.{◌≡◌, ◌⊎◌, [], ◌∷◌, List, false, IfErr, IfOk, OnOk};
+ghost use Rattle.std.specs.Prelude.{◌≡◌, ◌⊎◌, [], ◌∷◌, List, false, IsTrue, IfErr, IfOk, OnOk};
 ghost use Rattle.store_api.specs.Causes.{store_fault_in};
 ghost use Rattle.store_api.specs.RunsOverPages.{RunsOverPages};
 ghost use Rattle.extent_map.specs.Damages.{IfFull, store_part_of};
@@ -8,6 +8,7 @@ ghost use Rattle.extent_map.specs.declared.kind.Kind.{Kind};
 ghost use Rattle.mdc_ast.specs.Database.{Database, changed_at};
 ghost use Rattle.mdc_ast.specs.TableLimits.{IsTableDef};
 ghost use Rattle.block_rows.specs.HeldRows.{HasReadValues};
+ghost use Rattle.block_rows.specs.SeenRows.{SeesSlot, SeesSomeRow};
 ghost use Rattle.mdc_ast.specs.FittingRows.{RowFits};
 ghost use Rattle.mdc_sound.specs.RunningFull.{UpdateRunsFull};
 ghost use Rattle.mdc_sound.specs.SoundDatabase.{IsSoundBetweenChanges, with_table_page};
@@ -16,6 +17,7 @@ ghost use Rattle.mdc_sound.specs.StandsForDatabase.{PagesStandFor, with_row};
 ghost use Rattle.free_space.specs.RoomNotes.{room_of};
 ghost use Rattle.mdc_table.specs.KnownBlocks.{IsExpectedSpace};
 ghost use Rattle.table_blocks.specs.BlockSteps.{HasThisRow};
+ghost use Rattle.table_blocks.specs.SeenSlots.{IsMapApart};
 ghost use Rattle.cell_change.specs.RowChanges.{ChangesOneRow, row_in_place};
 
 use block_index::are_of_one_cell;
@@ -52,6 +54,7 @@ pub fn change_row<P: Pages>(
     ensures changes { IfOk result (λ to. (owners : List Kind) (forests : TableForests) → IsReadyTable P.Pages ext.old (room_of rooms.old) pages.old def.now owners forests
         → HasThisRow P.Pages ext.old pages.old def.now rid was.now owners forests
         → ChangesOneRow P.Pages ext.old ext.new (room_of rooms.new) pages.old pages.new def.now was.now is.now rid to owners forests) }
+    ensures seen { OnOk result (IsTrue (P.state pages.old).is_told → IsMapApart P.Pages ext.old pages.old def.now rid.block → SeesSomeRow (SeesSlot ext.old (pages_of P.Pages pages.old) def.now rid)) }
     ensures stay { IfOk result (λ to. (owners : List Kind) (forests : TableForests) → IsReadyTable P.Pages ext.old (room_of rooms.old) pages.old def.now owners forests
         → HasThisRow P.Pages ext.old pages.old def.now rid was.now owners forests → KeepsBlocksBut P.Pages ext.old pages.old pages.new def.now owners (λ block. (block ≡ rid.block) ⊎ (block ≡ to.block))) }
     ensures sound { OnOk result ((owners : List Kind) (forests : TableForests) → IsReadyTable P.Pages ext.old (room_of rooms.old) pages.old def.now owners forests

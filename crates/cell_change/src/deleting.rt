@@ -1,5 +1,5 @@
 // A row less.
-ghost use Rattle.std.specs.Prelude.{◌≡◌, [], List, Option, false, length, OnOk};
+ghost use Rattle.std.specs.Prelude.{◌≡◌, [], List, Option, false, length, IsTrue, OnOk};
 ghost use Rattle.store_api.specs.Causes.{fault_of};
 ghost use Rattle.store_api.specs.RunsOverPages.{RunsOverPages};
 ghost use Rattle.extent_map.specs.Owners.{IsSameShape};
@@ -15,7 +15,9 @@ ghost use Rattle.mdc_sound.specs.SoundDatabase.{IsSoundBetweenChanges, with_tabl
 ghost use Rattle.mdc_sound.specs.StandingTable.{BreaksExpected, IsReadyTable, IsTableOrMapPage, KeepsBlocksBut, TableForests, pages_of, spots_of};
 ghost use Rattle.mdc_sound.specs.StandsForDatabase.{PagesStandFor, without_row};
 ghost use Rattle.block_rows.specs.HeldRows.{HasReadValues};
+ghost use Rattle.block_rows.specs.SeenRows.{SeesSomeRow};
 ghost use Rattle.table_blocks.specs.BlockSteps.{HasThisRow};
+ghost use Rattle.table_blocks.specs.SeenSlots.{IsMapApart, SeesUsedSlot};
 ghost use Rattle.free_space.specs.RoomNotes.{room_of};
 ghost use Rattle.cell_change.specs.RowChanges.{DeletesRow};
 
@@ -46,6 +48,7 @@ pub fn delete_row<P: Pages>(
     ensures makes { OnOk result ((owners : List Kind) (forests : TableForests) → IsReadyTable P.Pages ext.old (room_of rooms.old) pages.old def.now owners forests
         → (slots : List (Option Row)) → IsRowAt (spots_of P.Pages ext.old pages.old def.now owners forests) rid row.now slots
         → MakesChanges ext.old (pages_of P.Pages pages.old) (taking_changes def.now row.now rid (count_rows slots)) (pages_of P.Pages pages.new)) }
+    ensures seen { OnOk result (IsTrue (P.state pages.old).is_told → IsMapApart P.Pages ext.old pages.old def.now rid.block → SeesSomeRow (SeesUsedSlot P.Pages ext.old pages.old def.now rid)) }
     ensures stay { (owners : List Kind) (forests : TableForests) → IsReadyTable P.Pages ext.old (room_of rooms.old) pages.old def.now owners forests → KeepsBlocksBut P.Pages ext.old pages.old pages.new def.now owners (λ block. block ≡ rid.block) }
     ensures sound { OnOk result ((owners : List Kind) (forests : TableForests) → IsReadyTable P.Pages ext.old (room_of rooms.old) pages.old def.now owners forests
         → HasThisRow P.Pages ext.old pages.old def.now rid row.now owners forests

@@ -9,8 +9,7 @@ use crate::plain_pages::stand_for_list;
 use crate::rows::{cell_of, is_same_row, row_of, seed_of};
 use crate::stores::fresh_store;
 use crate::tables::{Shape, Table, table_of};
-use mdc_table::{Hit, push_rows_of_used_block, used_blocks};
-use row_filter::RowFilter;
+use mdc_table::{Hit, rows_of_used_block, used_blocks};
 use std::alloc::Global;
 use std::test::Fail;
 use store_api::Pages;
@@ -147,11 +146,7 @@ fn rows_of<P: Pages>(
     ensures going { (P.state pages.new).ended ≡ false }
 {
     let (def, ext) = (&table.def, &table.ext);
-    let all = None;
-    let mut filter = RowFilter::new(alloc, &all, def.columns.len())?;
-    let mut hits = Vec::new(alloc);
-    push_rows_of_used_block(alloc, def, ext, pages, block, &mut filter, &mut hits)?;
-    Ok(hits)
+    Ok(rows_of_used_block(alloc, def, ext, pages, block)?)
 }
 
 // How many rows there are of these, which are those of the list, at least one, and of one cell.

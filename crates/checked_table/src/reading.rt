@@ -4,8 +4,6 @@ ghost use Rattle.mdc_words.specs.Faults.{CountsFault};
 ghost use Rattle.mdc_ast.specs.declared.row.Row.{Row};
 ghost use Rattle.store_api.specs.Causes.{fault_of};
 ghost use Rattle.store_api.specs.Fetching.{BringsOnce, BringsOnly};
-ghost use Rattle.store_api.specs.Frame.{NoPage};
-ghost use Rattle.store_api.specs.RunsOverPages.{RunsOverPages};
 ghost use Rattle.store_api.specs.Works.{Steady};
 ghost use Rattle.store_api.specs.declared.fault.StoreFault.TheVariants as store;
 ghost use Rattle.extent_map.specs.declared.kind.Kind.{Kind};
@@ -16,9 +14,9 @@ ghost use Rattle.table_trees.specs.TreesBeside.{IsTreePageAt};
 ghost use Rattle.row_filter.specs.Filtering.{may_filter};
 ghost use Rattle.block_rows.specs.HeldRows.{HasReadValues, HaveReadValues, placed_row};
 ghost use Rattle.mdc_sound.specs.Placing.{row_at_spot};
-ghost use Rattle.mdc_sound.specs.StandingTable.{BreaksExpected, IsPageOfBlock, StandsTable, TableForests, pages_of, spots_of};
+ghost use Rattle.mdc_sound.specs.StandingTable.{IsPageOfBlock, StandsTable, TableForests, pages_of, spots_of};
 ghost use Rattle.mdc_sound.specs.TableRows.{rows_in_block};
-ghost use Rattle.mdc_table.specs.TableReading.{CountsBlocks, HasUsedBlock, IsRowLook};
+ghost use Rattle.mdc_table.specs.TableReading.{CountsBlocks, IsRowLook};
 ghost use Rattle.table_scan.specs.FoundRows.{FindsRows, IsChoicePage, IsChosenRowPage, IsScannedPage, ScansOnce};
 ghost use Rattle.table_scan.specs.SeenTable.{HasSeenTable};
 ghost use Rattle.checked_table.specs.ExactDamage.{AnswersExactly, HasUsedIfStanding};
@@ -26,9 +24,8 @@ ghost use Rattle.checked_table.specs.ExactDamage.{AnswersExactly, HasUsedIfStand
 use crate::judging::exact_fault;
 use extent_map::Extents;
 use mdc_ast::{Pred, Row, TableDef};
-use mdc_table::{Account, Hit, push_rows_of_used_block};
+use mdc_table::{Account, Hit, rows_of_used_block};
 use mdc_values::{Blocks, Rid};
-use row_filter::RowFilter;
 use std::alloc::Global;
 use store_api::{Pages, StoreFault};
 
@@ -83,36 +80,10 @@ pub fn rows_of_block<P: Pages>(
     ensures device { CountsFault (fault_of result ≡ Some store.Device) (P.disk_faults pages.old) (P.disk_faults pages.new) }
     ensures once { OnOk result (BringsOnce P.Pages (IsPageOfBlock ext.now block) pages.old pages.new) }
 {
-    match copied_rows(alloc, def, ext, pages, block) {
+    match rows_of_used_block(alloc, def, ext, pages, block) {
         Ok(hits) => Ok(hits),
         Err(fault) => Err(exact_fault(alloc, def, ext, pages, fault)),
     }
-}
-
-/// The same copies. What damage it names isn't exact.
-fn copied_rows<P: Pages>(
-    alloc: Global,
-    def: &TableDef,
-    ext: &Extents,
-    pages: &mut P,
-    block: u32,
-) -> Result<Vec<Hit>, StoreFault>
-    requires defined { IsTableDef def.now.number def.now }
-    requires going { (P.state pages.old).ended ≡ false }
-    ensures rows { IfOk result (λ hits. (owners : List Kind) (forests : TableForests) → StandsTable P.Pages ext.now pages.old def.now owners forests → Contains (lines.used_blocks forests.map) block
-        → map placed_row hits.items ≡ rows_in_block ext.now (pages_of P.Pages pages.old) def.now block) }
-    ensures keyed { IfOk result (λ hits. HaveReadValues def.now.columns hits.items) }
-    ensures same { (P.state pages.new).work ≡ (P.state pages.old).work }
-    ensures once { BringsOnce P.Pages (IsPageOfBlock ext.now block) pages.old pages.new }
-    ensures runs { RunsOverPages P.Pages NoPage (IsPageOfBlock ext.now block) (BreaksExpected P.Pages ext.now pages.old def.now (HasUsedBlock block)) pages.old pages.new (fault_of result) }
-{
-    let every_row = None;
-    let Ok(mut filter) = RowFilter::new(alloc, &every_row, def.columns.len()) else {
-        return Err(StoreFault::Memory);
-    };
-    let mut hits = Vec::new(alloc);
-    push_rows_of_used_block(alloc, def, ext, pages, block, &mut filter, &mut hits)?;
-    Ok(hits)
 }
 
 /// The Used blocks, by rising number. It looks at no row page. Damage is exact.

@@ -1,11 +1,9 @@
 -- The rows of a block whose pages are row pages, as calls on blocks read them.
-use Rattle.std.proofs.Common.{◌≡◌, ◌<◌, ◌≤◌, ◌+◌, ◌-◌, ℕ, List, [], ◌∷◌, Option, None, refl, ap, sym, subst, ◌∙◌, arith, inl, inr, length}
-use Rattle.std.specs.Prelude.{IsTrue}
+use Rattle.std.proofs.Common.{◌≡◌, ◌<◌, ◌≤◌, ◌+◌, ◌-◌, ℕ, List, [], Option, refl, ap, sym, subst, ◌∙◌, arith, inl, inr, length}
 use Rattle.std.proofs.lemmas.Bool.{cases_lt}
 use Rattle.std.proofs.lemmas.List.{get_or_past}
 use Rattle.mdc_ast.specs.declared.definition.ColumnDef.{ColumnDef}
 use Rattle.mdc_ast.specs.declared.definition.TableDef.{TableDef}
-use Rattle.mdc_ast.specs.declared.predicate.Pred.{Pred}
 use Rattle.mdc_ast.specs.declared.row.Row.{Row}
 use Rattle.store_api.specs.Extents.{first_page_of}
 use Rattle.store_api.specs.StoreState.{page_at}
@@ -16,18 +14,9 @@ use Rattle.extent_map.specs.declared.extents.Extents.{Extents}
 use Rattle.extent_map.proofs.ExtentsLemmas.{extent_limits, page_of-parts, place_below}
 use Rattle.row_page.specs.RowPage.{IsRowPage, row_page_head, rows_of}
 use Rattle.table_trees.specs.ToldPages.{PageList}
-use Rattle.block_rows.specs.HeldRows.{BreaksRows, qualifying}
-use Rattle.mdc_sound.specs.TableRows.{PlacedRow}
+use Rattle.block_rows.specs.HeldRows.{BreaksRows}
 use Rattle.file_check.specs.Known.{BlockHasRowPages}
 use Rattle.file_check.specs.Looking.{Unless}
-
--- a filter without a predicate takes all rows
-qualifying-none : (rows : List PlacedRow) → qualifying None rows ≡ rows
-qualifying-none [] = refl
-qualifying-none (row ∷ rows) = ap (λ more. row ∷ more) (qualifying-none rows)
-
-pub qualifying-all : (pred : Option Pred) (rows : List PlacedRow) → pred ≡ None → qualifying pred rows ≡ rows
-qualifying-all pred rows none = ap (λ (p : Option Pred). qualifying p rows) none ∙ qualifying-none rows
 
 -- no bytes are no row page
 pub no_bytes_no_rows : (columns : List ColumnDef) (slots : List (Option Row)) → IsRowPage columns [] slots → ⊥

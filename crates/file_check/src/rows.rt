@@ -9,10 +9,9 @@ ghost use Rattle.mdc_sound.specs.TableRows.{rows_in_block};
 ghost use Rattle.file_check.specs.Known.{BlockHasRowPages};
 ghost use Rattle.file_check.specs.Looking.{AnyPage, Unless};
 
-use block_rows::{Hit, push_rows_of_block};
+use block_rows::Hit;
 use extent_map::Extents;
 use mdc_ast::TableDef;
-use row_filter::RowFilter;
 use std::alloc::Global;
 use store_api::{Pages, StoreFault};
 
@@ -33,11 +32,8 @@ pub(crate) fn rows_of_block<P: Pages>(
     ensures same { (P.state pages.new).work ≡ (P.state pages.old).work }
     ensures runs { RunsOverPages P.Pages NoPage AnyPage (Unless P.Pages pages.old (λ told. BlockHasRowPages ext.now told def.now block)) pages.old pages.new (fault_of result) }
 {
-    let every_row = None;
-    let Ok(mut filter) = RowFilter::new(alloc, &every_row, def.columns.len()) else {
-        return Err(StoreFault::Memory);
-    };
-    let mut hits = Vec::new(alloc);
-    push_rows_of_block(alloc, def, ext, pages, block, &mut filter, &mut hits)?;
-    Ok(hits)
+    match block_rows::rows_of_block(alloc, def, ext, pages, block) {
+        Ok(hits) => Ok(hits),
+        Err(fault) => Err(fault),
+    }
 }

@@ -8,5 +8,6 @@ pub mod PlacingRowsLemmas
 pub mod ReadValuesLemmas
 pub mod RowSpaceLemmas
 pub mod SearchedRoomLemmas
+pub mod SeenPlacesLemmas
 pub mod StandingBlocksLemmas
 pub mod TakingRowsLemmas

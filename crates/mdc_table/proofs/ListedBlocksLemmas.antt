@@ -1,11 +1,7 @@
 -- The blocks that the trees of a table list, their lines and their cells; and the damage that calls which read them may name.
-use Rattle.std.proofs.Common.{◌≡◌, ◌<◌, ◌≤◌, ◌+◌, ◌^◌, ℕ, suc, IsTrue, List, [], ◌∷◌, Bool, true, false, not, length, map, refl, ap, arith, sym, ◌∙◌, subst, inl, inr, Option, Some, None}
+use Rattle.std.proofs.Common.{◌≡◌, ◌<◌, ◌≤◌, ◌^◌, ℕ, suc, IsTrue, List, [], ◌∷◌, Bool, true, false, not, map, refl, ap, arith, sym, ◌∙◌, subst, inl, inr, Option, Some, None}
 use Rattle.std.specs.Prelude.{◌↔◌, AllPairs, Contains}
-use Rattle.std.specs.List.{AllByRecursion}
-use Rattle.std.proofs.Math.Nat.{mod-eq_of_lt}
 use Rattle.std.proofs.lemmas.Bool.{eq-eqb}
-use Rattle.byteorder.specs.Numbers.{big_from-bytes}
-use Rattle.mdc_words.specs.ByteOrder.{Entry}
 use Rattle.mdc_ast.specs.declared.definition.TableDef.{TableDef}
 use Rattle.mdc_ast.specs.declared.row.Cell.{Cell}
 use Rattle.store_api.specs.Extents.{first_page_of}
@@ -30,19 +26,19 @@ use Rattle.block_rows.specs.HeldRows.{BreaksRows}
 use Rattle.block_rows.specs.SeenRows.{AreInCell, HasSeenRows, IsInCell}
 use Rattle.free_space.proofs.FoundRoomLemmas.{used_is_mapped, used_is_used}
 use Rattle.table_trees.specs.RowCells.{cell_places, cell_values}
-use Rattle.table_trees.specs.TableTrees.{map_place, place_of_tree}
+use Rattle.table_trees.specs.TableTrees.{map_place}
 use Rattle.table_trees.specs.TreesBeside.{HoldsTreeAt, IsTreePageAt}
 use Rattle.table_trees.specs.ToldPages.{PageList}
-use Rattle.table_trees.proofs.TableTreesLemmas.{same_tree_place}
-use Rattle.table_trees.proofs.TreesBesideLemmas.{holds_at}
 use Rattle.mdc_sound.specs.BlockRules.{IsOfOneCell, IsUsedCountSound}
-use Rattle.mdc_sound.specs.StandingTable.{BreaksExpected, BreaksTable, IsPageOfBlock, NamesTablePart, StandsTable, TableForests, pages_of}
+use Rattle.mdc_sound.specs.StandingTable.{BreaksExpected, IsPageOfBlock, NamesTablePart, TableForests, pages_of}
 use Rattle.mdc_sound.specs.TableRows.{PlacedRow, rows_in_block}
 use Rattle.mdc_sound.proofs.BlockRulesLemmas.{each_of}
 use Rattle.mdc_sound.proofs.ElementsLemmas.{contains_entry, each_in, entry_in, from_map, in_map}
+use Rattle.mdc_sound.proofs.MappedBlocksLemmas.{entry_rows}
 use Rattle.mdc_table.specs.SeenBlocks.{HasSeenBlock, IsListedSo, used_line_of}
 use Rattle.mdc_table.specs.TableReading.{HasUsedBlock}
 use Rattle.mdc_table.specs.declared.listed.ListedBlock.{ListedBlock}
+use Rattle.table_blocks.proofs.SeenSlotsLemmas.{holds_map}
 use Rattle.mdc_table.proofs.StandingBlocksLemmas.{breaks_past, breaks_rows_of_used, runs_on_map}
 
 -- what is the same of each two elements is the same of any two
@@ -72,10 +68,6 @@ used_of_listed map_tree line used there =
       block_is = ap (λ (l : MapLine). l.block) is;
     })
 
--- how many rows an entry says
-rows_of_entry : (row : BlockRow) → row.rows < 2 ^ 16 → (map_line (row_entry row)).rows ≡ row.rows
-rows_of_entry row small = big_from-bytes 2 row.rows [] ∙ mod-eq_of_lt small
-
 -- the line that was found
 line_found : (map_tree : Forest) (block : ℕ) (row : BlockRow) → block < 2 ^ 32 → row.rows < 2 ^ 16 → row.state ≡ state.Used → FindsBlock map_tree block (Some row)
     → Contains (map_lines map_tree) (record { block = block; state = 1; rows = row.rows })
@@ -84,7 +76,7 @@ line_found map_tree block row small few used found =
     let there : Contains (map_lines map_tree) (map_line (row_entry row)) = in_map map_line (leaf_entries map_tree) (row_entry row) (contains_entry (leaf_entries map_tree) (row_entry row) found.1) in
     subst (λ b. Contains (map_lines map_tree) (record { block = b; state = 1; rows = row.rows })) (row_block row low ∙ found.0)
     (subst (λ s. Contains (map_lines map_tree) (record { block = (map_line (row_entry row)).block; state = s; rows = row.rows })) (row_state row ∙ ap state_number used)
-    (subst (λ n. Contains (map_lines map_tree) (record { block = (map_line (row_entry row)).block; state = (map_line (row_entry row)).state; rows = n })) (rows_of_entry row few) there))
+    (subst (λ n. Contains (map_lines map_tree) (record { block = (map_line (row_entry row)).block; state = (map_line (row_entry row)).state; rows = n })) (entry_rows row few) there))
 
 not_true : (b : Bool) → not b ≡ true → b ≡ false
 not_true true is = absurd cc
@@ -113,7 +105,7 @@ module _ {S : Type 0} {g : Ghosts S} (ext : Extents) (s : S) (def : TableDef) wh
       → ((t : Forest) → HoldsTree g s tree t → FindsBlock t block (Some row))
       → (t : Forest) → HoldsTreeAt g s (map_place def) t → Contains (map_lines t) (record { block = block; state = 1; rows = row.rows })
   line_of_table tree block row root width small few used found t held =
-      line_found t block row small few used (found t (holds_at s tree (map_place def) t (same_tree_place (place_of_tree tree) (map_place def) root width) held))
+      line_found t block row small few used (found t (holds_map s def tree t root width held))
 
   -- the block map doesn't have it as a Used one
   pub breaks_unmapped : (tree : Tree) (block : ℕ) (found : Option BlockRow) → tree.root ≡ def.roots.map → tree.width ≡ 7 → ((t : Forest) → HoldsTree g s tree t → FindsBlock t block found) → found ≡ None
@@ -123,7 +115,7 @@ module _ {S : Type 0} {g : Ghosts S} (ext : Extents) (s : S) (def : TableDef) wh
     broken = λ owners forests st has.
         used_is_mapped ext s def owners forests st block has.used
         (subst (FindsBlock forests.map block) none
-        (finds forests.map (holds_at s tree (map_place def) forests.map (same_tree_place (place_of_tree tree) (map_place def) root width) st.trees.held.0)));
+        (finds forests.map (holds_map s def tree forests.map root width st.trees.held.0)));
   }
 
   pub breaks_unused : (tree : Tree) (block : ℕ) (found : Option BlockRow) (row : BlockRow) → tree.root ≡ def.roots.map → tree.width ≡ 7 → ((t : Forest) → HoldsTree g s tree t → FindsBlock t block found) → found ≡ Some row
@@ -133,7 +125,7 @@ module _ {S : Type 0} {g : Ghosts S} (ext : Extents) (s : S) (def : TableDef) wh
     broken = λ owners forests st has.
         other (used_is_used ext s def owners forests st block row has.used
         (subst (FindsBlock forests.map block) is
-        (finds forests.map (holds_at s tree (map_place def) forests.map (same_tree_place (place_of_tree tree) (map_place def) root width) st.trees.held.0))));
+        (finds forests.map (holds_map s def tree forests.map root width st.trees.held.0))));
   }
 
   -- ---- blocks that were read

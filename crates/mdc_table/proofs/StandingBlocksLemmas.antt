@@ -1,7 +1,6 @@
 -- The blocks of a table that stands and the rows in them, and the damage that calls which read them may name.
-use Rattle.std.proofs.Common.{◌≡◌, ◌≢◌, ◌<◌, ◌≤◌, ◌+◌, ◌^◌, ℕ, List, length, refl, ap, arith, sym, ◌∙◌, subst, ◌⊎◌, inl, inr}
-use Rattle.std.specs.Prelude.{Contains, IfOk, OnOk, Option, Some, None, Result, Ok, Err, slice_index_or}
-use Rattle.std.proofs.lemmas.Bool.{eq-eqb}
+use Rattle.std.proofs.Common.{◌≡◌, ◌≢◌, ◌<◌, ◌≤◌, ◌+◌, ℕ, List, length, refl, ap, arith, sym, ◌∙◌, subst, ◌⊎◌, inl, inr}
+use Rattle.std.specs.Prelude.{Contains, IfOk, Option, None, Result, Ok, Err, slice_index_or}
 use Rattle.std.proofs.lemmas.List.{get_or_past}
 use Rattle.mdc_values.specs.declared.rid.Rid.{Rid}
 use Rattle.mdc_ast.specs.declared.definition.TableDef.{TableDef}
@@ -21,34 +20,28 @@ use Rattle.extent_map.specs.declared.kind.Kind.TheVariants.{Free}
 use Rattle.extent_map.proofs.ExtentsLemmas.{page_of-parts, place_below}
 use Rattle.extent_map.proofs.HoldsMapLemmas.{is_map_page, map_page_at}
 use Rattle.row_page.specs.RowPage.{IsRowPage, rows_of}
-use Rattle.entry_tree.specs.Forest.{leaf_entries}
 use Rattle.entry_tree.specs.HeldTrees.{IsTreePage}
 use Rattle.entry_tree.specs.declared.tree.Tree.{Tree}
-use Rattle.block_map.specs.BlockMaps.{AnyMap, BreaksMapTree, FindsBlock}
-use Rattle.block_map.specs.MapLines.{free_blocks, map_line, used_blocks}
-use Rattle.block_map.specs.MapRows.{row_entry, state_number}
-use Rattle.block_map.specs.declared.row.BlockRow.{BlockRow}
-use Rattle.block_map.specs.declared.state.BlockState.TheVariants as state
-use Rattle.block_map.proofs.MapLinesLemmas.{in_state_named, row_block, row_state}
+use Rattle.block_map.specs.BlockMaps.{AnyMap, BreaksMapTree}
+use Rattle.block_map.specs.MapLines.{free_blocks, used_blocks}
 use Rattle.block_rows.specs.HeldRows.{BreaksRows, HoldsRows}
 use Rattle.mdc_sound.specs.BlockRules.{AreBlockRowsSound}
 use Rattle.mdc_sound.specs.Placing.{IsRowAt, Spot, block_slot_count, row_at_spot, slots_of_spot}
 use Rattle.mdc_sound.specs.Placing.Spot.{FreeBlock, FreeExtent, IndexExtent, OtherBlock, PendingBlock, UsedBlock}
 use Rattle.mdc_sound.specs.StandingTable.{BreaksExpected, BreaksTable, IsPageOfBlock, IsTableTreePage, NamesTablePart, StandsTable, TableForests, pages_of, spots_of}
-use Rattle.mdc_sound.specs.TableRows.{PlacedRow, block_slots, rows_from_slot, rows_in_block}
+use Rattle.mdc_sound.specs.TableRows.{block_slots}
 use Rattle.mdc_sound.proofs.BlockRulesLemmas.{each_of, named_owned}
 use Rattle.mdc_sound.proofs.PlacingLemmas.{filled_below}
 use Rattle.mdc_sound.proofs.StandingTableLemmas.{stands_same}
 use Rattle.mdc_sound.proofs.TableSpotsLemmas.{length-spots, used_of_spot, used_spot}
 use Rattle.free_space.proofs.TableRunsLemmas.{breaks_map_of_table, breaks_table_same, map_page_of_table}
 use Rattle.mdc_sound.proofs.SlotRowsLemmas.{length-block_slots}
-use Rattle.table_trees.specs.TableTrees.{map_place, place_of_tree}
+use Rattle.table_trees.specs.TableTrees.{map_place}
 use Rattle.table_trees.specs.TreesBeside.{IsTreePageAt}
-use Rattle.table_trees.proofs.TreesBesideLemmas.{holds_at}
 use Rattle.table_trees.proofs.SideBySideLemmas.{tree_still}
-use Rattle.table_trees.proofs.TableTreesLemmas.{same_tree_place}
 use Rattle.table_trees.specs.ToldPages.{PageList}
 use Rattle.store_api.proofs.FrameLemmas.{touches_same}
+use Rattle.table_blocks.proofs.SeenSlotsLemmas.{holds_map}
 use Rattle.mdc_table.specs.TableReading.{HasUsedBlock, IsRowLook}
 
 -- ---- blocks and their rows
@@ -67,14 +60,6 @@ module _ {S : Type 0} {g : Ghosts S} (ext : Extents) (s : S) (def : TableDef) (o
 
   pub free_within : (block : ℕ) → Contains (free_blocks forests.map) block → block < ext.cap
   free_within block free = (named_owned ext owners def forests.map 0 block st.map free).0
-
-  -- a block whose line says so is Used
-  pub used_of_line : (block : ℕ) (row : BlockRow) → block < 2 ^ 32 → FindsBlock forests.map block (Some row) → row.state ≡ state.Used → Contains (used_blocks forests.map) block
-  used_of_line block row small found used =
-      let low : row.block < 2 ^ 32 = omega (arith, small, found.0) in
-      let is : (map_line (row_entry row)).state ≡ 1 = row_state row ∙ ap state_number used in
-      in_state_named 1 (leaf_entries forests.map) block
-      (record { entry = row_entry row; there = found.1; state = eq-eqb (map_line (row_entry row)).state 1 is; block_is = row_block row low ∙ found.0 })
 
   -- ---- the row in a place
 
@@ -160,7 +145,7 @@ module _ {S : Type 0} {g : Ghosts S} where
   pub runs_on_map : {old new : S} {fault : Option StoreFault} (ext : Extents) (def : TableDef) (tree : Tree) → tree.root ≡ def.roots.map → tree.width ≡ 7
       → RunsOverPages g NoPage (IsTreePage g old tree) (BreaksMapTree g old tree AnyMap) old new fault → RunsOverPages g NoPage (IsTreePageAt g old (map_place def)) (BreaksTable g ext old def) old new fault
   runs_on_map {old} {new} ext def tree root width run =
-      runs_wider run (λ p there none. absurd none) (λ p is t held. is t (holds_at old tree (map_place def) t (same_tree_place (place_of_tree tree) (map_place def) root width) held))
+      runs_wider run (λ p there none. absurd none) (λ p is t held. is t (holds_map old def tree t root width held))
       (λ damage b.
       let breaks = breaks_map_of_table ext old def tree (λ (owners : List Kind) (forests : TableForests). Unit {0}) damage root width b in
       record { names = breaks.names; broken = λ owners forests st. breaks.broken owners forests st tt })

@@ -1,5 +1,5 @@
 -- What a call that read the rows of a block has seen, beside what the trees of the table say of it.
-use Rattle.std.specs.Prelude.{◌≡◌, ℕ, List, Some, Contains}
+use Rattle.std.specs.Prelude.{◌≡◌, List, Some, Contains}
 use Rattle.mdc_ast.specs.declared.definition.TableDef.{TableDef}
 use Rattle.mdc_ast.specs.declared.row.Cell.{Cell}
 use Rattle.store_api.specs.declared.pages.Pages.{Ghosts}

@@ -1,5 +1,5 @@
 // A block as the trees of its table list it, and its rows.
-ghost use Rattle.std.specs.Prelude.{◌≡◌, ◌++◌, map, length, false, IsTrue, OnOk};
+ghost use Rattle.std.specs.Prelude.{◌≡◌, length, false, IsTrue, OnOk};
 ghost use Rattle.mdc_ast.specs.declared.row.Row.{Row};
 ghost use Rattle.mdc_ast.specs.TableLimits.{IsTableDef};
 ghost use Rattle.store_api.specs.Causes.{fault_of};
@@ -8,14 +8,15 @@ ghost use Rattle.store_api.specs.Frame.{NoPage};
 ghost use Rattle.store_api.specs.RunsOverPages.{RunsOverPages};
 ghost use Rattle.row_filter.specs.Filtering.{may_filter};
 ghost use Rattle.block_rows.specs.CellColumns.{AreCellColumns, places_of};
-ghost use Rattle.block_rows.specs.HeldRows.{HasReadValues, HaveReadValues, placed_row, qualifying};
+ghost use Rattle.block_rows.specs.Giving.{WasGiven};
+ghost use Rattle.block_rows.specs.HeldRows.{HasReadValues, qualifying};
 ghost use Rattle.table_trees.specs.RowCells.{cell_places};
 ghost use Rattle.mdc_sound.specs.StandingTable.{BreaksExpected, IsPageOfBlock, pages_of};
 ghost use Rattle.mdc_sound.specs.TableRows.{rows_in_block};
 ghost use Rattle.mdc_table.specs.SeenBlocks.{HasSeenBlock, IsListedSo};
 
 use crate::faults::{strayed, unmapped};
-use block_rows::{CellColumns, Hit, push_rows_in_cell};
+use block_rows::{CellColumns, RowSink, scan_block};
 use extent_map::Extents;
 use mdc_ast::{Cell, TableDef};
 use row_filter::RowFilter;
@@ -32,10 +33,10 @@ pub struct ListedBlock {
     pub cell: Option<Cell>,
 }
 
-/// Puts copies of the rows of a Used block that a filter takes last, by rising slot, as `push_rows_of_used_block` does. Damaged too
-/// where it doesn't have as many rows as its line says, and where a row isn't of its cell, or its rows not of one where no cell is
-/// given.
-pub fn push_rows_of_listed_block<P: Pages>(
+/// Gives a sink the rows of a Used block that a filter takes, by rising slot. Each of its pages comes to hand once, and no other row
+/// page. Damaged where there is no such extent, where a page isn't a row page or doesn't have as many rows as its head says, where the
+/// block doesn't have as many rows as its line says, and where a row isn't of its cell, or its rows not of one where no cell is given.
+pub fn scan_listed_block<P: Pages, K: RowSink>(
     alloc: Global,
     def: &TableDef,
     ext: &Extents,
@@ -43,18 +44,19 @@ pub fn push_rows_of_listed_block<P: Pages>(
     cells: &CellColumns,
     listed: &ListedBlock,
     filter: &mut RowFilter,
-    hits: &mut Vec<Hit>,
+    sink: &mut K,
 ) -> Result<(), StoreFault>
     requires defined { IsTableDef def.now.number def.now }
     requires are { AreCellColumns def.now.columns cells.now }
     requires places { places_of cells.now.columns.items ≡ cell_places def.now }
     requires wide { length def.now.columns ≡ length filter.old.values }
     requires judged { (row : Row) → HasReadValues def.now.columns row → IsTrue (may_filter filter.old.pred.now row.values) }
+    requires fits { K.RowSink.is_for def.now.columns sink.old }
     requires going { (P.state pages.old).ended ≡ false }
-    ensures rows { OnOk result (IsTrue (P.state pages.old).is_told
-        → map placed_row hits.new.items ≡ map placed_row hits.old.items ++ qualifying filter.old.pred.now (rows_in_block ext.now (pages_of P.Pages pages.old) def.now listed.now.block)) }
+    ensures given { OnOk result (IsTrue (P.state pages.old).is_told
+        → WasGiven K.RowSink sink.old sink.new (qualifying filter.old.pred.now (rows_in_block ext.now (pages_of P.Pages pages.old) def.now listed.now.block))) }
     ensures seen { OnOk result (IsTrue (P.state pages.old).is_told → HasSeenBlock ext.now (pages_of P.Pages pages.old) def.now listed.now) }
-    ensures keyed { OnOk result (HaveReadValues def.now.columns hits.old.items → HaveReadValues def.now.columns hits.new.items) }
+    ensures fits { OnOk result (K.RowSink.is_for def.now.columns sink.new) }
     ensures pred { filter.new.pred.now ≡ filter.old.pred.now }
     ensures width { length filter.new.values ≡ length filter.old.values }
     ensures same { (P.state pages.new).work ≡ (P.state pages.old).work }
@@ -65,7 +67,7 @@ pub fn push_rows_of_listed_block<P: Pages>(
     if block >= ext.cap {
         return Err(unmapped(def));
     }
-    let seen = push_rows_in_cell(
+    let seen = scan_block(
         alloc,
         def,
         ext,
@@ -74,7 +76,7 @@ pub fn push_rows_of_listed_block<P: Pages>(
         cells,
         &listed.cell,
         filter,
-        hits,
+        sink,
     )?;
     if seen.rows != u32::from(listed.rows) {
         return Err(miscounted(ext, block));

@@ -1,5 +1,5 @@
 // Another row of the same cell in the place of one.
-ghost use Rattle.std.specs.Prelude.{◌≡◌, List, false, length, OnOk};
+ghost use Rattle.std.specs.Prelude.{◌≡◌, ◌≢◌, List, Some, false, length, IsTrue, OnOk};
 ghost use Rattle.store_api.specs.Causes.{fault_of};
 ghost use Rattle.store_api.specs.RunsOverPages.{RunsOverPages};
 ghost use Rattle.extent_map.specs.declared.kind.Kind.{Kind};
@@ -9,6 +9,8 @@ ghost use Rattle.table_trees.specs.SpaceChanges.{IsSameSpace};
 ghost use Rattle.mdc_ast.specs.FittingRows.{RowFits};
 ghost use Rattle.mdc_sound.specs.StandingTable.{BreaksExpected, HasRowAt, IsReadyTable, KeepsBlocksBut, OverwritesRow, TableForests, pages_of};
 ghost use Rattle.free_space.specs.RoomNotes.{room_of};
+ghost use Rattle.block_rows.specs.SeenRows.{SeesSlot, SeesSomeRow};
+ghost use Rattle.table_blocks.specs.SeenSlots.{IsUsedInMap};
 ghost use Rattle.mdc_table.specs.KnownBlocks.{IsExpectedPlace, IsUsedIfKnown};
 ghost use Rattle.mdc_table.specs.TableReading.{HasRowOfCell};
 
@@ -22,9 +24,9 @@ use std::alloc::Global;
 use store_api::{Pages, StoreFault};
 use table_blocks::overwrite_row_of_used;
 
-/// Puts a row into the place of one that lies there and is of the same cell. Damaged where no row can lie there, which the block map
-/// isn't asked where the block is known to be a Used one of the table. It changes no tree, and the notes stay right. After a fault
-/// `undo` goes back to a mark.
+/// Puts a row into the place of one that lies there and is of the same cell. Damaged where none lies there. The block map isn't asked
+/// where the block is known to be a Used one of the table. It changes no tree, and the notes stay right. After a fault `undo` goes
+/// back to a mark.
 pub fn overwrite_row<P: Pages>(
     alloc: Global,
     def: &TableDef,
@@ -43,6 +45,8 @@ pub fn overwrite_row<P: Pages>(
         → OverwritesRow P.Pages ext.now ext.now (room_of rooms.now) pages.old pages.new def.now owners forests was row.now rid) }
     ensures makes { OnOk result ((owners : List Kind) (forests : TableForests) → IsReadyTable P.Pages ext.now (room_of rooms.now) pages.old def.now owners forests
         → HasRowAt P.Pages ext.now pages.old def.now rid owners forests → IsSameSpace ext.now (pages_of P.Pages pages.old) (pages_of P.Pages pages.new)) }
+    ensures seen { OnOk result (IsTrue (P.state pages.old).is_told → SeesSomeRow (SeesSlot ext.now (pages_of P.Pages pages.old) def.now rid)) }
+    ensures used { OnOk result (IsTrue (P.state pages.old).is_told → known ≢ Some rid.block → IsUsedInMap P.Pages pages.old def.now rid.block) }
     ensures stay { (owners : List Kind) (forests : TableForests) → IsReadyTable P.Pages ext.now (room_of rooms.now) pages.old def.now owners forests → KeepsBlocksBut P.Pages ext.now pages.old pages.new def.now owners (λ block. block ≡ rid.block) }
     ensures count { length (P.state pages.new).work ≡ length (P.state pages.old).work }
     ensures runs { RunsOverPages P.Pages (IsExpectedPlace P.Pages ext.now pages.old def.now (IsUsedIfKnown known rid.block))

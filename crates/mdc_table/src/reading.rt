@@ -1,5 +1,5 @@
 // The rows of a table, read.
-ghost use Rattle.std.specs.Prelude.{◌≡◌, ◌<◌, ◌++◌, ◌^◌, ℕ, List, Contains, false, map, length, IsTrue, IfOk, IfSome, OnOk};
+ghost use Rattle.std.specs.Prelude.{◌≡◌, ◌<◌, ◌^◌, List, Contains, false, map, length, IsTrue, IfOk, IfSome};
 ghost use Rattle.mdc_ast.specs.declared.row.Row.{Row};
 ghost use Rattle.store_api.specs.Causes.{fault_of};
 ghost use Rattle.store_api.specs.Fetching.{BringsOnce};
@@ -9,29 +9,29 @@ ghost use Rattle.extent_map.specs.declared.kind.Kind.{Kind};
 ghost use Rattle.mdc_ast.specs.TableLimits.{IsTableDef};
 ghost use Rattle.entry_tree.specs.Forest.{Forest};
 ghost use Rattle.block_map.specs.MapLines.{map_lines, used_blocks};
-ghost use Rattle.block_rows.specs.HeldRows.{HasReadValues, HaveReadValues, placed_row, qualifying};
+ghost use Rattle.block_rows.specs.HeldRows.{HasReadValues, HaveReadValues, placed_row};
 ghost use Rattle.block_rows.specs.SeenRows.{HasSeenRows};
-ghost use Rattle.row_filter.specs.Filtering.{may_filter};
 ghost use Rattle.row_page.specs.Row.{AreRowColumns};
 ghost use Rattle.mdc_sound.specs.Placing.{block_slot_count, row_at_spot};
 ghost use Rattle.mdc_sound.specs.StandingTable.{BreaksExpected, BreaksTable, IsPageOfBlock, StandsTable, TableForests, pages_of, spots_of};
 ghost use Rattle.mdc_sound.specs.TableRows.{rows_in_block};
 ghost use Rattle.table_trees.specs.TableTrees.{map_place};
 ghost use Rattle.table_trees.specs.TreesBeside.{HoldsTreeAt, IsTreePageAt};
+ghost use Rattle.mdc_table.specs.SeenPlaces.{SeesPlace};
 ghost use Rattle.mdc_table.specs.TableReading.{HasUsedBlock, IsRowLook};
 
 use crate::faults::unmapped;
 use block_map::{BlockMap, BlockRow, BlockState};
-use block_rows::{Hit, push_rows_of_block, row_in_slot};
+use block_rows::{Hit, row_in_slot, rows_of_block};
 use extent_map::Extents;
 use mdc_ast::{Row, TableDef};
 use mdc_values::{Blocks, Rid};
-use row_filter::RowFilter;
 use row_page::capacity;
 use std::alloc::Global;
 use store_api::{Pages, StoreFault};
 
-/// A copy of the row in a place. None exactly where the block isn't Used, or the slot is empty.
+/// A copy of the row in a place. None exactly where the block isn't Used, or the slot is empty. Whatever the pages hold, the block map
+/// and the slot were seen to say so.
 pub fn row_at<P: Pages>(
     alloc: Global,
     def: &TableDef,
@@ -44,6 +44,7 @@ pub fn row_at<P: Pages>(
     ensures found { IfOk result (λ row. (owners : List Kind) (forests : TableForests) → StandsTable P.Pages ext.now pages.old def.now owners forests
         → row ≡ row_at_spot (spots_of P.Pages ext.now pages.old def.now owners forests) rid) }
     ensures keyed { IfOk result (λ row. IfSome row (HasReadValues def.now.columns)) }
+    ensures seen { IfOk result (λ row. IsTrue (P.state pages.old).is_told → SeesPlace P.Pages ext.now pages.old def.now rid row) }
     ensures same { (P.state pages.new).work ≡ (P.state pages.old).work }
     ensures runs { RunsOverPages P.Pages NoPage (IsRowLook P.Pages ext.now pages.old def.now rid.block) (BreaksTable P.Pages ext.now pages.old def.now) pages.old pages.new (fault_of result) }
 {
@@ -68,28 +69,21 @@ pub(crate) fn block_slots(def: &TableDef, ext: &Extents) -> u32
     ext.extent_pages * u32::from(capacity(&def.columns))
 }
 
-/// Puts copies of the rows of a Used block that a filter takes last, by rising slot. Each of its pages comes to hand once, and no
-/// other row page. Damaged where there is no such extent, and where a page isn't a row page or doesn't have as many rows as its head
-/// says.
-pub fn push_rows_of_used_block<P: Pages>(
+/// Copies of the rows of a Used block, by rising slot, each with its place. Each of its pages comes to hand once, and no other row
+/// page. Damaged where there is no such extent, and where a page isn't a row page or doesn't have as many rows as its head says.
+pub fn rows_of_used_block<P: Pages>(
     alloc: Global,
     def: &TableDef,
     ext: &Extents,
     pages: &mut P,
     block: u32,
-    filter: &mut RowFilter,
-    hits: &mut Vec<Hit>,
-) -> Result<(), StoreFault>
+) -> Result<Vec<Hit>, StoreFault>
     requires defined { IsTableDef def.now.number def.now }
-    requires wide { length def.now.columns ≡ length filter.old.values }
-    requires judged { (row : Row) → HasReadValues def.now.columns row → IsTrue (may_filter filter.old.pred.now row.values) }
     requires going { (P.state pages.old).ended ≡ false }
-    ensures rows { OnOk result ((owners : List Kind) (forests : TableForests) → StandsTable P.Pages ext.now pages.old def.now owners forests → Contains (used_blocks forests.map) block
-        → map placed_row hits.new.items ≡ map placed_row hits.old.items ++ qualifying filter.old.pred.now (rows_in_block ext.now (pages_of P.Pages pages.old) def.now block)) }
-    ensures seen { OnOk result (IsTrue (P.state pages.old).is_told → (count : ℕ) × HasSeenRows ext.now (pages_of P.Pages pages.old) def.now block count) }
-    ensures keyed { OnOk result (HaveReadValues def.now.columns hits.old.items → HaveReadValues def.now.columns hits.new.items) }
-    ensures pred { filter.new.pred.now ≡ filter.old.pred.now }
-    ensures width { length filter.new.values ≡ length filter.old.values }
+    ensures rows { IfOk result (λ hits. (owners : List Kind) (forests : TableForests) → StandsTable P.Pages ext.now pages.old def.now owners forests → Contains (used_blocks forests.map) block
+        → map placed_row hits.items ≡ rows_in_block ext.now (pages_of P.Pages pages.old) def.now block) }
+    ensures seen { IfOk result (λ hits. IsTrue (P.state pages.old).is_told → HasSeenRows ext.now (pages_of P.Pages pages.old) def.now block (length hits.items)) }
+    ensures keyed { IfOk result (λ hits. HaveReadValues def.now.columns hits.items) }
     ensures same { (P.state pages.new).work ≡ (P.state pages.old).work }
     ensures once { BringsOnce P.Pages (IsPageOfBlock ext.now block) pages.old pages.new }
     ensures runs { RunsOverPages P.Pages NoPage (IsPageOfBlock ext.now block) (BreaksExpected P.Pages ext.now pages.old def.now (HasUsedBlock block)) pages.old pages.new (fault_of result) }
@@ -97,8 +91,8 @@ pub fn push_rows_of_used_block<P: Pages>(
     if block >= ext.cap {
         return Err(unmapped(def));
     }
-    match push_rows_of_block(alloc, def, ext, pages, block, filter, hits) {
-        Ok(_) => Ok(()),
+    match rows_of_block(alloc, def, ext, pages, block) {
+        Ok(hits) => Ok(hits),
         Err(fault) => Err(fault),
     }
 }

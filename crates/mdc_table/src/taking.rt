@@ -1,5 +1,5 @@
 // A row is taken out.
-ghost use Rattle.std.specs.Prelude.{◌≡◌, List, Option, false, length, OnOk};
+ghost use Rattle.std.specs.Prelude.{◌≡◌, List, Option, false, length, IsTrue, OnOk};
 ghost use Rattle.store_api.specs.Causes.{fault_of};
 ghost use Rattle.store_api.specs.RunsOverPages.{RunsOverPages};
 ghost use Rattle.extent_map.specs.Owners.{IsSameShape};
@@ -12,7 +12,9 @@ ghost use Rattle.mdc_sound.specs.Placing.{IsRowAt};
 ghost use Rattle.mdc_sound.specs.RunningFull.{left_changes};
 ghost use Rattle.mdc_sound.specs.StandingTable.{BreaksExpected, ChangesTable, IsReadyTable, IsTableOrMapPage, KeepsBlocksBut, StandsTable, TableForests, TakesRowOut, pages_of, spots_of};
 ghost use Rattle.block_rows.specs.HeldRows.{HasReadValues};
+ghost use Rattle.block_rows.specs.SeenRows.{SeesSomeRow};
 ghost use Rattle.table_blocks.specs.BlockSteps.{HasThisRow};
+ghost use Rattle.table_blocks.specs.SeenSlots.{IsMapApart, SeesUsedSlot};
 ghost use Rattle.free_space.specs.RoomNotes.{room_of};
 ghost use Rattle.mdc_table.specs.LoweredNotes.{LowersNoteOf};
 
@@ -49,6 +51,7 @@ pub fn take_row<P: Pages>(
     ensures makes { OnOk result ((owners : List Kind) (forests : TableForests) → IsReadyTable P.Pages ext.old (room_of rooms.old) pages.old def.now owners forests
         → (slots : List (Option Row)) → IsRowAt (spots_of P.Pages ext.old pages.old def.now owners forests) rid row.now slots
         → MakesChanges ext.old (pages_of P.Pages pages.old) (left_changes def.now row.now rid.block (count_rows slots)) (pages_of P.Pages pages.new)) }
+    ensures seen { OnOk result (IsTrue (P.state pages.old).is_told → IsMapApart P.Pages ext.old pages.old def.now rid.block → SeesSomeRow (SeesUsedSlot P.Pages ext.old pages.old def.now rid)) }
     ensures stay { (owners : List Kind) (forests : TableForests) → IsReadyTable P.Pages ext.old (room_of rooms.old) pages.old def.now owners forests → KeepsBlocksBut P.Pages ext.old pages.old pages.new def.now owners (λ block. block ≡ rid.block) }
     ensures count { length (P.state pages.new).work ≡ length (P.state pages.old).work }
     ensures shape { IsSameShape ext.old ext.new }

@@ -35,6 +35,7 @@ pub mod NewBlockSpaceLemmas
 pub mod OpeningLemmas
 pub mod OtherBlocksLemmas
 pub mod OverwritingLemmas
+pub mod SeenSlotsLemmas
 pub mod SpotChangesLemmas
 pub mod SuchSlotsLemmas
 pub mod UsedLineLemmas

@@ -31,11 +31,12 @@ use Rattle.mdc_sound.specs.Placing.Spot.{OtherBlock, UsedBlock}
 use Rattle.mdc_sound.specs.StandingTable.{BreaksExpected, HasRowAt, IsBlockOrMapPage, IsPageOfBlock, StandsTable, TableForests, spots_of}
 use Rattle.mdc_sound.proofs.PlacingLemmas.{filled_below}
 use Rattle.mdc_sound.proofs.StandingTableLemmas.{stands_same}
-use Rattle.block_rows.specs.HeldRows.{BreaksRows, HoldsRows}
+use Rattle.block_rows.specs.HeldRows.{HoldsRows}
 use Rattle.block_rows.proofs.HeldRowsLemmas.{rows_stay}
-use Rattle.table_blocks.specs.BlockChanges.{SameSpot, TurnsSpot}
+use Rattle.table_blocks.specs.BlockChanges.{BreaksAround, SameSpot, TurnsSpot}
 use Rattle.table_blocks.specs.BlockNow.{AreOfCell, IsOwnBlock, IsUsedNow}
-use Rattle.table_blocks.proofs.AroundLemmas.{breaks_of_table, breaks_rows, rows_step}
+use Rattle.table_blocks.specs.BlockSteps.{HasFilledSlot}
+use Rattle.table_blocks.proofs.AroundLemmas.{breaks_of_table, rows_step}
 use Rattle.table_blocks.proofs.ClosingLemmas.{turns_used}
 use Rattle.table_blocks.proofs.MapOfTableLemmas.{map_of_table}
 use Rattle.table_blocks.proofs.OpeningLemmas.{around_block, own_of_line, used_spot_now}
@@ -94,13 +95,16 @@ module _ {S : Type 0} {g : Ghosts S} where
     back : (owners : List Kind) (forests : TableForests) → StandsTable g ext mid def owners forests → StandsTable g ext old def owners forests
     back owners forests st = stands_same ext mid old def owners forests (sym told) (sym same) st
 
-    row_breaks : (damage : Damage) → BreaksRows g ext mid def rid.block damage → BreaksExpected g ext old def (HasRowAt g ext old def rid) damage
+    row_breaks : (damage : Damage) → BreaksAround g ext mid def rid.block (HasFilledSlot rid.slot g ext mid def rid.block) damage → BreaksExpected g ext old def (HasRowAt g ext old def rid) damage
     row_breaks damage b =
         let late : BreaksExpected g ext mid def (HasRowAt g ext old def rid) damage =
-        breaks_of_table ext mid def rid.block (λ owners forests. (slots : List (Option Row)) × HoldsRows g ext mid def rid.block slots) (HasRowAt g ext old def rid) damage (breaks_rows ext mid def rid.block damage b low)
+        breaks_of_table ext mid def rid.block (HasFilledSlot rid.slot g ext mid def rid.block) (HasRowAt g ext old def rid) damage b
         (λ owners forests st expected.
-        let now = used_spot_now ext old def owners forests defined (back owners forests st) rid.block expected.slots (expected.lies.block OtherBlock) in
-        (around_block ext mid def owners forests defined st rid.block, now.1.own, (expected.slots, rows_stay g ext def rid.block told same now.1.rows))) in
+        let now = used_spot_now ext old def owners forests defined (back owners forests st) rid.block expected.slots (expected.lies.block OtherBlock) in (
+          around_block ext mid def owners forests defined st rid.block,
+          now.1.own,
+          record { slots = expected.slots; rows = rows_stay g ext def rid.block told same now.1.rows; such = (expected.row, expected.lies.slot) },
+        )) in
         record { names = late.names; broken = λ owners forests st expected. late.broken owners forests (stands_same ext old mid def owners forests told same st) expected }
 
     page_own : (p : ℕ) → ((owners : List Kind) (forests : TableForests) → StandsTable g ext old def owners forests → IsOwnBlock ext owners def rid.block) → IsPageOfBlock ext rid.block p → IsBlockOrMapPage g ext old def rid.block p
@@ -108,7 +112,7 @@ module _ {S : Type 0} {g : Ghosts S} where
 
     pub run_behind : {fault : Option StoreFault} → ((owners : List Kind) (forests : TableForests) → StandsTable g ext old def owners forests → IsOwnBlock ext owners def rid.block)
         → RunsOverPages g (IsBlockOrMapPage g ext old def rid.block) (IsBlockOrMapPage g ext old def rid.block) (BreaksExpected g ext old def (HasRowAt g ext old def rid)) old mid None
-        → RunsOverPages g (IsPageOfBlock ext rid.block) (IsPageOfBlock ext rid.block) (BreaksRows g ext mid def rid.block) mid new fault
+        → RunsOverPages g (IsPageOfBlock ext rid.block) (IsPageOfBlock ext rid.block) (BreaksAround g ext mid def rid.block (HasFilledSlot rid.slot g ext mid def rid.block)) mid new fault
         → RunsOverPages g (IsBlockOrMapPage g ext old def rid.block) (IsBlockOrMapPage g ext old def rid.block) (BreaksExpected g ext old def (HasRowAt g ext old def rid)) old new fault
     run_behind own first second = runs_then first second (λ p there is. page_own p own is) (λ p is. page_own p own is) (λ damage b. row_breaks damage b)
 
@@ -136,6 +140,6 @@ module _ {S : Type 0} {g : Ghosts S} where
   -- ---- the call alone, which asks the block map nothing
 
   pub run_unasked : (ext : Extents) (s new : S) (def : TableDef) (rid : Rid) → IsTableDef def.number def → rid.block < ext.cap → {fault : Option StoreFault}
-      → RunsOverPages g (IsPageOfBlock ext rid.block) (IsPageOfBlock ext rid.block) (BreaksRows g ext s def rid.block) s new fault
+      → RunsOverPages g (IsPageOfBlock ext rid.block) (IsPageOfBlock ext rid.block) (BreaksAround g ext s def rid.block (HasFilledSlot rid.slot g ext s def rid.block)) s new fault
       → RunsOverPages g (IsPageOfBlock ext rid.block) (IsPageOfBlock ext rid.block) (BreaksExpected g ext s def (HasRowAt g ext s def rid)) s new fault
   run_unasked ext s new def rid defined low run = runs_wider run (λ p there is. is) (λ p is. is) (λ damage b. row_breaks ext s s new def rid defined low refl refl damage b)

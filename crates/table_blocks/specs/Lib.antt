@@ -2,3 +2,4 @@ pub mod AroundBlock
 pub mod BlockChanges
 pub mod BlockNow
 pub mod BlockSteps
+pub mod SeenSlots

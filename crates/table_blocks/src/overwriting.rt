@@ -1,5 +1,5 @@
 // Another row in the place of one.
-ghost use Rattle.std.specs.Prelude.{◌≡◌, ◌<◌, List, Option, Some, false, length, slice_set, OnOk};
+ghost use Rattle.std.specs.Prelude.{◌≡◌, ◌<◌, List, Option, Some, false, length, slice_set, IsTrue, OnOk};
 ghost use Rattle.store_api.specs.Causes.{fault_of};
 ghost use Rattle.store_api.specs.RunsOverPages.{RunsOverPages};
 ghost use Rattle.extent_map.specs.declared.kind.Kind.{Kind};
@@ -11,8 +11,13 @@ ghost use Rattle.mdc_ast.specs.FittingRows.{RowFits};
 ghost use Rattle.mdc_sound.specs.Placing.{IsRowAt, block_slot_count};
 ghost use Rattle.mdc_sound.specs.Placing.Spot.{UsedBlock};
 ghost use Rattle.mdc_sound.specs.StandingTable.{BreaksExpected, HasRowAt, IsBlockOrMapPage, IsPageOfBlock, StandsTable, TableForests, pages_of, spots_of};
-ghost use Rattle.table_blocks.specs.BlockChanges.{SameSpot, TurnsSpot};
+ghost use Rattle.block_rows.specs.HeldRows.{HoldsRows};
+ghost use Rattle.block_rows.specs.SeenRows.{SeesSlot, SeesSomeRow};
+ghost use Rattle.table_blocks.specs.BlockChanges.{BreaksAround, SameSpot, TurnsSpot};
+ghost use Rattle.table_blocks.specs.BlockSteps.{HasFilledSlot};
+ghost use Rattle.table_blocks.specs.SeenSlots.{SeesUsedSlot};
 
+use crate::faults::miscounted;
 use crate::lines::line_of_used;
 use block_map::BlockMap;
 use block_rows::put_slot;
@@ -22,8 +27,8 @@ use mdc_values::Rid;
 use std::alloc::Global;
 use store_api::{Pages, StoreFault};
 
-/// Puts a row into the place of one that lies there and is of the same cell. Damaged where no row can lie there, since the block
-/// isn't Used. It claims no page, and changes no tree.
+/// Puts a row into the place of one that lies there and is of the same cell. Damaged where none lies there: the block isn't Used, or
+/// the slot is empty. It claims no page, and changes no tree.
 pub fn overwrite_row<P: Pages>(
     alloc: Global,
     def: &TableDef,
@@ -42,13 +47,14 @@ pub fn overwrite_row<P: Pages>(
         → TurnsSpot P.Pages SameSpot ext.now ext.now pages.old pages.new def.now rid.block (UsedBlock (slice_set slots rid.slot (Some row.now))) owners forests owners forests) }
     ensures makes { OnOk result ((owners : List Kind) (forests : TableForests) → StandsTable P.Pages ext.now pages.old def.now owners forests → HasRowAt P.Pages ext.now pages.old def.now rid owners forests
         → IsSameSpace ext.now (pages_of P.Pages pages.old) (pages_of P.Pages pages.new)) }
+    ensures seen { OnOk result (IsTrue (P.state pages.old).is_told → SeesSomeRow (SeesUsedSlot P.Pages ext.now pages.old def.now rid)) }
     ensures count { length (P.state pages.new).work ≡ length (P.state pages.old).work }
     ensures runs { RunsOverPages P.Pages (IsBlockOrMapPage P.Pages ext.now pages.old def.now rid.block) (IsBlockOrMapPage P.Pages ext.now pages.old def.now rid.block)
         (BreaksExpected P.Pages ext.now pages.old def.now (HasRowAt P.Pages ext.now pages.old def.now rid)) pages.old pages.new (fault_of result) }
 {
     let map = BlockMap::at(alloc, def.roots.map);
     line_of_used(def, &map, pages, rid.block)?;
-    put_slot(def, ext, pages, rid, row)
+    put_filled(def, ext, pages, rid, row)
 }
 
 /// The same where the block is known to be a Used one of the table: the block map isn't asked. It touches pages of the block alone.
@@ -69,9 +75,36 @@ pub fn overwrite_row_of_used<P: Pages>(
         → TurnsSpot P.Pages SameSpot ext.now ext.now pages.old pages.new def.now rid.block (UsedBlock (slice_set slots rid.slot (Some row.now))) owners forests owners forests) }
     ensures makes { OnOk result ((owners : List Kind) (forests : TableForests) → StandsTable P.Pages ext.now pages.old def.now owners forests → HasRowAt P.Pages ext.now pages.old def.now rid owners forests
         → IsSameSpace ext.now (pages_of P.Pages pages.old) (pages_of P.Pages pages.new)) }
+    ensures seen { OnOk result (IsTrue (P.state pages.old).is_told → SeesSomeRow (SeesSlot ext.now (pages_of P.Pages pages.old) def.now rid)) }
     ensures count { length (P.state pages.new).work ≡ length (P.state pages.old).work }
     ensures runs { RunsOverPages P.Pages (IsPageOfBlock ext.now rid.block) (IsPageOfBlock ext.now rid.block)
         (BreaksExpected P.Pages ext.now pages.old def.now (HasRowAt P.Pages ext.now pages.old def.now rid)) pages.old pages.new (fault_of result) }
 {
-    put_slot(def, ext, pages, rid, row)
+    put_filled(def, ext, pages, rid, row)
+}
+
+/// Puts a row into the slot of one. Damaged where it is empty.
+fn put_filled<P: Pages>(
+    def: &TableDef,
+    ext: &Extents,
+    pages: &mut P,
+    rid: Rid,
+    row: &Row,
+) -> Result<(), StoreFault>
+    requires defined { IsTableDef def.now.number def.now }
+    requires fits { RowFits def.now row.now }
+    requires within { rid.block < ext.now.cap }
+    requires slot { rid.slot < block_slot_count ext.now def.now }
+    requires going { (P.state pages.old).ended ≡ false }
+    ensures puts { OnOk result ((slots : List (Option Row)) → HoldsRows P.Pages ext.now pages.old def.now rid.block slots
+        → HoldsRows P.Pages ext.now pages.new def.now rid.block (slice_set slots rid.slot (Some row.now))) }
+    ensures seen { OnOk result (IsTrue (P.state pages.old).is_told → SeesSomeRow (SeesSlot ext.now (pages_of P.Pages pages.old) def.now rid)) }
+    ensures count { length (P.state pages.new).work ≡ length (P.state pages.old).work }
+    ensures runs { RunsOverPages P.Pages (IsPageOfBlock ext.now rid.block) (IsPageOfBlock ext.now rid.block)
+        (BreaksAround P.Pages ext.now pages.old def.now rid.block (HasFilledSlot rid.slot P.Pages ext.now pages.old def.now rid.block)) pages.old pages.new (fault_of result) }
+{
+    if !put_slot(def, ext, pages, rid, row)? {
+        return Err(miscounted(ext, rid.block));
+    }
+    Ok(())
 }

@@ -1,5 +1,5 @@
 // A row less in a Used block.
-ghost use Rattle.std.specs.Prelude.{◌≡◌, ◌<◌, ◌+◌, List, None, Option, false, length, slice_set, IfOk, OnOk};
+ghost use Rattle.std.specs.Prelude.{◌≡◌, ◌<◌, ◌+◌, List, None, Option, false, length, slice_set, IsTrue, IfOk, OnOk};
 ghost use Rattle.store_api.specs.Causes.{fault_of};
 ghost use Rattle.store_api.specs.RunsOverPages.{RunsOverPages};
 ghost use Rattle.extent_map.specs.Owners.{IsSameShape};
@@ -9,11 +9,13 @@ ghost use Rattle.row_page.specs.RowPage.{count_rows};
 ghost use Rattle.mdc_ast.specs.TableLimits.{IsTableDef};
 ghost use Rattle.table_trees.specs.SpaceChanges.{MakesChanges};
 ghost use Rattle.block_rows.specs.HeldRows.{HasReadValues, HoldsRows};
+ghost use Rattle.block_rows.specs.SeenRows.{SeesSlot, SeesSomeRow};
 ghost use Rattle.mdc_sound.specs.Placing.{IsRowAt, block_slot_count};
 ghost use Rattle.mdc_sound.specs.RunningFull.{left_changes};
 ghost use Rattle.mdc_sound.specs.StandingTable.{BreaksExpected, IsBlockOrMapPage, IsPageOfBlock, StandsTable, TableForests, pages_of, spots_of};
 ghost use Rattle.table_blocks.specs.BlockChanges.{BreaksAround};
 ghost use Rattle.table_blocks.specs.BlockSteps.{EmptiesSlot, HasFilledSlot, HasThisRow};
+ghost use Rattle.table_blocks.specs.SeenSlots.{IsMapApart, SeesUsedSlot};
 
 use crate::cells::cell_of;
 use crate::faults::miscounted;
@@ -49,6 +51,7 @@ pub fn take_row<P: Pages>(
     ensures makes { OnOk result ((owners : List Kind) (forests : TableForests) → StandsTable P.Pages ext.old pages.old def.now owners forests
         → (slots : List (Option Row)) → IsRowAt (spots_of P.Pages ext.old pages.old def.now owners forests) rid row.now slots
         → MakesChanges ext.old (pages_of P.Pages pages.old) (left_changes def.now row.now rid.block (count_rows slots)) (pages_of P.Pages pages.new)) }
+    ensures seen { OnOk result (IsTrue (P.state pages.old).is_told → IsMapApart P.Pages ext.old pages.old def.now rid.block → SeesSomeRow (SeesUsedSlot P.Pages ext.old pages.old def.now rid)) }
     ensures count { length (P.state pages.new).work ≡ length (P.state pages.old).work }
     ensures shape { IsSameShape ext.old ext.new }
     ensures runs { RunsOverPages P.Pages (IsBlockOrMapPage P.Pages ext.old pages.old def.now rid.block) (IsBlockOrMapPage P.Pages ext.old pages.old def.now rid.block)
@@ -79,6 +82,7 @@ fn clear_filled<P: Pages>(
     requires going { (P.state pages.old).ended ≡ false }
     ensures clears { OnOk result ((slots : List (Option Row)) → HoldsRows P.Pages ext.now pages.old def.now rid.block slots
         → HoldsRows P.Pages ext.now pages.new def.now rid.block (slice_set slots rid.slot None)) }
+    ensures seen { OnOk result (IsTrue (P.state pages.old).is_told → SeesSomeRow (SeesSlot ext.now (pages_of P.Pages pages.old) def.now rid)) }
     ensures count { length (P.state pages.new).work ≡ length (P.state pages.old).work }
     ensures runs { RunsOverPages P.Pages (IsPageOfBlock ext.now rid.block) (IsPageOfBlock ext.now rid.block)
         (BreaksAround P.Pages ext.now pages.old def.now rid.block (HasFilledSlot rid.slot P.Pages ext.now pages.old def.now rid.block)) pages.old pages.new (fault_of result) }

@@ -1,13 +1,12 @@
 -- The blocks that a scan lists, one after the other, with their lines and their cells.
-use Rattle.std.proofs.Common.{◌≡◌, ◌<◌, ◌≤◌, ◌+◌, ℕ, IsTrue, List, [], ◌∷◌, ◌++◌, true, length, get_or, map, take, refl, ap, arith, inl, subst, sym, ◌∙◌, Option, Some, None, Vec, Global}
-use Rattle.std.specs.Prelude.{Contains, Err, IfOk, Ok, Result}
+use Rattle.std.proofs.Common.{◌≡◌, ◌≤◌, ℕ, List, [], ◌∷◌, ◌++◌, length, take, ap, inl, subst, sym, ◌∙◌, Option, Some, None}
+use Rattle.std.specs.Prelude.{Contains}
 use Rattle.std.specs.List.{AllByRecursion}
-use Rattle.std.proofs.lemmas.List.{map-append, take_all, take_more}
+use Rattle.std.proofs.lemmas.List.{map-append, take_all}
 use Rattle.mdc_values.specs.Rising.{IsLower, IsRising}
 use Rattle.mdc_ast.specs.declared.definition.TableDef.{TableDef}
 use Rattle.mdc_ast.specs.declared.predicate.Pred.{Pred}
 use Rattle.mdc_ast.specs.declared.row.Cell.{Cell}
-use Rattle.cell_filter.specs.Cells.{may_hold}
 use Rattle.store_api.specs.Frame.{NoPage}
 use Rattle.store_api.specs.RunsOverPages.{RunsOverPages}
 use Rattle.store_api.specs.declared.fault.StoreFault.{StoreFault}
@@ -21,7 +20,7 @@ use Rattle.block_map.specs.MapLines.{map_lines, used_blocks}
 use Rattle.block_index.specs.ListedCells.{AreCellEntries}
 use Rattle.block_index.specs.declared.listed_cells.CellBlock.{CellBlock}
 use Rattle.block_rows.proofs.MetRowsLemmas.{each_append}
-use Rattle.table_trees.specs.RowCells.{cell_places, cell_values}
+use Rattle.table_trees.specs.RowCells.{cell_values}
 use Rattle.table_trees.specs.TableTrees.{TreePlace, composite_place, map_place}
 use Rattle.table_trees.specs.TreesBeside.{HoldsTreeAt, IsTreePageAt}
 use Rattle.table_trees.proofs.SideBySideLemmas.{tree_still}
@@ -36,7 +35,7 @@ use Rattle.mdc_table.specs.declared.listed.ListedBlock.{ListedBlock}
 use Rattle.table_scan.specs.Choices.{ChoosesBlocks, IsOfEntry, blocks_chosen}
 use Rattle.table_scan.specs.declared.choosing.ChosenEntry.{ChosenEntry}
 use Rattle.table_scan.specs.FoundRows.{IsChoicePage}
-use Rattle.table_scan.specs.SeenTable.{AreListedSo, HasCellThatMay, ListsBlocks, blocks_listed}
+use Rattle.table_scan.specs.SeenTable.{AreListedSo, HasCellThatMay, IsListedAs, ListsBlocks, blocks_listed}
 
 -- these blocks were listed, and the block map has the line of each
 pub record AreListedTo {S : Type 0} (g : Ghosts S) (s : S) (def : TableDef) (listed : List ListedBlock) (blocks : List ℕ) : Type 0 where
@@ -69,7 +68,13 @@ module _ {S : Type 0} {g : Ghosts S} (def : TableDef) where
       → ((t : Forest) → HoldsTreeAt g s (map_place def) t → items ≡ used_blocks t) → AllByRecursion (HasCellThatMay def None) listed → ListsBlocks g s def None listed
   lists_all s listed items n all to rising whole cells =
       let are : blocks_listed listed ≡ items = to.blocks_are ∙ take_all n items all in
-      record { rising = subst (IsRising IsLower) (sym are) rising; whole = λ t held. are ∙ whole t held; lines = to.lines; cells = cells }
+      record {
+        rising = subst (IsRising IsLower) (sym are) rising;
+        whole = λ t held. are ∙ whole t held;
+        lines = to.lines;
+        cells = cells;
+        entries = λ t held all is. each_in (IsListedAs all) listed (λ one there cell has. let none = each_of (HasCellThatMay def None) listed one cells there in absurd cc);
+      }
 
   pub all_listed_so : (ext : Extents) (s : S) (listed : List ListedBlock) (owners : List Kind) (forests : TableForests) → HoldsTreeAt g s (map_place def) forests.map
       → ListsBlocks g s def None listed → AreListedSo g ext s def owners forests listed
@@ -91,6 +96,10 @@ module _ {S : Type 0} {g : Ghosts S} (def : TableDef) where
         whole = λ t held all is. subst (λ l. ChoosesBlocks def pred l (blocks_listed listed)) (whole t held all is) (subst (ChoosesBlocks def pred entries) (sym are) chooses);
         lines = to.lines;
         cells = each_in (HasCellThatMay def (Some pred)) listed (λ one there. let e = each_of (IsOfEntry def pred entries) listed one of_entries there in (e.cell, e.cell_is, e.may));
+        entries = λ t held all is. each_in (IsListedAs all) listed (λ one there cell has.
+            let e = each_of (IsOfEntry def pred entries) listed one of_entries there in
+            let same : e.cell ≡ cell = let both = sym e.cell_is ∙ has in cc in
+            subst (λ (c : Cell). Contains all (record { cell = c; block = one.block })) same (subst (λ l. Contains l (record { cell = e.cell; block = one.block })) (whole t held all is) e.there));
       }
 
   pub chosen_listed_so : (ext : Extents) (s : S) (pred : Pred) (entries : List CellBlock) (listed : List ListedBlock) (owners : List Kind) (forests : TableForests) → HoldsTreeAt g s (map_place def) forests.map

@@ -1,10 +1,9 @@
 -- What a scan has found and brought to hand so far.
-use Rattle.std.proofs.Common.{◌≡◌, ◌<◌, ◌≤◌, ◌+◌, ℕ, zero, suc, List, [], ◌∷◌, ◌++◌, Bool, true, false, length, get_or, take, refl, inl, inr, ap, arith, sym, ◌∙◌, subst}
-use Rattle.std.specs.Prelude.{Contains, IsPermutation, Option, Some, None, filter, flat_map, map}
-use Rattle.std.specs.List.Sorted.{IsNonDecreasingBy}
+use Rattle.std.proofs.Common.{◌≡◌, ◌<◌, ◌≤◌, ◌+◌, ℕ, zero, suc, List, [], ◌∷◌, Bool, true, false, length, get_or, refl, inl, inr, ap, arith, sym, ◌∙◌, subst}
+use Rattle.std.specs.Prelude.{Contains, IsPermutation, Option, None, filter, flat_map, map}
 use Rattle.std.proofs.lemmas.Bool.{cases_Bool}
 use Rattle.std.proofs.lemmas.List.Elements.{Contains-get_or}
-use Rattle.std.proofs.lemmas.List.Sorted.{IsPermutation-map, IsPermutation-refl, IsPermutation-trans}
+use Rattle.std.proofs.lemmas.List.Sorted.{IsPermutation-refl}
 use Rattle.mdc_values.specs.Rising.{IsLower, IsRising}
 use Rattle.store_api.specs.Fetching.{BringsOnce, BringsOnly}
 use Rattle.store_api.specs.declared.pages.Pages.{Ghosts}
@@ -13,27 +12,20 @@ use Rattle.extent_map.specs.declared.extents.Extents.{Extents}
 use Rattle.extent_map.specs.declared.kind.Kind.{Kind}
 use Rattle.mdc_ast.specs.declared.definition.TableDef.{TableDef}
 use Rattle.mdc_ast.specs.declared.predicate.Pred.{Pred}
-use Rattle.mdc_ast.specs.Truth.{qualifies}
 use Rattle.store_api.specs.Frame.{NoPage}
 use Rattle.store_api.specs.RunsOverPages.{RunsOverPages}
 use Rattle.store_api.specs.declared.fault.StoreFault.{StoreFault}
-use Rattle.store_api.proofs.RunsOverPagesLemmas.{runs_then, runs_wider}
+use Rattle.store_api.proofs.RunsOverPagesLemmas.{runs_wider}
 use Rattle.block_map.specs.MapLines.{used_blocks}
-use Rattle.block_rows.specs.HeldRows.{placed_row, qualifying}
-use Rattle.block_rows.specs.declared.hit.Hit.{Hit}
-use Rattle.mdc_sound.specs.StandingTable.{BreaksExpected, BreaksTable, IsPageOfBlock, StandsTable, TableForests, pages_of}
+use Rattle.block_rows.specs.HeldRows.{qualifying}
+use Rattle.mdc_sound.specs.StandingTable.{BreaksTable, IsPageOfBlock, StandsTable, TableForests, pages_of}
 use Rattle.mdc_sound.specs.StandingTable.NamesTablePart.{tree}
-use Rattle.mdc_sound.specs.TableRows.{PlacedRow, rows_in_block, rows_in_table}
+use Rattle.mdc_sound.specs.TableRows.{rows_in_block, rows_in_table}
 use Rattle.mdc_sound.proofs.BlockRulesLemmas.{each_of}
 use Rattle.mdc_sound.proofs.ElementsLemmas.{each_in}
-use Rattle.mdc_sound.proofs.StandingTableLemmas.{stands_same}
 use Rattle.table_trees.specs.TableTrees.{composite_place, map_place}
 use Rattle.table_trees.specs.TreesBeside.{BreaksTreeAt, IsTreePageAt}
-use Rattle.mdc_table.specs.SeenBlocks.{IsListedSo}
-use Rattle.mdc_table.specs.declared.listed.ListedBlock.{ListedBlock}
-use Rattle.mdc_ast.specs.declared.row.Cell.{Cell}
-use Rattle.table_trees.specs.RowCells.{IsCellOf}
-use Rattle.table_scan.specs.FoundRows.{FindsRows, HaveQualifying, IsChoicePage, IsChosenBlock, IsChosenRowPage, IsScannedPage, ScansOnce}
+use Rattle.table_scan.specs.FoundRows.{HaveQualifying, IsChoicePage, IsChosenBlock, IsChosenRowPage, IsScannedPage, ScansOnce}
 
 -- ---- the elements of a list that pass a test, one after the other
 
@@ -78,6 +70,11 @@ rises_to (x ∷ xs) i zero rising below within = absurd (omega (arith, below))
 rises_to (x ∷ xs) zero (suc j) rising below within = first_below x xs j rising (omega (arith, within))
 rises_to (x ∷ xs) (suc i) (suc j) rising below within = rises_to xs i j (rest_rises x xs rising) (omega (arith, below)) (omega (arith, within))
 
+-- and none is below its place
+pub above_place : (xs : List ℕ) (i : ℕ) → IsRising IsLower xs → i < length xs → i ≤ get_or xs i 0
+above_place xs zero rising within = omega arith
+above_place xs (suc i) rising within = omega (arith, above_place xs i rising (omega (arith, within)), rises_to xs i (suc i) rising (omega arith) within)
+
 -- a page of one of the first blocks of a list
 abbrev pub IsPageBefore : Extents → List ℕ → ℕ → ℕ → Type 0
 IsPageBefore ext blocks n p = (i : ℕ) × (i < n) × IsPageOfBlock ext (get_or blocks i 0) p
@@ -110,30 +107,9 @@ module _ {S : Type 0} {g : Ghosts S} where
     reads = once_wider run.reads (λ p (i, below, is) owners forests st. (get_or blocks i 0, is_chosen ext s def pred blocks forests i (are owners forests st) (omega (arith, below, within)), is));
   }
 
--- ---- the rows that were found so far
+-- ---- the runs on pages
 
 module _ {S : Type 0} {g : Ghosts S} (ext : Extents) (def : TableDef) where
-  -- a table that stands is the same one where the work stayed
-  module _ (old now : S) (pred : Option Pred) (items : List ℕ) (i : ℕ) (told : (g.state now).is_told ≡ (g.state old).is_told) (same : (g.state now).work ≡ (g.state old).work)
-      (chosen : (owners : List Kind) (forests : TableForests) → StandsTable g ext old def owners forests → HaveQualifying g ext old def pred items forests) (low : i < length items) where
-    -- the run on its pages, one of which may be damaged only where the table doesn't stand
-    pub runs_listed : {new : S} {fault : Option StoreFault} (one : ListedBlock) → get_or items i 0 ≡ one.block
-        → ((owners : List Kind) (forests : TableForests) → StandsTable g ext old def owners forests → IsListedSo g ext old def one owners forests)
-        → RunsOverPages g NoPage (IsScannedPage g ext old def pred) (BreaksTable g ext old def) old now None
-        → RunsOverPages g NoPage (IsPageOfBlock ext one.block) (BreaksExpected g ext now def (IsListedSo g ext now def one)) now new fault
-        → RunsOverPages g NoPage (IsScannedPage g ext old def pred) (BreaksTable g ext old def) old new fault
-    runs_listed one is so first second =
-        let here : (owners : List Kind) (forests : TableForests) → StandsTable g ext old def owners forests → IsChosenBlock g ext old def pred forests (get_or items i 0) =
-        λ owners forests st. is_chosen ext old def pred items forests i (chosen owners forests st) low in
-        runs_then first second (λ p there none. absurd none) (λ p page. inr (λ owners forests st. (get_or items i 0, here owners forests st, subst (λ b. IsPageOfBlock ext b p) (sym is) page)))
-        (λ damage b. record { names = b.names; broken = λ owners forests st. b.broken owners forests (stands_same ext old now def owners forests told same st) (listed_same one owners forests (so owners forests st)) })
-      where
-        listed_same : (one : ListedBlock) (owners : List Kind) (forests : TableForests) → IsListedSo g ext old def one owners forests → IsListedSo g ext now def one owners forests
-        listed_same one owners forests so = record {
-          line = so.line;
-          cell = subst (λ pages. (cell : Cell) → one.cell ≡ Some cell → (placed : PlacedRow) × Contains (rows_in_block ext pages def one.block) placed × IsCellOf def cell placed.row.values) (sym same) so.cell;
-        }
-
   -- the run that chooses the blocks
   pub runs_choice : {pred : Option Pred} {old new : S} {fault : Option StoreFault} → RunsOverPages g NoPage (IsChoicePage g ext old def) (BreaksTable g ext old def) old new fault
       → RunsOverPages g NoPage (IsScannedPage g ext old def pred) (BreaksTable g ext old def) old new fault
@@ -148,18 +124,6 @@ module _ {S : Type 0} {g : Ghosts S} (ext : Extents) (def : TableDef) where
       → RunsOverPages g NoPage (IsChoicePage g ext old def) (BreaksTable g ext old def) old new fault
   runs_cells {old} run = runs_wider run (λ p there none. absurd none) (λ p is owners forests st. inr (is forests.composite st.trees.held.1.0))
       (λ damage b. record { names = tree b.rule (1, omega arith, sym b.page); broken = λ owners forests st. b.broken forests.composite st.trees.held.1.0 })
-
-  -- all blocks were gone over, and what was found was brought in order
-  pub found_all : (s : S) (pred : Option Pred) (items : List ℕ) (hits sorted : List Hit) (forests : TableForests)
-      → HaveQualifying g ext s def pred items forests → map placed_row hits ≡ qualifying pred (flat_map (rows_in_block ext (pages_of g s) def) items)
-      → IsPermutation hits sorted → IsNonDecreasingBy (λ (hit : Hit). hit.row.number) sorted → FindsRows g ext s def pred sorted forests
-  found_all s pred items hits sorted forests have found moved rising =
-      let those : List PlacedRow = qualifying pred (flat_map (rows_in_block ext (pages_of g s) def) items) in
-      record {
-        found = IsPermutation-trans (qualifying pred (rows_in_table ext (pages_of g s) def forests.map)) those (map placed_row sorted) have.whole
-            (subst (λ rows. IsPermutation rows (map placed_row sorted)) found (IsPermutation-map placed_row hits sorted moved));
-        in_order = λ i j d below within. rising i j d (omega (arith, below)) within;
-      }
 
   -- without a predicate all Used blocks are chosen
   pub all_chosen : (s : S) (blocks : List ℕ) (forests : TableForests) → blocks ≡ used_blocks forests.map → HaveQualifying g ext s def None blocks forests

@@ -23,7 +23,8 @@ use Rattle.predicate.proofs.OppositeLemmas.{all_of-not_of, any_of-not_of}
 use Rattle.predicate.proofs.PushedLemmas.{negated_if-not}
 use Rattle.block_map.proofs.MapLinesLemmas.{contains_cases}
 use Rattle.table_trees.specs.RowCells.{cell_places, cell_values}
-use Rattle.table_scan.specs.Settled.{AreLeftOf, IsLeftOf, IsSettled, are_true, may_hold_all, may_judge_all}
+use Rattle.table_scan.specs.Settled.{AreLeftOf, HasOpenTest, IsLeftOf, IsSettled, are_true, may_hold_all, may_judge_all}
+use Rattle.table_scan.specs.Settled.HasOpenTest.{in_all, in_any}
 
 -- ---- a test
 
@@ -137,6 +138,11 @@ IsSettled-Not def part settled values judged negated =
     ∙ settled values (subst IsTrue (may_judge-Not values part) judged) (not negated)
     ∙ ap is_true (negated_if-not negated (truth values part))
     ∙ sym (ap (λ t. is_true (negated_if negated t)) (truth-Not values part))
+
+-- a test that is open in a part is open in what AND or OR joins
+pub HasOpenTest-joined : (def : TableDef) (whole : Pred) (parts : List Pred) (part : Pred) → (whole ≡ pred.All parts) ⊎ (whole ≡ pred.Any parts) → Contains parts part → HasOpenTest def part → HasOpenTest def whole
+HasOpenTest-joined def whole parts part (inl by_and) there here = subst (HasOpenTest def) (sym by_and) (in_all parts part there here)
+HasOpenTest-joined def whole parts part (inr by_or) there here = subst (HasOpenTest def) (sym by_or) (in_any parts part there here)
 
 -- ---- what is left
 

@@ -1,33 +1,30 @@
 -- On the rows of a block that was chosen, what is left of a predicate is true exactly where the predicate is.
-use Rattle.std.proofs.Common.{◌≡◌, ◌∙◌, ◌≤◌, ◌<◌, ◌+◌, ℕ, suc, List, [], ◌∷◌, ◌++◌, Bool, length, get_or, take, refl, ap, arith, subst, sym, inl, inr, Option, None, Some}
-use Rattle.std.specs.Prelude.{Contains, IsPermutation, IsTrue, filter, flat_map, map}
+use Rattle.std.proofs.Common.{◌≡◌, ◌∙◌, ◌≤◌, ◌<◌, ◌+◌, ℕ, List, [], ◌∷◌, ◌++◌, Bool, length, get_or, take, refl, ap, arith, subst, sym, inl, inr, Option, None, Some}
+use Rattle.std.specs.Prelude.{Contains, IsTrue, filter, flat_map}
 use Rattle.std.specs.List.{AllByRecursion}
-use Rattle.std.specs.List.Sorted.{IsNonDecreasingBy}
 use Rattle.std.proofs.lemmas.Bool.{cases_Bool}
 use Rattle.std.proofs.lemmas.List.{flat_map_more, map-append, take_all, take_more}
-use Rattle.std.proofs.lemmas.List.Elements.{filter-append}
-use Rattle.std.proofs.lemmas.List.Sorted.{IsPermutation-map}
 use Rattle.mdc_ast.specs.declared.definition.TableDef.{TableDef}
 use Rattle.mdc_ast.specs.declared.predicate.Pred.{Pred}
 use Rattle.mdc_ast.specs.declared.row.Row.{Row}
 use Rattle.mdc_ast.specs.Truth.{qualifies}
 use Rattle.cell_filter.specs.Cells.{may_hold_at}
 use Rattle.row_filter.specs.Filtering.{may_filter}
-use Rattle.store_api.specs.declared.pages.Pages.{Ghosts}
 use Rattle.extent_map.specs.declared.extents.Extents.{Extents}
 use Rattle.block_map.proofs.MapLinesLemmas.{contains_more}
-use Rattle.block_rows.specs.HeldRows.{HasReadValues, placed_row, qualifying}
-use Rattle.block_rows.specs.declared.hit.Hit.{Hit}
+use Rattle.block_rows.specs.Giving.{WasGiven}
+use Rattle.block_rows.specs.HeldRows.{HasReadValues, qualifying}
+use Rattle.block_rows.specs.declared.row_sink.RowSink.{Ghosts}
 use Rattle.table_trees.specs.RowCells.{cell_places, cell_values}
 use Rattle.block_rows.specs.SeenRows.{AreInCell, IsInCell}
+use Rattle.block_rows.proofs.GivingLemmas.{given_more_qualifying, given_none}
 use Rattle.block_rows.proofs.MetRowsLemmas.{each_append}
 use Rattle.table_trees.specs.ToldPages.{PageList}
-use Rattle.mdc_sound.specs.StandingTable.{pages_of}
 use Rattle.mdc_sound.specs.TableRows.{PlacedRow, rows_in_block}
 use Rattle.mdc_sound.proofs.BlockRulesLemmas.{each_of}
 use Rattle.mdc_table.specs.SeenBlocks.{HasSeenBlock}
 use Rattle.mdc_table.specs.declared.listed.ListedBlock.{ListedBlock}
-use Rattle.table_scan.specs.SeenTable.{HasCellThatMay, HasSeenTable, ListsBlocks, blocks_listed}
+use Rattle.table_scan.specs.SeenTable.{HasCellThatMay, blocks_listed}
 use Rattle.table_scan.specs.Settled.{IsLeftOf, MayHoldIfAny}
 use Rattle.table_scan.proofs.ScanningLemmas.{filter_first, filter_past}
 
@@ -42,10 +39,10 @@ filter_agrees p q (x ∷ xs) agree =
       | inr fails ↦ filter_past p x xs (here ∙ fails) ∙ rest ∙ sym (filter_past q x xs fails)
     ]
 
--- the blocks so far were seen, and their rows that qualify were found
-pub record ScansTo (ext : Extents) (pages : PageList) (def : TableDef) (pred : Option Pred) (done : List ListedBlock) (hits : List PlacedRow) : Type 0 where
+-- the blocks so far were seen, and a sink was given their rows that qualify
+pub record ScansTo {K : Type 0} (sinks : Ghosts K) (old now : K) (ext : Extents) (pages : PageList) (def : TableDef) (pred : Option Pred) (done : List ListedBlock) : Type 0 where
   pub seen : AllByRecursion (HasSeenBlock ext pages def) done
-  pub found : hits ≡ qualifying pred (flat_map (rows_in_block ext pages def) (blocks_listed done))
+  pub given : WasGiven sinks old now (qualifying pred (flat_map (rows_in_block ext pages def) (blocks_listed done)))
 
 module _ (ext : Extents) (pages : PageList) (def : TableDef) where
   -- the predicate may hold in the cell of each row of a block that was seen
@@ -66,36 +63,28 @@ module _ (ext : Extents) (pages : PageList) (def : TableDef) where
       filter_agrees (λ placed. qualifies left placed.row.values) (λ placed. qualifies pred placed.row.values) rows (λ placed within.
       are.same placed.row.values (judged placed.row (each_of (λ placed. HasReadValues def.columns placed.row) rows placed seen.rows.read within)) (may_of_each pred one may seen placed within))
 
-  -- none was seen
-  pub scans_to_none : (pred : Option Pred) (hits : List PlacedRow) → hits ≡ [] → ScansTo ext pages def pred [] hits
-  scans_to_none pred hits none = record { seen = tt; found = none }
+  module _ {K : Type 0} {sinks : Ghosts K} (pred : Option Pred) where
+    -- none was seen
+    pub scans_to_none : (sink : K) → ScansTo sinks sink sink ext pages def pred []
+    scans_to_none sink = record { seen = tt; given = given_none sinks sink }
 
-  -- one block more
-  pub scans_to_more : (pred left : Option Pred) (items : List ListedBlock) (i : ℕ) (one : ListedBlock) (hits now : List PlacedRow) → i < length items → one ≡ get_or items i one
-      → IsLeftOf def pred left → ((row : Row) → HasReadValues def.columns row → IsTrue (may_filter pred row.values)) → HasCellThatMay def pred one → HasSeenBlock ext pages def one
-      → now ≡ hits ++ qualifying left (rows_in_block ext pages def one.block) → ScansTo ext pages def pred (take i items) hits → ScansTo ext pages def pred (take (i + 1) items) now
-  scans_to_more pred left items i one hits now low is are judged may seen pushed so_far =
-      let rows_at : ℕ → List PlacedRow = rows_in_block ext pages def in
-      let done = take i items in
-      let more : take (i + 1) items ≡ done ++ one ∷ [] = take_more items i one low ∙ ap (λ (o : ListedBlock). done ++ o ∷ []) (sym is) in
-      subst (λ l. ScansTo ext pages def pred l now) (sym more) (record {
-        seen = each_append (HasSeenBlock ext pages def) done (one ∷ []) so_far.seen (seen, tt);
-        found = pushed ∙ (ap (λ rows. hits ++ rows) (left_qualifies pred left one are judged may seen)
-            ∙ (ap (λ front. front ++ qualifying pred (rows_at one.block)) so_far.found
-            ∙ (sym (filter-append (λ placed. qualifies pred placed.row.values) (flat_map rows_at (blocks_listed done)) (rows_at one.block))
-            ∙ ap (qualifying pred) (flat_map_more rows_at [] (blocks_listed done) one.block ∙ ap (flat_map rows_at) (sym (map-append (λ (o : ListedBlock). o.block) done (one ∷ [])))))));
-      })
+    -- one block more
+    pub scans_to_more : (left : Option Pred) (old mid now : K) (items : List ListedBlock) (i : ℕ) (one : ListedBlock) → i < length items → one ≡ get_or items i one
+        → IsLeftOf def pred left → ((row : Row) → HasReadValues def.columns row → IsTrue (may_filter pred row.values)) → HasCellThatMay def pred one → HasSeenBlock ext pages def one
+        → WasGiven sinks mid now (qualifying left (rows_in_block ext pages def one.block)) → ScansTo sinks old mid ext pages def pred (take i items) → ScansTo sinks old now ext pages def pred (take (i + 1) items)
+    scans_to_more left old mid now items i one low is are judged may seen given so_far =
+        let rows_at : ℕ → List PlacedRow = rows_in_block ext pages def in
+        let done = take i items in
+        let more : take (i + 1) items ≡ done ++ one ∷ [] = take_more items i one low ∙ ap (λ (o : ListedBlock). done ++ o ∷ []) (sym is) in
+        let rows : flat_map rows_at (blocks_listed done) ++ rows_at one.block ≡ flat_map rows_at (blocks_listed (done ++ one ∷ [])) =
+        flat_map_more rows_at [] (blocks_listed done) one.block ∙ ap (flat_map rows_at) (sym (map-append (λ (o : ListedBlock). o.block) done (one ∷ []))) in
+        subst (ScansTo sinks old now ext pages def pred) (sym more) (record {
+          seen = each_append (HasSeenBlock ext pages def) done (one ∷ []) so_far.seen (seen, tt);
+          given = subst (λ rows. WasGiven sinks old now (qualifying pred rows)) rows
+              (given_more_qualifying sinks pred old mid now (flat_map rows_at (blocks_listed done)) (rows_at one.block) so_far.given
+              (subst (WasGiven sinks mid now) (left_qualifies pred left one are judged may seen) given));
+        })
 
-  -- all were
-  pub scans_whole : (pred : Option Pred) (items : List ListedBlock) (n : ℕ) (hits : List PlacedRow) → length items ≤ n → ScansTo ext pages def pred (take n items) hits → ScansTo ext pages def pred items hits
-  scans_whole pred items n hits all scans = subst (λ l. ScansTo ext pages def pred l hits) (take_all n items all) scans
-
-pub scanned_all : {S : Type 0} {g : Ghosts S} (ext : Extents) (def : TableDef) (s : S) (pred : Option Pred) (items : List ListedBlock) (hits sorted : List Hit) → ListsBlocks g s def pred items
-    → ScansTo ext (pages_of g s) def pred items (map placed_row hits) → IsPermutation hits sorted → IsNonDecreasingBy (λ (hit : Hit). hit.row.number) sorted → HasSeenTable g ext s def pred sorted
-scanned_all ext def s pred items hits sorted lists scans moved rising = record {
-  listed = items;
-  lists = lists;
-  seen = scans.seen;
-  found = subst (λ rows. IsPermutation rows (map placed_row sorted)) scans.found (IsPermutation-map placed_row hits sorted moved);
-  in_order = λ i j d below within. rising i j d (omega (arith, below)) within;
-}
+    -- all were
+    pub scans_whole : (old now : K) (items : List ListedBlock) (n : ℕ) → length items ≤ n → ScansTo sinks old now ext pages def pred (take n items) → ScansTo sinks old now ext pages def pred items
+    scans_whole old now items n all scans = subst (ScansTo sinks old now ext pages def pred) (take_all n items all) scans

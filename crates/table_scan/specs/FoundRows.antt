@@ -1,10 +1,9 @@
 -- The rows of a table for which a predicate is true, as a scan of the Used blocks finds them in whose cells it may hold.
-use Rattle.std.specs.Prelude.{◌≡◌, ◌≤◌, ◌<◌, ◌⊎◌, ℕ, true, List, map, filter, flat_map, Option, Some, None, Contains, IsPermutation, AllPairs}
+use Rattle.std.specs.Prelude.{◌≡◌, ◌≤◌, ◌<◌, ◌⊎◌, ℕ, true, List, map, flat_map, Option, Some, None, Contains, IsPermutation, AllPairs}
 use Rattle.std.specs.List.{AllByRecursion}
 use Rattle.mdc_values.specs.declared.value.Value.{Value}
 use Rattle.mdc_ast.specs.declared.definition.TableDef.{TableDef}
 use Rattle.mdc_ast.specs.declared.predicate.Pred.{Pred}
-use Rattle.mdc_ast.specs.Truth.{qualifies}
 use Rattle.cell_filter.specs.Cells.{may_hold_at}
 use Rattle.store_api.specs.declared.pages.Pages.{Ghosts}
 use Rattle.store_api.specs.Fetching.{BringsOnce, BringsOnly}
@@ -12,8 +11,10 @@ use Rattle.extent_map.specs.declared.extents.Extents.{Extents}
 use Rattle.extent_map.specs.declared.kind.Kind.{Kind}
 use Rattle.entry_tree.specs.Forest.{times}
 use Rattle.block_map.specs.MapLines.{used_blocks}
+use Rattle.block_rows.specs.Giving.{WasGiven}
 use Rattle.block_rows.specs.HeldRows.{placed_row, qualifying}
 use Rattle.block_rows.specs.declared.hit.Hit.{Hit}
+use Rattle.block_rows.specs.declared.row_sink.RowSink
 use Rattle.table_trees.specs.RowCells.{cell_places, cell_values}
 use Rattle.table_trees.specs.ToldPages.{PageList}
 use Rattle.mdc_sound.specs.StandingTable.{IsPageOfBlock, StandsTable, TableForests, pages_of}
@@ -21,8 +22,14 @@ use Rattle.mdc_sound.specs.TableRows.{PlacedRow, rows_in_block, rows_in_table}
 
 -- These are the rows of the table that qualify, each with its place, by row number.
 pub record FindsRows {S : Type 0} (g : Ghosts S) (ext : Extents) (s : S) (def : TableDef) (pred : Option Pred) (hits : List Hit) (forests : TableForests) : Type 0 where
-  pub found : IsPermutation (filter (λ placed. qualifies pred placed.row.values) (rows_in_table ext (pages_of g s) def forests.map)) (map placed_row hits)
+  pub found : IsPermutation (qualifying pred (rows_in_table ext (pages_of g s) def forests.map)) (map placed_row hits)
   pub in_order : AllPairs (λ a b. a.row.number ≤ b.row.number) hits
+
+-- A sink was given exactly the rows of the table that qualify, in some order.
+pub record GivesRows {K : Type 0} (sinks : RowSink.Ghosts K) (sink_old sink_new : K) {S : Type 0} (g : Ghosts S) (ext : Extents) (s : S) (def : TableDef) (pred : Option Pred) (forests : TableForests) : Type 0 where
+  pub rows : List PlacedRow
+  pub found : IsPermutation (qualifying pred (rows_in_table ext (pages_of g s) def forests.map)) rows
+  pub given : WasGiven sinks sink_old sink_new rows
 
 -- ---- blocks in which a row may qualify
 

@@ -1,8 +1,8 @@
 // What is left of a predicate to be judged on rows in whose cells it may hold.
-ghost use Rattle.std.specs.Prelude.{◌≡◌, Contains, Some, true, IfOk};
+ghost use Rattle.std.specs.Prelude.{◌≡◌, ◌↔◌, Contains, Some, true, false, IfOk, IsTrue};
 ghost use Rattle.cell_filter.specs.Cells.{is_against_literals};
 ghost use Rattle.table_trees.specs.RowCells.{cell_places};
-ghost use Rattle.table_scan.specs.Settled.{AreLeftOf, IsLeftOf, IsSettled};
+ghost use Rattle.table_scan.specs.Settled.{AreLeftOf, HasOpenTest, IsLeftOf, IsSettled};
 
 use crate::copying::copy_of;
 use mdc_ast::{Pred, Right, TableDef, Test};
@@ -50,8 +50,9 @@ fn unsettled_parts(alloc: Global, def: &TableDef, parts: &[Pred]) -> Result<List
 }
 
 /// Whether each test of a predicate is of a dimension column and names no other, so that all rows of a cell have one truth.
-fn is_settled(pred: &Pred, def: &TableDef) -> bool
-    ensures { result ≡ true → IsSettled def.now pred.now }
+pub(crate) fn is_settled(pred: &Pred, def: &TableDef) -> bool
+    ensures settled { result ≡ true → IsSettled def.now pred.now }
+    ensures open { result ≡ false → HasOpenTest def.now pred.now }
 {
     match pred {
         Pred::Atom(atom) => is_against_literals(&atom.test) && is_of_cells(def, atom.column),
@@ -75,13 +76,22 @@ fn is_against_literals(test: &Test) -> bool
 
 /// Whether a column is a dimension column.
 fn is_of_cells(def: &TableDef, column: u8) -> bool
-    ensures { result ≡ true → Contains (cell_places def.now) column }
+    ensures { IsTrue result ↔ Contains (cell_places def.now) column }
 {
     for dim in def.dims.as_slice() {
-        for place in dim.as_slice() {
-            if *place == column {
-                return true;
-            }
+        if has_place(dim.as_slice(), column) {
+            return true;
+        }
+    }
+    false
+}
+
+fn has_place(places: &[u8], column: u8) -> bool
+    ensures { IsTrue result ↔ Contains places.now column }
+{
+    for place in places {
+        if *place == column {
+            return true;
         }
     }
     false

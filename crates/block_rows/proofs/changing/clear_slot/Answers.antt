@@ -1,7 +1,7 @@
 use Rattle.std.proofs.Common.{None}
 use Rattle.std.proofs.lemmas.Result.{IfOk-weaker}
 use Rattle.store_api.proofs.RunsOverPagesLemmas.{runs_exit, runs_then}
-use Rattle.block_rows.proofs.HeldRowsLemmas.{breaks_at_slot, breaks_extent, changed_in_block, filled_in_block, page_of_slot_in_block}
+use Rattle.block_rows.proofs.HeldRowsLemmas.{breaks_at_slot, breaks_extent, changed_in_block, filled_in_block, page_of_slot_in_block, seen_if_in_block}
 use Rattle.block_rows.proofs.changing.clear_slot.Goals as goal
 
 pub returns-in_err-place-clause-runs : goal.returns-in_err-place-clause-runs
@@ -20,6 +20,14 @@ returns-clause-clears g c =
           c.of-shape.ensures place.page place.slot place.below c.requires.slot c.clear_in_page.new.pages None c.clear_in_page.ensures.runs c.clear_in_page.ensures.count (λ here is. (clears here is).1) slots holds;
     })
     c.clear_in_page.ensures.clears
+
+pub returns-clause-seen : goal.returns-clause-seen
+returns-clause-seen g c =
+    let place = c.in_ok-place.ensures in
+    IfOk-weaker c.clear_in_page.result _ _
+    (λ filled sees told. seen_if_in_block g.P.Pages c.args.ext.now c.args.def.now c.args.rid.block c.args.pages.now c.args.rid.slot c.in_ok-place.place.page c.in_ok-place.place.slot
+    c.of-shape.ensures place.page place.slot place.below c.requires.slot filled place.there (sees told))
+    c.clear_in_page.ensures.seen
 
 pub returns-clause-runs : goal.returns-clause-runs
 returns-clause-runs g c =

@@ -148,3 +148,10 @@ returns-clause-stands_for g c =
     (touches_of_row g.P.Pages c.args.ext.now c.args.pages.now c.place_row.new.pages c.args.def.now owners forests ready.stands c.args.rid c.args.was.now has runs.touches) runs.works.no_shorter between db stands
     c.args.was.now c.args.is.now c.args.rid to (changes owners forests ready has) c.requires.number)
     (returns-clause-changes g c)
+
+pub returns-then-are_of_one_cell-clause-seen : goal.returns-then-are_of_one_cell-clause-seen
+returns-then-are_of_one_cell-clause-seen g c = λ told apart. c.in_ok-overwrite_row.ensures.seen told
+
+pub returns-clause-seen : goal.returns-clause-seen
+returns-clause-seen g c =
+    IfOk-weaker c.place_row.result _ _ (λ to places told apart. let row = c.in_ok-take_row.ensures.seen told apart in (row.0, row.1.slot)) c.place_row.ensures.places

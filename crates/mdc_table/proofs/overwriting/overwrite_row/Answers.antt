@@ -1,5 +1,5 @@
 use Rattle.std.proofs.Common.{◌∙◌, arith, inl, inr, refl, sym}
-use Rattle.std.proofs.lemmas.Result.{IfOk-weaker}
+use Rattle.std.proofs.lemmas.Result.{IfOk-weaker, on_ok_weaker}
 use Rattle.store_api.proofs.RunsOverPagesLemmas.{runs_none}
 use Rattle.free_space.specs.RoomNotes.{room_of}
 use Rattle.free_space.proofs.TableRunsLemmas.{runs_broken}
@@ -49,3 +49,13 @@ returns-then-eq-clause-stay g c owners forests ready =
 pub returns-then-eq-clause-runs : goal.returns-then-eq-clause-runs
 returns-then-eq-clause-runs g c =
     runs_of_known c.args.ext.now c.args.pages.now c.args.def.now c.args.known c.args.rid.block (is_known c.args.known c.args.rid.block (sym c.eq.ensures ∙ c.if-eq.true)) c.overwrite_row_of_used.ensures.runs
+
+pub returns-clause-seen : goal.returns-clause-seen
+returns-clause-seen g c = on_ok_weaker c.overwrite_row.result (λ seen told. let row = seen told in (row.0, row.1.slot)) c.overwrite_row.ensures.seen
+
+pub returns-clause-used : goal.returns-clause-used
+returns-clause-used g c = on_ok_weaker c.overwrite_row.result (λ seen told unknown. (seen told).1.used) c.overwrite_row.ensures.seen
+
+pub returns-then-eq-clause-used : goal.returns-then-eq-clause-used
+returns-then-eq-clause-used g c =
+    on_ok_weaker c.overwrite_row_of_used.result (λ seen told unknown. absurd (unknown (is_known c.args.known c.args.rid.block (sym c.eq.ensures ∙ c.if-eq.true)))) c.overwrite_row_of_used.ensures.seen

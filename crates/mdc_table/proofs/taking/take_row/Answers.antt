@@ -61,3 +61,9 @@ returns-then-left-slots-clause-runs g c = runs_of_block c.args.ext.now c.args.de
 
 pub returns-clause-runs : goal.returns-clause-runs
 returns-clause-runs g c = runs_of_block c.args.ext.now c.args.def.now {fault = None} c.args.rid.block c.in_ok-take_row.ensures.runs
+
+pub returns-then-left-slots-clause-seen : goal.returns-then-left-slots-clause-seen
+returns-then-left-slots-clause-seen g c = c.in_ok-take_row.ensures.seen
+
+pub returns-clause-seen : goal.returns-clause-seen
+returns-clause-seen g c = c.in_ok-take_row.ensures.seen

@@ -3,7 +3,10 @@ use Rattle.std.specs.Prelude.{List, None, Option, Some, slice_index_or}
 use Rattle.mdc_ast.specs.declared.row.Row.{Row}
 use Rattle.store_api.proofs.RunsOverPagesLemmas.{runs_exit}
 use Rattle.block_rows.specs.HeldRows.{IsFilledSlot}
+use Rattle.block_rows.specs.SeenRows.{SeesSlot}
+use Rattle.mdc_sound.specs.StandingTable.{pages_of}
 use Rattle.table_blocks.proofs.BrokenRunsLemmas.{runs_broken}
+use Rattle.table_blocks.proofs.SeenSlotsLemmas.{row_seen}
 use Rattle.table_blocks.proofs.SuchSlotsLemmas.{empty_there, runs_such}
 use Rattle.table_blocks.proofs.taking.clear_filled.Goals as goal
 
@@ -31,3 +34,7 @@ returns-clause-runs g c =
     let slot = c.args.rid.slot in
     runs_such c.args.ext.now c.args.pages.now c.args.def.now c.args.rid.block (λ (slots : List (Option Row)). (row : Row) × (slice_index_or slots slot None ≡ Some row)) (λ p is. is) c.requires.within
     c.in_ok-clear_slot.ensures.runs
+
+pub returns-clause-seen : goal.returns-clause-seen
+returns-clause-seen g c = λ told.
+    row_seen (SeesSlot c.args.ext.now (pages_of g.P.Pages c.args.pages.now) c.args.def.now c.args.rid) c.in_ok-clear_slot.field-0 c.if-not-branch.false (c.in_ok-clear_slot.ensures.seen told)

@@ -1,7 +1,11 @@
-use Rattle.std.proofs.Common.{◌≡◌, ℕ, Some, arith, subst, sym}
-use Rattle.std.specs.Prelude.{IfNone, Option}
+use Rattle.std.proofs.Common.{◌≡◌, ◌<◌, ◌^◌, ◌∙◌, ℕ, refl, Some, arith, subst, sym}
+use Rattle.std.specs.Prelude.{IfNone, IfSome, Option}
 use Rattle.store_api.specs.RunsOverPages.{RunsOverPages}
 use Rattle.store_api.proofs.RunsOverPagesLemmas.{runs_exit, runs_memory}
+use Rattle.entry_tree.specs.Forest.{Forest}
+use Rattle.entry_tree.specs.HeldTrees.{HoldsTree}
+use Rattle.block_map.specs.BlockMaps.{HasRow}
+use Rattle.block_map.specs.Counting.{used_row}
 use Rattle.mdc_sound.specs.StandingTable.{BreaksExpected, IsBlockOrMapPage}
 use Rattle.table_blocks.specs.BlockNow.{IsKeyedCell}
 use Rattle.table_blocks.specs.BlockSteps.{HasThisRow}
@@ -9,6 +13,8 @@ use Rattle.table_blocks.proofs.FewerRowsLemmas.{empties_fewer, fewer_space, left
 use Rattle.table_blocks.proofs.LastRowLemmas.{SeesLast, cell_keys, empties_last, none_left, runs_last, runs_looking, runs_of_table, runs_on_slot, runs_this_row, sees_last}
 use Rattle.table_blocks.proofs.LastRowSpaceLemmas.{last_space}
 use Rattle.table_blocks.proofs.MapOfTableLemmas.{runs_expected, runs_on_map}
+use Rattle.entry_tree.proofs.RemoveLemmas.{held_same}
+use Rattle.table_blocks.proofs.SeenSlotsLemmas.{seen_before, seen_same, tree_apart, used_by_line}
 use Rattle.table_blocks.proofs.taking.take_row.Given.{Over}
 use Rattle.table_blocks.proofs.taking.take_row.Goals.{In_default, In_ok-cell, In_ok-line}
 use Rattle.table_blocks.proofs.taking.take_row.Goals as goal
@@ -52,6 +58,24 @@ returns-in-Some-clause-makes g c =
     let cleared = c.in_ok-clear_filled.ensures in
     fewer_space c.args.ext.now c.args.pages.now c.discount_row.new.pages c.args.def.now c.args.rid c.requires.defined c.requires.within map.tree c.at-map.ensures map.seven c.in_ok-had.field-0 c.in-Some.had c.in-Some.is (omega arith) counted.some
     counted.there counted.fewer counted.count counted.runs c.clear_filled.new.pages cleared.runs.touches cleared.runs.works.steady.is_told cleared.count c.args.row.now
+
+pub returns-in-Some-clause-seen : goal.returns-in-Some-clause-seen
+returns-in-Some-clause-seen g c = λ told apart.
+    let map = c.at-map.result in
+    let ext = c.args.ext.now in
+    let s = c.args.pages.now in
+    let def = c.args.def.now in
+    let counted = c.in_ok-had.ensures in
+    let row = c.in_ok-clear_filled.ensures.seen (counted.runs.works.steady.is_told ∙ told) in
+    let small : c.args.rid.block < 2 ^ 32 = omega arith in
+    let there = subst (λ (o : Option ℕ). IfSome o (λ had. (t : Forest) → HoldsTree g.P.Pages s map.tree t → HasRow (used_row c.args.rid.block had) t)) c.in-Some.is counted.there in (
+      row.0,
+      record {
+        used = used_by_line s def map.tree c.at-map.ensures map.seven c.args.rid.block (used_row c.args.rid.block c.in-Some.had) small refl refl there;
+        slot = seen_before g.P.Pages ext s c.discount_row.new.pages def c.args.rid (Some row.0) c.requires.within c.requires.slot told counted.count counted.runs.touches
+            (tree_apart s def map.tree c.at-map.ensures map.seven ext c.args.rid.block apart) row.1;
+      },
+    )
 
 pub returns-in-Some-clause-runs : goal.returns-in-Some-clause-runs
 returns-in-Some-clause-runs g c =
@@ -140,6 +164,24 @@ returns-clause-takes g c owners forests st has =
     let cleared = c.in_ok-clear_filled-2.ensures in
     empties_last c.args.ext.now c.args.pages.now c.args.def.now c.requires.defined c.args.rid c.requires.within line.rows last.few last.there map.tree c.at-map.ensures map.seven c.args.row.now c.line_of_used.new.pages c.clear_filled-2.new.pages
     last.looking last.as_was cleared.runs cleared.count c.in_ok-cell.cell (cell g at.In_ok-cell) line last.is c.release_block.new.ext c.release_block.new.pages c.in_ok-release_block.ensures.releases owners forests st has (last.last owners forests st)
+
+pub returns-clause-seen : goal.returns-clause-seen
+returns-clause-seen g c = λ told apart.
+    let map = c.at-map.result in
+    let s = c.args.pages.now in
+    let def = c.args.def.now in
+    let at = goal.at.returns-clause-seen g c in
+    let line = c.in_ok-line.ensures in
+    let last = sees g at.In_ok-line in
+    let first = c.in_ok-had.ensures.runs.works.steady.is_told in
+    let row = c.in_ok-clear_filled-2.ensures.seen (last.looking.works.steady.is_told ∙ told) in
+    let small : c.args.rid.block < 2 ^ 32 = omega arith in (
+      row.0,
+      record {
+        used = used_by_line s def map.tree c.at-map.ensures map.seven c.args.rid.block c.in_ok-line.line small line.named line.used (λ t held. line.there t (held_same first (same g at.In_default) held));
+        slot = seen_same g.P.Pages c.args.ext.now s c.line_of_used.new.pages def c.args.rid (Some row.0) last.as_was row.1;
+      },
+    )
 
 pub returns-clause-left : goal.returns-clause-left
 returns-clause-left g c =

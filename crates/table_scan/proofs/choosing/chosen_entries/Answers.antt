@@ -1,8 +1,6 @@
-use Rattle.std.proofs.Common.{AllPairs, IfOk, arith, ap, map, rules, subst, sym, ◌∙◌, ◌≤◌}
-use Rattle.std.proofs.lemmas.List.{get_or_default, map-append}
+use Rattle.std.proofs.Common.{AllPairs, IfOk, arith, ap, rules, subst, sym, ◌∙◌, ◌≤◌}
+use Rattle.std.proofs.lemmas.List.{map-append}
 use Rattle.std.proofs.lemmas.List.Sorted.{IsNonDecreasingBy-from_sort, IsPermutation-map, answers_always}
-use Rattle.cell_filter.specs.Cells.{may_hold}
-use Rattle.block_index.specs.declared.listed_cells.CellBlock.{CellBlock}
 use Rattle.table_scan.specs.Choices.{HaveSameMembers, IsChoiceOf, blocks_chosen}
 use Rattle.table_scan.specs.declared.choosing.ChosenEntry.{ChosenEntry}
 use Rattle.table_scan.proofs.BlocksThatMayLemmas.{choice_more, chooses, kept_in_order, may_more, may_past}

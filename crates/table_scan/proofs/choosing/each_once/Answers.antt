@@ -1,5 +1,4 @@
-use Rattle.std.proofs.Common.{◌≡◌, ◌≤◌, ◌+◌, ◌∷◌, [], ◌++◌, List, ℕ, ap, arith, get_or, length, map, subst, sym, take, ◌∙◌, inl, inr}
-use Rattle.std.specs.Prelude.{AllPairs, Contains}
+use Rattle.std.proofs.Common.{◌≡◌, ◌+◌, ◌∷◌, [], ◌++◌, ap, arith, get_or, length, subst, sym, take, ◌∙◌}
 use Rattle.std.proofs.lemmas.List.{get_or_default, length-map, map-append}
 use Rattle.table_scan.specs.Choices.{blocks_chosen}
 use Rattle.table_scan.specs.declared.choosing.ChosenEntry.{ChosenEntry}

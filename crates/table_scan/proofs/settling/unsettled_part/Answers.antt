@@ -5,7 +5,7 @@ use Rattle.table_scan.proofs.SettledLemmas.{IsLeftOf-All, IsLeftOf-none}
 use Rattle.table_scan.proofs.settling.unsettled_part.Goals as goal
 
 pub returns-then-is_settled : goal.returns-then-is_settled
-returns-then-is_settled c = IsLeftOf-none c.args.def.now c.args.pred.now (c.is_settled.ensures c.if-is_settled.true)
+returns-then-is_settled c = IsLeftOf-none c.args.def.now c.args.pred.now (c.is_settled.ensures.settled c.if-is_settled.true)
 
 pub returns-in_ok-unsettled_parts-in-All : goal.returns-in_ok-unsettled_parts-in-All
 returns-in_ok-unsettled_parts-in-All c =

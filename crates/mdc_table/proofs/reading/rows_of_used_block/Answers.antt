@@ -1,9 +1,7 @@
-use Rattle.std.proofs.Common.{◌≡◌, ◌++◌, map}
 use Rattle.store_api.proofs.RunsOverPagesLemmas.{runs_none, runs_wider}
-use Rattle.block_rows.specs.HeldRows.{placed_row, qualifying}
 use Rattle.free_space.proofs.TableRunsLemmas.{runs_broken}
 use Rattle.mdc_table.proofs.StandingBlocksLemmas.{breaks_past, breaks_rows_of_used}
-use Rattle.mdc_table.proofs.reading.push_rows_of_used_block.Goals as goal
+use Rattle.mdc_table.proofs.reading.rows_of_used_block.Goals as goal
 
 pub returns-then-block-ext-clause-runs : goal.returns-then-block-ext-clause-runs
 returns-then-block-ext-clause-runs g c =

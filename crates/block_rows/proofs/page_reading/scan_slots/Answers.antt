@@ -1,37 +1,36 @@
-use Rattle.std.proofs.Common.{◌≡◌, ◌+◌, ◌++◌, ◌∷◌, [], ◌∙◌, List, Option, IsTrue, ap, append-nil, append_assoc, arith, length, length-append, map, refl, subst, sym, take}
+use Rattle.std.proofs.Common.{◌≡◌, ◌+◌, ◌++◌, ◌∷◌, [], ◌∙◌, List, IsTrue, ap, append-nil, append_assoc, arith, length, length-append, refl, subst, sym, take}
 use Rattle.std.specs.List.{AllByRecursion}
-use Rattle.std.proofs.lemmas.List.Elements.{filter-append}
-use Rattle.mdc_ast.specs.Truth.{qualifies}
-use Rattle.mdc_ast.specs.declared.row.Cell.{Cell}
 use Rattle.row_page.specs.Row.{row_in}
 use Rattle.row_page.specs.RowPage.{rows_of, slot_count}
 use Rattle.row_filter.specs.Filtering.{may_filter}
 use Rattle.mdc_sound.specs.TableRows.{PlacedRow, rows_from_slot}
 use Rattle.mdc_sound.proofs.SlotRowsLemmas.{length-rows_from_slot}
 use Rattle.block_rows.specs.CellColumns.{places_of}
-use Rattle.block_rows.specs.HeldRows.{HasReadValues, HaveReadValues, placed_row, qualifying}
+use Rattle.block_rows.specs.Giving.{WasGiven}
+use Rattle.block_rows.specs.HeldRows.{HasReadValues, qualifying}
 use Rattle.block_rows.specs.PageRows.{IsFaultOfBytes}
 use Rattle.block_rows.specs.SeenRows.{HasMet}
+use Rattle.block_rows.proofs.GivingLemmas.{given_more_qualifying, given_none}
 use Rattle.block_rows.proofs.MetRowsLemmas.{each_append, met_more}
 use Rattle.block_rows.proofs.PageRowsLemmas.{ends-view, next-view, seen-view, unheaded-view}
 use Rattle.block_rows.proofs.ReadValuesLemmas.{read-slot}
-use Rattle.block_rows.proofs.page_reading.push_rows.Goals as goal
+use Rattle.block_rows.proofs.page_reading.scan_slots.Goals as goal
 
 pub slots-init : goal.slots-init
-slots-init c = record {
+slots-init g c = record {
   within = omega arith;
-  hits = sym (append-nil (map placed_row c.args.hits.now.items));
+  given_rows = given_none g.K.RowSink c.args.sink.now;
   read = tt;
   counted = omega arith;
   few = omega (arith, c.requires.few);
   meets = λ rows has. subst (HasMet (places_of c.args.cells.now.columns.items) c.args.given.now c.args.met.now) (sym (append-nil rows)) has;
-  keyed = λ were. were;
+  fits = c.requires.fits;
   pred = refl;
   width = refl;
 }
 
-pub push_if_taken-requires-clause-read : goal.push_if_taken-requires-clause-read
-push_if_taken-requires-clause-read c =
+pub give_if_taken-requires-clause-read : goal.give_if_taken-requires-clause-read
+give_if_taken-requires-clause-read g c =
     let seen = c.in-Some.ensures.seen in
     let row = c.filled_row-row.ensures in
     let is = row_in c.filled_row-row.result.columns.now c.filled_row-row.result.bytes.now in
@@ -39,8 +38,8 @@ push_if_taken-requires-clause-read c =
     (read-slot c.args.shape.now.columns.now c.in-Some.view.columns.now c.filled_row-row.result.columns.now c.args.page.now c.in-Some.view.page.now c.filled_row-row.result.bytes.now c.in-Some-next_filled.slot is
     seen.0 seen.1 row.columns row.bytes refl c.fits-page)
 
-pub push_if_taken-requires-clause-judged : goal.push_if_taken-requires-clause-judged
-push_if_taken-requires-clause-judged c =
+pub give_if_taken-requires-clause-judged : goal.give_if_taken-requires-clause-judged
+give_if_taken-requires-clause-judged g c =
     let seen = c.in-Some.ensures.seen in
     let row = c.filled_row-row.ensures in
     let is = row_in c.filled_row-row.result.columns.now c.filled_row-row.result.bytes.now in
@@ -49,13 +48,17 @@ push_if_taken-requires-clause-judged c =
     (read-slot c.args.shape.now.columns.now c.in-Some.view.columns.now c.filled_row-row.result.columns.now c.args.page.now c.in-Some.view.page.now c.filled_row-row.result.bytes.now c.in-Some-next_filled.slot is
     seen.0 seen.1 row.columns row.bytes refl c.fits-page))
 
+pub give_if_taken-requires-clause-fits : goal.give_if_taken-requires-clause-fits
+give_if_taken-requires-clause-fits g c =
+    subst (λ columns. g.K.RowSink.is_for columns c.slots.sink) (sym (c.filled_row-row.ensures.columns ∙ c.in-Some.ensures.seen.1)) c.slots.invariant.fits
+
 pub slots-preserved : goal.slots-preserved
-slots-preserved c =
+slots-preserved g c =
     let columns = c.args.shape.now.columns.now in
     let seen = c.in-Some.ensures.seen in
     let row = c.filled_row-row.ensures in
     let so = c.slots.invariant in
-    let pushed = c.in_ok-push_if_taken.ensures in
+    let taken = c.in_ok-give_if_taken.ensures in
     let places : List _ = places_of c.args.cells.now.columns.items in
     let is = row_in c.filled_row-row.result.columns.now c.filled_row-row.result.bytes.now in
     let next : PlacedRow = record { rid = record { block = c.args.first.block; slot = c.args.first.slot + c.in-Some-next_filled.slot }; row = is } in
@@ -69,25 +72,22 @@ slots-preserved c =
     seen.0 seen.1 row.columns row.bytes refl c.fits-page in
     record {
       within = omega (arith, c.in-Some-next_filled.ensures.1, ap slot_count seen.1);
-      hits = pushed.rows
-          ∙ (ap (λ pred. map placed_row c.slots.hits.items ++ qualifying pred (next ∷ [])) so.pred
-          ∙ (ap (λ l. l ++ qualifying c.args.filter.now.pred.now (next ∷ [])) so.hits
-          ∙ (append_assoc (map placed_row c.args.hits.now.items) (qualifying c.args.filter.now.pred.now so_far) (qualifying c.args.filter.now.pred.now (next ∷ []))
-          ∙ ap (λ l. map placed_row c.args.hits.now.items ++ l)
-          (sym (filter-append (λ placed. qualifies c.args.filter.now.pred.now placed.row.values) so_far (next ∷ [])) ∙ ap (qualifying c.args.filter.now.pred.now) (sym more)))));
+      given_rows = subst (λ rows. WasGiven g.K.RowSink c.args.sink.now c.give_if_taken.new.sink (qualifying c.args.filter.now.pred.now rows)) (sym more)
+          (given_more_qualifying g.K.RowSink c.args.filter.now.pred.now c.args.sink.now c.slots.sink c.give_if_taken.new.sink so_far (next ∷ []) so.given_rows
+          (subst (λ pred. WasGiven g.K.RowSink c.slots.sink c.give_if_taken.new.sink (qualifying pred (next ∷ []))) so.pred taken.given));
       read = subst (AllByRecursion (λ placed. HasReadValues columns placed.row)) (sym more) (each_append (λ placed. HasReadValues columns placed.row) so_far (next ∷ []) so.read (read, tt));
       counted = omega (arith, c.in_ok-meet.ensures.counted, so.counted, ap length more, length-append so_far (next ∷ []));
       few = omega (arith, c.in_ok-meet.ensures.counted, so.few, c.in-Some-next_filled.ensures.0);
       meets = λ rows has.
           subst (HasMet places c.args.given.now c.meet.new.self) (append_assoc rows so_far (next ∷ []) ∙ ap (λ l. rows ++ l) (sym more))
           (met_more places c.args.given.now c.slots.met c.meet.new.self (rows ++ so_far) next c.in_ok-meet.ensures.counted c.in_ok-meet.ensures.meets (so.meets rows has));
-      keyed = λ were. subst (λ columns. HaveReadValues columns c.slots.hits.items → HaveReadValues columns c.push_if_taken.new.hits.items) (row.columns ∙ seen.1) pushed.keyed (so.keyed were);
-      pred = pushed.pred ∙ so.pred;
-      width = pushed.width ∙ so.width;
+      fits = subst (λ columns. g.K.RowSink.is_for columns c.give_if_taken.new.sink) (row.columns ∙ seen.1) taken.fits;
+      pred = taken.pred ∙ so.pred;
+      width = taken.width ∙ so.width;
     }
 
 pub returns-then-met-rows_before-clause-refuses : goal.returns-then-met-rows_before-clause-refuses
-returns-then-met-rows_before-clause-refuses c =
+returns-then-met-rows_before-clause-refuses g c =
     let columns = c.args.shape.now.columns.now in
     let seen = c.in-Some.ensures.seen in
     let so = c.slots.invariant in
@@ -103,7 +103,7 @@ returns-then-met-rows_before-clause-refuses c =
     })
 
 pub returns-clause-sees : goal.returns-clause-sees
-returns-clause-sees c =
+returns-clause-sees g c =
     let columns = c.args.shape.now.columns.now in
     let seen = c.in-Some.ensures.seen in
     let so = c.slots.invariant in
@@ -114,6 +114,6 @@ returns-clause-sees c =
       form = seen-view columns c.in-Some.view.columns.now c.args.page.now c.in-Some.view.page.now seen.0 seen.1 c.rows.result (length rows) (c.in-Some.ensures.starts.0 refl) c.rows.ensures.stated
           (length-rows_from_slot c.args.first.block c.args.first.slot (rows_of columns c.args.page.now)) (omega (arith, c.if-met-rows_before.false, c.from.ensures, so.counted, ap length all));
       read = subst (AllByRecursion (λ placed. HasReadValues columns placed.row)) all so.read;
-      hits = so.hits ∙ ap (λ l. map placed_row c.args.hits.now.items ++ qualifying c.args.filter.now.pred.now l) all;
+      given_rows = subst (λ rows. WasGiven g.K.RowSink c.args.sink.now c.slots.sink (qualifying c.args.filter.now.pred.now rows)) all so.given_rows;
       meets = λ before has. subst (λ l. HasMet (places_of c.args.cells.now.columns.items) c.args.given.now c.slots.met (before ++ l)) all (so.meets before has);
     }

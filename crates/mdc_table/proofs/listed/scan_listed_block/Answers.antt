@@ -6,7 +6,7 @@ use Rattle.free_space.proofs.TableRunsLemmas.{runs_broken}
 use Rattle.mdc_sound.specs.StandingTable.{pages_of}
 use Rattle.mdc_sound.specs.TableRows.{rows_in_block}
 use Rattle.mdc_table.proofs.ListedBlocksLemmas.{breaks_cell, breaks_count, breaks_past_listed, runs_on_listed, seen_listed}
-use Rattle.mdc_table.proofs.listed.push_rows_of_listed_block.Goals as goal
+use Rattle.mdc_table.proofs.listed.scan_listed_block.Goals as goal
 
 pub returns-then-block-ext-clause-runs : goal.returns-then-block-ext-clause-runs
 returns-then-block-ext-clause-runs g c =

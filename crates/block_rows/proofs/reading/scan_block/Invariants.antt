@@ -1,4 +1,4 @@
-use Rattle.std.proofs.Common.{◌≡◌, ◌≤◌, ◌+◌, ◌*◌, IsTrue, None, length, map}
+use Rattle.std.proofs.Common.{◌≡◌, ◌≤◌, ◌+◌, ◌*◌, IsTrue, None, length}
 use Rattle.store_api.specs.Extents.{first_page_of}
 use Rattle.store_api.specs.Fetching.{BringsOnce, PagesBetween}
 use Rattle.store_api.specs.Frame.{NoPage}
@@ -6,18 +6,18 @@ use Rattle.store_api.specs.RunsOverPages.{RunsOverPages}
 use Rattle.row_page.specs.RowPage.{slot_count}
 use Rattle.mdc_sound.specs.StandingTable.{IsPageOfBlock, pages_of}
 use Rattle.block_rows.specs.CellColumns.{places_of}
-use Rattle.block_rows.specs.HeldRows.{BreaksRows, HaveReadValues, placed_row}
+use Rattle.block_rows.specs.HeldRows.{BreaksRows}
 use Rattle.block_rows.proofs.SeenPagesLemmas.{SeesPages}
-use Rattle.block_rows.proofs.reading.push_rows_in_cell.Given as goal
+use Rattle.block_rows.proofs.reading.scan_block.Given as goal
 
--- the rows of the pages so far were met, those that the filter takes were copied, and each of the pages came to hand once
+-- the rows of the pages so far were met, the sink was given those that the filter takes, and each of the pages came to hand once
 abbrev pub invariant-loop-j : goal.invariant-loop-j
 invariant-loop-j g l = record {
   same : (g.P.Pages.state l.pages).work ≡ (g.P.Pages.state l.fn.pages).work;
-  sees : IsTrue (g.P.Pages.state l.fn.pages).is_told → SeesPages l.ext (pages_of g.P.Pages l.fn.pages) l.def l.block (places_of l.cells.columns.items) l.cell l.fn.filter.pred.now l.j
-      (map placed_row l.fn.hits.items) (map placed_row l.hits.items) l.met;
+  sees : IsTrue (g.P.Pages.state l.fn.pages).is_told → SeesPages g.K.RowSink l.ext (pages_of g.P.Pages l.fn.pages) l.def l.block (places_of l.cells.columns.items) l.cell l.fn.filter.pred.now l.j
+      l.fn.sink l.sink l.met;
   few : l.met.rows ≤ l.j * slot_count l.def.columns;
-  keyed : HaveReadValues l.def.columns l.fn.hits.items → HaveReadValues l.def.columns l.hits.items;
+  fits : g.K.RowSink.is_for l.def.columns l.sink;
   pred : l.filter.pred.now ≡ l.fn.filter.pred.now;
   width : length l.filter.values ≡ length l.fn.filter.values;
   once : BringsOnce g.P.Pages (PagesBetween (first_page_of l.ext.cap l.ext.extent_pages l.block) (first_page_of l.ext.cap l.ext.extent_pages l.block + l.j)) l.fn.pages l.pages;

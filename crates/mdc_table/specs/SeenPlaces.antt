@@ -1,0 +1,36 @@
+-- What a call that looked for the row in a place has seen, whatever the pages hold.
+use Rattle.std.specs.Prelude.{◌≢◌, ◌≤◌, ◌⊎◌, ℕ, Option, Some, None}
+use Rattle.mdc_values.specs.declared.rid.Rid.{Rid}
+use Rattle.mdc_ast.specs.declared.definition.TableDef.{TableDef}
+use Rattle.mdc_ast.specs.declared.row.Row.{Row}
+use Rattle.store_api.specs.declared.pages.Pages.{Ghosts}
+use Rattle.extent_map.specs.declared.extents.Extents.{Extents}
+use Rattle.entry_tree.specs.Forest.{Forest}
+use Rattle.block_map.specs.BlockMaps.{FindsBlock}
+use Rattle.block_map.specs.declared.row.BlockRow.{BlockRow}
+use Rattle.block_map.specs.declared.state.BlockState.TheVariants.{Used}
+use Rattle.table_trees.specs.TableTrees.{map_place}
+use Rattle.table_trees.specs.TreesBeside.{HoldsTreeAt}
+use Rattle.mdc_sound.specs.Placing.{block_slot_count}
+use Rattle.table_blocks.specs.SeenSlots.{SeesUsedSlot}
+
+-- no row of a block map, or that of a block which isn't Used
+abbrev pub IsUnusedRow : Option BlockRow → Type 0
+IsUnusedRow None = Unit {0}
+IsUnusedRow (Some row) = row.state ≢ Used
+
+-- of any such tree it was found that it doesn't name the block, or has it in another state
+pub record IsSeenUnused {S : Type 0} (g : Ghosts S) (s : S) (def : TableDef) (block : ℕ) : Type 0 where
+  pub found : Option BlockRow
+  pub finds : (t : Forest) → HoldsTreeAt g s (map_place def) t → FindsBlock t block found
+  pub unused : IsUnusedRow found
+
+-- there is no such extent, or no such slot
+abbrev pub IsNoPlace : Extents → TableDef → Rid → Type 0
+IsNoPlace ext def rid = (ext.cap ≤ rid.block) ⊎ (block_slot_count ext def ≤ rid.slot)
+
+-- A row was seen in a slot of a Used block. Where none was found, such a slot was seen empty, or the block isn't Used, or there is no
+-- such place.
+abbrev pub SeesPlace : {S : Type 0} → Ghosts S → Extents → S → TableDef → Rid → Option Row → Type 0
+SeesPlace g ext s def rid None = SeesUsedSlot g ext s def rid None ⊎ (IsSeenUnused g s def rid.block ⊎ IsNoPlace ext def rid)
+SeesPlace g ext s def rid (Some row) = SeesUsedSlot g ext s def rid (Some row)
