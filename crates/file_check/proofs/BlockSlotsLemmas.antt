@@ -16,6 +16,7 @@ use Rattle.block_rows.proofs.PartsLemmas.{get_or-part, part-parts}
 use Rattle.mdc_sound.specs.BlockRules.{AreBlockRowsSound}
 use Rattle.mdc_ast.specs.FittingRows.{RowFits}
 use Rattle.mdc_sound.specs.TableRows.{PlacedRow, block_page, block_slots, rows_from_slot, rows_in_block}
+use Rattle.mdc_sound.proofs.BlockRulesLemmas.{each_of}
 use Rattle.mdc_sound.proofs.ElementsLemmas.{each_in}
 use Rattle.mdc_sound.proofs.SlotRowsLemmas.{length-block_slots}
 use Rattle.file_check.specs.Judging.{HoldsUnbroken, IsLowestBreak}
@@ -156,3 +157,12 @@ module _ (ext : Extents) (pages : PageList) (def : TableDef) (block : ℕ) where
       | inr behind ↦ omega (arith, behind, b.page, at)
     ];
   }
+
+  -- no page of a block whose rows are sound breaks it
+  pub sound_breaks_none : AreBlockRowsSound ext pages def block → (p : ℕ) → BreaksBlockRows ext pages def block p → ⊥
+  sound_breaks_none sound p b = fitting_unfit (block_page ext pages block b.place) (record { form = sound.forms b.place b.within; rows = fit }) b.unfit
+    where
+      fit : (slot : ℕ) (row : Row) → slot < slot_count def.columns → slot_row def.columns (block_page ext pages block b.place) slot ≡ Some row → RowFits def row
+      fit slot row low is =
+          let on = row_on_page b.place slot row b.within low is in
+          subst (RowFits def) on.row_is (each_of (λ placed. RowFits def placed.row) (rows_in_block ext pages def block) on.placed sound.rows on.there)

@@ -61,6 +61,16 @@ state_is_mapped map_tree state block there =
     in_lines (first ∷ lines) line block (zero, low, is) names = (0, omega arith, ap (λ (l : MapLine). l.block) is ∙ names)
     in_lines (first ∷ lines) line block (suc k, low, is) names = contains_more block first.block (map (λ l. l.block) lines) (in_lines lines line block (k, omega (arith, low), is) names)
 
+-- a block of another state isn't Used
+pub idle_unused : (map_tree : Forest) (state block : ℕ) → IsMapForm map_tree → state ≢ 1 → Contains (blocks_of_state state map_tree) block → Contains (used_blocks map_tree) block → ⊥
+idle_unused map_tree state block form idle there used =
+    let a = named_in_state state (leaf_entries map_tree) block there in
+    let b = named_in_state 1 (leaf_entries map_tree) block used in
+    let same : a.entry ≡ b.entry = form_one map_tree a.entry b.entry form a.there b.there (a.block_is ∙ sym b.block_is) in
+    let is_state : (map_line a.entry).state ≡ state = grind (arith, nat_tests, a.state) in
+    let is_used : (map_line b.entry).state ≡ 1 = grind (arith, nat_tests, b.state) in
+    idle (sym is_state ∙ (ap (λ (entry : Entry). (map_line entry).state) same ∙ is_used))
+
 -- ---- the line of a row that was found
 
 module _ (map_tree : Forest) (row : BlockRow) (form : IsMapForm map_tree) (small : row.block < 2 ^ 32) (found : HasRow row map_tree) where
@@ -188,11 +198,11 @@ module _ (ext : Extents) (pages : PageList) (def : TableDef) (map_tree : Forest)
   states : (line : MapLine) → Contains (map_lines map_tree) line → (line.state ≡ 0) ⊎ ((line.state ≡ 1) ⊎ (line.state ≡ 2))
   states line there = by_state line.state (each_of (λ (l : MapLine). l.state ≤ 2) (map_lines map_tree) line form.states there)
 
-  all_lines : (AreCounted 0 × AreCounted 1) × AreCounted 2 → AllByRecursion (IsLineCounted ext pages def) (map_lines map_tree)
+  all_lines : AreCounted 1 × (AreCounted 0 × AreCounted 2) → AllByRecursion (IsLineCounted ext pages def) (map_lines map_tree)
   all_lines all = each_in (IsLineCounted ext pages def) (map_lines map_tree) (λ line there. elim (states line there) [
-    | inl free ↦ of_state 0 all.0.0 line there free
-    | inr (inl used) ↦ of_state 1 all.0.1 line there used
-    | inr (inr pending) ↦ of_state 2 all.1 line there pending
+    | inl free ↦ of_state 0 all.1.0 line there free
+    | inr (inl used) ↦ of_state 1 all.0 line there used
+    | inr (inr pending) ↦ of_state 2 all.1.1 line there pending
   ])
 
   miscounted_line : (n p : ℕ) → AnyMiscounted n p → BreaksAny (BreaksLineCount ext pages def) (map_lines map_tree) p
@@ -202,7 +212,7 @@ module _ (ext : Extents) (pages : PageList) (def : TableDef) (map_tree : Forest)
       breaks_any-member (BreaksLineCount ext pages def) (map_lines map_tree) b.miscounted.line p b.miscounted.there
       (record { page = b.page ∙ ap (first_page_of ext.cap ext.extent_pages) (sym b.miscounted.names); miscounted = b.miscounted.miscounted })
 
-  line_miscounted : (p : ℕ) → BreaksAny (BreaksLineCount ext pages def) (map_lines map_tree) p → (AnyMiscounted 0 p ⊎ AnyMiscounted 1 p) ⊎ AnyMiscounted 2 p
+  line_miscounted : (p : ℕ) → BreaksAny (BreaksLineCount ext pages def) (map_lines map_tree) p → AnyMiscounted 1 p ⊎ (AnyMiscounted 0 p ⊎ AnyMiscounted 2 p)
   line_miscounted p any =
       let in_lines = member-breaks_any (BreaksLineCount ext pages def) (map_lines map_tree) p any in
       let line = in_lines.0 in
@@ -211,22 +221,20 @@ module _ (ext : Extents) (pages : PageList) (def : TableDef) (map_tree : Forest)
       breaks_any-member (BreaksBlockCount ext pages def map_tree) (blocks_of_state n map_tree) line.block p (block_of_line map_tree line n in_lines.1 is)
       (record { page = b.page; miscounted = record { line = line; there = in_lines.1; names = refl; miscounted = b.miscounted } }) in
       elim (states line in_lines.1) [
-        | inl free ↦ inl (inl (in_state 0 free))
-        | inr (inl used) ↦ inl (inr (in_state 1 used))
-        | inr (inr pending) ↦ inr (in_state 2 pending)
+        | inl free ↦ inr (inl (in_state 0 free))
+        | inr (inl used) ↦ inl (in_state 1 used)
+        | inr (inr pending) ↦ inr (inr (in_state 2 pending))
       ]
 
-  pub judges_lines : (free used pending : Option ℕ) → JudgesEach (IsBlockCounted ext pages def map_tree) (BreaksBlockCount ext pages def map_tree) (blocks_of_state 0 map_tree) free
-      → JudgesEach (IsBlockCounted ext pages def map_tree) (BreaksBlockCount ext pages def map_tree) (blocks_of_state 1 map_tree) used
-      → JudgesEach (IsBlockCounted ext pages def map_tree) (BreaksBlockCount ext pages def map_tree) (blocks_of_state 2 map_tree) pending
-      → JudgesEach (IsLineCounted ext pages def) (BreaksLineCount ext pages def) (map_lines map_tree) (lower (lower free used) pending)
-  judges_lines free used pending is_free is_used is_pending =
-      judges_as {P = (AreCounted 0 × AreCounted 1) × AreCounted 2} {Q = AllByRecursion (IsLineCounted ext pages def) (map_lines map_tree)} {A = λ p. (AnyMiscounted 0 p ⊎ AnyMiscounted 1 p) ⊎ AnyMiscounted 2 p}
+  pub judges_lines : (used idle : Option ℕ) → JudgesEach (IsBlockCounted ext pages def map_tree) (BreaksBlockCount ext pages def map_tree) (blocks_of_state 1 map_tree) used
+      → Judges (AreCounted 0 × AreCounted 2) (λ p. AnyMiscounted 0 p ⊎ AnyMiscounted 2 p) idle
+      → JudgesEach (IsLineCounted ext pages def) (BreaksLineCount ext pages def) (map_lines map_tree) (lower used idle)
+  judges_lines used idle is_used is_idle =
+      judges_as {P = AreCounted 1 × (AreCounted 0 × AreCounted 2)} {Q = AllByRecursion (IsLineCounted ext pages def) (map_lines map_tree)} {A = λ p. AnyMiscounted 1 p ⊎ (AnyMiscounted 0 p ⊎ AnyMiscounted 2 p)}
       {B = BreaksAny (BreaksLineCount ext pages def) (map_lines map_tree)}
-      (lower (lower free used) pending) all_lines (λ p any. elim any [
-        | inl (inl b) ↦ miscounted_line 0 p b
-        | inl (inr b) ↦ miscounted_line 1 p b
-        | inr b ↦ miscounted_line 2 p b
+      (lower used idle) all_lines (λ p any. elim any [
+        | inl b ↦ miscounted_line 1 p b
+        | inr (inl b) ↦ miscounted_line 0 p b
+        | inr (inr b) ↦ miscounted_line 2 p b
       ]) line_miscounted
-      (judges_both (AreCounted 0 × AreCounted 1) (AreCounted 2) (λ p. AnyMiscounted 0 p ⊎ AnyMiscounted 1 p) (AnyMiscounted 2) (lower free used) pending
-      (judges_both (AreCounted 0) (AreCounted 1) (AnyMiscounted 0) (AnyMiscounted 1) free used is_free is_used) is_pending)
+      (judges_both (AreCounted 1) (AreCounted 0 × AreCounted 2) (AnyMiscounted 1) (λ p. AnyMiscounted 0 p ⊎ AnyMiscounted 2 p) used idle is_used is_idle)

@@ -1,3 +1,4 @@
+pub mod BlockEntriesLemmas
 pub mod BlockHitsLemmas
 pub mod BlockMapsLemmas
 pub mod BlockSlotsLemmas
@@ -18,11 +19,11 @@ pub mod JudgedDefinitionsLemmas
 pub mod JudgedListsLemmas
 pub mod JudgedMapsLemmas
 pub mod JudgedPlacesLemmas
+pub mod JudgedTablesLemmas
 pub mod JudgingLemmas
 pub mod KeptRulesLemmas
 pub mod KeysLemmas
 pub mod KindsLemmas
-pub mod KnownRowsLemmas
 pub mod KnownTablesLemmas
 pub mod LaterTablesLemmas
 pub mod MapEntriesLemmas
@@ -39,7 +40,6 @@ pub mod RowEntriesLemmas
 pub mod RowKeysLemmas
 pub mod RowPagesRuleLemmas
 pub mod RulesInOrderLemmas
-pub mod RulesOfBlocksLemmas
 pub mod RulesOfTablesLemmas
 pub mod SameShapeLemmas
 pub mod SharedNamesLemmas

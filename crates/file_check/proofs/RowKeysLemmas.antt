@@ -1,7 +1,6 @@
 -- The numbers and the keys of rows, one row or one part more.
 use Rattle.std.proofs.Common.{◌≡◌, ◌<◌, ◌+◌, ◌∙◌, ℕ, List, [], ◌∷◌, ◌++◌, add-one, append_assoc, length, take, drop, drop-cons, get_or, ap, sym, subst}
 use Rattle.std.specs.Prelude.{map, IsTrue, Some, slice_get, slice_index_or, unwrap_or}
-use Rattle.std.specs.List.{AllByRecursion}
 use Rattle.std.proofs.lemmas.List.{append-nil, map-append, take_more}
 use Rattle.mdc_values.specs.declared.value.ColType.{ColType}
 use Rattle.mdc_values.specs.declared.value.Value.{Value}
@@ -14,7 +13,6 @@ use Rattle.key_codec.specs.Keys.{has_key, key_bytes, part_bytes, type_of_column,
 use Rattle.block_rows.specs.HeldRows.{HasReadValues}
 use Rattle.mdc_sound.specs.TableRows.{PlacedRow}
 use Rattle.file_check.specs.KeysJudged.{AreKeysOf, AreNumbersOf}
-use Rattle.file_check.proofs.JudgingLemmas.{all_next}
 
 -- ---- the parts of a key
 

@@ -59,19 +59,12 @@ pub record KeepsFirst (ext : Extents) (defs : Definitions) (i : ℕ) (pages : Pa
 abbrev pub SaysNext : Extents → Definitions → ℕ → Option ℕ → PageList → Type 0
 SaysNext ext defs i found pages = (view : DatabaseView) → ViewKnownFor (rule_at i) ext pages defs view → JudgesRule ext pages (rule_number (rule_at i)) (ViewKeeps (rule_at i) ext pages view) found
 
--- what it rests on
-abbrev pub SomeKnown : Extents → Definitions → ℕ → PageList → Type 0
-SomeKnown ext defs i pages = (view : DatabaseView) × ViewKnownFor (rule_at i) ext pages defs view
-
 module _ (ext : Extents) (pages : PageList) (defs : Definitions) where
   -- none was judged yet
   pub keeps_none_yet : KeepsBlockMaps ext defs pages → KeepsFirst ext defs 0 pages
   keeps_none_yet kept = record { view = kept.view; blocks = kept.known; kept = tt; before = kept.before }
 
   module _ (i : ℕ) (low : i < 6) (first : KeepsFirst ext defs i pages) where
-    pub next_known : SomeKnown ext defs i pages
-    next_known = (first.view, known_at ext pages defs first.view i low first.blocks first.kept)
-
     -- the next one is kept
     pub keeps_next : (found : Option ℕ) → FindsNone found → SaysNext ext defs i found pages → KeepsFirst ext defs (i + 1) pages
     keeps_next found none says =

@@ -11,7 +11,8 @@ use Rattle.table_trees.specs.ToldPages.{PageList}
 use Rattle.mdc_sound.specs.SpaceRules.{DatabaseView, tables_there}
 use Rattle.mdc_sound.specs.TableViews.{TableView}
 use Rattle.file_check.specs.Judging.{Judges, JudgesEach, JudgesRule}
-use Rattle.file_check.specs.Known.{ViewHasTrees}
+use Rattle.file_check.specs.Known.{ViewHasBlocks, ViewHasTrees}
+use Rattle.file_check.specs.KnownTables.{TellsTrees}
 use Rattle.file_check.specs.Looking.{Unless}
 use Rattle.file_check.specs.RulesOfTables.{BreaksTableRule, KeepsTableRule, TableBreaks, TableKeeps, TableKnownFor, ViewKeeps, ViewKnownFor, rule_number}
 use Rattle.file_check.specs.declared.block_rule.BlockRule.TheVariants.{Cells, Counts, RowPages}
@@ -22,12 +23,10 @@ use Rattle.file_check.proofs.CellsRuleLemmas.{judges_rule9}
 use Rattle.file_check.proofs.CountsRuleLemmas.{judges_rule8}
 use Rattle.file_check.proofs.IndexRulesLemmas.{judges_rule_10, judges_rule_11}
 use Rattle.file_check.proofs.JudgingLemmas.{place_with}
-use Rattle.file_check.proofs.KeysLemmas.{judges_keys, known_rows}
-use Rattle.file_check.proofs.KnownRowsLemmas.{member_rows}
-use Rattle.file_check.proofs.KnownTablesLemmas.{placed_is_there}
+use Rattle.file_check.proofs.KeysLemmas.{judges_keys}
 use Rattle.file_check.proofs.RowPagesRuleLemmas.{judges_rule7}
-use Rattle.file_check.proofs.ShownTablesLemmas.{member_map, place_of_def}
-use Rattle.file_check.proofs.TableJudgingLemmas.{has_indexes}
+use Rattle.file_check.proofs.ShownTablesLemmas.{place_of_def}
+use Rattle.file_check.proofs.TableJudgingLemmas.{table_cells, table_rows, table_trees}
 
 -- its trees stand
 pub trees_known : (rule : TableRule) (ext : Extents) (pages : PageList) (defs : Definitions) (view : DatabaseView) → ViewKnownFor rule ext pages defs view → ViewHasTrees ext pages defs view
@@ -40,11 +39,11 @@ trees_known Keys ext pages defs view known = known.rows.blocks.trees
 -- what is known of a table of the view
 table_known : (rule : TableRule) (ext : Extents) (pages : PageList) (defs : Definitions) (view : DatabaseView) (i : ℕ) (table : TableView) → ViewKnownFor rule ext pages defs view
     → slice_get view.places i ≡ Some (Some table) → TableKnownFor rule ext pages table.def table.map
-table_known (Block RowPages) ext pages defs view i table known at = member_map ext pages defs view known.trees known.rule6 table (placed_is_there view.places i table at)
-table_known (Block Counts) ext pages defs view i table known at = member_rows ext pages defs view known table (placed_is_there view.places i table at)
-table_known (Block Cells) ext pages defs view i table known at = member_rows ext pages defs view known table (placed_is_there view.places i table at)
-table_known (Index kind) ext pages defs view i table known at = has_indexes kind ext pages defs view i table known at
-table_known Keys ext pages defs view i table known at = known_rows ext pages defs view table known (placed_is_there view.places i table at)
+table_known (Block RowPages) ext pages defs view i table known at = table_trees ext pages defs view i table at known
+table_known (Block Counts) ext pages defs view i table known at = table_rows ext pages defs view i table at known
+table_known (Block Cells) ext pages defs view i table known at = table_rows ext pages defs view i table at known
+table_known (Index kind) ext pages defs view i table known at = table_cells ext pages defs view i table at known
+table_known Keys ext pages defs view i table known at = table_cells ext pages defs view i table at known
 
 -- of a definition in a place
 def_known : (rule : TableRule) (ext : Extents) (pages : PageList) (defs : Definitions) (view : DatabaseView) (i : ℕ) (def : TableDef) → ViewKnownFor rule ext pages defs view
@@ -54,12 +53,11 @@ def_known rule ext pages defs view i def known at =
     (there.0.map, subst (λ (d : TableDef). TableKnownFor rule ext pages d there.0.map) there.2 (table_known rule ext pages defs view i there.0 known there.1))
 
 -- damage of its table isn't named then
-pub table_unless : {S : Type 0} (g : Ghosts S) (rule : TableRule) (ext : Extents) (old now : S) (defs : Definitions) (i : ℕ) (def : TableDef) (damage : Damage) → (g.state now).is_told ≡ (g.state old).is_told
-    → (g.state now).work ≡ (g.state old).work → slice_get defs i ≡ Some (Some def) → Unless g now (λ told. (map_tree : Forest) × TableKnownFor rule ext told def map_tree) damage
-    → Unless g old (λ told. (view : DatabaseView) × ViewKnownFor rule ext told defs view) damage
-table_unless g rule ext old now defs i def damage tells works at b told known =
-    b (tells ∙ told)
-    (subst (λ (pages : PageList). (map_tree : Forest) × TableKnownFor rule ext pages def map_tree) (sym works) (def_known rule ext (g.state old).work defs known.0 i def known.1 at))
+pub table_unless : {S : Type 0} (g : Ghosts S) (ext : Extents) (old now : S) (defs : Definitions) (i : ℕ) (def : TableDef) (damage : Damage) → (g.state now).is_told ≡ (g.state old).is_told
+    → (g.state now).work ≡ (g.state old).work → slice_get defs i ≡ Some (Some def) → Unless g now (TellsTrees ext def) damage
+    → Unless g old (λ told. (view : DatabaseView) × ViewHasBlocks ext told defs view) damage
+table_unless g ext old now defs i def damage tells works at b told known =
+    b (tells ∙ told) (subst (TellsTrees ext def) (sym works) (def_known (Block RowPages) ext (g.state old).work defs known.0 i def known.1 at))
 
 -- what was judged later of a definition is judged of its table in the view
 pub judged_in_view : (rule : TableRule) (ext : Extents) (pages later : PageList) (defs : Definitions) (view : DatabaseView) (i : ℕ) (table : TableView) (def : TableDef) (here : Option ℕ) → later ≡ pages

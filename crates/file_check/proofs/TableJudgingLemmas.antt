@@ -1,5 +1,5 @@
 -- The indexes of a table are judged one after the other, and those of all tables.
-use Rattle.std.proofs.Common.{◌≡◌, ◌+◌, ◌<◌, ◌⊎◌, Bool, ℕ, List, [], ◌∷◌, ◌++◌, refl, sym, ap, subst, ◌∙◌, arith, take, inl, inr, true, false}
+use Rattle.std.proofs.Common.{◌≡◌, ◌+◌, ◌⊎◌, Bool, ℕ, List, [], ◌∷◌, ◌++◌, refl, sym, ap, subst, ◌∙◌, arith, take, inl, inr, true, false}
 use Rattle.std.specs.Prelude.{IsTrue, Contains, ◌↔◌, Option, Some, None, map, slice_get, zip}
 use Rattle.std.specs.List.{AllByRecursion, AllZip}
 use Rattle.std.proofs.lemmas.List.{take_more}
@@ -16,22 +16,25 @@ use Rattle.store_api.proofs.RunsOverPagesLemmas.{runs_then}
 use Rattle.extent_map.specs.declared.extents.Extents.{Extents}
 use Rattle.key_codec.specs.Keys.{width_of_parts}
 use Rattle.entry_tree.specs.Forest.{Forest, leaf_entries}
-use Rattle.block_map.specs.MapLines.{map_line, map_lines, used_blocks}
+use Rattle.block_map.specs.MapLines.{map_lines, used_blocks}
 use Rattle.block_map.proofs.MapLinesLemmas.{contains_cases, contains_more}
 use Rattle.table_trees.specs.TableTrees.{TreePlace, cell_parts, composite_place, dimension_place, dimension_places, map_place, place_of_tree, record_place, record_places, tree_places}
 use Rattle.table_trees.specs.ToldPages.{HasTree, PageList}
-use Rattle.mdc_sound.specs.BlockRules.{AreBlockRowsSound}
-use Rattle.mdc_sound.specs.SpaceRules.{DatabaseView, IsBlockMapSound, IsMapLineSound}
+use Rattle.mdc_sound.specs.BlockRules.{AreBlockRowsSound, IsIdleCountSound, IsOfOneCell, IsUsedCountSound}
+use Rattle.mdc_sound.specs.SpaceRules.{DatabaseView, tables_there}
 use Rattle.mdc_sound.specs.TableViews.{TableView, trees_of_table}
-use Rattle.mdc_sound.proofs.ElementsLemmas.{contains_entry, from_map, in_map}
-use Rattle.mdc_sound.proofs.MappedBlocksLemmas.{map_form, used_line}
+use Rattle.mdc_sound.proofs.ElementsLemmas.{each_in, from_map, in_map}
 use Rattle.mdc_sound.proofs.SpaceRulesLemmas.{there_at}
 use Rattle.mdc_sound.proofs.StandsForLemmas.{one_tree_at}
 use Rattle.file_check.specs.Judging.{Judges, JudgesEach, lower}
-use Rattle.file_check.specs.Known.{ViewHasCells}
+use Rattle.file_check.specs.BlocksJudged.{IsLineCounted}
+use Rattle.file_check.specs.Known.{ViewHasBlocks, ViewHasCells, ViewHasRows}
+use Rattle.file_check.specs.KnownTables.{TableHasCells, TableHasRows, TableHasTrees}
 use Rattle.file_check.specs.Looking.{AnyPage, Unless}
 use Rattle.file_check.proofs.IndexJudgingLemmas.{TellsIndexes}
 use Rattle.file_check.proofs.JudgingLemmas.{judges_next}
+use Rattle.file_check.proofs.KnownTablesLemmas.{placed_is_there}
+use Rattle.file_check.proofs.ShownTablesLemmas.{member_map}
 use Rattle.file_check.specs.declared.table_index.IndexKind.{IndexKind}
 use Rattle.file_check.specs.declared.table_index.IndexKind.TheVariants.{Blocks, Rows}
 use Rattle.file_check.specs.declared.table_index.TableIndex.{TableIndex}
@@ -69,18 +72,18 @@ found_in_place kind ext pages work def map_tree index used spare sound kind_is s
 
 -- ---- one of a list after the other
 
-lower-none : (found : Option ℕ) → lower found None ≡ found
+pub lower-none : (found : Option ℕ) → lower found None ≡ found
 lower-none None = refl
 lower-none (Some page) = refl
 
-place_next : {X : Type 0} (P : X → Type 0) (B : X → ℕ → Type 0) (xs : List X) (i : ℕ) (x : X) (found here : Option ℕ) → slice_get xs i ≡ Some x
+pub place_next : {X : Type 0} (P : X → Type 0) (B : X → ℕ → Type 0) (xs : List X) (i : ℕ) (x : X) (found here : Option ℕ) → slice_get xs i ≡ Some x
     → JudgesEach P B (take i xs) found → Judges (P x) (B x) here → JudgesEach P B (take (i + 1) xs) (lower found here)
 place_next {X} P B xs i x found here at before this =
     let low = slice_get_within xs i x at in
     let more : take (i + 1) xs ≡ take i xs ++ x ∷ [] = take_more xs i x low ∙ ap (λ y. take i xs ++ y ∷ []) (get_or_from_slice_get xs i x x at) in
     subst (λ (ys : List X). JudgesEach P B ys (lower found here)) (sym more) (judges_next P B (take i xs) x found here before this)
 
-member_at : {X : Type 0} (xs : List X) (i : ℕ) (x : X) → slice_get xs i ≡ Some x → Contains xs x
+pub member_at : {X : Type 0} (xs : List X) (i : ℕ) (x : X) → slice_get xs i ≡ Some x → Contains xs x
 member_at xs i x at = (i, slice_get_within xs i x at, get_or_from_slice_get xs i x x at)
 
 -- ---- the next one is judged
@@ -142,7 +145,7 @@ module _ {S : Type 0} {g : Ghosts S} {kind : IndexKind} {ext : Extents} {def : T
 
 -- ---- what is known of a table
 
-tree_in : (pages : PageList) (places : List TreePlace) (trees : List Forest) (place : TreePlace) → AllZip (HasTree pages) places trees → Contains places place → (tree : Forest) × HasTree pages place tree
+pub tree_in : (pages : PageList) (places : List TreePlace) (trees : List Forest) (place : TreePlace) → AllZip (HasTree pages) places trees → Contains places place → (tree : Forest) × HasTree pages place tree
 tree_in pages [] trees place all (k, low, at) = absurd (omega (arith, low))
 tree_in pages (first ∷ places) [] place all there = absurd all
 tree_in pages (first ∷ places) (t ∷ trees) place all there = go (contains_cases place first places there) (tree_in pages places trees place all.1)
@@ -178,25 +181,41 @@ each_of {X} P (y ∷ ys) x all there = go (contains_cases x y ys there) (each_of
     go (inl e) more = subst P e all.0
     go (inr c) more = more c
 
--- a Used block is an extent
-block_within : (ext : Extents) (view : DatabaseView) (table : TableView) (block : ℕ) → IsBlockMapSound ext view.owners table.def table.map → Contains (used_blocks table.map) block → block < ext.cap
-block_within ext view table block sound there =
-    let line = used_line table.map block there in
-    subst (λ n. n < ext.cap) line.block_is
-    (each_of (IsMapLineSound ext view.owners table.def) (map_lines table.map) (map_line line.entry) sound.lines (in_map map_line (leaf_entries table.map) line.entry (contains_entry (leaf_entries table.map) line.entry line.there))).within
+-- the trees of a table of the view stand
+module _ (ext : Extents) (pages : PageList) (defs : Definitions) (view : DatabaseView) (t : ℕ) (table : TableView) (at : slice_get view.places t ≡ Some (Some table)) where
+  abbrev tables : List TableView
+  tables = tables_there view.places
 
-pub has_indexes : (kind : IndexKind) (ext : Extents) (pages : PageList) (defs : Definitions) (view : DatabaseView) (t : ℕ) (table : TableView) → ViewHasCells ext pages defs view → slice_get view.places t ≡ Some (Some table)
-    → HasIndexes kind ext pages table.def table.map
-has_indexes kind ext pages defs view t table known at =
-    let trees = there_at (λ table. AllZip (HasTree pages) (tree_places table.def) (trees_of_table table)) view.places t table at known.rows.blocks.trees.rule4 in
-    let block_map = there_at (λ table. IsBlockMapSound ext view.owners table.def table.map) view.places t table at known.rows.blocks.rule6 in
-    let rows = there_at (λ table. AllByRecursion (AreBlockRowsSound ext pages table.def) (used_blocks table.map)) view.places t table at known.rows.rule7 in
-    record {
-      map = trees.0;
-      form = map_form ext view.owners table.def table.map block_map;
-      used = λ block there. (
-        block_within ext view table block block_map there,
-        (each_of (AreBlockRowsSound ext pages table.def) (used_blocks table.map) block rows there).forms,
-      );
-      trees = λ index there. tree_in pages (tree_places table.def) (trees_of_table table) index.place trees (is_tree_place kind table.def index there);
-    }
+  there : Contains tables table
+  there = placed_is_there view.places t table at
+
+  pub table_trees : ViewHasBlocks ext pages defs view → TableHasTrees ext pages table.def table.map
+  table_trees known =
+      let trees = there_at (λ table. AllZip (HasTree pages) (tree_places table.def) (trees_of_table table)) view.places t table at known.trees.rule4 in
+      record {
+        map = member_map ext pages defs view known.trees known.rule6 table there;
+        indexes = λ kind index is. tree_in pages (tree_places table.def) (trees_of_table table) index.place trees (is_tree_place kind table.def index is);
+      }
+
+  -- and its rows
+  pub table_rows : ViewHasRows ext pages defs view → TableHasRows ext pages table.def table.map
+  table_rows known = record {
+    trees = table_trees known.blocks;
+    rows = λ block used.
+        each_of (AreBlockRowsSound ext pages table.def) (used_blocks table.map) block
+        (each_of (λ (x : TableView). AllByRecursion (AreBlockRowsSound ext pages x.def) (used_blocks x.map)) tables table known.rule7 there) used;
+  }
+
+  -- which are counted right, those of a block of one cell
+  pub table_cells : ViewHasCells ext pages defs view → TableHasCells ext pages table.def table.map
+  table_cells known =
+      let used = each_of (λ (x : TableView). AllByRecursion (IsUsedCountSound ext pages x.def) (map_lines x.map)) tables table known.rule8.used there in
+      let idle = each_of (λ (x : TableView). AllByRecursion IsIdleCountSound (map_lines x.map)) tables table known.rule8.idle there in
+      record {
+        rows = table_rows known.rows;
+        counts = each_in (IsLineCounted ext pages table.def) (map_lines table.map) (λ line is. record {
+          used = each_of (IsUsedCountSound ext pages table.def) (map_lines table.map) line used is;
+          idle = each_of IsIdleCountSound (map_lines table.map) line idle is;
+        });
+        cells = each_of (λ (x : TableView). AllByRecursion (IsOfOneCell ext pages x.def) (used_blocks x.map)) tables table known.rule9 there;
+      }

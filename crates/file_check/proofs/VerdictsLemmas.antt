@@ -125,6 +125,10 @@ module _ {S : Type 0} {g : Ghosts S} where
       next = λ told known. (let both = says_next Says says told known in step both.0 both.1);
     }
 
+    -- nothing more is known by one that only ended well
+    pub learns_on : {Breaks : Damage → Type 0} {new : S} → RunsOverPages g NoPage AnyPage Breaks mid new None → (g.state new).work ≡ (g.state mid).work → Learns g Known Next old new
+    learns_on run same = record { runs = runs_judge so_far.runs run; same = same ∙ so_far.same; next = so_far.next }
+
     -- one that may have failed rests on what is known
     pub runs_next : {new : S} {fault : Option StoreFault} (Needs : PageList → Type 0) → (Next (g.state old).work → Needs (g.state old).work) → RunsOverPages g NoPage AnyPage (Unless g mid Needs) mid new fault
         → RunsOverPages g NoPage AnyPage (Unless g old Known) old new fault

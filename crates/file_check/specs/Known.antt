@@ -1,5 +1,5 @@
 -- What is known of pages once the first rules were judged and hold, as far as the next ones rest on it.
-use Rattle.std.specs.Prelude.{AllPairs, Contains, List, None, Option, Some, [], flat_map, length, map, option_map, slice_index_or, ℕ, ◌<◌, ◌∷◌, ◌≡◌, ◌≢◌}
+use Rattle.std.specs.Prelude.{AllPairs, List, None, Option, Some, [], flat_map, length, map, option_map, slice_index_or, ℕ, ◌<◌, ◌∷◌, ◌≡◌, ◌≢◌}
 use Rattle.std.specs.List.{AllByRecursion, AllZip, range_with_len}
 use Rattle.mdc_ast.specs.declared.definition.TableDef.{TableDef}
 use Rattle.mdc_ast.specs.Definitions.{Definitions}
@@ -13,7 +13,7 @@ use Rattle.mdc_sound.specs.SpaceRules.{AreBlockMapsSound, AreRootsInIndexes, Are
 use Rattle.mdc_sound.specs.TablePages.{DefinesTable, table_page_at}
 use Rattle.entry_tree.specs.Forest.{Forest}
 use Rattle.block_map.specs.BlockMaps.{IsMapForm}
-use Rattle.block_map.specs.MapLines.{AreMapEntries, map_lines, used_blocks}
+use Rattle.block_map.specs.MapLines.{AreMapEntries, map_lines}
 use Rattle.table_trees.specs.TableTrees.{map_place}
 
 -- ---- 3: definitions, before their trees are known
@@ -106,8 +106,3 @@ pub record HasBlockMap (ext : Extents) (pages : PageList) (def : TableDef) (map_
   pub form : IsMapForm map_tree
   pub entries : AreMapEntries map_tree
   pub within : AllByRecursion (λ line. line.block < ext.cap) (map_lines map_tree)
-
--- and each of its Used blocks has row pages
-pub record HasUsedRows (ext : Extents) (pages : PageList) (def : TableDef) (map_tree : Forest) : Type 0 where
-  pub map : HasBlockMap ext pages def map_tree
-  pub forms : (block : ℕ) → Contains (used_blocks map_tree) block → BlockHasRowPages ext pages def block

@@ -1,3 +1,4 @@
+pub mod BlockEntries
 pub mod BlockMapsJudged
 pub mod BlocksJudged
 pub mod Branches
@@ -5,9 +6,10 @@ pub mod Judging
 pub mod Kept
 pub mod KeysJudged
 pub mod Known
+pub mod KnownTables
 pub mod Looking
 pub mod MapPagesJudged
-pub mod RulesOfBlocks
+pub mod RowsJudged
 pub mod RulesOfTables
 pub mod TableIndexes
 pub mod TablePagesJudged

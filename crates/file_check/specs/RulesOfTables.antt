@@ -1,22 +1,25 @@
 -- The rules on what lies in the tables, by rule: its number, what is known when it is judged, when it is kept, and where it is broken.
-use Rattle.std.specs.Prelude.{List, [], ◌∷◌, ℕ}
+use Rattle.std.specs.Prelude.{List, Option, [], ◌∷◌, ℕ}
 use Rattle.std.specs.List.{AllByRecursion}
 use Rattle.mdc_ast.specs.declared.definition.TableDef.{TableDef}
 use Rattle.mdc_ast.specs.Definitions.{Definitions}
 use Rattle.extent_map.specs.declared.extents.Extents.{Extents}
 use Rattle.entry_tree.specs.Forest.{Forest}
 use Rattle.table_trees.specs.ToldPages.{PageList}
-use Rattle.mdc_sound.specs.BlockRules.{AreBlockIndexesSound, AreCellsSound, AreRowPagesSound, AreSoundIndexes}
+use Rattle.block_map.specs.MapLines.{map_lines, used_blocks}
+use Rattle.mdc_sound.specs.BlockRules.{AreBlockIndexesSound, AreBlockRowsSound, AreCellsSound, AreRowPagesSound, AreSoundIndexes, IsOfOneCell}
 use Rattle.mdc_sound.specs.SoundDatabase.{AreCountsSound, AreKeysSound}
 use Rattle.mdc_sound.specs.SpaceRules.{DatabaseView}
 use Rattle.mdc_sound.specs.TableRows.{rows_in_table}
 use Rattle.mdc_sound.specs.TableViews.{TableView}
+use Rattle.file_check.specs.BlocksJudged.{BreaksBlockCell, BreaksBlockRows, BreaksLineCount, IsLineCounted}
 use Rattle.file_check.specs.Judging.{BreaksAny}
-use Rattle.file_check.specs.KeysJudged.{AreTableKeys, BreaksTableKeys, HasTableRows}
+use Rattle.file_check.specs.KeysJudged.{AreTableKeys, BreaksTableKeys}
 use Rattle.file_check.specs.Known.{ViewHasBlocks, ViewHasCells, ViewHasRows}
-use Rattle.file_check.specs.RulesOfBlocks.{BlocksBreak, BlocksKeep, BlocksKnownFor}
-use Rattle.file_check.specs.TableIndexes.{BreaksPlace, HasIndexes, IsPlaceSound, indexes_of_kind}
+use Rattle.file_check.specs.KnownTables.{TableHasCells, TableHasRows, TableHasTrees}
+use Rattle.file_check.specs.TableIndexes.{BreaksPlace, IsPlaceSound, indexes_of_kind}
 use Rattle.file_check.specs.declared.block_rule.BlockRule.TheVariants.{Cells, Counts, RowPages}
+use Rattle.file_check.specs.declared.findings.Findings.{Findings}
 use Rattle.file_check.specs.declared.table_index.IndexKind.TheVariants.{Blocks, Rows}
 use Rattle.file_check.specs.declared.table_rule.TableRule.{TableRule}
 use Rattle.file_check.specs.declared.table_rule.TableRule.TheVariants.{Block, Index, Keys}
@@ -57,19 +60,25 @@ ViewKeeps Keys ext pages view = AreKeysSound ext pages view
 
 -- what is known of a table with this block map when a rule is judged
 abbrev pub TableKnownFor : TableRule → Extents → PageList → TableDef → Forest → Type 0
-TableKnownFor (Block rule) ext pages def map_tree = BlocksKnownFor rule ext pages def map_tree
-TableKnownFor (Index kind) ext pages def map_tree = HasIndexes kind ext pages def map_tree
-TableKnownFor Keys ext pages def map_tree = HasTableRows ext pages def map_tree
+TableKnownFor (Block RowPages) ext pages def map_tree = TableHasTrees ext pages def map_tree
+TableKnownFor (Block Counts) ext pages def map_tree = TableHasRows ext pages def map_tree
+TableKnownFor (Block Cells) ext pages def map_tree = TableHasRows ext pages def map_tree
+TableKnownFor (Index kind) ext pages def map_tree = TableHasCells ext pages def map_tree
+TableKnownFor Keys ext pages def map_tree = TableHasCells ext pages def map_tree
 
 -- it keeps the rule
 abbrev pub TableKeeps : TableRule → Extents → PageList → TableDef → Forest → Type 0
-TableKeeps (Block rule) ext pages def map_tree = BlocksKeep rule ext pages def map_tree
+TableKeeps (Block RowPages) ext pages def map_tree = AllByRecursion (AreBlockRowsSound ext pages def) (used_blocks map_tree)
+TableKeeps (Block Counts) ext pages def map_tree = AllByRecursion (IsLineCounted ext pages def) (map_lines map_tree)
+TableKeeps (Block Cells) ext pages def map_tree = AllByRecursion (IsOfOneCell ext pages def) (used_blocks map_tree)
 TableKeeps (Index kind) ext pages def map_tree = AllByRecursion (IsPlaceSound kind ext pages def map_tree) (indexes_of_kind kind def)
 TableKeeps Keys ext pages def map_tree = AreTableKeys def (rows_in_table ext pages def map_tree)
 
 -- it breaks it at a page
 abbrev pub TableBreaks : TableRule → Extents → PageList → TableDef → Forest → ℕ → Type 0
-TableBreaks (Block rule) ext pages def map_tree = BlocksBreak rule ext pages def map_tree
+TableBreaks (Block RowPages) ext pages def map_tree = BreaksAny (BreaksBlockRows ext pages def) (used_blocks map_tree)
+TableBreaks (Block Counts) ext pages def map_tree = BreaksAny (BreaksLineCount ext pages def) (map_lines map_tree)
+TableBreaks (Block Cells) ext pages def map_tree = BreaksAny (BreaksBlockCell ext pages def) (used_blocks map_tree)
 TableBreaks (Index kind) ext pages def map_tree = BreaksAny (BreaksPlace kind ext pages def map_tree) (indexes_of_kind kind def)
 TableBreaks Keys ext pages def map_tree = BreaksTableKeys def (rows_in_table ext pages def map_tree)
 
@@ -80,3 +89,14 @@ KeepsTableRule rule ext pages table = TableKeeps rule ext pages table.def table.
 -- or it breaks it at a page
 abbrev pub BreaksTableRule : TableRule → Extents → PageList → TableView → ℕ → Type 0
 BreaksTableRule rule ext pages table = TableBreaks rule ext pages table.def table.map
+
+-- ---- what was found
+
+-- the page that was found for a rule, if there is one
+abbrev pub found_of : TableRule → Findings → Option ℕ
+found_of (Block RowPages) found = found.row_pages
+found_of (Block Counts) found = found.counts
+found_of (Block Cells) found = found.cells
+found_of (Index Blocks) found = found.block_indexes
+found_of (Index Rows) found = found.record_indexes
+found_of Keys found = found.keys

@@ -13,7 +13,7 @@ use crate::block_maps::judge_block_maps;
 use crate::definitions::{TablePages, judge_table_pages};
 use crate::extents::judge_extents;
 use crate::root::judge_root;
-use crate::table_judging::judge_table_rule;
+use crate::table_judging::judge_all_tables;
 use crate::table_rule::TABLE_RULES;
 use crate::tree_pages::judge_tree_pages;
 use crate::trees::judge_trees;
@@ -117,8 +117,9 @@ fn judge_contents<P: Pages>(
     ensures same { (P.state pages.new).work ≡ (P.state pages.old).work }
     ensures runs { RunsOverPages P.Pages NoPage AnyPage (Unless P.Pages pages.old (KeepsBlockMaps ext.now defs.now)) pages.old pages.new (fault_of result) }
 {
+    let found = judge_all_tables(alloc, ext, pages, defs)?;
     for rule in TABLE_RULES {
-        if let Some(page) = judge_table_rule(alloc, ext, pages, defs, rule)? {
+        if let Some(page) = found.page(rule) {
             return Ok(broken(rule.number(), page));
         }
     }

@@ -53,7 +53,7 @@ pub(crate) fn note_entries<P: Pages>(
 }
 
 /// The entry of a row in an index.
-fn entry_of_row(
+pub(crate) fn entry_of_row(
     alloc: Global,
     def: &TableDef,
     index: &TableIndex,

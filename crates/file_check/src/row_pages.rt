@@ -4,12 +4,19 @@ ghost use Rattle.store_api.specs.Causes.{NoDamage, fault_of};
 ghost use Rattle.store_api.specs.Frame.{NoPage};
 ghost use Rattle.store_api.specs.RunsOverPages.{RunsOverPages};
 ghost use Rattle.store_api.specs.StoreState.{page_at};
+ghost use Rattle.entry_tree.specs.Forest.{Forest};
+ghost use Rattle.block_map.specs.MapLines.{used_blocks};
 ghost use Rattle.mdc_ast.specs.TableLimits.{IsTableDef};
 ghost use Rattle.mdc_sound.specs.BlockRules.{AreBlockRowsSound};
-ghost use Rattle.file_check.specs.Judging.{Judges};
-ghost use Rattle.file_check.specs.Looking.{AnyPage};
+ghost use Rattle.file_check.specs.Judging.{Judges, JudgesEach};
+ghost use Rattle.file_check.specs.Known.{HasBlockMap};
+ghost use Rattle.file_check.specs.KnownTables.{TellsMap};
+ghost use Rattle.file_check.specs.Looking.{AnyPage, Unless};
 ghost use Rattle.file_check.specs.BlocksJudged.{BreaksBlockRows, JudgesPage, JudgesRows};
 
+use crate::blocks::blocks_in_state;
+use crate::lowest::lower;
+use block_map::BlockState;
 use extent_map::Extents;
 use mdc_ast::TableDef;
 use mdc_values::Memory;
@@ -18,8 +25,31 @@ use row_page::{RowPageView, capacity};
 use std::alloc::Global;
 use store_api::{Pages, StoreFault, bring};
 
+/// Judges the row pages of a table: the lowest page of its Used blocks that isn't one, or has a row that doesn't fit.
+pub(crate) fn judge_row_pages<P: Pages>(
+    alloc: Global,
+    ext: &Extents,
+    pages: &mut P,
+    def: &TableDef,
+) -> Result<Option<u32>, StoreFault>
+    requires defined { IsTableDef def.now.number def.now }
+    requires going { (P.state pages.old).ended ≡ false }
+    ensures judged { IfOk result (λ found. IsTrue (P.state pages.old).is_told → (map_tree : Forest) → HasBlockMap ext.now (P.state pages.old).work def.now map_tree
+        → JudgesEach (AreBlockRowsSound ext.now (P.state pages.old).work def.now) (BreaksBlockRows ext.now (P.state pages.old).work def.now) (used_blocks map_tree) found) }
+    ensures same { (P.state pages.new).work ≡ (P.state pages.old).work }
+    ensures runs { RunsOverPages P.Pages NoPage AnyPage (Unless P.Pages pages.old (TellsMap ext.now def.now)) pages.old pages.new (fault_of result) }
+{
+    let blocks = blocks_in_state(alloc, ext, pages, def, BlockState::Used)?;
+    let mut lowest = None;
+    for block in blocks.as_slice() {
+        let here = judge_rows_of_block(alloc, ext, pages, def, *block)?;
+        lowest = lower(lowest, here);
+    }
+    Ok(lowest)
+}
+
 /// The lowest page of a block that isn't a row page, or has a row that doesn't fit.
-pub(crate) fn judge_rows_of_block<P: Pages>(
+fn judge_rows_of_block<P: Pages>(
     alloc: Global,
     ext: &Extents,
     pages: &mut P,

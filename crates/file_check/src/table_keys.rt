@@ -13,7 +13,7 @@ ghost use Rattle.file_check.specs.Looking.{AnyPage, Unless};
 
 use crate::blocks::blocks_in_state;
 use crate::differing::{are_apart_below, do_keys_differ};
-use crate::row_keys::{push_keys, push_numbers};
+use crate::row_keys::push_keys;
 use crate::rows::rows_of_block;
 use block_map::BlockState;
 use extent_map::Extents;
@@ -22,23 +22,24 @@ use std::alloc::Global;
 use store_api::layout::FIRST_TABLE_PAGE;
 use store_api::{Pages, StoreFault};
 
-/// Judges row numbers and unique keys of one table: its page, where they aren't sound.
+/// Judges the numbers of a table's rows, which were gathered, and its unique keys: its page, where they aren't sound. It sorts the
+/// numbers.
 pub(crate) fn judge_keys_of_table<P: Pages>(
     alloc: Global,
     ext: &Extents,
     pages: &mut P,
     def: &TableDef,
+    numbers: &mut Vec<u64>,
 ) -> Result<Option<u32>, StoreFault>
     requires columns { AreRowColumns def.now.columns }
     requires parts { AllByRecursion (λ index. ArePartsOf def.now.columns index.parts) def.now.indexes }
     requires going { (P.state pages.old).ended ≡ false }
-    ensures judged { IfOk result (λ here. WhereRows (P.state pages.old) ext.now def.now (λ rows. Judges (AreTableKeys def.now rows) (BreaksTableKeys def.now rows) here)) }
+    ensures judged { IfOk result (λ here. WhereRows (P.state pages.old) ext.now def.now (λ rows. AreNumbersOf numbers.old.items rows → Judges (AreTableKeys def.now rows) (BreaksTableKeys def.now rows) here)) }
     ensures same { (P.state pages.new).work ≡ (P.state pages.old).work }
     ensures runs { RunsOverPages P.Pages NoPage AnyPage (Unless P.Pages pages.old (TellsRows ext.now def.now)) pages.old pages.new (fault_of result) }
 {
     let page = FIRST_TABLE_PAGE + u32::from(def.number);
-    let mut numbers = numbers_of_table(alloc, ext, pages, def)?;
-    if !are_apart_below(def.next, &mut numbers)? {
+    if !are_apart_below(def.next, numbers)? {
         return Ok(Some(page));
     }
     for index in def.indexes.as_slice() {
@@ -69,28 +70,6 @@ fn is_unique<P: Pages>(
     }
     let mut keys = keys_of_table(alloc, ext, pages, def, index)?;
     do_keys_differ(&mut keys)
-}
-
-/// The numbers of all rows of a table.
-fn numbers_of_table<P: Pages>(
-    alloc: Global,
-    ext: &Extents,
-    pages: &mut P,
-    def: &TableDef,
-) -> Result<Vec<u64>, StoreFault>
-    requires columns { AreRowColumns def.now.columns }
-    requires going { (P.state pages.old).ended ≡ false }
-    ensures numbers { IfOk result (λ numbers. WhereRows (P.state pages.old) ext.now def.now (AreNumbersOf numbers.items)) }
-    ensures same { (P.state pages.new).work ≡ (P.state pages.old).work }
-    ensures runs { RunsOverPages P.Pages NoPage AnyPage (Unless P.Pages pages.old (TellsRows ext.now def.now)) pages.old pages.new (fault_of result) }
-{
-    let blocks = blocks_in_state(alloc, ext, pages, def, BlockState::Used)?;
-    let mut numbers = Vec::new(alloc);
-    for block in blocks.as_slice() {
-        let rows = rows_of_block(alloc, ext, pages, def, *block)?;
-        push_numbers(&rows, &mut numbers)?;
-    }
-    Ok(numbers)
 }
 
 /// The keys of all rows of a table in an index.

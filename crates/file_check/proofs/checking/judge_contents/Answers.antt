@@ -1,67 +1,63 @@
-use Rattle.std.proofs.Common.{◌∙◌, refl, subst, sym}
-use Rattle.file_check.specs.Looking.{Unless}
-use Rattle.store_api.proofs.RunsOverPagesLemmas.{runs_exit, runs_none, runs_on}
+use Rattle.std.proofs.Common.{Option, ℕ, subst, sym}
+use Rattle.std.specs.Prelude.{IsTrue}
+use Rattle.store_api.proofs.RunsOverPagesLemmas.{runs_exit}
+use Rattle.mdc_sound.specs.SpaceRules.{DatabaseView}
 use Rattle.file_check.specs.Kept.{KeepsBlockMaps}
+use Rattle.file_check.specs.Known.{ViewHasBlocks}
 use Rattle.file_check.specs.Verdicts.{IsVerdictOf}
 use Rattle.file_check.specs.declared.verdict.Verdict.TheVariants.{Broken}
-use Rattle.file_check.proofs.RulesInOrderLemmas.{KeepsFirst, SaysNext, SomeKnown, keeps_all, keeps_next, keeps_none_yet, next_broken, next_known}
-use Rattle.file_check.proofs.VerdictsLemmas.{Learns, runs_judge, runs_next, says_next}
+use Rattle.file_check.proofs.RulesInOrderLemmas.{SaysNext, keeps_all, keeps_next, keeps_none_yet, next_broken, rule_at}
+use Rattle.file_check.proofs.UnlessLemmas.{runs_undamaged}
+use Rattle.file_check.proofs.VerdictsLemmas.{Learns, learns_nothing, learns_on, runs_next}
 use Rattle.file_check.proofs.checking.judge_contents.Given.{Over}
-use Rattle.file_check.proofs.checking.judge_contents.Goals.{In-loop-rule}
+use Rattle.file_check.proofs.checking.judge_contents.Goals.{In_ok-found, After-page}
 use Rattle.file_check.proofs.checking.judge_contents.Goals as goal
 
--- the rules so far are kept
-so_far : (g : Over) (c : In-loop-rule g)
-    → Learns g.P.Pages (KeepsBlockMaps c.args.ext.now c.args.defs.now) (KeepsFirst c.args.ext.now c.args.defs.now c.loop-rule.rule-index) c.args.pages.now c.loop-rule.pages
-so_far g c = let inv = c.loop-rule.invariant in record { runs = runs_on inv.runs; same = inv.same; next = inv.kept }
+-- the tables are judged
+judged : (g : Over) (c : In_ok-found g) → Learns g.P.Pages (KeepsBlockMaps c.args.ext.now c.args.defs.now) (KeepsBlockMaps c.args.ext.now c.args.defs.now) c.args.pages.now c.judge_all_tables.new.pages
+judged g c = learns_on learns_nothing c.in_ok-found.ensures.runs c.in_ok-found.ensures.same
+
+-- and so is the next rule
+says : (g : Over) (c : After-page g) → IsTrue (g.P.Pages.state c.args.pages.now).is_told → SaysNext c.args.ext.now c.args.defs.now c.loop-rule.rule-index c.page.result (g.P.Pages.state c.args.pages.now).work
+says g c told =
+    let i = c.loop-rule.rule-index in
+    subst (λ (found : Option ℕ). SaysNext c.args.ext.now c.args.defs.now i found (g.P.Pages.state c.args.pages.now).work) (sym c.page.ensures) (c.in_ok-found.ensures.judged told (rule_at i))
+
+pub returns-in_err-found-clause-runs : goal.returns-in_err-found-clause-runs
+returns-in_err-found-clause-runs g c =
+    runs_exit c.from_residual.result c.from_residual.ensures.1
+    (runs_next {Known = KeepsBlockMaps c.args.ext.now c.args.defs.now} learns_nothing (λ told. (view : DatabaseView) × ViewHasBlocks c.args.ext.now told c.args.defs.now view) (λ kept. (kept.view, kept.known)) c.in_err-found.ensures.runs)
 
 pub loop-rule-init : goal.loop-rule-init
-loop-rule-init g c = record {
-  kept = λ told kept. keeps_none_yet c.args.ext.now (g.P.Pages.state c.args.pages.now).work c.args.defs.now kept;
-  same = refl;
-  going = c.requires.going;
-  runs = runs_none;
-}
-
-pub returns-in_err-page-clause-runs : goal.returns-in_err-page-clause-runs
-returns-in_err-page-clause-runs g c =
-    let ext = c.args.ext.now in
-    let defs = c.args.defs.now in
-    let i = c.loop-rule.rule-index in
-    runs_exit c.from_residual.result c.from_residual.ensures.1
-    (runs_next (so_far g (goal.at.returns-in_err-page-clause-runs g c).In-loop-rule) (SomeKnown ext defs i) (next_known ext (g.P.Pages.state c.args.pages.now).work defs i c.loop-rule-test.true) c.in_err-page.ensures.runs)
+loop-rule-init g c told kept = keeps_none_yet c.args.ext.now (g.P.Pages.state c.args.pages.now).work c.args.defs.now kept
 
 pub returns-in-Some-clause-verdict : goal.returns-in-Some-clause-verdict
 returns-in-Some-clause-verdict g c told kept =
+    let at = goal.at.returns-in-Some-clause-verdict g c in
     let ext = c.args.ext.now in
     let defs = c.args.defs.now in
     let work = (g.P.Pages.state c.args.pages.now).work in
     let i = c.loop-rule.rule-index in
-    let found = c.in_ok-page.field-0 in
-    let says = says_next (so_far g (goal.at.returns-in-Some-clause-verdict g c).In-loop-rule) (SaysNext ext defs i found) c.in_ok-page.ensures.judged told kept in
     subst (IsVerdictOf ext work) (sym c.broken.ensures)
     (subst (λ number. IsVerdictOf ext work (Broken (record { page = c.in-Some.page; rule = number }))) (sym c.number.ensures)
-    (next_broken ext work defs i c.loop-rule-test.true says.0 found c.in-Some.page c.in-Some.is says.1))
+    (next_broken ext work defs i c.loop-rule-test.true (c.loop-rule.invariant told kept) c.page.result c.in-Some.page c.in-Some.is (says g at.After-page told)))
 
 pub returns-in-Some-clause-runs : goal.returns-in-Some-clause-runs
-returns-in-Some-clause-runs g c = runs_judge c.loop-rule.invariant.runs c.in_ok-page.ensures.runs
+returns-in-Some-clause-runs g c =
+    let at = goal.at.returns-in-Some-clause-runs g c in
+    runs_undamaged (KeepsBlockMaps c.args.ext.now c.args.defs.now) (judged g at.In_ok-found).runs
 
 pub loop-rule-preserved : goal.loop-rule-preserved
-loop-rule-preserved g c =
-    let inv = c.loop-rule.invariant in
-    let ext = c.args.ext.now in
-    let defs = c.args.defs.now in
-    let i = c.loop-rule.rule-index in
-    let found = c.in_ok-page.field-0 in
-    record {
-      kept = λ told kept.
-          let says = says_next (so_far g (goal.at.loop-rule-preserved g c).In-loop-rule) (SaysNext ext defs i found) c.in_ok-page.ensures.judged told kept in
-          keeps_next ext (g.P.Pages.state c.args.pages.now).work defs i c.loop-rule-test.true says.0 found c.in_default.not-Some says.1;
-      same = c.judge_table_rule.ensures.same ∙ inv.same;
-      going = c.in_ok-page.ensures.runs.works.steady.ended ∙ inv.going;
-      runs = runs_judge {Breaks = Unless g.P.Pages c.args.pages.now (KeepsBlockMaps ext defs)} inv.runs c.in_ok-page.ensures.runs;
-    }
+loop-rule-preserved g c told kept =
+    let at = goal.at.loop-rule-preserved g c in
+    keeps_next c.args.ext.now (g.P.Pages.state c.args.pages.now).work c.args.defs.now c.loop-rule.rule-index c.loop-rule-test.true (c.loop-rule.invariant told kept) c.page.result c.in_default.not-Some
+    (says g at.After-page told)
 
 pub returns-clause-verdict : goal.returns-clause-verdict
 returns-clause-verdict g c told kept =
-    keeps_all c.args.ext.now (g.P.Pages.state c.args.pages.now).work c.args.defs.now c.loop-rule.rule-index c.loop-rule-test.false c.loop-rule.auto.rule-index-end (c.loop-rule.invariant.kept told kept)
+    keeps_all c.args.ext.now (g.P.Pages.state c.args.pages.now).work c.args.defs.now c.loop-rule.rule-index c.loop-rule-test.false c.loop-rule.auto.rule-index-end (c.loop-rule.invariant told kept)
+
+pub returns-clause-runs : goal.returns-clause-runs
+returns-clause-runs g c =
+    let at = goal.at.returns-clause-runs g c in
+    runs_undamaged (KeepsBlockMaps c.args.ext.now c.args.defs.now) (judged g at.In_ok-found).runs
