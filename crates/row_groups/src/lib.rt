@@ -4,7 +4,7 @@
 //! a stable order and the cut; and that a sum outside BIGINT is named by the first group and the first place. Rows come
 //! one by one in any order, or many with the same values at once, and count by rising number. They aren't kept: what is
 //! in memory is a line for each group, and with GROUP BY its key, in an ordered map. It stands on `mdc_ast` and
-//! `mdc_values`. No program uses it yet.
+//! `mdc_values`.
 #![tactic(auto)]
 
 mod closing;

@@ -1,12 +1,12 @@
 -- The definitions that table pages have: there is one list of them, pages of a sound database have some, and which are served.
 use Rattle.std.proofs.Common.{◌≡◌, ◌≢◌, ◌<◌, ◌≤◌, ◌+◌, ℕ, zero, suc, Bool, true, false, List, [], ◌∷◌, Option, Some, None, Bor, drop, length, map, refl, sym, ap, subst, arith, inl, inr, ◌∙◌}
-use Rattle.std.specs.Prelude.{◌&&◌, AllPairs, Contains, IsTrue, MatchOption, is_none, slice_get}
+use Rattle.std.specs.Prelude.{◌&&◌, AllPairs, Contains, IsTrue, MatchOption, slice_get}
 use Rattle.std.specs.List.{AllZip, list_all, range_with_len}
 use Rattle.std.proofs.lemmas.Bool.{cases_lt}
 use Rattle.std.proofs.lemmas.List.{get_or_past, length-replicate}
 use Rattle.mdc_ast.specs.declared.definition.ColumnDef.{ColumnDef}
 use Rattle.mdc_ast.specs.declared.definition.TableDef.{TableDef}
-use Rattle.mdc_ast.specs.ValidDatabase.{AllDefsDiffer, AreValidDefs, AreValidFrom, IsValidDef, IsValidPlace}
+use Rattle.mdc_ast.specs.ValidDatabase.{AllDefsDiffer, AreValidFrom, IsValidDef, IsValidPlace}
 use Rattle.mdc_ast.specs.Definitions.{Definitions, are_there, def_at, is_good_type, is_short_key}
 use Rattle.statement_meaning.proofs.BuiltLemmas.{index_names_differ}
 use Rattle.statement_meaning.specs.Built.{AreBuiltDefs, are_built, is_built_place}

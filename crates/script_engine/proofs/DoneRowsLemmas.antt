@@ -15,12 +15,13 @@ use Rattle.mdc_ast.specs.declared.name.Name.{Name}
 use Rattle.mdc_ast.specs.declared.predicate.Pred.{Pred}
 use Rattle.mdc_ast.specs.declared.reply.Outcome.{Outcome}
 use Rattle.mdc_ast.specs.declared.reply.Outcome.TheVariants as said
+use Rattle.mdc_ast.specs.declared.refusal.Refusal.{Refusal}
 use Rattle.mdc_ast.specs.declared.reply.Reply.TheVariants as reply
 use Rattle.mdc_ast.specs.declared.row.Row.{Row}
 use Rattle.statement_meaning.specs.Cause.{Cause, Overflow, refusal_of}
 use Rattle.mdc_ast.specs.Database.{Database, PlainTable, changed_at, fits_all, table_at, with_place}
 use Rattle.mdc_ast.specs.Definitions.{def_at}
-use Rattle.statement_meaning.specs.Doing.{causes_of_rows, changed_causes, changed_row, changed_table, columns_at, effect, hits, left_table}
+use Rattle.statement_meaning.specs.Doing.{causes_of_rows, changed_causes, changed_row, changed_table, effect, hits, left_table}
 use Rattle.statement_meaning.specs.Queries.{sum_causes}
 use Rattle.mdc_ast.specs.Truth.{qualifies}
 use Rattle.statement_meaning.specs.Judging.{of_some}
@@ -44,18 +45,19 @@ use Rattle.table_trees.specs.SpaceChanges.{SpaceChange}
 use Rattle.mdc_sound.specs.Placing.{Spot, block_slot_count}
 use Rattle.mdc_sound.specs.RunningFull.{UpdateRunsFull}
 use Rattle.mdc_sound.specs.StandingTable.{RoomNote, StandsTable, TableForests, pages_of, spots_of}
-use Rattle.mdc_sound.specs.StandsForDatabase.{PagesStandFor}
+use Rattle.mdc_sound.specs.StandsForDatabase.{PagesStandFor, rootless}
 use Rattle.mdc_sound.specs.TableRows.{PlacedRow}
 use Rattle.binder.specs.Saying.{first_of}
 use Rattle.cell_change.proofs.ChangedSpaceLemmas.{shows_spots}
 use Rattle.row_groups.specs.Shape.{shape_of}
-use Rattle.answer_text.specs.Answering.{GivesLines, Rise}
+use Rattle.answer_text.specs.Answering.{GivesLines}
 use Rattle.row_checks.specs.Executing.{answer_of, done}
-use Rattle.row_checks.proofs.QueryLemmas.{qualifying_rise, query_refused, query_replies}
+use Rattle.row_checks.proofs.QueryLemmas.{query_refused, query_replies}
 use Rattle.statement_rows.specs.RowsAndSpace.{TakesRowsBy, TurnsRowsBy}
 use Rattle.statement_rows.specs.RowsOfStatement.{AnyPage, BreaksReady, ChangesRowsOf, HasTheseRows, IsReadyBetween, with_rows, without_rows}
 use Rattle.statement_rows.specs.Turning.{turned_row}
 use Rattle.statement_rows.specs.declared.changing.Turned.{Turned}
+use Rattle.table_query.specs.QueryAnswers.{AreQueryRows}
 use Rattle.table_scan.specs.FoundRows.{FindsRows}
 use Rattle.script_engine.specs.Doing.{DoesStatement, PlacesOnPages, PlacesRows, RunsFullAlone, StatementRunsFull, changed_place, with_changed}
 use Rattle.script_engine.specs.NotedRooms.{KeepsOtherRooms, rooms_at}
@@ -65,53 +67,53 @@ use Rattle.script_engine.specs.declared.tables.Tables.{Tables}
 use Rattle.script_engine.proofs.OthersLemmas.{keeps_others_itself, others_changed, touched_is}
 use Rattle.script_engine.proofs.PlainChangesLemmas.{causes_of_qualifying, qualifying_changed, qualifying_taken}
 use Rattle.script_engine.proofs.ReadyTablesLemmas.{change_ends_unwritten, page_is_written, places_shown, ready_between, served_def}
-use Rattle.script_engine.proofs.ScannedTablesLemmas.{HasHits, found_still, hits_fit, hits_of, hits_qualify, qualifying, ready_still, stands_ready, these_rows}
+use Rattle.script_engine.proofs.ScannedTablesLemmas.{HasHits, HasQueryRows, found_still, hits_fit, hits_of, hits_qualify, qualifying, query_rows_of, ready_still, stands_ready, these_rows}
 use Rattle.script_engine.proofs.StoredDefsLemmas.{first_decides, stored_defs, stored_table}
 use Rattle.script_engine.proofs.TurnedRowsLemmas.{each_passes, turned_changed, turned_hit, turned_news, turned_places}
 
 -- ---- a query
 
--- the rows that were hit rise
-hits_rise : (db : Database) (select : BoundSelect) (def : TableDef) (found : List Hit) → HasHits db select.table def select.pred found → Rise (map (λ hit. hit.row) found)
-hits_rise db select def found has = subst Rise (sym has.are) (qualifying_rise select has.table.rows has.rising)
+-- the refusal of the first sum outside BIGINT
+pub record IsOutgrown (columns : List ColumnDef) (select : BoundSelect) (rows : List Row) (refusal : Refusal) : Type 0 where
+  pub name : Name
+  pub more : List Cause
+  pub first : sum_causes columns (shape_of select) rows ≡ Overflow name ∷ more
+  pub refusal_is : refusal ≡ refusal_of (Overflow name)
 
--- what is said of the rows that were hit is said of those of the plain table
-of_plain : (P : List ColumnDef → List Row → Type 0) (db : Database) (select : BoundSelect) (def : TableDef) (found : List Hit) (has : HasHits db select.table def select.pred found)
-    → P def.columns (map (λ hit. hit.row) found) → P has.table.def.columns (filter (λ row. qualifies select.pred row.values) has.table.rows)
-of_plain P db select def found has of_hits =
-    subst (λ (columns : List ColumnDef). P columns (filter (λ row. qualifies select.pred row.values) has.table.rows)) (sym (ap (λ (d : TableDef). d.columns) has.def_is))
-    (subst (P def.columns) has.are of_hits)
+-- what a query answers for the rows that qualify: their lines, or that refusal
+abbrev pub IsAnswerFor : TableDef → BoundSelect → List Row → Outcome → Type 0
+IsAnswerFor def select rows (said.Done (reply.Lines text)) = GivesLines def.columns (shape_of select) rows text
+IsAnswerFor def select rows (said.Refused refusal) = IsOutgrown def.columns select rows refusal
+IsAnswerFor def select rows outcome = ⊥
 
--- its lines are those of the hits
-pub query_gives : (db : Database) (select : BoundSelect) (def : TableDef) (found : List Hit) (text : List ℕ) → HasHits db select.table def select.pred found
-    → (Rise (map (λ hit. hit.row) found) → GivesLines def.columns (shape_of select) (map (λ hit. hit.row) found) text)
-    → ◌≡◌ {A = Database × Answer} (done db (bound.Query select)) (db, Replied (reply.Lines text))
-query_gives db select def found text has gives =
-    query_replies db select has.table has.at text
-    (of_plain (λ columns rows. GivesLines columns (shape_of select) rows text) db select def found has (gives (hits_rise db select def found has)))
+-- what is said of the columns of the pages is said of those of the plain table
+of_plain : (P : List ColumnDef → Type 0) (table : PlainTable) (def : TableDef) → table.def ≡ rootless def → P def.columns → P table.def.columns
+of_plain P table def def_is of_def = subst P (sym (ap (λ (d : TableDef). d.columns) def_is)) of_def
 
--- or it is refused for the first sum outside BIGINT
-pub query_outgrows : (db : Database) (select : BoundSelect) (def : TableDef) (found : List Hit) (name : Name) → HasHits db select.table def select.pred found
-    → (Rise (map (λ hit. hit.row) found) → (more : List Cause) × (sum_causes def.columns (shape_of select) (map (λ hit. hit.row) found) ≡ Overflow name ∷ more))
-    → ◌≡◌ {A = Database × Answer} (done db (bound.Query select)) (db, Refused (refusal_of (Overflow name)))
-query_outgrows db select def found name has says =
-    let said = of_plain (λ columns rows. (more : List Cause) × (sum_causes columns (shape_of select) rows ≡ Overflow name ∷ more)) db select def found has (says (hits_rise db select def found has)) in
-    query_refused db select has.table has.at name said.0 said.1
+-- what the plain database answers, by what the query answers for the rows that qualify
+ends_so : (db : Database) (select : BoundSelect) (table : PlainTable) (def : TableDef) (outcome : Outcome) → table_at db select.table ≡ Some table → table.def ≡ rootless def
+    → IsAnswerFor def select (filter (λ row. qualifies select.pred row.values) table.rows) outcome → ◌≡◌ {A = Database × Answer} (done db (bound.Query select)) (db, answer_of outcome)
+ends_so db select table def (said.Done (reply.Lines text)) at def_is gives =
+    query_replies db select table at text
+    (of_plain (λ columns. GivesLines columns (shape_of select) (filter (λ row. qualifies select.pred row.values) table.rows) text) table def def_is gives)
+ends_so db select table def (said.Refused refusal) at def_is says =
+    let told = of_plain (λ columns. (more : List Cause) × (sum_causes columns (shape_of select) (filter (λ row. qualifies select.pred row.values) table.rows) ≡ Overflow says.name ∷ more)) table def def_is (says.more, says.first) in
+    query_refused db select table at says.name told.0 told.1 ∙ ap (λ r. (db, Refused r)) (sym says.refusal_is)
+ends_so db select table def outcome at def_is none = absurd none
 
--- whatever its answer is, where it is that of the plain database
-pub query_does : {S : Type 0} (g : Ghosts S) (old new : S) (tables : Tables) (select : BoundSelect) (def : TableDef) (found : List Hit) (outcome : Outcome) → AreServed tables.catalog
+-- a query answers what the plain database answers
+pub query_does : {S : Type 0} (g : Ghosts S) (old new : S) (tables : Tables) (select : BoundSelect) (def : TableDef) (outcome : Outcome) → AreServed tables.catalog
     → def_at tables.catalog select.table ≡ Some def → (g.state new).is_told ≡ (g.state old).is_told → (g.state new).work ≡ (g.state old).work
-    → ((owners : List Kind) (forests : TableForests) → StandsTable g tables.ext old def owners forests → FindsRows g tables.ext old def select.pred found forests)
-    → ((db : Database) → HasHits db select.table def select.pred found → ◌≡◌ {A = Database × Answer} (done db (bound.Query select)) (db, answer_of outcome))
+    → ((owners : List Kind) (forests : TableForests) (rows : List Row) → StandsTable g tables.ext old def owners forests → AreQueryRows g tables.ext old def select.pred forests rows → IsAnswerFor def select rows outcome)
     → IsReady g old tables → DoesStatement g old new tables tables (bound.Query select) outcome
-query_does g old new tables select def found outcome served at told same finds ends ready =
+query_does g old new tables select def outcome served at told same answers ready =
     let st = stands_ready g old tables select.table def served ready at in record {
       ready = ready_still g old new told same tables ready;
       stands = λ db stands.
           let here = stored_table db tables.catalog select.table def (stored_defs tables.ext (pages_of g old) tables.catalog db ready.stored stands) at in
-          let has : HasHits db select.table def select.pred found =
-          hits_of g tables.ext old def st.owners st.forests st.stands select.pred found (finds st.owners st.forests st.stands) st.between tables.catalog select.table db here.0 ready.stored at stands here.1 in
-          let end_ = ends db has in record {
+          let has : HasQueryRows g tables.ext old def st.forests db select.table select.pred =
+          query_rows_of g tables.ext old def st.owners st.forests st.stands select.pred tables.catalog select.table db here.0 ready.stored at stands here.1 in
+          let end_ = ends_so db select has.table def outcome has.at has.def_is (answers st.owners st.forests (filter (λ row. qualifies select.pred row.values) has.table.rows) st.stands has.rows) in record {
             pages_are = subst (λ (e : Database × Answer). PagesStandFor tables.ext (pages_of g new) e.0) (sym end_) (subst (λ pages. PagesStandFor tables.ext pages db) (sym same) stands);
             answers = ap (λ (e : Database × Answer). e.1) end_;
           };

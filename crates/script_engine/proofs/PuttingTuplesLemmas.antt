@@ -8,7 +8,6 @@ use Rattle.std.proofs.lemmas.Option.{same_Some}
 use Rattle.mdc_values.specs.declared.value.Value.{Value}
 use Rattle.mdc_ast.specs.declared.bound.Bound.TheVariants as bound
 use Rattle.mdc_ast.specs.declared.definition.ColumnDef.{ColumnDef}
-use Rattle.mdc_ast.specs.declared.definition.GenExpr.{GenExpr}
 use Rattle.mdc_ast.specs.declared.definition.TableDef.{TableDef}
 use Rattle.mdc_ast.specs.declared.refusal.Refusal.{Refusal}
 use Rattle.mdc_ast.specs.declared.reply.Reply.{Reply}
@@ -21,7 +20,7 @@ use Rattle.statement_meaning.specs.Step.{Refused, step_by}
 use Rattle.statement_meaning.proofs.CausesLemmas.{none_if, none_of_both}
 use Rattle.mdc_ast.proofs.TestsLemmas.{both}
 use Rattle.statement_meaning.proofs.BuiltLemmas.{none_generated}
-use Rattle.mdc_ast.specs.FittingRows.{AreMadeFrom, IsMadeFrom, RowFits}
+use Rattle.mdc_ast.specs.FittingRows.{RowFits}
 use Rattle.mdc_sound.specs.StandsForDatabase.{rootless}
 use Rattle.row_checks.specs.Served.{IsDefined, MayPut}
 use Rattle.script_engine.specs.Inserting.{first_refusal, numbered_on, tuple_causes}

@@ -1,17 +1,19 @@
 -- What the rows that a scan found are on pages where the table stands: they lie in their places by rising number, fit the
 -- definition, and are the qualifying rows of the plain table, whichever database the pages stand for.
-use Rattle.std.proofs.Common.{◌≡◌, ◌<◌, ◌+◌, ℕ, zero, suc, Bool, true, List, [], ◌∷◌, ◌∙◌, map, refl, sym, ap, subst, arith, inl, inr, Option, Some, None}
-use Rattle.std.specs.Prelude.{AllPairs, Contains, IsPermutation, IsTrue, filter, is_none, option_and_then, slice_get}
-use Rattle.std.specs.List.{AllByRecursion, list_all}
+use Rattle.std.proofs.Common.{◌≡◌, ◌<◌, ◌+◌, ℕ, suc, Bool, true, List, [], ◌∷◌, ◌∙◌, map, refl, sym, ap, subst, arith, inl, inr, Option, Some, None}
+use Rattle.std.specs.Prelude.{AllPairs, Contains, IsPermutation, IsTrue, filter, option_and_then, slice_get}
+use Rattle.std.specs.List.{AllByRecursion}
 use Rattle.std.proofs.lemmas.Bool.{cases_Bool}
+use Rattle.std.proofs.lemmas.List.Kept.{AllPairs-filter}
 use Rattle.std.proofs.lemmas.List.Sorted.{Contains-permutation, IsPermutation-sym, IsPermutation-trans}
 use Rattle.std.proofs.lemmas.Option.{same_Some}
+use Rattle.mdc_ast.specs.declared.bound.BoundSelect.{BoundSelect}
 use Rattle.mdc_ast.specs.declared.definition.TableDef.{TableDef}
 use Rattle.mdc_ast.specs.declared.predicate.Pred.{Pred}
 use Rattle.mdc_ast.specs.Database.{Database, PlainTable, fits_all, table_at}
-use Rattle.mdc_ast.specs.ValidDatabase.{AreValidFrom}
 use Rattle.mdc_ast.specs.Definitions.{Definitions, def_at}
 use Rattle.mdc_ast.specs.Truth.{qualifies}
+use Rattle.mdc_ast.specs.declared.row.Row.{Row}
 use Rattle.store_api.specs.Frame.{NoPage}
 use Rattle.store_api.specs.RunsOverPages.{RunsOverPages}
 use Rattle.store_api.specs.declared.fault.StoreFault.{StoreFault}
@@ -49,6 +51,8 @@ use Rattle.stored_catalog.specs.StoredDefinitions.{AreStored}
 use Rattle.stored_catalog.proofs.LeftDefinitionsLemmas.{stored_at}
 use Rattle.statement_rows.specs.RowsOfStatement.{AnyPage, HasTheseRows}
 use Rattle.row_checks.specs.Served.{IsDefined}
+use Rattle.table_query.specs.QueryAnswers.{AreQueryRows}
+use Rattle.table_query.specs.QueryPages.{IsQueryPage}
 use Rattle.table_scan.specs.FoundRows.{FindsRows, IsScannedPage}
 use Rattle.script_engine.specs.Doing.{AreQualifying}
 use Rattle.script_engine.specs.NotedRooms.{rooms_at}
@@ -56,6 +60,7 @@ use Rattle.script_engine.specs.Ready.{AreServed, BreaksDatabase, IsReady}
 use Rattle.script_engine.specs.declared.tables.Tables.{Tables}
 use Rattle.script_engine.proofs.BetweenChangesLemmas.{between_of_rules}
 use Rattle.table_scan.proofs.ScannedRowsLemmas.{found_hits, found_rows_rise, perm_filter, placed_rise, row_lies}
+use Rattle.table_scan.proofs.ScanningLemmas.{map_kept}
 use Rattle.script_engine.proofs.ReadyTablesLemmas.{served_def}
 
 -- ---- lists
@@ -124,6 +129,13 @@ pub record HasHits (db : Database) (place : ℕ) (def : TableDef) (pred : Option
   pub rising : AllPairs (λ a b. a.number < b.number) table.rows
   pub are : map (λ hit. hit.row) hits ≡ filter (λ row. qualifies pred row.values) table.rows
 
+-- a plain table has the rows that a query takes: they are those that qualify
+pub record HasQueryRows {S : Type 0} (g : Ghosts S) (ext : Extents) (s : S) (def : TableDef) (forests : TableForests) (db : Database) (place : ℕ) (pred : Option Pred) : Type 0 where
+  pub table : PlainTable
+  pub at : table_at db place ≡ Some table
+  pub def_is : table.def ≡ rootless def
+  pub rows : AreQueryRows g ext s def pred forests (filter (λ row. qualifies pred row.values) table.rows)
+
 module _ {S : Type 0} (g : Ghosts S) (ext : Extents) (s : S) (def : TableDef) (owners : List Kind) (forests : TableForests) (st : StandsTable g ext s def owners forests) where
   -- its rows
   abbrev rows_here : List PlacedRow
@@ -147,6 +159,31 @@ module _ {S : Type 0} (g : Ghosts S) (ext : Extents) (s : S) (def : TableDef) (o
         def_is = holds.def_is ∙ ap rootless same;
         same_rows = subst (λ (all : List PlacedRow). IsPermutation (map (λ (p : PlacedRow). p.row) all) table.rows) rows holds.same_rows;
         rising = holds.rising;
+      }
+
+  -- the plain table, whichever database the pages stand for
+  plain_of : (defs : Definitions) (place : ℕ) (db : Database) (table : PlainTable) → AreStored (pages_of g s) defs → def_at defs place ≡ Some def → PagesStandFor ext (pages_of g s) db
+      → table_at db place ≡ Some table → IsPlainTable def rows_here table
+  plain_of defs place db table stored at stands is =
+      let here : 0 + place ≡ place = omega arith in
+      let holds : HoldsTable ext (pages_of g s) place table =
+      subst (λ u. HoldsTable ext (pages_of g s) u table) here (range_at (HoldsPlace ext (pages_of g s)) 0 16 db place (Some table) stands (table_there db place table is)).1 in
+      plain_here place table (stored_at (pages_of g s) defs place def stored at) holds
+
+  -- the rows that a query takes of it are those of the plain table that qualify
+  pub query_rows_of : (pred : Option Pred) (defs : Definitions) (place : ℕ) (db : Database) (table : PlainTable) → AreStored (pages_of g s) defs → def_at defs place ≡ Some def
+      → PagesStandFor ext (pages_of g s) db → table_at db place ≡ Some table → HasQueryRows g ext s def forests db place pred
+  query_rows_of pred defs place db table stored at stands is =
+      let plain = plain_of defs place db table stored at stands is in
+      let q : Row → Bool = λ row. qualifies pred row.values in
+      let row_of : PlacedRow → Row = λ placed. placed.row in record {
+        table = table;
+        at = is;
+        def_is = plain.def_is;
+        rows = record {
+          found = subst (λ l. IsPermutation l (filter q table.rows)) (sym (map_kept row_of q rows_here)) (perm_filter q (map row_of rows_here) table.rows plain.same_rows);
+          rise = AllPairs-filter (λ (a b : Row). a.number < b.number) q table.rows plain.rising;
+        };
       }
 
   module _ (pred : Option Pred) (hits : List Hit) (found : FindsRows g ext s def pred hits forests) where
@@ -189,10 +226,7 @@ module _ {S : Type 0} (g : Ghosts S) (ext : Extents) (s : S) (def : TableDef) (o
       pub hits_of : (defs : Definitions) (place : ℕ) (db : Database) (table : PlainTable) → AreStored (pages_of g s) defs → def_at defs place ≡ Some def → PagesStandFor ext (pages_of g s) db
           → table_at db place ≡ Some table → HasHits db place def pred hits
       hits_of defs place db table stored at stands is =
-          let here : 0 + place ≡ place = omega arith in
-          let holds : HoldsTable ext (pages_of g s) place table =
-          subst (λ u. HoldsTable ext (pages_of g s) u table) here (range_at (HoldsPlace ext (pages_of g s)) 0 16 db place (Some table) stands (table_there db place table is)).1 in
-          let plain = plain_here place table (stored_at (pages_of g s) defs place def stored at) holds in record {
+          let plain = plain_of defs place db table stored at stands is in record {
             table = table;
             at = is;
             def_is = plain.def_is;
@@ -226,7 +260,13 @@ stands_ready g s tables place def served ready at =
       between = between;
     }
 
--- a scan of it meets damage where they weren't
+-- a query of it meets damage where they weren't
+pub runs_query : {S : Type 0} (g : Ghosts S) (old new : S) (tables : Tables) (select : BoundSelect) (def : TableDef) {fault : Option StoreFault} → AreServed tables.catalog
+    → def_at tables.catalog select.table ≡ Some def → RunsOverPages g NoPage (IsQueryPage g tables.ext old def select) (BreaksTable g tables.ext old def) old new fault → RunsOverPages g NoPage AnyPage (BreaksDatabase g old tables) old new fault
+runs_query g old new tables select def served at run =
+    runs_wider run (λ p there none. none) (λ p of. tt) (λ damage breaks ready. let st = stands_ready g old tables select.table def served ready at in breaks.broken st.owners st.forests st.stands)
+
+-- and so does a scan
 pub runs_scan : {S : Type 0} (g : Ghosts S) (old new : S) (tables : Tables) (place : ℕ) (def : TableDef) {pred : Option Pred} {fault : Option StoreFault} → AreServed tables.catalog
     → def_at tables.catalog place ≡ Some def → RunsOverPages g NoPage (IsScannedPage g tables.ext old def pred) (BreaksTable g tables.ext old def) old new fault → RunsOverPages g NoPage AnyPage (BreaksDatabase g old tables) old new fault
 runs_scan g old new tables place def served at run =

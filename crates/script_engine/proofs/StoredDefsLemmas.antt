@@ -1,6 +1,6 @@
 -- Statements on the definitions of a catalog, and on those of the plain database that its pages stand for, which have no roots.
 use Rattle.std.proofs.Common.{◌≡◌, ◌+◌, ℕ, zero, suc, List, [], ◌∷◌, ◌++◌, ◌∙◌, refl, sym, ap, subst, map}
-use Rattle.std.specs.Prelude.{◌&&◌, Bool, Option, Some, None, cond, flat_map, is_none, is_some, option_and_then, option_map, true, false, if◌then◌else◌}
+use Rattle.std.specs.Prelude.{◌&&◌, Option, Some, None, cond, flat_map, is_none, is_some, option_and_then, option_map, true, false, if◌then◌else◌}
 use Rattle.std.specs.List.{list_all, AllZip, position_from, range_with_len}
 use Rattle.mdc_ast.specs.declared.bound.Bound.{Bound}
 use Rattle.mdc_ast.specs.declared.definition.ColumnDef.{ColumnDef}

@@ -1,9 +1,9 @@
 -- Which pages the execution of a query and of LIST BLOCKS brings to hand.
-use Rattle.std.specs.Prelude.{◌≡◌, ◌⊎◌, ℕ, Option, Some}
+use Rattle.std.specs.Prelude.{◌≡◌, ◌⊎◌, ℕ, Some}
 use Rattle.mdc_ast.specs.declared.bound.Bound.{Bound}
 use Rattle.mdc_ast.specs.declared.bound.Bound.TheVariants as bound
+use Rattle.mdc_ast.specs.declared.bound.BoundSelect.{BoundSelect}
 use Rattle.mdc_ast.specs.declared.definition.TableDef.{TableDef}
-use Rattle.mdc_ast.specs.declared.predicate.Pred.{Pred}
 use Rattle.mdc_ast.specs.declared.statement.Stmt.{Stmt}
 use Rattle.mdc_ast.specs.declared.statement.Stmt.TheVariants.{ListBlocks}
 use Rattle.mdc_ast.specs.Definitions.{Definitions, def_at, def_named}
@@ -12,16 +12,16 @@ use Rattle.store_api.specs.declared.pages.Pages.{Ghosts}
 use Rattle.extent_map.specs.declared.extents.Extents.{Extents}
 use Rattle.table_trees.specs.TableTrees.{map_place}
 use Rattle.table_trees.specs.TreesBeside.{IsTreePageAt}
-use Rattle.table_scan.specs.FoundRows.{IsScannedPage}
+use Rattle.table_query.specs.QueryPages.{IsQueryPage}
 
--- page 0, which a commit looks at, or a page that a scan of the table by the predicate looks at
-abbrev pub IsPageForQuery : {S : Type 0} → Ghosts S → Extents → S → TableDef → Option Pred → ℕ → Type 0
-IsPageForQuery g ext s def pred p = (p ≡ 0) ⊎ IsScannedPage g ext s def pred p
+-- page 0, which a commit looks at, or a page that the query of the table looks at
+abbrev pub IsPageForQuery : {S : Type 0} → Ghosts S → Extents → S → TableDef → BoundSelect → ℕ → Type 0
+IsPageForQuery g ext s def select p = (p ≡ 0) ⊎ IsQueryPage g ext s def select p
 
 -- of a query over a table that is there, only such pages came to hand; of another statement nothing is said
 abbrev pub FetchesForQuery : {S : Type 0} → Ghosts S → Extents → S → S → Definitions → Bound → Type 0
 FetchesForQuery g ext old new defs (bound.Query select) =
-    (def : TableDef) → def_at defs select.table ≡ Some def → BringsOnly g (IsPageForQuery g ext old def select.pred) old new
+    (def : TableDef) → def_at defs select.table ≡ Some def → BringsOnly g (IsPageForQuery g ext old def select) old new
 FetchesForQuery g ext old new defs statement = Unit {0}
 
 -- of LIST BLOCKS of a table that is there, only pages of its block map came to hand; of another statement nothing is said

@@ -1,8 +1,6 @@
 -- Which pages an engine may be opened on, and which catalogs it serves.
-use Rattle.std.specs.Prelude.{◌≡◌, Bool, true, ◌&&◌, IsTrue, Option, Some, None, is_none}
-use Rattle.std.specs.List.{list_all}
+use Rattle.std.specs.Prelude.{◌≡◌, IsTrue}
 use Rattle.mdc_words.specs.Time.{OverTime}
-use Rattle.mdc_ast.specs.declared.definition.TableDef.{TableDef}
 use Rattle.mdc_ast.specs.Definitions.{Definitions}
 use Rattle.statement_meaning.specs.Built.{AreBuiltDefs}
 use Rattle.store_api.specs.Moments.{OnlyBase}

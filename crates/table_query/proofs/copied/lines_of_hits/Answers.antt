@@ -3,8 +3,8 @@ use Rattle.mdc_ast.specs.declared.row.Row.{Row}
 use Rattle.block_rows.specs.declared.hit.Hit.{Hit}
 use Rattle.answer_text.specs.Answering.{AreLinesOf}
 use Rattle.answer_text.proofs.QueryLinesLemmas.{at_once_within}
-use Rattle.script_engine.proofs.ReadRowsLemmas.{outs_in_row, rows_more}
-use Rattle.script_engine.proofs.querying.lines_of_hits.Goals as goal
+use Rattle.table_query.proofs.CopiedRowsLemmas.{outs_in_row, rows_more}
+use Rattle.table_query.proofs.copied.lines_of_hits.Goals as goal
 
 pub add-requires : goal.add-requires
 add-requires c =

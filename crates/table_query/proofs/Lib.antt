@@ -1,0 +1,9 @@
+pub mod AnswersLemmas
+pub mod ClosingLemmas
+pub mod CopiedRowsLemmas
+pub mod CountedLemmas
+pub mod GatheredLemmas
+pub mod GatheringLemmas
+pub mod NamedLemmas
+pub mod QueryPagesLemmas
+pub mod SecondScanLemmas

@@ -1,0 +1,56 @@
+-- A scan behind a call that changed no page, as seen from before that call.
+use Rattle.std.proofs.Common.{◌≡◌, ℕ, List, Option, None, inl, inr, map, subst, sym, ◌∙◌, length}
+use Rattle.std.specs.Prelude.{IsPermutation}
+use Rattle.std.proofs.lemmas.List.{length-map}
+use Rattle.std.proofs.lemmas.List.Sorted.{length_permutation}
+use Rattle.mdc_ast.specs.declared.definition.TableDef.{TableDef}
+use Rattle.mdc_ast.specs.declared.predicate.Pred.{Pred}
+use Rattle.mdc_ast.specs.declared.row.Row.{Row}
+use Rattle.store_api.specs.Frame.{NoPage}
+use Rattle.store_api.specs.RunsOverPages.{RunsOverPages}
+use Rattle.store_api.specs.declared.fault.Damage.{Damage}
+use Rattle.store_api.specs.declared.fault.StoreFault.{StoreFault}
+use Rattle.store_api.specs.declared.pages.Pages.{Ghosts}
+use Rattle.store_api.proofs.RunsOverPagesLemmas.{runs_as}
+use Rattle.extent_map.specs.declared.extents.Extents.{Extents}
+use Rattle.block_rows.specs.HeldRows.{qualifying}
+use Rattle.mdc_sound.specs.StandingTable.{BreaksTable, TableForests, pages_of}
+use Rattle.mdc_sound.specs.TableRows.{PlacedRow, rows_in_table}
+use Rattle.mdc_sound.proofs.StandingTableLemmas.{stands_same}
+use Rattle.table_scan.specs.FoundRows.{IsChoicePage, IsChosenRowPage, IsScannedPage, MayHaveRow}
+use Rattle.table_query.specs.QueryAnswers.{AreQueryRows}
+
+module _ {S : Type 0} {g : Ghosts S} (ext : Extents) (def : TableDef) (pred : Option Pred) where
+  module _ (old now : S) (told : (g.state now).is_told ≡ (g.state old).is_told) (same : (g.state now).work ≡ (g.state old).work) where
+    -- the rows of the query are the same
+    pub rows_still : (forests : TableForests) (rows : List Row) → AreQueryRows g ext old def pred forests rows → AreQueryRows g ext now def pred forests rows
+    rows_still forests rows are = record {
+      found = subst (λ (pages : List (List ℕ)). IsPermutation (map (λ (placed : PlacedRow). placed.row) (qualifying pred (rows_in_table ext pages def forests.map))) rows) (sym same) are.found;
+      rise = are.rise;
+    }
+
+    row_page_before : (p : ℕ) → IsChosenRowPage g ext now def pred p → IsChosenRowPage g ext old def pred p
+    row_page_before p is owners forests st =
+        let of = is owners forests (stands_same ext old now def owners forests told same st) in
+        (of.0, record { used = of.1.used; may = subst (λ (pages : List (List ℕ)). MayHaveRow ext pages def pred of.0) same of.1.may }, of.2)
+
+    page_before : (p : ℕ) → IsScannedPage g ext now def pred p → IsScannedPage g ext old def pred p
+    page_before p is = elim is [
+      | inl choice ↦ inl (λ owners forests st. choice owners forests (stands_same ext old now def owners forests told same st))
+      | inr row ↦ inr (row_page_before p row)
+    ]
+
+    breaks_before : (damage : Damage) → BreaksTable g ext now def damage → BreaksTable g ext old def damage
+    breaks_before damage breaks = record { names = breaks.names; broken = λ owners forests st. breaks.broken owners forests (stands_same ext old now def owners forests told same st) }
+
+    -- both are one run
+    pub runs_behind : {new : S} {fault : Option StoreFault} → RunsOverPages g NoPage (IsChoicePage g ext old def) (BreaksTable g ext old def) old now None
+        → RunsOverPages g NoPage (IsScannedPage g ext now def pred) (BreaksTable g ext now def) now new fault → RunsOverPages g NoPage (IsScannedPage g ext old def pred) (BreaksTable g ext old def) old new fault
+    runs_behind first second = runs_as first second (λ p there none. none) (λ p there none. none) (λ p of. inl of) page_before breaks_before
+
+-- as many rows as qualify
+pub rows_counted_are : {S : Type 0} (g : Ghosts S) (ext : Extents) (s : S) (def : TableDef) (pred : Option Pred) (forests : TableForests) (rows : List Row) (count : ℕ)
+    → AreQueryRows g ext s def pred forests rows → count ≡ length (qualifying pred (rows_in_table ext (pages_of g s) def forests.map)) → length rows ≡ count
+rows_counted_are g ext s def pred forests rows count are counted =
+    let all : List PlacedRow = qualifying pred (rows_in_table ext (pages_of g s) def forests.map) in
+    length_permutation (map (λ (placed : PlacedRow). placed.row) all) rows are.found ∙ length-map all (λ (placed : PlacedRow). placed.row) ∙ sym counted

@@ -1,0 +1,73 @@
+// Lines from rows where they lie.
+ghost use Rattle.std.specs.Prelude.{◌≡◌, List, false, length, IsTrue};
+ghost use Rattle.mdc_ast.specs.declared.row.Row.{Row};
+ghost use Rattle.mdc_ast.specs.TableLimits.{IsTableDef};
+ghost use Rattle.store_api.specs.Causes.{store_fault_in};
+ghost use Rattle.store_api.specs.Frame.{NoPage};
+ghost use Rattle.store_api.specs.RunsOverPages.{RunsOverPages};
+ghost use Rattle.extent_map.specs.declared.kind.Kind.{Kind};
+ghost use Rattle.block_rows.specs.HeldRows.{HasReadValues};
+ghost use Rattle.mdc_sound.specs.StandingTable.{BreaksTable, StandsTable, TableForests};
+ghost use Rattle.row_filter.specs.Filtering.{may_filter};
+ghost use Rattle.row_groups.specs.Lines.{shares_lines};
+ghost use Rattle.row_groups.specs.Shape.{shape_of};
+ghost use Rattle.answer_text.specs.Lines.{are_outs_within};
+ghost use Rattle.table_scan.specs.FoundRows.{IsScannedPage};
+ghost use Rattle.table_query.specs.QueryAnswers.{AnswersQuery, AreQueryRows, store_part_of};
+
+use crate::asked::Asked;
+use crate::fault::QueryFault;
+use crate::gathered_rows::GatheredRows;
+use extent_map::Extents;
+use mdc_ast::{BoundSelect, TableDef};
+use mdc_values::Chars;
+use std::alloc::Global;
+use std::marker::Brand;
+use store_api::Pages;
+use table_scan::scan_rows;
+
+/// The answer to a query whose rows share lines, from the rows where they lie.
+pub(crate) fn answer_from_groups<P: Pages>(
+    alloc: Global,
+    def: &TableDef,
+    ext: &Extents,
+    pages: &mut P,
+    select: &BoundSelect,
+) -> Result<Chars, QueryFault>
+    requires defined { IsTableDef def.now.number def.now }
+    requires shown { IsTrue (are_outs_within (length def.now.columns) select.now.outs) }
+    requires shares { IsTrue (shares_lines (shape_of select.now)) }
+    requires judged { (row : Row) → HasReadValues def.now.columns row → IsTrue (may_filter select.now.pred row.values) }
+    requires going { (P.state pages.old).ended ≡ false }
+    ensures answers { (owners : List Kind) (forests : TableForests) (rows : List Row) → StandsTable P.Pages ext.now pages.old def.now owners forests
+        → AreQueryRows P.Pages ext.now pages.old def.now select.now.pred forests rows → AnswersQuery def.now.columns select.now rows result }
+    ensures same { (P.state pages.new).work ≡ (P.state pages.old).work }
+    ensures runs { RunsOverPages P.Pages NoPage (IsScannedPage P.Pages ext.now pages.old def.now select.now.pred) (BreaksTable P.Pages ext.now pages.old def.now) pages.old pages.new (store_fault_in store_part_of result) }
+{
+    gather::<P, Brand>(alloc, def, ext, pages, select)
+}
+
+/// The same, of the query for which a type stands.
+fn gather<P: Pages, Q: Asked>(
+    alloc: Global,
+    def: &TableDef,
+    ext: &Extents,
+    pages: &mut P,
+    select: &BoundSelect,
+) -> Result<Chars, QueryFault>
+    requires columns { Q.columns ≡ def.now.columns }
+    requires select { Q.select ≡ select.now }
+    requires defined { IsTableDef def.now.number def.now }
+    requires shown { IsTrue (are_outs_within (length def.now.columns) select.now.outs) }
+    requires shares { IsTrue (shares_lines (shape_of select.now)) }
+    requires judged { (row : Row) → HasReadValues def.now.columns row → IsTrue (may_filter select.now.pred row.values) }
+    requires going { (P.state pages.old).ended ≡ false }
+    ensures answers { (owners : List Kind) (forests : TableForests) (rows : List Row) → StandsTable P.Pages ext.now pages.old def.now owners forests
+        → AreQueryRows P.Pages ext.now pages.old def.now select.now.pred forests rows → AnswersQuery def.now.columns select.now rows result }
+    ensures same { (P.state pages.new).work ≡ (P.state pages.old).work }
+    ensures runs { RunsOverPages P.Pages NoPage (IsScannedPage P.Pages ext.now pages.old def.now select.now.pred) (BreaksTable P.Pages ext.now pages.old def.now) pages.old pages.new (store_fault_in store_part_of result) }
+{
+    let mut rows: GatheredRows<'_, Q> = GatheredRows::new(alloc, def, select)?;
+    scan_rows(alloc, def, ext, pages, &select.pred, &mut rows)?;
+    Ok(rows.into_lines().close(alloc)?)
+}
